@@ -1,0 +1,192 @@
+//! Ids of devices, buckets and types.
+
+ghost use Rattle.std.specs.Prelude.{◌≡◌, ◌≤◌, ◌<◌, ◌^◌, IsTrue, ◌↔◌};
+ghost use Rattle.crush_units.specs.Id.{device_of, device_from, bucket_of, bucket_below, bucket_number, item_number, is_device, same_id, IsItemId};
+
+use std::marker::Model;
+
+/// A device's id: a number from 0 to 2147483647. Contracts see that number.
+///
+/// In a CRUSH map devices have the ids from 0 upward and buckets those below 0.
+#[derive(Clone, Copy, Debug, PartialEq, Eq)]
+pub struct DeviceId {
+    raw: u32,
+}
+
+impl Model for DeviceId {
+    ghost use Rattle.std.specs.Prelude.{ℕ, ◌<◌, ◌^◌};
+
+    ghost Value = { ℕ };
+
+    ghost view = { λ d. d.raw };
+
+    ghost invariant = { λ d. d.raw < 2 ^ 31 };
+
+    ghost inverse = { λ n. record { raw = n } };
+}
+
+/// A bucket's id: a number from -1 down to -2147483648. Contracts see how far it is below 0, so
+/// bucket 3 is the one with the id -3.
+#[derive(Clone, Copy, Debug, PartialEq, Eq)]
+pub struct BucketId {
+    below: u32,
+}
+
+impl Model for BucketId {
+    ghost use Rattle.std.specs.Prelude.{ℕ, ◌<◌, ◌≤◌, ◌^◌};
+
+    ghost Value = { ℕ };
+
+    ghost view = { λ b. b.below };
+
+    ghost invariant = { λ b. (0 < b.below) × (b.below ≤ 2 ^ 31) };
+
+    ghost inverse = { λ n. record { below = n } };
+}
+
+/// The id of an item of the hierarchy: a device's or a bucket's. The two never share a number.
+#[derive(Clone, Copy, Debug, PartialEq, Eq)]
+pub enum ItemId {
+    /// A device, with an id from 0 upward.
+    Device(DeviceId),
+    /// A bucket, with an id below 0.
+    Bucket(BucketId),
+}
+
+/// The number of a type of item, from 0 to 65535. Devices have type 0, buckets another. Contracts
+/// see that number.
+#[derive(Clone, Copy, Debug, PartialEq, Eq)]
+pub struct TypeId {
+    raw: u16,
+}
+
+impl Model for TypeId {
+    ghost use Rattle.std.specs.Prelude.{ℕ};
+
+    ghost Value = { ℕ };
+
+    ghost view = { λ t. t.raw };
+
+    ghost inverse = { λ n. record { raw = n } };
+}
+
+impl DeviceId {
+    /// The device with this id, or `None` where the number is below 0.
+    pub fn new(number: i32) -> Option<DeviceId>
+        ensures { result ≡ device_of number }
+    {
+        if number < 0 {
+            return None;
+        }
+        Some(DeviceId { raw: number as u32 })
+    }
+
+    /// The device with this id, or `None` where the number is above 2147483647.
+    pub fn from_number(number: u32) -> Option<DeviceId>
+        ensures { result ≡ device_from number }
+    {
+        if number <= 2147483647 {
+            Some(DeviceId { raw: number })
+        } else {
+            None
+        }
+    }
+
+    /// The id as a number.
+    pub fn number(self) -> u32
+        ensures value { result ≡ self }
+        ensures range { self < 2 ^ 31 }
+    {
+        self.raw
+    }
+}
+
+impl BucketId {
+    /// The bucket with this id, or `None` where the number isn't below 0.
+    pub fn new(number: i32) -> Option<BucketId>
+        ensures { result ≡ bucket_of number }
+    {
+        if number >= 0 {
+            return None;
+        }
+        Some(BucketId {
+            below: number.unsigned_abs(),
+        })
+    }
+
+    /// The bucket whose id is this far below 0, or `None` where the distance is 0 or above
+    /// 2147483648.
+    pub fn below_zero(distance: u32) -> Option<BucketId>
+        ensures { result ≡ bucket_below distance }
+    {
+        if 0 < distance && distance <= 2147483648 {
+            Some(BucketId { below: distance })
+        } else {
+            None
+        }
+    }
+
+    /// How far the id is below 0.
+    pub fn distance(self) -> u32
+        ensures value { result ≡ self }
+        ensures some { 0 < self }
+        ensures range { self ≤ 2 ^ 31 }
+    {
+        self.below
+    }
+
+    /// The id as the number below 0 that a map shows.
+    pub fn number(self) -> i32
+        ensures { result ≡ bucket_number self }
+    {
+        -1 - (self.below - 1) as i32
+    }
+}
+
+impl ItemId {
+    /// The id as the number that a map shows: below 0 for a bucket.
+    pub fn number(self) -> i32
+        ensures value { result ≡ item_number self }
+        ensures range { IsItemId self }
+    {
+        match self {
+            ItemId::Device(device) => device.number() as i32,
+            ItemId::Bucket(bucket) => -1 - (bucket.distance() - 1) as i32,
+        }
+    }
+
+    /// Whether it is the id of a device.
+    pub fn is_device_id(self) -> bool
+        ensures { result ≡ is_device self }
+    {
+        match self {
+            ItemId::Device(_) => true,
+            ItemId::Bucket(_) => false,
+        }
+    }
+
+    /// Whether both are ids of one item.
+    pub fn is_same(self, other: ItemId) -> bool
+        ensures value { result ≡ same_id self other }
+        ensures exact { IsTrue result ↔ (self ≡ other) }
+    {
+        self == other
+    }
+}
+
+impl TypeId {
+    /// The type with this number.
+    pub fn new(number: u16) -> TypeId
+        ensures { result ≡ number }
+    {
+        TypeId { raw: number }
+    }
+
+    /// The type's number.
+    pub fn number(self) -> u16
+        ensures value { result ≡ self }
+        ensures range { self < 2 ^ 16 }
+    {
+        self.raw
+    }
+}

@@ -1,0 +1,52 @@
+//! Ids and algorithms at their limits, and the worked examples of weights and names.
+
+use super::*;
+use std::test::Fail;
+
+#[test]
+fn device_ids(rt: HostRuntime) -> Result<(), Fail> {
+    let last = DeviceId::new(2147483647).ok_or("a device")?;
+    assert_eq!(rt; last.number(), 2147483647);
+    assert_eq!(rt; DeviceId::from_number(2147483647).ok_or("a device")?, last);
+    assert_eq!(rt; DeviceId::new(0).ok_or("a device")?.number(), 0);
+    assert_eq!(rt; DeviceId::new(-1), None);
+    assert_eq!(rt; DeviceId::from_number(2147483648), None);
+    Ok(())
+}
+
+#[test]
+fn bucket_ids(rt: HostRuntime) -> Result<(), Fail> {
+    let last = BucketId::new(-2147483648).ok_or("a bucket")?;
+    assert_eq!(rt; last.number(), -2147483648);
+    assert_eq!(rt; last.distance(), 2147483648);
+    assert_eq!(rt; BucketId::below_zero(2147483648).ok_or("a bucket")?, last);
+    assert_eq!(rt; BucketId::below_zero(3).ok_or("a bucket")?.number(), -3);
+    assert_eq!(rt; BucketId::new(0), None);
+    assert_eq!(rt; BucketId::below_zero(0), None);
+    assert_eq!(rt; BucketId::below_zero(2147483649), None);
+    Ok(())
+}
+
+#[test]
+fn item_ids(rt: HostRuntime) -> Result<(), Fail> {
+    let device = ItemId::Device(DeviceId::new(1).ok_or("a device")?);
+    let bucket = ItemId::Bucket(BucketId::new(-1).ok_or("a bucket")?);
+    assert_eq!(rt; (device.number(), bucket.number()), (1, -1));
+    assert!(rt; device.is_device_id());
+    assert!(rt; !bucket.is_device_id());
+    assert!(rt; device.is_same(device));
+    assert!(rt; !device.is_same(bucket));
+    assert_eq!(rt; TypeId::new(65535).number(), 65535);
+    Ok(())
+}
+
+#[test]
+fn algorithms(rt: HostRuntime) {
+    for alg in [Alg::Straw, Alg::Straw2, Alg::List] {
+        assert_eq!(rt; Alg::read(alg.name().as_bytes()), Some(alg));
+        assert!(rt; alg.is_same(alg));
+    }
+    assert_eq!(rt; Alg::Straw2.name(), "straw2");
+    assert_eq!(rt; Alg::read(b"uniform"), None);
+    assert_eq!(rt; Alg::read(b"straw22"), None);
+}
