@@ -1,2 +1,3 @@
 pub mod Id
 pub mod Alg
+pub mod Name

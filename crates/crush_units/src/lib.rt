@@ -4,9 +4,11 @@
 
 mod alg;
 mod id;
+mod name;
 
 pub use alg::Alg;
 pub use id::{BucketId, DeviceId, ItemId, TypeId};
+pub use name::{Name, NameFault, is_name, is_name_byte};
 
 #[cfg(test)]
 mod tests;

@@ -50,3 +50,37 @@ fn algorithms(rt: HostRuntime) {
     assert_eq!(rt; Alg::read(b"uniform"), None);
     assert_eq!(rt; Alg::read(b"straw22"), None);
 }
+
+#[test]
+fn names(rt: HostRuntime) -> Result<(), Fail> {
+    let name = Name::read(rt.alloc(), b"osd.0")?;
+    assert_eq!(rt; name.as_str(), "osd.0");
+    assert_eq!(rt; name.as_bytes(), b"osd.0".as_slice());
+    assert!(rt; name.is(b"osd.0"));
+    assert!(rt; !name.is(b"osd.1"));
+    assert!(rt; name.try_copy(rt.alloc())? == name);
+    assert!(rt; Name::read(rt.alloc(), &[b'Z'; 255]).is_ok());
+    Ok(())
+}
+
+#[test]
+fn names_refused(rt: HostRuntime) {
+    let bad: [(&[u8], NameFault, u8); 4] = [
+        (b"", NameFault::Empty, 1),
+        (b"a b", NameFault::BadByte(1), 2),
+        (&[b'{'; 256], NameFault::BadByte(0), 2),
+        (&[b'a'; 256], NameFault::TooLong, 3),
+    ];
+    for (bytes, fault, number) in bad {
+        assert!(rt; !is_name(bytes));
+        assert_eq!(rt; Name::read(rt.alloc(), bytes).err(), Some(fault));
+        assert_eq!(rt; fault.number(), number);
+    }
+    assert_eq!(rt; NameFault::OutOfMemory.number(), 4);
+    for byte in b"azAZ09-_." {
+        assert!(rt; is_name_byte(*byte));
+    }
+    for byte in b"@[`{/:,+ " {
+        assert!(rt; !is_name_byte(*byte));
+    }
+}

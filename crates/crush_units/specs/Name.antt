@@ -1,0 +1,43 @@
+-- What a name is: 1 to 255 bytes, each an ASCII letter, a digit, `-`, `_` or `.`.
+use Rattle.std.specs.Prelude.{◌≡◌, ℕ, ◌<◌, ◌≤◌, Bool, true, false, ◌&&◌, ◌||◌, ◌==◌, nat_lt, nat_le, List, [], length, take, slice_index}
+use Rattle.std.specs.List.{list_all}
+use Rattle.crush_units.specs.declared.name.NameFault.{NameFault}
+use Rattle.crush_units.specs.declared.name.NameFault.TheVariants.{Empty, BadByte, TooLong, OutOfMemory}
+
+-- ASCII letters, digits, `-`, `_` and `.`
+abbrev pub is_name_byte : ℕ → Bool
+is_name_byte b = (nat_le 48 b && nat_le b 57) || (nat_le 65 b && nat_le b 90) || (nat_le 97 b && nat_le b 122) || b == 45 || b == 95 || b == 46
+
+-- each byte is one that a name may have
+abbrev pub are_name_bytes : List ℕ → Bool
+are_name_bytes bytes = list_all is_name_byte bytes
+
+-- 1 to 255 bytes that a name may have
+pub record IsName (bytes : List ℕ) : Type 0 where
+  pub some : 0 < length bytes
+  pub few : length bytes ≤ 255
+  pub allowed : are_name_bytes bytes ≡ true
+
+-- the same as a test
+abbrev pub is_name : List ℕ → Bool
+is_name bytes = nat_lt 0 (length bytes) && nat_le (length bytes) 255 && are_name_bytes bytes
+
+-- the place of the first byte that no name may have
+pub record IsFirstBad (bytes : List ℕ) (place : ℕ) : Type 0 where
+  pub within : place < length bytes
+  pub bad : is_name_byte (slice_index bytes place) ≡ false
+  pub before : are_name_bytes (take place bytes) ≡ true
+
+-- why bytes are refused as a name: at most one of these holds
+abbrev pub IsNameFault : List ℕ → NameFault → Type 0
+IsNameFault bytes Empty = bytes ≡ []
+IsNameFault bytes (BadByte place) = IsFirstBad bytes place
+IsNameFault bytes TooLong = (255 < length bytes) × (are_name_bytes bytes ≡ true)
+IsNameFault bytes OutOfMemory = IsName bytes
+
+-- the number of a fault
+abbrev pub name_fault_number : NameFault → ℕ
+name_fault_number Empty = 1
+name_fault_number (BadByte place) = 2
+name_fault_number TooLong = 3
+name_fault_number OutOfMemory = 4

@@ -1,0 +1,162 @@
+//! Names of devices, buckets, types, tunables, rules and classes.
+
+ghost use Rattle.std.specs.Prelude.{◌≡◌, IsTrue, ◌↔◌, OnOk, IfOk, IfErr, MatchOption, bytes_eq, true};
+ghost use Rattle.std.specs.Cmp.Rules.{comparing};
+ghost use Rattle.std.proofs.Common.{rules};
+ghost use Rattle.crush_units.specs.Name.{IsName, is_name_byte, are_name_bytes, is_name, IsFirstBad, IsNameFault, name_fault_number};
+
+use std::alloc::{AllocError, Allocator};
+use std::marker::Model;
+use std::str;
+use thiserror::Error;
+
+/// Why bytes are no name. Where several hold, the one of least number is told.
+#[derive(Clone, Copy, Debug, PartialEq, Eq, Error)]
+pub enum NameFault {
+    /// There are no bytes.
+    #[error("a name is empty")]
+    Empty,
+    /// The byte at this place, counted from 0, is none that a name may have. It is the first.
+    #[error("byte {0} of a name is no letter, digit, `-`, `_` or `.`")]
+    BadByte(usize),
+    /// There are more than 255 bytes.
+    #[error("a name has more than 255 bytes")]
+    TooLong,
+    /// The bytes are a name, and there is no memory to keep them.
+    #[error("out of memory")]
+    OutOfMemory,
+}
+
+impl NameFault {
+    /// The fault's number, from 1.
+    pub fn number(self) -> u8
+        ensures { result ≡ name_fault_number self }
+    {
+        match self {
+            NameFault::Empty => 1,
+            NameFault::BadByte(_) => 2,
+            NameFault::TooLong => 3,
+            NameFault::OutOfMemory => 4,
+        }
+    }
+}
+
+/// A name: 1 to 255 bytes, each an ASCII letter, a digit, `-`, `_` or `.`. Contracts see its bytes.
+#[derive(Debug, Drop)]
+pub struct Name<A: Allocator> {
+    text: String<A>,
+}
+
+impl<A: Allocator> Model for Name<A> {
+    ghost use Rattle.std.specs.Prelude.{List, ℕ, string_bytes};
+
+    ghost Value = { List ℕ };
+
+    ghost use Rattle.crush_units.specs.Name.{IsName};
+
+    ghost view = { λ name. string_bytes name.text };
+
+    ghost invariant = { λ name. IsName (string_bytes name.text) };
+}
+
+impl<A: Allocator> Name<A> {
+    /// The name that has these bytes.
+    ///
+    /// Refused where the bytes are none: [`NameFault::Empty`] first, then the first bad byte, then
+    /// the length.
+    pub fn read(alloc: A, bytes: &[u8]) -> Result<Name<A>, NameFault>
+        ensures value { IfOk result (λ name. name ≡ bytes.now) }
+        ensures name { OnOk result (IsName bytes.now) }
+        ensures fault { IfErr result (IsNameFault bytes.now) }
+    {
+        if bytes.is_empty() {
+            return Err(NameFault::Empty);
+        }
+        if let Some(place) = first_bad(bytes) {
+            return Err(NameFault::BadByte(place));
+        }
+        if bytes.len() > 255 {
+            return Err(NameFault::TooLong);
+        }
+        let Ok(text) = str::from_utf8(bytes) else {
+            unreachable!()
+        };
+        match String::from_str(alloc, text) {
+            Ok(text) => Ok(Name { text }),
+            Err(_) => Err(NameFault::OutOfMemory),
+        }
+    }
+
+    /// The name as text.
+    pub fn as_str(&self) -> &str
+        ensures value { result.now ≡ self.now }
+        ensures name { IsName self.now }
+    {
+        self.text.as_str()
+    }
+
+    /// The name's bytes.
+    pub fn as_bytes(&self) -> &[u8]
+        ensures value { result.now ≡ self.now }
+        ensures name { IsName self.now }
+    {
+        self.text.as_bytes()
+    }
+
+    /// A copy in memory of the given allocator, which may be another than the name's own.
+    pub fn try_copy<B: Allocator>(&self, alloc: B) -> Result<Name<B>, AllocError>
+        ensures { IfOk result (λ copy. copy ≡ self.now) }
+    {
+        let text = String::from_str(alloc, self.as_str())?;
+        Ok(Name { text })
+    }
+
+    /// Whether the name has exactly these bytes.
+    pub fn is(&self, bytes: &[u8]) -> bool
+        ensures value { result ≡ bytes_eq self.now bytes.now }
+        ensures exact { IsTrue result ↔ (self.now ≡ bytes.now) }
+    {
+        self.as_bytes() == bytes
+    }
+}
+
+impl<A: Allocator> PartialEq for Name<A> {
+    ghost eq = { bytes_eq };
+
+    ghost laws = { Prim.search (comparing, rules) };
+
+    fn eq(&self, other: &Name<A>) -> bool {
+        self.as_bytes() == other.as_bytes()
+    }
+}
+
+impl<A: Allocator> Eq for Name<A> {
+    ghost laws = { Prim.search (comparing, rules) };
+}
+
+/// Whether the bytes are a name.
+pub fn is_name(bytes: &[u8]) -> bool
+    ensures value { result ≡ is_name bytes.now }
+    ensures exact { IsTrue result ↔ IsName bytes.now }
+{
+    !bytes.is_empty() && bytes.len() <= 255 && first_bad(bytes).is_none()
+}
+
+/// Whether a name may have the byte.
+pub fn is_name_byte(byte: u8) -> bool
+    ensures { result ≡ is_name_byte byte }
+{
+    matches!(byte, b'0'..=b'9' | b'A'..=b'Z' | b'a'..=b'z' | b'-' | b'_' | b'.')
+}
+
+/// The place of the first byte that no name may have.
+fn first_bad(bytes: &[u8]) -> Option<usize>
+    ensures { MatchOption result (are_name_bytes bytes.now ≡ true) (IsFirstBad bytes.now) }
+{
+    for (place, byte) in bytes.iter().enumerate() {
+        if !is_name_byte(*byte) {
+            return Some(place);
+        }
+    }
+    None
+}
