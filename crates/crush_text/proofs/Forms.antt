@@ -4,7 +4,8 @@ use Rattle.std.proofs.lemmas.Bool.{ltb-false, le-leb, lt-ltb}
 use Rattle.std.proofs.lemmas.Bool.Decides.{nat_tests}
 use Rattle.std.specs.Prelude.{◌&&◌, ◌||◌, nat_lt}
 use Rattle.std.specs.List.{list_all}
-use Rattle.crush_text.specs.Words.{Word, Stop, Text, is_blank, is_brace, is_name_byte, without_comments, first, onto_words, begins_with_name_byte, split, up_to_long, words_in, words, is_brace_word, is_name_text, AreFormed}
+use Rattle.crush_units.specs.Name.{is_name_byte, is_name}
+use Rattle.crush_text.specs.Words.{Word, Stop, Text, is_blank, is_brace, without_comments, first, onto_words, begins_with_name_byte, split, up_to_long, words_in, words, is_brace_word, AreFormed}
 
 -- a brace, or a run of name bytes of whatever length
 abbrev is_run : List ℕ → Bool
@@ -103,5 +104,5 @@ unfolding words_in
 words_are_formed p bytes = are_formed _ _ (are_split p (without_comments false bytes)).runs
 
 -- so is the first
-pub first_is_formed : (p from : ℕ) (bytes text : List ℕ) (t : Text) → words from bytes ≡ first p text t → (is_brace_word text || is_name_text text) ≡ true
+pub first_is_formed : (p from : ℕ) (bytes text : List ℕ) (t : Text) → words from bytes ≡ first p text t → (is_brace_word text || is_name text) ≡ true
 first_is_formed p from bytes text t e = let k : AreFormed (first p text t).words = subst (λ (u : Text). AreFormed u.words) e (words_are_formed from bytes) in k.0

@@ -1,27 +1,17 @@
 -- The words of a printed text, taken off its front piece by piece.
-use Rattle.std.proofs.Common.{◌≡◌, ℕ, ◌+◌, ◌<◌, ◌≤◌, Bool, true, false, eqb, List, [], ◌∷◌, ◌++◌, length, drop, map, refl, sym, ap, ◌∙◌, arith}
+use Rattle.std.proofs.Common.{◌≡◌, ℕ, ◌+◌, Bool, true, false, eqb, List, [], ◌∷◌, ◌++◌, length, drop, refl, sym, ap, ◌∙◌, arith}
 use Rattle.std.proofs.lemmas.List.{take_at, drop_at}
-use Rattle.std.proofs.lemmas.Bool.{ltb-true, leb-true}
 use Rattle.std.proofs.lemmas.Bool.Decides.{nat_tests}
-use Rattle.std.specs.Prelude.{◌&&◌, not, nat_lt, nat_le}
+use Rattle.std.specs.Prelude.{◌&&◌, not}
 use Rattle.std.specs.List.{list_all}
-use Rattle.crush_text.specs.Words.{Word, Text, ended, is_blank, is_brace, is_name_byte, is_name_text, first, words, words_in, run_length}
+use Rattle.crush_units.specs.Name.{is_name_byte, IsName}
+use Rattle.crush_text.specs.Words.{Text, texts, ended, is_blank, is_brace, first, words, words_in, run_length}
 use Rattle.crush_text.proofs.Split.{blank, opens, closes, inside, at_end, brace, word}
-
--- the words without their places
-abbrev pub texts : List Word → List (List ℕ)
-texts ws = map (λ w. w.text) ws
 
 -- wherever they begin, the bytes are these words, and then they end
 pub record Holds (bytes : List ℕ) (ws : List (List ℕ)) : Type 0 where
   pub texts_are : (p : ℕ) → texts (words p bytes).words ≡ ws
   pub ends : (p : ℕ) → (q : ℕ) × ((words p bytes).stop ≡ ended q)
-
--- a text that is one word, and no brace
-pub record IsWord (w : List ℕ) : Type 0 where
-  pub some : 0 < length w
-  pub short : length w ≤ 255
-  pub plain : list_all is_name_byte w ≡ true
 
 -- no bytes hold no words
 pub holds_nothing : Holds [] []
@@ -71,13 +61,13 @@ blank_plain s h = grind (arith, nat_tests)
 blank_open : (s : ℕ) → is_blank s ≡ true → eqb s 35 ≡ false
 blank_open s h = grind (arith, nat_tests)
 
--- a word, and the blank that ends it
-pub holds_word : (w : List ℕ) (s : ℕ) (rest : List ℕ) (ws : List (List ℕ)) → IsWord w → is_blank s ≡ true → Holds rest ws → Holds (w ++ s ∷ rest) (w ∷ ws)
+-- a name is a word, which a blank ends
+pub holds_word : (w : List ℕ) (s : ℕ) (rest : List ℕ) (ws : List (List ℕ)) → IsName w → is_blank s ≡ true → Holds rest ws → Holds (w ++ s ∷ rest) (w ∷ ws)
 holds_word [] s rest ws is h k = absurd (omega (arith, is.some))
 holds_word (b ∷ w) s rest ws is h k =
-    let n : run_length ((b ∷ w) ++ s ∷ rest) ≡ length (b ∷ w) = run_length-append (b ∷ w) s rest is.plain (blank_plain s h) in
+    let n : run_length ((b ∷ w) ++ s ∷ rest) ≡ length (b ∷ w) = run_length-append (b ∷ w) s rest is.allowed (blank_plain s h) in
     by_words ((b ∷ w) ++ s ∷ rest) (b ∷ w) (s ∷ rest) ws (length (b ∷ w))
-    (λ p. word p b (w ++ s ∷ rest) (first_byte b w is.plain) (omega (arith, n, is.short))
+    (λ p. word p b (w ++ s ∷ rest) (first_byte b w is.allowed) (omega (arith, n, is.few))
     ∙ ap (λ (l : List ℕ). first p l (words (p + run_length ((b ∷ w) ++ s ∷ rest)) (drop (run_length ((b ∷ w) ++ s ∷ rest)) ((b ∷ w) ++ s ∷ rest)))) (take_at (b ∷ w) (s ∷ rest) _ (sym n))
     ∙ ap (λ (l : List ℕ). first p (b ∷ w) (words (p + run_length ((b ∷ w) ++ s ∷ rest)) l)) (drop_at (b ∷ w) (s ∷ rest) _ (sym n))
     ∙ ap (λ (m : ℕ). first p (b ∷ w) (words (p + m) (s ∷ rest))) n)
@@ -93,15 +83,3 @@ comment_rest (b ∷ c) rest h p =
 -- a comment and its line feed
 pub holds_comment : (c : List ℕ) (rest : List ℕ) (ws : List (List ℕ)) → list_all (λ b. not (eqb b 10)) c ≡ true → Holds rest ws → Holds (35 ∷ c ++ 10 ∷ rest) ws
 holds_comment c rest ws h k = by_same (35 ∷ c ++ 10 ∷ rest) rest ws (1 + (length c + 1)) (λ p. opens p 35 (c ++ 10 ∷ rest) refl ∙ comment_rest c rest h (p + 1) ∙ ap (λ (q : ℕ). words q rest) (omega arith)) k
-
--- a name is a word
-pub word_of_name : (w : List ℕ) → is_name_text w ≡ true → IsWord w
-word_of_name w h = record { some = ltb-true _ _ (tests.0); short = leb-true _ _ (tests.1); plain = tests.2 }
-  where
-    three : (a b c : Bool) → (a && b && c) ≡ true → (a ≡ true) × (b ≡ true) × (c ≡ true)
-    three true true c e = (refl, refl, e)
-    three true false c e = absurd cc
-    three false b c e = absurd cc
-
-    tests : (nat_lt 0 (length w) ≡ true) × (nat_le (length w) 255 ≡ true) × (list_all is_name_byte w ≡ true)
-    tests = three _ _ _ h

@@ -4,7 +4,8 @@ use Rattle.std.proofs.lemmas.Bool.Decides.{nat_tests}
 use Rattle.std.proofs.lemmas.Bool.{le-ltb, lt-ltb, ne_eqb}
 use Rattle.std.proofs.lemmas.List.{length-take, drop_more, drop-drop, drop_all}
 use Rattle.std.specs.Prelude.{not, ◌⊎◌}
-use Rattle.crush_text.specs.Words.{Text, ended, bad, is_blank, is_brace, is_name_byte, without_comments, stopped, first, onto_words, begins_with_name_byte, split, up_to_long, words_in, words, run_length, IsClear}
+use Rattle.crush_units.specs.Name.{is_name_byte}
+use Rattle.crush_text.specs.Words.{Text, ended, bad, is_blank, is_brace, without_comments, stopped, first, onto_words, begins_with_name_byte, split, up_to_long, words_in, words, run_length, IsClear}
 
 -- a blank is behind
 pub blank : (p b : ℕ) (bs : List ℕ) → is_blank b ≡ true → eqb b 35 ≡ false → words_in false p (b ∷ bs) ≡ words_in false (p + 1) bs

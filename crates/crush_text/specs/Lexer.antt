@@ -1,9 +1,10 @@
 -- What a reader of words has left, and what it answers.
 use Rattle.std.specs.Prelude.{◌≡◌, true, ◌||◌, drop}
+use Rattle.crush_units.specs.Name.{is_name}
 use Rattle.crush_text.specs.declared.words.Lexer.{Lexer}
 use Rattle.crush_text.specs.declared.words.Token.{Token}
 use Rattle.crush_text.specs.declared.words.Token.TheVariants as token
-use Rattle.crush_text.specs.Words.{Text, words, first, stopped, ended, bad, is_brace_word, is_name_text}
+use Rattle.crush_text.specs.Words.{Text, words, first, stopped, ended, bad, is_brace_word}
 
 -- the words from the place on
 abbrev pub left : Lexer → Text
@@ -17,6 +18,6 @@ Nexts (token.Bad place) old new = (old ≡ stopped (bad place)) × (new ≡ old)
 
 -- a word that is answered is a brace or a name
 abbrev pub IsFormed : Token → Type 0
-IsFormed (token.Word place text) = (is_brace_word text.now || is_name_text text.now) ≡ true
+IsFormed (token.Word place text) = (is_brace_word text.now || is_name text.now) ≡ true
 IsFormed (token.End place) = Unit {0}
 IsFormed (token.Bad place) = Unit {0}

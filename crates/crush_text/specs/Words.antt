@@ -1,6 +1,6 @@
 -- The words of a map's text with their places, and what ends them.
-use Rattle.std.specs.Prelude.{◌≢◌, ◌≡◌, ℕ, ◌+◌, Bool, true, false, ◌&&◌, ◌||◌, List, ◌∷◌, [], length, drop, bytes_eq, nat_lt, nat_le, ◌==◌, if◌then◌else◌}
-use Rattle.std.specs.List.{list_all}
+use Rattle.std.specs.Prelude.{◌≢◌, ◌≡◌, ℕ, ◌+◌, Bool, true, false, ◌||◌, List, ◌∷◌, [], length, drop, map, bytes_eq, nat_lt, ◌==◌, if◌then◌else◌}
+use Rattle.crush_units.specs.Name.{is_name_byte, is_name}
 
 -- a word, and the place of its first byte
 pub record Word : Type 0 where
@@ -24,10 +24,6 @@ is_blank b = b == 32 || b == 9 || b == 10 || b == 13
 -- `{` and `}` are words by themselves
 abbrev pub is_brace : ℕ → Bool
 is_brace b = b == 123 || b == 125
-
--- letters, digits, `-`, `_` and `.`
-abbrev pub is_name_byte : ℕ → Bool
-is_name_byte b = (nat_le 48 b && nat_le b 57) || (nat_le 65 b && nat_le b 90) || (nat_le 97 b && nat_le b 122) || b == 45 || b == 95 || b == 46
 
 -- a text in which each byte of a comment, from `#` up to the line feed, is a space
 abbrev pub without_comments : Bool → List ℕ → List ℕ
@@ -89,14 +85,14 @@ IsClear (b ∷ bs) = (is_blank b ≡ false) × (b ≢ 35)
 abbrev pub is_brace_word : List ℕ → Bool
 is_brace_word text = bytes_eq text (123 ∷ []) || bytes_eq text (125 ∷ [])
 
--- whether a text is a name: 1 to 255 bytes, each of a name
-abbrev pub is_name_text : List ℕ → Bool
-is_name_text text = nat_lt 0 (length text) && nat_le (length text) 255 && list_all is_name_byte text
-
 -- each word is a brace or a name
 abbrev pub AreFormed : List Word → Type 0
 AreFormed [] = Unit {0}
-AreFormed (w ∷ ws) = ((is_brace_word w.text || is_name_text w.text) ≡ true) × AreFormed ws
+AreFormed (w ∷ ws) = ((is_brace_word w.text || is_name w.text) ≡ true) × AreFormed ws
+
+-- the words without their places
+abbrev pub texts : List Word → List (List ℕ)
+texts ws = map (λ (w : Word). w.text) ws
 
 -- whether the next word is the key
 abbrev pub begins_with_key : List ℕ → List Word → Bool

@@ -5,8 +5,9 @@
 //! letters, digits, `-`, `_` and `.`, of at most 255 bytes.
 
 ghost use Rattle.std.specs.Prelude.{◌≡◌, if◌then◌else◌, ◌+◌, ◌<◌, ◌≤◌, length, drop, IsTrue};
-ghost use Rattle.crush_text.specs.Words.{Text, words, begins, past, is_name_byte, is_blank, is_brace, run_length, IsClear};
+ghost use Rattle.crush_text.specs.Words.{Text, words, begins, past, is_blank, is_brace, run_length, IsClear};
 
+use crush_units::is_name_byte;
 use std::marker::Model;
 
 /// The most bytes that a word may have.
@@ -35,17 +36,6 @@ fn is_blank(byte: u8) -> bool
     ensures { result ≡ is_blank byte }
 {
     byte == b' ' || byte == b'\t' || byte == b'\n' || byte == b'\r'
-}
-
-fn is_name_byte(byte: u8) -> bool
-    ensures { result ≡ is_name_byte byte }
-{
-    (48 <= byte && byte <= 57)
-        || (65 <= byte && byte <= 90)
-        || (97 <= byte && byte <= 122)
-        || byte == b'-'
-        || byte == b'_'
-        || byte == b'.'
 }
 
 fn is_brace(byte: u8) -> bool
