@@ -1,0 +1,173 @@
+-- The example map's kids, sums and total, computed, and what some changes make of them.
+use Rattle.std.specs.Prelude.{◌≡◌, ℕ, List, [], ◌∷◌, ◌++◌, Some, None, true, false, codes, refl}
+use Rattle.crush_units.specs.declared.id.ItemId.TheVariants.{Device, Bucket}
+use Rattle.crush_units.specs.declared.alg.Alg.TheVariants.{Straw2}
+use Rattle.crush_table.specs.Items.{LeafData, HeaderData, none, device, bucket}
+use Rattle.crush_table.specs.Table.{Row, id_named, is_named, parent_of, kind_of, is_placed, above, is_below, kids, sum_below, total, weight_of, device_count, bucket_count, used_ids, free_ids}
+use Rattle.crush_table.specs.Lawful.{is_too_heavy, has_too_many}
+use Rattle.crush_table.specs.Rows.{ForestData, rows_of, stored_weight, all_items}
+use Rattle.crush_table.specs.Columns.{set_weight, set_subtree, set_name, table_without, part, without_row, exchange_parents}
+
+abbrev leaf : ℕ → List ℕ → ℕ → LeafData
+leaf d n w = record { id = d; name = n; weight = w; class = None }
+
+abbrev header : ℕ → ℕ → List ℕ → HeaderData
+header b k n = record { id = b; kind = k; name = n; alg = Straw2; class_ids = [] }
+
+-- hosts h1 (-2) and h2 (-3) in the root default (-1)
+abbrev example : ForestData
+example = record {
+  roots = bucket (header 1 11 (codes "default")) 163840 2
+      (bucket (header 2 1 (codes "h1")) 131072 2 (device (leaf 0 (codes "osd.0") 65536) (device (leaf 1 (codes "osd.1") 65536) none))
+      (bucket (header 3 1 (codes "h2")) 32768 1 (device (leaf 2 (codes "osd.2") 32768) none) none)) none;
+  unplaced = none;
+  root_capacity = 1;
+  unplaced_capacity = 0;
+}
+
+abbrev map : List Row
+map = rows_of example
+
+root_kids : kids map 1 ≡ Bucket 2 ∷ (Bucket 3 ∷ [])
+root_kids = refl
+
+host_kids : kids map 2 ≡ Device 0 ∷ (Device 1 ∷ [])
+host_kids = refl
+
+other_kids : kids map 3 ≡ Device 2 ∷ []
+other_kids = refl
+
+root_sum : sum_below map 1 ≡ 163840
+root_sum = refl
+
+host_sum : sum_below map 2 ≡ 131072
+host_sum = refl
+
+other_sum : sum_below map 3 ≡ 32768
+other_sum = refl
+
+all_weight : total map ≡ 163840
+all_weight = refl
+
+stores : stored_weight 2 (all_items example) ≡ 131072
+stores = refl
+
+-- columns of one item
+named : id_named map (codes "h2") ≡ Some (Bucket 3)
+named = refl
+
+unknown : is_named map (codes "h3") ≡ false
+unknown = refl
+
+parent : parent_of map (Device 2) ≡ Some 3
+parent = refl
+
+root_parent : is_placed map (Bucket 1) ≡ false
+root_parent = refl
+
+kind : kind_of map (Bucket 1) ≡ Some 11
+kind = refl
+
+climbs : above map (Device 0) ≡ 2 ∷ (1 ∷ [])
+climbs = refl
+
+below : is_below map 1 (Device 2) ≡ true
+below = refl
+
+beside : is_below map 2 (Device 2) ≡ false
+beside = refl
+
+bucket_weight : weight_of map (Bucket 2) ≡ Some 131072
+bucket_weight = refl
+
+-- counts and ids
+devices : device_count map ≡ 3
+devices = refl
+
+buckets : bucket_count map ≡ 3
+buckets = refl
+
+used : used_ids map ≡ 1 ∷ (2 ∷ (3 ∷ []))
+used = refl
+
+free : free_ids map 2 ≡ 4 ∷ (5 ∷ [])
+free = refl
+
+-- osd.2 weighs 65536: one more 32768 for each bucket above it
+heavier : sum_below (set_weight (Device 2) 65536 map) 3 ≡ 65536
+heavier = refl
+
+heavier_root : sum_below (set_weight (Device 2) 65536 map) 1 ≡ 196608
+heavier_root = refl
+
+heavier_host : sum_below (set_weight (Device 2) 65536 map) 2 ≡ 131072
+heavier_host = refl
+
+-- each device of h1 weighs 16384
+lighter : sum_below (set_subtree 2 16384 map) 2 ≡ 32768
+lighter = refl
+
+lighter_root : sum_below (set_subtree 2 16384 map) 1 ≡ 65536
+lighter_root = refl
+
+-- osd.0 moved into h2, with its own weight
+abbrev moved : List Row
+moved = without_row (Device 0) map ++ (record { id = Device 0; kind = 0; name = codes "osd.0"; parent = Some 3; weight = 65536; class = None; alg = None; class_ids = [] } ∷ [])
+
+moved_kids : kids moved 3 ≡ Device 2 ∷ (Device 0 ∷ [])
+moved_kids = refl
+
+moved_host : sum_below moved 2 ≡ 65536
+moved_host = refl
+
+moved_other : sum_below moved 3 ≡ 98304
+moved_other = refl
+
+moved_root : sum_below moved 1 ≡ 163840
+moved_root = refl
+
+-- h1 and h2 exchange their items and their names
+abbrev swapped : List Row
+swapped = exchange_parents 2 3 (set_name (Bucket 2) (codes "h2") (set_name (Bucket 3) (codes "h1") map))
+
+swapped_kids : kids swapped 2 ≡ Device 2 ∷ []
+swapped_kids = refl
+
+swapped_sum : sum_below swapped 3 ≡ 131072
+swapped_sum = refl
+
+swapped_name : id_named swapped (codes "h1") ≡ Some (Bucket 3)
+swapped_name = refl
+
+swapped_root : sum_below swapped 1 ≡ 163840
+swapped_root = refl
+
+-- h2 taken out with what is below it
+left : kids (table_without (Bucket 3) map) 1 ≡ Bucket 2 ∷ []
+left = refl
+
+left_sum : sum_below (table_without (Bucket 3) map) 1 ≡ 131072
+left_sum = refl
+
+taken : total (part (Bucket 3) map) ≡ 32768
+taken = refl
+
+-- three devices of the greatest weight in two buckets below one root: its sum is above 4294967295
+abbrev heavy : List Row
+heavy = rows_of (record {
+  roots = bucket (header 5 3 (codes "rx")) 6442450941 2
+      (bucket (header 4 1 (codes "hx")) 4294967294 2 (device (leaf 10 (codes "osd.10") 2147483647) (device (leaf 11 (codes "osd.11") 2147483647) none))
+      (bucket (header 6 1 (codes "hy")) 2147483647 2 (device (leaf 12 (codes "osd.12") 2147483647) none) none)) none;
+  unplaced = none;
+  root_capacity = 1;
+  unplaced_capacity = 0;
+})
+
+fits_still : is_too_heavy (table_without (Bucket 6) heavy) ≡ false
+fits_still = refl
+
+fits_no_more : is_too_heavy heavy ≡ true
+fits_no_more = refl
+
+room : has_too_many map ≡ false
+room = refl

@@ -1,0 +1,2 @@
+//! The table that a forest of buckets and devices stands for: definitions and their laws.
+#![tactic(auto)]
