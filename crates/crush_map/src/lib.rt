@@ -1,0 +1,7 @@
+//! The map: its setting and its hierarchy of buckets and devices, the edits that `ceph osd crush`
+//! makes, and a builder that makes a map from the statements of its text.
+#![tactic(auto)]
+
+mod refusal;
+
+pub use refusal::{Done, EditFault, Refusal};
