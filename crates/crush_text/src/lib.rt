@@ -2,5 +2,10 @@
 #![tactic(auto)]
 
 mod words;
+mod write;
 
 pub use words::{Reader, Token};
+pub use write::{WriteFault, put, put_all};
+
+#[cfg(test)]
+mod tests;
