@@ -1,3 +1,6 @@
 pub mod Ids
 pub mod Algs
 pub mod Names
+pub mod Parts
+pub mod Weights
+pub mod ReadBack

@@ -1,3 +1,4 @@
 pub mod Id
 pub mod Alg
 pub mod Name
+pub mod Weight

@@ -5,10 +5,12 @@
 mod alg;
 mod id;
 mod name;
+mod weight;
 
 pub use alg::Alg;
 pub use id::{BucketId, DeviceId, ItemId, TypeId};
 pub use name::{Name, NameFault, is_name, is_name_byte};
+pub use weight::{Weight, WeightFault, printed_is_read_back};
 
 #[cfg(test)]
 mod tests;

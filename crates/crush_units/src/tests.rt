@@ -84,3 +84,76 @@ fn names_refused(rt: HostRuntime) {
         assert!(rt; !is_name_byte(*byte));
     }
 }
+
+/// Texts of weights with their units and what these print as.
+const WEIGHTS: [(&str, u32, &str); 13] = [
+    ("0", 0, "0.00000"),
+    ("1", 65536, "1.00000"),
+    ("1.0", 65536, "1.00000"),
+    ("0.5", 32768, "0.50000"),
+    ("0.25", 16384, "0.25000"),
+    ("0.333", 21823, "0.33299"),
+    ("0.015625", 1024, "0.01563"),
+    ("0.00000762939453125", 1, "0.00002"),
+    ("9.000", 589824, "9.00000"),
+    ("32767.99998", 2147483647, "32767.99998"),
+    ("32768", 2147483648, "32768.00000"),
+    ("65535.99997", 4294967294, "65535.99997"),
+    ("0000000001", 65536, "1.00000"),
+];
+
+#[test]
+fn weights(rt: HostRuntime) -> Result<(), Fail> {
+    for (text, units, printed) in WEIGHTS {
+        let weight = Weight::read(text)?;
+        assert_eq!(rt; weight.units(), units, "at {text}");
+        assert_eq!(rt;
+            Weight::read_bytes(printed.as_bytes())?,
+            weight,
+            "at {text}"
+        );
+        assert_eq!(rt; Weight::from_units(units), weight);
+        assert_eq!(rt; weight.is_device_weight(), units <= 2147483647, "at {text}");
+        let mut buffer = [0; 16];
+        let length = weight.text(&mut buffer);
+        assert!(rt; length <= 16);
+        assert_eq!(rt; &buffer[..length], printed.as_bytes(), "at {text}");
+    }
+    printed_is_read_back();
+    Ok(())
+}
+
+#[test]
+fn weights_refused(rt: HostRuntime) {
+    let syntax = [
+        "",
+        ".",
+        ".5",
+        "1.",
+        "1.2.3",
+        "+1",
+        "-1",
+        "1e3",
+        " 1",
+        "00000000001",
+        "0.0000000000000000001",
+    ];
+    for text in syntax {
+        assert_eq!(rt;
+            Weight::read(text).err(),
+            Some(WeightFault::Syntax),
+            "at {text}"
+        );
+    }
+    for text in ["65536", "65535.999999", "9999999999"] {
+        assert_eq!(rt;
+            Weight::read(text).err(),
+            Some(WeightFault::TooLarge),
+            "at {text}"
+        );
+    }
+    assert_eq!(rt;
+        (WeightFault::Syntax.number(), WeightFault::TooLarge.number()),
+        (1, 2)
+    );
+}

@@ -1,0 +1,210 @@
+//! Weights: reading, printing and limits.
+
+ghost use Rattle.std.specs.Prelude.{◌≡◌, ◌+◌, ◌*◌, ◌^◌, ◌<◌, ◌≤◌, ◌↔◌, IsTrue, true, length, take};
+ghost use Rattle.std.specs.Char.{is_ascii_digit};
+ghost use Rattle.std.specs.List.{list_all, position_or_len};
+ghost use Rattle.std.specs.Str.Parse.{digits_value_after};
+ghost use Rattle.crush_units.specs.Weight.{weight_of, weight_text, units_of, fitting, are_digits, is_point, PrintedIsReadBack, weight_fault_number};
+
+use itoa::Buffer;
+use std::marker::Model;
+use thiserror::Error;
+
+/// Why a text is no weight.
+#[derive(Clone, Copy, Debug, PartialEq, Eq, Error)]
+pub enum WeightFault {
+    /// The text isn't 1 to 10 digits, with or without a point and 1 to 18 digits behind it.
+    #[error("not a weight: expected digits, with at most one point between them")]
+    Syntax,
+    /// The weight is above 4294967295 units.
+    #[error("a weight is above 65535.99999")]
+    TooLarge,
+}
+
+impl WeightFault {
+    /// The fault's number, from 1.
+    pub fn number(self) -> u8
+        ensures { result ≡ weight_fault_number self }
+    {
+        match self {
+            WeightFault::Syntax => 1,
+            WeightFault::TooLarge => 2,
+        }
+    }
+}
+
+/// A weight, from 0 to 4294967295 units. 65536 units are 1.0, as in Ceph, whose weights are fixed
+/// point numbers of 16 and 16 bits. Contracts see the units.
+#[derive(Clone, Copy, Debug, PartialEq, Eq)]
+pub struct Weight {
+    units: u32,
+}
+
+impl Model for Weight {
+    ghost use Rattle.std.specs.Prelude.{ℕ};
+
+    ghost Value = { ℕ };
+
+    ghost view = { λ weight. weight.units };
+
+    ghost inverse = { λ n. record { units = n } };
+}
+
+impl Weight {
+    /// The weight of so many units.
+    pub fn from_units(units: u32) -> Weight
+        ensures { result ≡ units }
+    {
+        Weight { units }
+    }
+
+    /// How many units it has.
+    pub fn units(self) -> u32
+        ensures value { result ≡ self }
+        ensures range { self < 2 ^ 32 }
+    {
+        self.units
+    }
+
+    /// Whether a device can have this weight: at most 2147483647 units.
+    pub fn is_device_weight(self) -> bool
+        ensures { IsTrue result ↔ (self ≤ 2147483647) }
+    {
+        self.units <= 2147483647
+    }
+
+    /// The weight that a text says, rounded to the nearest unit, a half going up.
+    ///
+    /// The text is 1 to 10 digits, and optionally a point and 1 to 18 digits.
+    pub fn read(text: &str) -> Result<Weight, WeightFault>
+        ensures { result ≡ weight_of text.now }
+    {
+        Weight::read_bytes(text.as_bytes())
+    }
+
+    /// The same for the bytes of a text.
+    pub fn read_bytes(text: &[u8]) -> Result<Weight, WeightFault>
+        ensures { result ≡ weight_of text.now }
+    {
+        let (whole, tail) = text.split_at(point_at(text));
+        if !are_digits(10, whole) {
+            return Err(WeightFault::Syntax);
+        }
+        let number = value_after(0, whole);
+        if tail.is_empty() {
+            return rounded(number, 0);
+        }
+        let (_, fraction) = tail.split_at(1);
+        if !are_digits(18, fraction) {
+            return Err(WeightFault::Syntax);
+        }
+        let number = value_after(number, fraction);
+        rounded(number, fraction.len())
+    }
+
+    /// Writes the weight with five digits after the point, and returns the length of the text.
+    #[tactic(auto, using(crate::proofs::Parts::whole_part_short))]
+    pub fn text(&self, out: &mut [u8; 16]) -> usize
+        ensures fits { result ≤ 16 }
+        ensures text { take result out.new ≡ weight_text self.now }
+    {
+        let parts = (self.units as u64 * 200000 + 65536) / 131072;
+        let mut buffer = Buffer::new();
+        let whole = buffer.format(parts / 100000).as_bytes();
+        let len = whole.len();
+        let fraction = [
+            b'.',
+            48 + (parts / 10000 % 10) as u8,
+            48 + (parts / 1000 % 10) as u8,
+            48 + (parts / 100 % 10) as u8,
+            48 + (parts / 10 % 10) as u8,
+            48 + (parts % 10) as u8,
+        ];
+        prove!(len <= 5);
+        out[..len].copy_from_slice(whole);
+        out[len..len + 6].copy_from_slice(&fraction);
+        len + 6
+    }
+}
+
+/// What any weight prints as is read as the same weight. There is nothing to run: the contract is
+/// the law.
+pub fn printed_is_read_back()
+    ensures { PrintedIsReadBack }
+{}
+
+/// The place of the first point, or the length where there is none.
+fn point_at(text: &[u8]) -> usize
+    ensures place { result ≡ position_or_len is_point text.now }
+    ensures within { result ≤ length text.now }
+{
+    let mut place = 0;
+    while place < text.len() && text[place] != b'.' {
+        place += 1;
+    }
+    place
+}
+
+/// Whether there are only digits.
+fn all_digits(text: &[u8]) -> bool
+    ensures { result ≡ list_all is_ascii_digit text.now }
+{
+    for byte in text {
+        if !byte.is_ascii_digit() {
+            return false;
+        }
+    }
+    true
+}
+
+/// Whether there are 1 to `most` digits and nothing else.
+fn are_digits(most: usize, text: &[u8]) -> bool
+    ensures { result ≡ are_digits most text.now }
+{
+    !text.is_empty() && text.len() <= most && all_digits(text)
+}
+
+/// The number that the digits of `start` and then these write.
+fn value_after(start: u128, digits: &[u8]) -> u128
+    requires digits { list_all is_ascii_digit digits.now ≡ true }
+    requires room { (start + 1) * 10 ^ length digits.now ≤ 10 ^ 28 }
+    ensures value { result ≡ digits_value_after 10 start digits.now }
+    ensures small { result < (start + 1) * 10 ^ length digits.now }
+{
+    let mut number = start;
+    for digit in digits {
+        number = number * 10 + (*digit - 48) as u128;
+    }
+    number
+}
+
+/// Ten to so many places.
+fn ten_to(places: usize) -> u128
+    requires { places ≤ 18 }
+    ensures value { result ≡ 10 ^ places }
+    ensures some { 0 < result }
+    ensures small { result ≤ 10 ^ 18 }
+{
+    let mut power: u128 = 1;
+    for _ in 0..places {
+        power *= 10;
+    }
+    power
+}
+
+/// The units nearest to the number that has so many digits after the point.
+fn rounded(number: u128, places: usize) -> Result<Weight, WeightFault>
+    requires number { number < 10 ^ 28 }
+    requires places { places ≤ 18 }
+    ensures { result ≡ fitting (units_of number places) }
+{
+    let scale = ten_to(places);
+    let units = (number * 131072 + scale) / (2 * scale);
+    if units <= 4294967295 {
+        Ok(Weight {
+            units: units as u32,
+        })
+    } else {
+        Err(WeightFault::TooLarge)
+    }
+}
