@@ -1,0 +1,4 @@
+pub mod Falls
+pub mod Room
+pub mod Seen
+pub mod SeenForest

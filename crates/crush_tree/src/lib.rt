@@ -1,0 +1,11 @@
+//! The hierarchy of a CRUSH map: devices and buckets as boxes that hold one another, in memory of
+//! any allocator.
+#![tactic(auto)]
+
+mod forest;
+mod node;
+mod place;
+
+pub use forest::Forest;
+pub use node::{Bucket, ClassId, Header, Leaf, Node};
+pub use place::Place;
