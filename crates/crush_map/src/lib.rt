@@ -2,6 +2,10 @@
 //! makes, and a builder that makes a map from the statements of its text.
 #![tactic(auto)]
 
+mod edit;
 mod refusal;
+mod setting;
 
+pub use edit::Edit;
 pub use refusal::{Done, EditFault, Refusal};
+pub use setting::{Kind, Setting};

@@ -1,0 +1,151 @@
+-- The state of a builder, the draft at which it is, and the tests that a reader makes before each step.
+use Rattle.std.specs.Prelude.{◌≡◌, ℕ, ◌<◌, ◌≤◌, List, [], ◌∷◌, Option, Some, None, Bool, true, false, ◌==◌, ◌||◌, ◌&&◌, not, if◌then◌else◌, length, bytes_eq, nat_lt, nat_le, refl, is_some, option_and_then}
+use Rattle.std.specs.List.{list_any}
+use Rattle.std.specs.Coded.{Coded, code_by, coded×, coded_ℕ, coded_list}
+use Rattle.crush_units.specs.declared.id.ItemId.{ItemId}
+use Rattle.crush_units.specs.declared.id.ItemId.TheVariants.{Device, Bucket}
+use Rattle.crush_units.specs.Id.{same_id}
+use Rattle.crush_units.specs.Name.{IsName}
+use Rattle.crush_table.specs.Items.{ClassData, coded_class}
+use Rattle.crush_table.specs.Table.{Row, is_there, is_named, is_placed, parent_of, id_named, used_ids, member, device_count, bucket_count}
+use Rattle.crush_table.specs.Rows.{ForestData, coded_forest, rows_of, Stands}
+use Rattle.crush_table.specs.Setting.{KindData, SettingData, coded_setting, Fits}
+use Rattle.crush_map.specs.Built.{Pending, nothing, begun, numbered, filling, Draft}
+
+-- what contracts see of a builder
+pub record BuilderData : Type 0 where
+  pub setting : SettingData
+  pub forest : ForestData
+  pub pending : Pending
+
+-- a pending part is stored as its kind, two numbers, a name and class ids
+abbrev pub Parts : Type 0
+Parts = ℕ × (ℕ × (ℕ × (List ℕ × List ClassData)))
+
+abbrev pub pending_parts : Pending → Parts
+pending_parts nothing = (0, (0, (0, ([], []))))
+pending_parts (begun kind name) = (1, (kind, (0, (name, []))))
+pending_parts (numbered kind name b class_ids) = (2, (kind, (b, (name, class_ids))))
+pending_parts (filling b) = (3, (0, (b, ([], []))))
+
+pub parts_pending : Parts → Pending
+parts_pending p = if p.0 == 0 then nothing else (if p.0 == 1 then begun p.1.0 p.1.1.1.0 else (if p.0 == 2 then numbered p.1.0 p.1.1.1.0 p.1.1.0 p.1.1.1.1 else filling p.1.1.0))
+
+pub parts_pending-pending_parts : (p : Pending) → parts_pending (pending_parts p) ≡ p
+unfolding parts_pending
+parts_pending-pending_parts nothing = refl
+parts_pending-pending_parts (begun kind name) = refl
+parts_pending-pending_parts (numbered kind name b class_ids) = refl
+parts_pending-pending_parts (filling b) = refl
+
+abbrev pub coded_pending : Coded Pending
+coded_pending = code_by Parts (coded× coded_ℕ (coded× coded_ℕ (coded× coded_ℕ (coded× (coded_list coded_ℕ) (coded_list coded_class))))) pending_parts parts_pending parts_pending-pending_parts
+
+abbrev pub coded_builder : Coded BuilderData
+coded_builder = code_by (SettingData × (ForestData × Pending)) (coded× coded_setting (coded× coded_forest coded_pending)) (λ b. (b.setting, (b.forest, b.pending))) (λ p. record { setting = p.0; forest = p.1.0; pending = p.1.1 }) (λ _. refl)
+
+-- a type of buckets that the setting has
+abbrev pub is_bucket_kind : SettingData → ℕ → Bool
+is_bucket_kind s k = nat_lt 0 k && list_any (λ (x : KindData). x.number == k) s.kinds
+
+-- what of a bucket that is not yet in the table can be put there
+pub record CanBegin (s : SettingData) (t : List Row) (kind : ℕ) (name : List ℕ) : Type 0 where
+  pub known : is_bucket_kind s kind ≡ true
+  pub form : IsName name
+  pub free : is_named t name ≡ false
+  pub few : bucket_count t < 4096
+
+pub record CanNumber (t : List Row) (b : ℕ) (class_ids : List ClassData) : Type 0 where
+  pub some : 0 < b
+  pub most : b ≤ 2147483648
+  pub free : member b (used_ids t) ≡ false
+  pub classes : class_ids ≡ []
+
+-- the bucket stands in the table, in no other bucket
+pub record IsRoot (t : List Row) (b : ℕ) : Type 0 where
+  pub there : is_there t (Bucket b) ≡ true
+  pub root : parent_of t (Bucket b) ≡ None
+
+-- the pending part goes with the setting and the table
+abbrev pub IsPending : SettingData → List Row → Pending → Type 0
+IsPending s t nothing = Unit {0}
+IsPending s t (begun kind name) = CanBegin s t kind name
+IsPending s t (numbered kind name b class_ids) = CanBegin s t kind name × CanNumber t b class_ids
+IsPending s t (filling b) = IsRoot t b
+
+-- the builder is at the draft
+pub record IsDraft (b : BuilderData) (d : Draft) : Type 0 where
+  pub setting : b.setting ≡ d.setting
+  pub pending : b.pending ≡ d.pending
+  pub stands : Stands b.forest d.table
+  pub fits : Fits d.setting d.table
+  pub part : IsPending d.setting d.table d.pending
+
+-- its own rows are the table of one such draft
+abbrev pub own_draft : BuilderData → Draft
+own_draft b = record { setting = b.setting; table = rows_of b.forest; pending = b.pending }
+
+-- what each builder keeps beside what its forest keeps
+pub record BuilderFits (b : BuilderData) : Type 0 where
+  pub fits : Fits b.setting (rows_of b.forest)
+  pub part : IsPending b.setting (rows_of b.forest) b.pending
+
+-- THE TESTS
+abbrev pub is_idle : Pending → Bool
+is_idle nothing = true
+is_idle _ = false
+
+abbrev pub is_begun : Pending → Bool
+is_begun (begun kind name) = true
+is_begun _ = false
+
+abbrev pub is_numbered : Pending → Bool
+is_numbered (numbered kind name b class_ids) = true
+is_numbered _ = false
+
+abbrev pub is_filling : Pending → Bool
+is_filling (filling b) = true
+is_filling _ = false
+
+-- whether a name, a bucket's id is that of the pending bucket, and whether an item is the bucket that is being filled
+abbrev pub has_pending_name : Pending → List ℕ → Bool
+has_pending_name (begun kind name) n = bytes_eq name n
+has_pending_name (numbered kind name b class_ids) n = bytes_eq name n
+has_pending_name _ n = false
+
+abbrev pub has_pending_id : Pending → ℕ → Bool
+has_pending_id (numbered kind name b class_ids) k = b == k
+has_pending_id _ k = false
+
+abbrev pub is_open : Pending → ItemId → Bool
+is_open (filling b) i = same_id (Bucket b) i
+is_open _ i = false
+
+abbrev pub has_name : Draft → List ℕ → Bool
+has_name d n = is_named d.table n || has_pending_name d.pending n
+
+abbrev pub has_bucket_id : Draft → ℕ → Bool
+has_bucket_id d k = member k (used_ids d.table) || has_pending_id d.pending k
+
+-- the item of a name, if it is a device or a bucket that was closed
+abbrev pub closed_item : Pending → ItemId → Option ItemId
+closed_item p i = if is_open p i then None else Some i
+
+abbrev pub item_named : Draft → List ℕ → Option ItemId
+item_named d n = option_and_then (closed_item d.pending) (id_named d.table n)
+
+abbrev pub has_kind_number : SettingData → ℕ → Bool
+has_kind_number s k = list_any (λ (x : KindData). x.number == k) s.kinds
+
+abbrev pub has_kind_name : SettingData → List ℕ → Bool
+has_kind_name s n = list_any (λ (x : KindData). bytes_eq x.name n) s.kinds
+
+-- one more would pass a limit
+abbrev pub is_full_of_devices : Draft → Bool
+is_full_of_devices d = nat_le 65536 (device_count d.table)
+
+abbrev pub is_full_of_buckets : Draft → Bool
+is_full_of_buckets d = nat_le 4096 (bucket_count d.table)
+
+abbrev pub is_full_of_kinds : Draft → Bool
+is_full_of_kinds d = nat_le 256 (length d.setting.kinds)

@@ -1,0 +1,88 @@
+-- What a builder makes, statement by statement, of the text of a map.
+use Rattle.std.specs.Prelude.{◌≡◌, ℕ, ◌<◌, ◌≤◌, ◌^◌, List, [], ◌∷◌, ◌++◌, Option, Some, None, Bool, true, false, ◌==◌, ◌||◌, if◌then◌else◌, length, map, filter, bytes_eq, nat_lt, nat_le, refl, is_some}
+use Rattle.std.specs.List.{list_any}
+use Rattle.std.specs.Coded.{Coded, code_by, coded×, coded_ℕ, coded_list}
+use Rattle.crush_units.specs.declared.id.ItemId.{ItemId}
+use Rattle.crush_units.specs.declared.id.ItemId.TheVariants.{Device, Bucket}
+use Rattle.crush_units.specs.declared.alg.Alg.{Alg}
+use Rattle.crush_units.specs.Id.{same_id}
+use Rattle.crush_units.specs.Name.{IsName}
+use Rattle.crush_table.specs.Items.{ClassData, coded_class}
+use Rattle.crush_table.specs.Table.{Row, is_device, is_there, is_named, is_placed, id_named, weight_of, used_ids, member, device_count, bucket_count}
+use Rattle.crush_table.specs.Columns.{without_row}
+use Rattle.crush_table.specs.Rows.{ForestData, coded_forest, rows_of, device_row, bucket_row, Stands}
+use Rattle.crush_table.specs.Setting.{KindData, SettingData, coded_setting, kind_number, kind_name, Fits}
+
+-- what of a bucket was read before it is in the table, and then the bucket that is being filled
+pub data Pending : Type 0 where
+  nothing : Pending
+  begun : ℕ → List ℕ → Pending
+  numbered : ℕ → List ℕ → ℕ → List ClassData → Pending
+  filling : ℕ → Pending
+
+-- what was built so far: setting, table, and the statement in the middle of which the text is
+pub record Draft : Type 0 where
+  pub setting : SettingData
+  pub table : List Row
+  pub pending : Pending
+
+-- THE STEPS
+abbrev pub empty_draft : Draft
+empty_draft = record { setting = record { kinds = [] }; table = []; pending = nothing }
+
+-- a type
+abbrev pub with_kind : Draft → ℕ → List ℕ → Draft
+with_kind d number name = record d { setting = record { kinds = d.setting.kinds ++ record { number = number; name = name } ∷ [] } }
+
+-- a device, for the time being in no bucket
+abbrev pub with_device : Draft → ℕ → List ℕ → Draft
+with_device d id name = record d { table = d.table ++ device_row None (record { id = id; name = name; weight = 0; class = None }) ∷ [] }
+
+-- the first words of a bucket, and its id
+abbrev pub begun_bucket : Draft → ℕ → List ℕ → Draft
+begun_bucket d kind name = record d { pending = begun kind name }
+
+abbrev pub pending_with_id : Pending → ℕ → Pending
+pending_with_id nothing b = nothing
+pending_with_id (begun kind name) b = numbered kind name b []
+pending_with_id (numbered kind name a class_ids) b = numbered kind name a class_ids
+pending_with_id (filling a) b = filling a
+
+abbrev pub with_id : Draft → ℕ → Draft
+with_id d b = record d { pending = pending_with_id d.pending b }
+
+-- its algorithm: now its row stands in the table, as a root
+abbrev pub pending_row : Pending → Alg → List Row
+pending_row nothing alg = []
+pending_row (begun kind name) alg = []
+pending_row (numbered kind name b class_ids) alg = bucket_row None (record { id = b; kind = kind; name = name; alg = alg; class_ids = class_ids }) ∷ []
+pending_row (filling b) alg = []
+
+abbrev pub filled : Pending → Pending
+filled nothing = nothing
+filled (begun kind name) = begun kind name
+filled (numbered kind name b class_ids) = filling b
+filled (filling b) = filling b
+
+abbrev pub with_alg : Draft → Alg → Draft
+with_alg d alg = record d { table = d.table ++ pending_row d.pending alg; pending = filled d.pending }
+
+-- an item of the bucket that is being filled: its row is taken out and put last with its new parent, a device's with its weight
+abbrev pub placed_row : ℕ → ℕ → Row → Row
+placed_row b w r = record r { parent = Some b; weight = if is_device r then w else r.weight }
+
+abbrev pub put_below : ℕ → ItemId → ℕ → List Row → List Row
+put_below b i w t = without_row i t ++ map (placed_row b w) (filter (λ (r : Row). same_id r.id i) t)
+
+abbrev pub table_with_item : Pending → ItemId → ℕ → List Row → List Row
+table_with_item nothing i w t = t
+table_with_item (begun kind name) i w t = t
+table_with_item (numbered kind name b class_ids) i w t = t
+table_with_item (filling b) i w t = put_below b i w t
+
+abbrev pub with_item : Draft → ItemId → ℕ → Draft
+with_item d i w = record d { table = table_with_item d.pending i w d.table }
+
+-- the bucket's closing brace
+abbrev pub ended : Draft → Draft
+ended d = record d { pending = nothing }
