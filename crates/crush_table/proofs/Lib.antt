@@ -1,4 +1,6 @@
+pub mod Changes
 pub mod Found
+pub mod Kept
 pub mod Reorder
 pub mod Same
 pub mod Stands
