@@ -1,4 +1,5 @@
 pub mod Appending
 pub mod Forms
 pub mod Printed
+pub mod PrintedMaps
 pub mod Split

@@ -1,3 +1,5 @@
 pub mod Lexer
+pub mod Lines
+pub mod MapText
 pub mod Words
 pub mod Writes
