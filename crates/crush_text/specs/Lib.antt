@@ -1,3 +1,5 @@
+pub mod Document
+pub mod Fault
 pub mod Lexer
 pub mod Lines
 pub mod MapText

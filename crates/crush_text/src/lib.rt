@@ -1,9 +1,11 @@
 //! The text of a CRUSH map: its words, its reader and its printer.
 #![tactic(auto)]
 
+mod fault;
 mod words;
 mod write;
 
+pub use fault::{TextFault, TextFaultKind};
 pub use words::{Reader, Token};
 pub use write::{WriteFault, put, put_all};
 

@@ -1,0 +1,138 @@
+//! What is wrong with the text of a map, and where.
+
+ghost use Rattle.std.specs.Prelude.{◌≡◌};
+ghost use Rattle.crush_text.specs.Fault.{fault_name, fault_number};
+
+use thiserror::Error;
+
+/// What is wrong at a place of a text. Where several hold, the one of least number is told.
+#[derive(Clone, Copy, Debug, PartialEq, Eq, Error)]
+pub enum TextFaultKind {
+    /// A byte that no text may have, or the first byte of a word of more than 255.
+    #[error("BadWord")]
+    BadWord,
+    /// The text ends inside a statement.
+    #[error("Ended")]
+    Ended,
+    /// A word or a brace that the grammar doesn't have there.
+    #[error("Unexpected")]
+    Unexpected,
+    /// No number of the form or the range that is due there.
+    #[error("BadNumber")]
+    BadNumber,
+    /// No weight, one above 4294967295 units, or above 2147483647 units for a device.
+    #[error("BadWeight")]
+    BadWeight,
+    /// A number or an id that an earlier line has.
+    #[error("DuplicateId")]
+    DuplicateId,
+    /// A name or a class that an earlier line has.
+    #[error("DuplicateName")]
+    DuplicateName,
+    /// The name of no type, or of type 0 as that of a bucket's type.
+    #[error("UnknownType")]
+    UnknownType,
+    /// The name of no device and of no bucket that was closed before.
+    #[error("UnknownItem")]
+    UnknownItem,
+    /// An item that a bucket holds already.
+    #[error("SecondParent")]
+    SecondParent,
+    /// Another algorithm than `straw`, `straw2` and `list`.
+    #[error("OtherAlgorithm")]
+    OtherAlgorithm,
+    /// A part of Ceph's grammar that isn't read here.
+    #[error("LeftOut")]
+    LeftOut,
+    /// A rule that takes what is no bucket.
+    #[error("UnknownBucketInRule")]
+    UnknownBucketInRule,
+    /// One more than a limit allows.
+    #[error("TooMany")]
+    TooMany,
+    /// An item with which a bucket's sum or the total is out of range.
+    #[error("SumTooLarge")]
+    SumTooLarge,
+    /// A growth was refused.
+    #[error("OutOfMemory")]
+    OutOfMemory,
+}
+
+/// What is wrong with a text, and the place of the byte or of the word's first byte, counted from 0.
+#[derive(Clone, Copy, Debug, PartialEq, Eq, Error)]
+#[error("byte {place}: {kind}")]
+pub struct TextFault {
+    /// What is wrong.
+    pub kind: TextFaultKind,
+    /// Where: a place in the text, or its length.
+    pub place: usize,
+}
+
+impl TextFaultKind {
+    /// The fault's name, as it is written above.
+    pub fn name(self) -> &'static str
+        ensures { result.now ≡ fault_name self }
+    {
+        match self {
+            TextFaultKind::BadWord => "BadWord",
+            TextFaultKind::Ended => "Ended",
+            TextFaultKind::Unexpected => "Unexpected",
+            TextFaultKind::BadNumber => "BadNumber",
+            TextFaultKind::BadWeight => "BadWeight",
+            TextFaultKind::DuplicateId => "DuplicateId",
+            TextFaultKind::DuplicateName => "DuplicateName",
+            TextFaultKind::UnknownType => "UnknownType",
+            TextFaultKind::UnknownItem => "UnknownItem",
+            TextFaultKind::SecondParent => "SecondParent",
+            TextFaultKind::OtherAlgorithm => "OtherAlgorithm",
+            TextFaultKind::LeftOut => "LeftOut",
+            TextFaultKind::UnknownBucketInRule => "UnknownBucketInRule",
+            TextFaultKind::TooMany => "TooMany",
+            TextFaultKind::SumTooLarge => "SumTooLarge",
+            TextFaultKind::OutOfMemory => "OutOfMemory",
+        }
+    }
+
+    /// The fault's number, from 1 to 16.
+    pub fn number(self) -> u8
+        ensures { result ≡ fault_number self }
+    {
+        match self {
+            TextFaultKind::BadWord => 1,
+            TextFaultKind::Ended => 2,
+            TextFaultKind::Unexpected => 3,
+            TextFaultKind::BadNumber => 4,
+            TextFaultKind::BadWeight => 5,
+            TextFaultKind::DuplicateId => 6,
+            TextFaultKind::DuplicateName => 7,
+            TextFaultKind::UnknownType => 8,
+            TextFaultKind::UnknownItem => 9,
+            TextFaultKind::SecondParent => 10,
+            TextFaultKind::OtherAlgorithm => 11,
+            TextFaultKind::LeftOut => 12,
+            TextFaultKind::UnknownBucketInRule => 13,
+            TextFaultKind::TooMany => 14,
+            TextFaultKind::SumTooLarge => 15,
+            TextFaultKind::OutOfMemory => 16,
+        }
+    }
+}
+
+#[cfg(test)]
+mod tests {
+    use super::*;
+    use std::test::Fail;
+
+    #[test]
+    fn faults_are_told(rt: HostRuntime) -> Result<(), Fail> {
+        let fault = TextFault {
+            kind: TextFaultKind::LeftOut,
+            place: 7,
+        };
+        let told = format!(in rt.alloc(); "{fault}")?;
+        assert!(rt; told.as_str() == "byte 7: LeftOut");
+        assert!(rt; fault.kind.name() == "LeftOut");
+        assert!(rt; fault.kind.number() == 12);
+        Ok(())
+    }
+}
