@@ -57,7 +57,7 @@ pub enum ItemId {
 /// see that number.
 #[derive(Clone, Copy, Debug, PartialEq, Eq)]
 pub struct TypeId {
-    raw: u16,
+    kind: u16,
 }
 
 impl Model for TypeId {
@@ -65,9 +65,9 @@ impl Model for TypeId {
 
     ghost Value = { ℕ };
 
-    ghost view = { λ t. t.raw };
+    ghost view = { λ t. t.kind };
 
-    ghost inverse = { λ n. record { raw = n } };
+    ghost inverse = { λ n. record { kind = n } };
 }
 
 impl DeviceId {
@@ -179,7 +179,7 @@ impl TypeId {
     pub fn new(number: u16) -> TypeId
         ensures { result ≡ number }
     {
-        TypeId { raw: number }
+        TypeId { kind: number }
     }
 
     /// The type's number.
@@ -187,6 +187,6 @@ impl TypeId {
         ensures value { result ≡ self }
         ensures range { self < 2 ^ 16 }
     {
-        self.raw
+        self.kind
     }
 }
