@@ -21,6 +21,7 @@ same_id_equal (Bucket m) (Device n) e = absurd cc
 pub equal_same_id : (a b : ItemId) → a ≡ b → same_id a b ≡ true
 equal_same_id a b e = sym (ap (same_id a) e) ∙ same_id_refl a
 
+-- a test comes out one way or the other
 true_or_false : (v : Bool) → (v ≡ true) ⊎ (v ≡ false)
 true_or_false true = inl refl
 true_or_false false = inr refl
