@@ -2,9 +2,12 @@
 //! any allocator.
 #![tactic(auto)]
 
+mod child;
 mod forest;
 mod node;
 mod place;
+mod sums;
+mod weights;
 
 pub use forest::Forest;
 pub use node::{Bucket, ClassId, Header, Leaf, Node};
