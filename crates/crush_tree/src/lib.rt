@@ -3,6 +3,7 @@
 #![tactic(auto)]
 
 mod child;
+mod edits;
 mod forest;
 mod node;
 mod place;
