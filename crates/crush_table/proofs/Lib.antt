@@ -1,4 +1,5 @@
 pub mod Changes
+pub mod Climbs
 pub mod Found
 pub mod Kept
 pub mod Reorder
