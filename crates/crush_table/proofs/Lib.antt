@@ -2,6 +2,7 @@ pub mod Changes
 pub mod Climbs
 pub mod Found
 pub mod Kept
+pub mod KidSums
 pub mod Reorder
 pub mod Same
 pub mod Stands
