@@ -1,5 +1,6 @@
 pub mod Changes
 pub mod Climbs
+pub mod Columns
 pub mod Found
 pub mod Kept
 pub mod KidSums
@@ -7,4 +8,5 @@ pub mod Reorder
 pub mod Same
 pub mod Stands
 pub mod Sums
+pub mod Weighs
 pub mod Worked
