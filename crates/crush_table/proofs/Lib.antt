@@ -4,6 +4,7 @@ pub mod Columns
 pub mod Found
 pub mod Kept
 pub mod KidSums
+pub mod Removed
 pub mod Reorder
 pub mod Same
 pub mod Stands
