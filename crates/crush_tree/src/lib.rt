@@ -4,6 +4,7 @@
 
 mod child;
 mod edits;
+mod fit;
 mod forest;
 mod node;
 mod place;
