@@ -5,6 +5,7 @@ pub mod Columns
 pub mod Found
 pub mod Kept
 pub mod KidSums
+pub mod Moved
 pub mod Removed
 pub mod Reorder
 pub mod Same
