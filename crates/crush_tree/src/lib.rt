@@ -8,9 +8,12 @@ mod fit;
 mod forest;
 mod node;
 mod place;
+mod search;
 mod sums;
+mod view;
 mod weights;
 
 pub use forest::Forest;
 pub use node::{Bucket, ClassId, Header, Leaf, Node};
 pub use place::Place;
+pub use view::{Counts, View};
