@@ -1,11 +1,11 @@
 -- A table stays lawful where a row without parent comes.
-use Rattle.std.proofs.Common.{◌≡◌, ℕ, zero, suc, ◌+◌, ◌<◌, ◌≤◌, Bool, true, false, List, [], ◌∷◌, ◌++◌, length, ap, sym, subst, ◌∙◌, refl, arith, append-nil, length-append, ⊎_elim}
-use Rattle.std.specs.Prelude.{◌==◌, ◌||◌, not, if◌then◌else◌, Option, Some, None, IfSome, All, map, is_some, option_and_then, bytes_eq, nat_lt}
+use Rattle.std.proofs.Common.{◌≡◌, ℕ, zero, suc, ◌+◌, ◌≤◌, Bool, true, false, List, [], ◌∷◌, ◌++◌, length, ap, sym, subst, ◌∙◌, refl, arith, length-append, ⊎_elim}
+use Rattle.std.specs.Prelude.{◌==◌, if◌then◌else◌, Option, Some, None, IfSome, map, is_some, option_and_then, bytes_eq, nat_lt}
 use Rattle.std.specs.List.{sum_by, count_by}
 use Rattle.std.specs.Option.{option_map}
 use Rattle.std.proofs.lemmas.Bool.{ltb-false}
 use Rattle.std.proofs.lemmas.Slice.Eq.{bytes_eq-Decides}
-use Rattle.std.proofs.lemmas.List.Sums.{sum_by-cons, sum_by-append, sum_by_push, sum_by-le-sum_by}
+use Rattle.std.proofs.lemmas.List.Sums.{sum_by-cons, sum_by_push, sum_by-le-sum_by}
 use Rattle.std.proofs.lemmas.Bool.Decides.{eqb_tells}
 use Rattle.std.proofs.lemmas.List.Elements.{All-weaker, All-push}
 use Rattle.crush_units.specs.declared.id.ItemId.{ItemId}
@@ -13,10 +13,10 @@ use Rattle.crush_units.specs.declared.id.ItemId.TheVariants.{Device, Bucket}
 use Rattle.crush_units.specs.Id.{same_id}
 use Rattle.crush_units.proofs.Ids.{same_id_tells}
 use Rattle.crush_table.specs.Items.{ClassData}
-use Rattle.crush_table.specs.Table.{Row, is_device, is_bucket, row_of, row_named, is_there, is_named, parent_of, then_up, climb, above, member, is_below, sum_below, total, device_count, bucket_count, bucket_number, used_ids}
+use Rattle.crush_table.specs.Table.{Row, row_of, row_named, is_there, is_named, parent_of, then_up, climb, above, member, is_below, sum_below, total, device_count, bucket_count, bucket_number, used_ids}
 use Rattle.crush_table.specs.Lawful.{IsRow, IsRowOf, HasParent, Lawful, has_too_many}
 use Rattle.crush_table.proofs.Reorder.{hit}
-use Rattle.crush_table.proofs.Found.{Distinct, times, times-absent, is_there-times}
+use Rattle.crush_table.proofs.Found.{times, times-absent, is_there-times}
 use Rattle.crush_table.proofs.Same.{uses, times_used, times_used-rows, climb-agree, member-count}
 use Rattle.crush_table.proofs.Climbs.{climb-above}
 use Rattle.crush_table.proofs.Weighs.{or_left, or_right, true_or_false}
@@ -71,7 +71,7 @@ module _ (t : List Row) (l : Lawful t) (r : Row) (root : r.parent ≡ None) (fre
 
   pub sum_below-push : (b : ℕ) → sum_below (t ++ r ∷ []) b ≡ sum_below t b
   sum_below-push b =
-      let same : (λ (x : Row). if is_below (t ++ r ∷ []) b x.id then x.weight else 0) ≡ (λ (x : Row). if is_below t b x.id then x.weight else 0) = λ k x. if is_below-push b x.id k then x.weight else 0 in
+      let same : ◌≡◌ {A = Row → ℕ} (λ x. if is_below (t ++ r ∷ []) b x.id then x.weight else 0) (λ x. if is_below t b x.id then x.weight else 0) = λ k x. if is_below-push b x.id k then x.weight else 0 in
       let none_here : (if is_below t b r.id then r.weight else 0) ≡ 0 = ap (λ xs. if member b xs then r.weight else 0) (sym (above-push r.id) ∙ root_climbs) in
       ap (λ f. sum_by f (t ++ r ∷ [])) same ∙ sum_by_push (λ (x : Row). if is_below t b x.id then x.weight else 0) t r ∙ omega (arith, none_here)
 

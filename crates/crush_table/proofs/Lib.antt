@@ -6,6 +6,7 @@ pub mod Found
 pub mod Kept
 pub mod KidSums
 pub mod Moved
+pub mod Relocated
 pub mod Removed
 pub mod Reorder
 pub mod Same

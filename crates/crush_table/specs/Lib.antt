@@ -1,5 +1,6 @@
 pub mod Columns
 pub mod Items
+pub mod Law
 pub mod Lawful
 pub mod Reordered
 pub mod Rows

@@ -1,0 +1,62 @@
+-- Laws of the table, each for every lawful table.
+use Rattle.std.specs.Prelude.{◌≡◌, ℕ, ◌≤◌, List, [], ◌∷◌, ◌++◌, Option, Some, None, IfSome, true, false, length, unwrap_or}
+use Rattle.std.specs.List.{sum_by}
+use Rattle.crush_units.specs.declared.id.ItemId.{ItemId}
+use Rattle.crush_units.specs.declared.id.ItemId.TheVariants.{Device, Bucket}
+use Rattle.crush_table.specs.Items.{Items, none, device, bucket}
+use Rattle.crush_table.specs.Table.{Row, row_of, climb, above, kids, sum_below, weight_of, is_there, is_named, is_placed, member, used_ids}
+use Rattle.crush_table.specs.Same.{Same}
+use Rattle.crush_table.specs.Lawful.{IsRow, Lawful, is_too_heavy, has_too_many}
+use Rattle.crush_table.specs.Columns.{set_weight, is_part, table_without, part, without_row}
+use Rattle.crush_table.specs.Rows.{ForestData, IsSound, Stands, rows, rows_of}
+
+-- what a bucket weighs, as the sum over all devices that climb to it, is the sum of the weights of its items
+abbrev pub SumsItems : List Row → Type 0
+SumsItems t = (b : ℕ) → sum_below t b ≡ sum_by (λ i. unwrap_or (weight_of t i) 0) (kids t b)
+
+-- to climb more often than there are rows leads no further
+abbrev pub ClimbEnds : List Row → Type 0
+ClimbEnds t = (n : ℕ) (i : ItemId) → length t ≤ n → climb t n i ≡ above t i
+
+-- a change makes the same of tables that are the same
+abbrev pub KeepsSame : (List Row → List Row) → Type 0
+KeepsSame change = (t u : List Row) → Lawful t → Same t u → Same (change t) (change u)
+
+-- a change leaves a lawful table lawful
+abbrev pub KeepsLawful : (List Row → List Row) → Type 0
+KeepsLawful change = (t : List Row) → Lawful t → Lawful (change t)
+
+-- a new weight of a placed device, where the sums stay in range
+abbrev pub WeightKeepsLawful : Type 0
+WeightKeepsLawful = (t : List Row) (d w : ℕ) → Lawful t → is_placed t (Device d) ≡ true → w ≤ 2147483647 → is_too_heavy (set_weight (Device d) w t) ≡ false → Lawful (set_weight (Device d) w t)
+
+-- a row that is taken out and put last with a bucket as parent that is there and neither the item nor below it, where the sums stay in range
+abbrev pub MoveKeepsLawful : Type 0
+MoveKeepsLawful = (t : List Row) (i : ItemId) (b w : ℕ) (r : Row) → Lawful t → row_of t i ≡ Some r → is_there t (Bucket b) ≡ true → is_part t i (Bucket b) ≡ false → IsRow (record r { parent = Some b; weight = w })
+    → is_too_heavy (without_row i t ++ record r { parent = Some b; weight = w } ∷ []) ≡ false → Lawful (without_row i t ++ record r { parent = Some b; weight = w } ∷ [])
+
+-- an unplaced device, and an empty bucket without parent and class ids, with a fresh id and name, where there is room
+abbrev pub DeviceKeepsLawful : Type 0
+DeviceKeepsLawful = (t : List Row) (d : ℕ) (r : Row) → r.id ≡ Device d → Lawful t → IsRow r → r.parent ≡ None → is_there t (Device d) ≡ false → is_named t r.name ≡ false → has_too_many (t ++ r ∷ []) ≡ false → Lawful (t ++ r ∷ [])
+
+abbrev pub BucketKeepsLawful : Type 0
+BucketKeepsLawful = (t : List Row) (b : ℕ) (r : Row) → r.id ≡ Bucket b → r.class_ids ≡ [] → Lawful t → IsRow r → r.parent ≡ None → member b (used_ids t) ≡ false → is_named t r.name ≡ false → has_too_many (t ++ r ∷ []) ≡ false → Lawful (t ++ r ∷ [])
+
+-- the tables for which a forest stands: its own rows, and with one all that are the same and no others
+abbrev pub StandsForOne : ForestData → Type 0
+StandsForOne f = (IsSound f → Stands f (rows_of f)) × ((t u : List Row) → Stands f t → Stands f u → Same t u) × ((t u : List Row) → Same t u → Stands f t → Stands f u)
+
+-- one item, with what is below it
+abbrev pub IsOne : Items → Type 0
+IsOne none = ⊥
+IsOne (device d none) = Unit {0}
+IsOne (device d (device e rest)) = ⊥
+IsOne (device d (bucket h w m kids rest)) = ⊥
+IsOne (bucket h w m kids none) = Unit {0}
+IsOne (bucket h w m kids (device e rest)) = ⊥
+IsOne (bucket h w m kids (bucket g v n more rest)) = ⊥
+
+-- an item that is taken out and put elsewhere with what is below it: of the table one row is taken out and put last with the new parent
+abbrev pub Relocates : List Row → Type 0
+Relocates t = (i : ItemId) (p : Option ℕ) (n : Items) (r : Row) → row_of t i ≡ Some r → IsOne n → Same (rows None n) (part i t) → IfSome p (λ b. is_part t i (Bucket b) ≡ false)
+    → Same (table_without i t ++ rows p n) (without_row i t ++ record r { parent = p } ∷ [])

@@ -1,0 +1,49 @@
+//! Laws of the table, as contracts of functions that do nothing.
+
+ghost use Rattle.std.specs.Prelude.{◌≡◌, ℕ, List, ◌++◌};
+ghost use Rattle.crush_units.specs.declared.id.ItemId.{ItemId};
+ghost use Rattle.crush_table.specs.Columns.{set_weight, set_subtree, set_name, table_without, part, without_row, exchange_parents};
+ghost use Rattle.crush_table.specs.Law.{SumsItems, ClimbEnds, KeepsSame, KeepsLawful, WeightKeepsLawful, MoveKeepsLawful, DeviceKeepsLawful, BucketKeepsLawful, StandsForOne, Relocates};
+ghost use Rattle.crush_table.specs.Lawful.{Lawful};
+ghost use Rattle.crush_table.specs.Rows.{ForestData};
+ghost use Rattle.crush_table.specs.Table.{Row};
+
+/// A bucket weighs what its items weigh in all, and what is above an item ends.
+pub fn sums_are_those_of_items()
+    ensures sums { (t : List Row) → Lawful t → SumsItems t }
+    ensures ends { (t : List Row) → Lawful t → ClimbEnds t }
+{}
+
+/// Each change of a table makes the same of tables that are the same, whatever the order of their
+/// rows.
+pub fn changes_keep_same()
+    ensures weight { (i : ItemId) (w : ℕ) → KeepsSame (set_weight i w) }
+    ensures subtree { (b w : ℕ) → KeepsSame (set_subtree b w) }
+    ensures name { (i : ItemId) (n : List ℕ) → KeepsSame (set_name i n) }
+    ensures rows { (rows : List Row) → KeepsSame (λ t. t ++ rows) }
+    ensures without { (i : ItemId) → KeepsSame (table_without i) }
+    ensures row { (i : ItemId) → KeepsSame (without_row i) }
+    ensures part { (i : ItemId) → KeepsSame (part i) }
+    ensures parents { (a b : ℕ) → KeepsSame (exchange_parents a b) }
+{}
+
+/// The tables for which a forest stands are the same, and all that are the same as one of them.
+pub fn stands_for_one_table()
+    ensures { (f : ForestData) → StandsForOne f }
+{}
+
+/// What leaves a table lawful: that an item goes with what is below it; where the sums stay in
+/// range a new weight of a placed device, and a row that gets a bucket as its parent that isn't
+/// below it; where there is room a row without parent with a fresh id and name.
+pub fn changes_keep_lawful()
+    ensures without { (i : ItemId) → KeepsLawful (table_without i) }
+    ensures weight { WeightKeepsLawful }
+    ensures parent { MoveKeepsLawful }
+    ensures device { DeviceKeepsLawful }
+    ensures bucket { BucketKeepsLawful }
+{}
+
+/// An item that is taken out and put elsewhere is one row that gets another parent and comes last.
+pub fn moves_are_of_one_row()
+    ensures { (t : List Row) → Lawful t → Relocates t }
+{}
