@@ -2,6 +2,7 @@
 //! any allocator.
 #![tactic(auto)]
 
+mod attach;
 mod child;
 mod edits;
 mod fit;
