@@ -1,0 +1,86 @@
+-- A job has at most 65,536 calls.
+use Rattle.std.proofs.Common.{◌≡◌, ℕ, ◌+◌, ◌<◌, ◌≤◌, Bool, true, false, cond, List, [], ◌∷◌, ◌++◌, Result, Ok, Err, length, nat_le, refl, ap, sym, subst, ◌∙◌, arith, rules, tests, length-append}
+use Rattle.std.specs.Prelude.{IfOk}
+use Rattle.std.specs.List.{sum_by}
+use Rattle.std.proofs.lemmas.List.Sums.{sum_by-append, sum_by-cons}
+use Rattle.crush_script.specs.declared.call.Call.{Call}
+use Rattle.crush_script.specs.declared.call.Call.TheVariants.{One}
+use Rattle.crush_script.specs.declared.command.Command.{Command}
+use Rattle.crush_script.specs.declared.command.Command.TheVariants.{Nothing, Edit}
+use Rattle.crush_script.specs.declared.command.LineFault.{LineFault}
+use Rattle.crush_script.specs.declared.fault.JobFault.{JobFault}
+use Rattle.crush_script.specs.Command.{◌>>=◌, command, operator}
+use Rattle.crush_script.specs.Lines.{words, begins_section}
+use Rattle.crush_script.specs.Sections.{ScriptData, SectionsData, no_sections, call_count, call_in_last, in_line, with_section, with_call, with_command, with_line, with_lines}
+
+-- the calls are counted, and they are few
+record IsFew (s : SectionsData) : Type 0 where
+  counted : call_count s.scripts ≤ s.calls
+  few : s.calls ≤ 65536
+
+-- a fact that holds after each step holds after the next one too
+bind-if_ok : {A B F : Type 0} (r : Result A F) (f : A → Result B F) (P : B → Type 0) → ((x : A) → IfOk (f x) P) → IfOk (r >>= f) P
+bind-if_ok (Ok x) f P h = h x
+bind-if_ok (Err e) f P h = tt
+
+bind-if_ok_at : {A B F : Type 0} (r : Result A F) (f : A → Result B F) (P : B → Type 0) (Q : A → Type 0) → IfOk r Q → ((x : A) → Q x → IfOk (f x) P) → IfOk (r >>= f) P
+bind-if_ok_at (Ok x) f P Q q h = h x q
+bind-if_ok_at (Err e) f P Q q h = tt
+
+-- the last script has one more call, if there is one
+call_count-call_in_last : (c : Call) (scripts : List ScriptData) → call_count (call_in_last c scripts) ≤ call_count scripts + 1
+call_count-call_in_last c [] = omega arith
+call_count-call_in_last c (s ∷ []) = omega (arith, length-append s.calls (c ∷ []))
+call_count-call_in_last c (s ∷ r ∷ rest) =
+    let below : call_count (call_in_last c (r ∷ rest)) ≤ call_count (r ∷ rest) + 1 = call_count-call_in_last c (r ∷ rest) in
+    let new : call_count (call_in_last c (s ∷ r ∷ rest)) ≡ length s.calls + call_count (call_in_last c (r ∷ rest)) = sum_by-cons (λ (x : ScriptData). length x.calls) s (call_in_last c (r ∷ rest)) in
+    let old : call_count (s ∷ r ∷ rest) ≡ length s.calls + call_count (r ∷ rest) = sum_by-cons (λ (x : ScriptData). length x.calls) s (r ∷ rest) in
+    omega (arith, below, new, old)
+
+section_few : (number : ℕ) (s : SectionsData) (name : List ℕ) → IsFew s → IfOk (with_section number s name) IsFew
+section_few number s name few =
+    let new : ScriptData = record { name = name; calls = [] } in
+    let same : call_count (s.scripts ++ new ∷ []) ≡ call_count s.scripts + 0 = sum_by-append (λ (x : ScriptData). length x.calls) s.scripts (new ∷ []) in
+    if_few _ _ (nat_le 1 (length s.scripts)) (record { counted = omega (arith, same, few.counted); few = few.few })
+  where
+    if_few : (e : JobFault) (r : SectionsData) (b : Bool) → IsFew r → IfOk (cond b (Err e) (Ok r)) IsFew
+    if_few e r true h = tt
+    if_few e r false h = h
+
+call_few : (number : ℕ) (s : SectionsData) (c : Call) → IsFew s → IfOk (with_call number s c) IsFew
+call_few number s c few = at (nat_le 65536 s.calls) refl
+  where
+    at : (b : Bool) → nat_le 65536 s.calls ≡ b → IfOk (with_call number s c) IsFew
+    at true e = rw e tt
+    at false e =
+        let less : s.calls < 65536 = search (rules, tests) in
+        rw e (record { counted = omega (arith, call_count-call_in_last c s.scripts, few.counted); few = omega arith })
+
+command_few : (number : ℕ) (s : SectionsData) (c : Command) → IsFew s → IfOk (with_command number s c) IsFew
+command_few number s Nothing few = few
+command_few number s (Edit e) few = call_few number s (One e) few
+
+line_few : (number : ℕ) (s : SectionsData) (text : List ℕ) → IsFew s → IfOk (with_line number s text) IsFew
+unfolding with_line
+line_few number s text few =
+    at _ _ (begins_section text) (bind-if_ok (in_line number (operator (words text))) (λ name. with_section number s name) IsFew (λ name. section_few number s name few))
+    (bind-if_ok (in_line number (command (words text))) (λ c. with_command number s c) IsFew (λ c. command_few number s c few))
+  where
+    at : (r q : Result SectionsData JobFault) (b : Bool) → IfOk r IsFew → IfOk q IsFew → IfOk (cond b r q) IsFew
+    at r q true h k = h
+    at r q false h k = k
+
+lines_few : (number : ℕ) (s : SectionsData) (lines : List (List ℕ)) → IsFew s → IfOk (with_lines number s lines) IsFew
+unfolding with_lines
+lines_few number s [] few = few
+lines_few number s (text ∷ rest) few =
+    bind-if_ok_at (with_line number s text) (λ next. with_lines (number + 1) next rest) IsFew IsFew (line_few number s text few) (λ next h. lines_few (number + 1) next rest h)
+
+if_ok-at : {A F : Type 0} (r : Result A F) (x : A) (P : A → Type 0) → r ≡ Ok x → IfOk r P → P x
+if_ok-at r x P e h = subst (λ q. IfOk q P) e h
+
+-- however the lines of a job go on, its scripts have few calls
+pub calls_few : (number : ℕ) (lines : List (List ℕ)) (s : SectionsData) → with_lines number no_sections lines ≡ Ok s → call_count s.scripts ≤ 65536
+calls_few number lines s is =
+    let few : IsFew s = if_ok-at (with_lines number no_sections lines) s IsFew is (lines_few number no_sections lines (record { counted = omega arith; few = omega arith })) in
+    omega (arith, few.counted, few.few)

@@ -1,0 +1,25 @@
+-- What reading lines leaves, unless memory lacks.
+use Rattle.std.specs.Prelude.{◌≡◌, ℕ, Result, Ok, Err}
+use Rattle.crush_script.specs.declared.fault.JobFault.{JobFault}
+use Rattle.crush_script.specs.declared.fault.JobFault.TheVariants.{BadLine, NoSuchCommand, TooManyOperators, Text, OutOfMemory, TooLong, TooManyCalls}
+use Rattle.crush_script.specs.declared.sections.Sections.{Sections}
+use Rattle.crush_script.specs.Sections.{SectionsData, sections_data}
+
+-- the fault is that of the definition, or want of memory
+abbrev pub Fails : JobFault → Result SectionsData JobFault → Type 0
+Fails (BadLine number) given = given ≡ Err (BadLine number)
+Fails (NoSuchCommand number) given = given ≡ Err (NoSuchCommand number)
+Fails (TooManyOperators number) given = given ≡ Err (TooManyOperators number)
+Fails (TooManyCalls number) given = given ≡ Err (TooManyCalls number)
+Fails (Text fault) given = ⊥
+Fails OutOfMemory given = Unit {0}
+Fails TooLong given = ⊥
+
+-- these are the sections that the definition gives
+abbrev pub Steps : {X : Type 0} → Result X JobFault → SectionsData → Result SectionsData JobFault → Type 0
+Steps (Ok x) new given = given ≡ Ok new
+Steps (Err fault) new given = Fails fault given
+
+abbrev pub GivesSections : Result Sections JobFault → Result SectionsData JobFault → Type 0
+GivesSections (Ok s) given = given ≡ Ok (sections_data s)
+GivesSections (Err fault) given = Fails fault given

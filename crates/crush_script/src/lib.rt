@@ -1,0 +1,17 @@
+//! Scripts of edits: calls and replies, jobs and the lines of a history.
+#![tactic(auto)]
+
+mod call;
+mod command;
+mod fault;
+mod history;
+mod line;
+mod sections;
+
+pub use call::{Call, Reply};
+pub use fault::JobFault;
+pub use history::write_entry;
+pub use sections::Script;
+
+#[cfg(test)]
+mod tests;

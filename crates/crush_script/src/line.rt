@@ -1,0 +1,145 @@
+//! The lines of a job, and the words of a line in a section.
+
+ghost use Rattle.std.specs.Prelude.{◌≡◌, ◌≤◌, ◌<◌, ◌==◌, ◌∷◌, [], true, count_by, length, not, MatchOption};
+ghost use Rattle.std.specs.List.{position_or_len};
+ghost use Rattle.crush_script.specs.Lines.{lines, length_to_section, without_return, words, words_in, is_blank, begins_section};
+
+use std::marker::Model;
+
+/// How many bytes stand before the first line that begins with `%`.
+pub fn length_to_section(job: &[u8]) -> usize
+    ensures length { result ≡ length_to_section true job.now }
+    ensures within { result ≤ length job.now }
+{
+    let mut starts = true;
+    for (place, byte) in job.iter().enumerate() {
+        if starts && *byte == b'%' {
+            return place;
+        }
+        starts = *byte == b'\n';
+    }
+    job.len()
+}
+
+/// How many line feeds a text has.
+pub fn line_feeds(text: &[u8]) -> usize
+    ensures count { result ≡ count_by (λ b. b == 10) text.now }
+    ensures within { result ≤ length text.now }
+{
+    text.iter().filter(|byte| **byte == b'\n').count()
+}
+
+/// The place of the first such byte, or the length where there is none.
+fn place_of(byte: u8, text: &[u8]) -> usize
+    ensures place { result ≡ position_or_len (λ b. b == byte) text.now }
+    ensures within { result ≤ length text.now }
+{
+    for (place, other) in text.iter().enumerate() {
+        if *other == byte {
+            return place;
+        }
+    }
+    text.len()
+}
+
+/// The first line of a text, and what stands behind its line feed.
+pub fn cut_line(text: &[u8]) -> (&[u8], &[u8])
+    requires { 0 < length text.now }
+    ensures cut { lines text.now ≡ result.0.now ∷ lines result.1.now }
+    ensures shorter { length result.1.now < length text.now }
+{
+    let (line, rest) = text.split_at(place_of(b'\n', text));
+    match rest {
+        [] => (line, rest),
+        [_, rest @ ..] => (line, rest),
+    }
+}
+
+/// Whether a line begins a section.
+pub fn begins_section(line: &[u8]) -> bool
+    ensures { result ≡ begins_section line.now }
+{
+    matches!(line, [b'%', ..])
+}
+
+/// The line without the carriage return at its end.
+fn without_return(line: &[u8]) -> &[u8]
+    ensures { result.now ≡ without_return line.now }
+{
+    match line {
+        [front @ .., b'\r'] => front,
+        _ => line,
+    }
+}
+
+fn is_blank(byte: u8) -> bool
+    ensures { result ≡ is_blank byte }
+{
+    byte == b' ' || byte == b'\t'
+}
+
+/// The place of the first blank, or the length where there is none.
+fn blank_at(text: &[u8]) -> usize
+    ensures place { result ≡ position_or_len is_blank text.now }
+    ensures within { result ≤ length text.now }
+{
+    for (place, byte) in text.iter().enumerate() {
+        if is_blank(*byte) {
+            return place;
+        }
+    }
+    text.len()
+}
+
+/// The place of the first byte that is no blank, or the length where there is none.
+fn word_at(text: &[u8]) -> usize
+    ensures place { result ≡ position_or_len (λ b. not (is_blank b)) text.now }
+    ensures within { result ≤ length text.now }
+{
+    for (place, byte) in text.iter().enumerate() {
+        if !is_blank(*byte) {
+            return place;
+        }
+    }
+    text.len()
+}
+
+/// The words of a line that are left to read. Contracts see them as a list.
+#[derive(Drop)]
+pub struct Words<'a> {
+    text: &'a [u8],
+}
+
+impl<'a> Model for Words<'a> {
+    ghost use Rattle.std.specs.Prelude.{List, ℕ};
+
+    ghost Value = { List (List ℕ) };
+
+    ghost use Rattle.crush_script.specs.Lines.{words_in};
+
+    ghost view = { λ w. words_in w.text.now };
+}
+
+impl<'a> Words<'a> {
+    /// All words of a line. `#` begins a comment, wherever it stands.
+    pub fn of_line(line: &'a [u8]) -> Words<'a>
+        ensures { result ≡ words line.now }
+    {
+        let line = without_return(line);
+        let (text, _) = line.split_at(place_of(b'#', line));
+        Words { text }
+    }
+
+    /// Takes the next word.
+    pub fn next(&mut self) -> Option<&'a [u8]>
+        ensures { MatchOption result (self.old ≡ []) (λ word. self.old ≡ word.now ∷ self.new) }
+    {
+        let (_, rest) = self.text.split_at(word_at(self.text));
+        if rest.is_empty() {
+            return None;
+        }
+        let (word, rest) = rest.split_at(blank_at(rest));
+        self.text = rest;
+        Some(word)
+    }
+}

@@ -1,0 +1,103 @@
+//! The sections of a job, each of which is the script of one operator.
+
+ghost use Rattle.std.specs.Prelude.{◌≡◌, ◌+◌, ◌<◌, ◌^◌, length};
+ghost use Rattle.crush_script.specs.Lines.{lines};
+ghost use Rattle.crush_script.specs.Sections.{with_lines, no_sections};
+ghost use Rattle.crush_script.specs.Steps.{GivesSections};
+
+use crate::call::Call;
+use crate::command::{Command, read_command, read_operator};
+use crate::fault::JobFault;
+use crate::line::{Words, begins_section, cut_line};
+use crush_units::Name;
+use std::alloc::Global;
+
+/// The most sections of a job.
+const MOST_OPERATORS: usize = 1;
+
+/// The most calls of a job, all its sections together.
+const MOST_CALLS: usize = 65_536;
+
+/// The script of one operator.
+#[derive(Debug, Drop)]
+pub struct Script {
+    /// The operator's name.
+    pub name: Name<Global>,
+    /// The calls to be made, in order.
+    pub calls: Vec<Call>,
+}
+
+/// What the lines so far say.
+#[derive(Drop)]
+pub struct Sections {
+    pub scripts: Vec<Script>,
+    pub calls: usize,
+}
+
+impl Sections {
+    ghost use Rattle.crush_script.specs.Sections.{sections_data, with_section, with_call, with_line};
+    ghost use Rattle.crush_script.specs.Steps.{Steps};
+
+    /// Begins the section of an operator.
+    fn begin(&mut self, alloc: Global, number: usize, name: Name<Global>) -> Result<(), JobFault>
+        ensures { Steps result (sections_data self.new) (with_section number (sections_data self.old) name) }
+    {
+        if self.scripts.len() >= MOST_OPERATORS {
+            return Err(JobFault::TooManyOperators(number));
+        }
+        let calls = Vec::new(alloc);
+        self.scripts.push(Script { name, calls })?;
+        Ok(())
+    }
+
+    /// Adds a call to the last script.
+    fn add(&mut self, number: usize, call: Call) -> Result<(), JobFault>
+        ensures { Steps result (sections_data self.new) (with_call number (sections_data self.old) call) }
+    {
+        if self.calls >= MOST_CALLS {
+            return Err(JobFault::TooManyCalls(number));
+        }
+        if let Some(script) = self.scripts.last_mut() {
+            script.calls.push(call)?;
+        }
+        self.calls += 1;
+        Ok(())
+    }
+
+    /// Reads a line.
+    #[tactic(auto, unfolding(crate::specs::Sections::with_line))]
+    fn read_line(&mut self, alloc: Global, number: usize, line: &[u8]) -> Result<(), JobFault>
+        ensures { Steps result (sections_data self.new) (with_line number (sections_data self.old) line.now) }
+    {
+        let mut words = Words::of_line(line);
+        if begins_section(line) {
+            let name = read_operator(alloc, &mut words).map_err(|fault| fault.at(number))?;
+            return self.begin(alloc, number, name);
+        }
+        match read_command(alloc, &mut words).map_err(|fault| fault.at(number))? {
+            Command::Nothing => Ok(()),
+            Command::Edit(edit) => self.add(number, Call::One(edit)),
+        }
+    }
+}
+
+/// Reads the lines of the sections, the first of which has this number.
+#[tactic(auto, unfolding(crate::specs::Sections::with_lines))]
+pub fn read_sections(alloc: Global, first: usize, text: &[u8]) -> Result<Sections, JobFault>
+    requires { first + length text.now < 2 ^ 64 }
+    ensures { GivesSections result (with_lines first no_sections (lines text.now)) }
+{
+    let mut sections = Sections {
+        scripts: Vec::new(alloc),
+        calls: 0,
+    };
+    let mut number = first;
+    let mut rest = text;
+    while !rest.is_empty() {
+        let (line, others) = cut_line(rest);
+        sections.read_line(alloc, number, line)?;
+        number += 1;
+        rest = others;
+    }
+    Ok(sections)
+}
