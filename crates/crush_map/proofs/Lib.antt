@@ -1,0 +1,7 @@
+pub mod Changes
+pub mod KindLaws
+pub mod ReweightLaws
+pub mod TableLaws
+pub mod Drafts
+pub mod KindSteps
+pub mod RowSteps

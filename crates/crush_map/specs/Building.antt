@@ -51,6 +51,7 @@ is_bucket_kind s k = nat_lt 0 k && list_any (λ (x : KindData). x.number == k) s
 -- what of a bucket that is not yet in the table can be put there
 pub record CanBegin (s : SettingData) (t : List Row) (kind : ℕ) (name : List ℕ) : Type 0 where
   pub known : is_bucket_kind s kind ≡ true
+  pub most : kind ≤ 65535
   pub form : IsName name
   pub free : is_named t name ≡ false
   pub few : bucket_count t < 4096

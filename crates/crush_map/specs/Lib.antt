@@ -1,7 +1,9 @@
 pub mod Building
 pub mod Built
+pub mod Can
 pub mod Changed
 pub mod Edit
 pub mod Kinds
 pub mod MapData
+pub mod Outcome
 pub mod Refusal

@@ -2,10 +2,13 @@
 //! makes, and a builder that makes a map from the statements of its text.
 #![tactic(auto)]
 
+mod apply;
 mod edit;
+mod map;
 mod refusal;
 mod setting;
 
 pub use edit::Edit;
+pub use map::CrushMap;
 pub use refusal::{Done, EditFault, Refusal};
 pub use setting::{Kind, Setting};

@@ -1,0 +1,85 @@
+-- A builder that is at one draft is at each with the same table.
+use Rattle.std.proofs.Common.{◌≡◌, ℕ, ◌+◌, ◌<◌, ◌≤◌, Bool, true, false, List, [], ◌∷◌, ◌++◌, length, refl, ap, sym, subst, ◌∙◌, arith, zero-add}
+use Rattle.std.proofs.lemmas.Bool.Decides.{nat_tests}
+use Rattle.std.specs.Prelude.{Option, Some, None, nat_le, nat_lt, ◌==◌, ◌||◌, bytes_eq, not}
+use Rattle.crush_units.specs.declared.id.ItemId.{ItemId}
+use Rattle.crush_units.specs.declared.id.ItemId.TheVariants.{Device, Bucket}
+use Rattle.crush_units.specs.Name.{IsName}
+use Rattle.crush_table.specs.Items.{ClassData}
+use Rattle.crush_table.specs.Same.{Same}
+use Rattle.crush_table.specs.Lawful.{Lawful}
+use Rattle.crush_table.specs.Table.{Row, is_there, is_named, parent_of, used_ids, member, device_count, bucket_count}
+use Rattle.crush_table.specs.Rows.{ForestData, rows_of, Stands, IsSound}
+use Rattle.crush_table.specs.Setting.{SettingData, Fits}
+use Rattle.crush_table.proofs.Found.{is_named-same, is_there-same, parent_of-same}
+use Rattle.crush_table.proofs.Same.{Same-sym, Fits-same, bucket_count-same, used-same}
+use Rattle.crush_table.proofs.Stands.{stands_for_rows, same_stands}
+use Rattle.crush_map.specs.Built.{Pending, nothing, begun, numbered, filling, Draft}
+use Rattle.crush_map.specs.Building.{BuilderData, CanBegin, CanNumber, IsRoot, IsPending, IsDraft, BuilderFits, own_draft, has_pending_name, has_pending_id, has_name, has_bucket_id}
+
+CanBegin-same : (s : SettingData) (t u : List Row) (k : ℕ) (n : List ℕ) → Lawful t → Same t u → CanBegin s t k n → CanBegin s u k n
+CanBegin-same s t u k n l e c = record {
+  known = c.known;
+  most = c.most;
+  form = c.form;
+  free = sym (is_named-same t u e.rows l.names n) ∙ c.free;
+  few = subst (λ m. m < 4096) (bucket_count-same t u e.rows) c.few;
+}
+
+CanNumber-same : (t u : List Row) (b : ℕ) (cs : List ClassData) → Same t u → CanNumber t b cs → CanNumber u b cs
+CanNumber-same t u b cs e c = record {
+  some = c.some;
+  most = c.most;
+  free = sym (used-same t u e.rows b) ∙ c.free;
+  classes = c.classes;
+}
+
+IsRoot-same : (t u : List Row) (b : ℕ) → Lawful t → Same t u → IsRoot t b → IsRoot u b
+IsRoot-same t u b l e c = record {
+  there = sym (is_there-same t u e.rows l.ids (Bucket b)) ∙ c.there;
+  root = sym (parent_of-same t u e.rows l.ids (Bucket b)) ∙ c.root;
+}
+
+-- the pending part goes with each table that is the same
+pub IsPending-same : (s : SettingData) (t u : List Row) (p : Pending) → Lawful t → Same t u → IsPending s t p → IsPending s u p
+IsPending-same s t u nothing l e c = tt
+IsPending-same s t u (begun k n) l e c = CanBegin-same s t u k n l e c
+IsPending-same s t u (numbered k n b cs) l e c = (CanBegin-same s t u k n l e c.0, CanNumber-same t u b cs e c.1)
+IsPending-same s t u (filling b) l e c = IsRoot-same t u b l e c
+
+-- the builder is also at the draft with the same table in another order
+pub IsDraft-same : (b : BuilderData) (d : Draft) (u : List Row) → Same d.table u → IsDraft b d → IsDraft b (record d { table = u })
+IsDraft-same b d u e i = record {
+  setting = i.setting;
+  pending = i.pending;
+  stands = same_stands b.forest d.table u e i.stands;
+  fits = Fits-same d.setting d.table u e i.fits;
+  part = IsPending-same d.setting d.table u d.pending i.stands.lawful e i.part;
+}
+
+-- what a builder at some draft keeps
+pub draft_fits : (b : BuilderData) (d : Draft) → IsDraft b d → BuilderFits b
+draft_fits b d i =
+    let e : Same d.table (rows_of b.forest) = Same-sym (rows_of b.forest) d.table i.stands.same in
+    record {
+      fits = subst (λ (s : SettingData). Fits s (rows_of b.forest)) (sym i.setting) (Fits-same d.setting d.table (rows_of b.forest) e i.fits);
+      part = subst (λ (s : SettingData). IsPending s (rows_of b.forest) b.pending) (sym i.setting)
+          (subst (IsPending d.setting (rows_of b.forest)) (sym i.pending) (IsPending-same d.setting d.table (rows_of b.forest) d.pending i.stands.lawful e i.part));
+    }
+
+-- a builder is at the draft of its own rows
+pub own_is_draft : (b : BuilderData) → IsSound b.forest → BuilderFits b → IsDraft b (own_draft b)
+own_is_draft b sound keeps = record {
+  setting = refl;
+  pending = refl;
+  stands = stands_for_rows b.forest sound;
+  fits = keeps.fits;
+  part = keeps.part;
+}
+
+-- and at that of the rows that it has once there is room
+pub reserved : (b : BuilderData) (f : ForestData) → IsSound b.forest → BuilderFits b → ((t : List Row) → Stands b.forest t → Stands f t) → IsDraft b (record { setting = b.setting; table = rows_of f; pending = b.pending })
+reserved b f sound keeps kept =
+    let own = own_is_draft b sound keeps in
+    let after : Stands f (rows_of b.forest) = kept (rows_of b.forest) own.stands in
+    IsDraft-same b (own_draft b) (rows_of f) (Same-sym (rows_of f) (rows_of b.forest) after.same) own

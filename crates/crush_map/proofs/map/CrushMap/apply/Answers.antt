@@ -1,0 +1,31 @@
+use Rattle.std.proofs.Common.{◌≡◌, List, ap, sym, subst, refl, ◌∙◌}
+use borrow.Enum.Total.{values_d}
+use Rattle.crush_table.specs.Table.{Row}
+use Rattle.crush_table.specs.Rows.{ForestData, Stands}
+use Rattle.crush_map.specs.MapData.{MapData}
+use Rattle.crush_map.specs.Edit.{edit}
+use Rattle.crush_map.specs.declared.edit.Edit.{Edit}
+use Rattle.crush_map.specs.declared.edit.Edit.TheVariants.{Reweight}
+use Rattle.crush_map.specs.contracts.edit.Edit.{enum}
+use Rattle.crush_map.proofs.ReweightLaws.{refused_answer}
+use Rattle.crush_map.proofs.map.CrushMap.apply.Goals as goal
+
+-- an edit is made of the fields that the match reads
+whole : (e : Edit) (p q : _) → Reweight (values_d enum 0 p e).0 (values_d enum 0 q e).1.0 ≡ e
+whole (Reweight n w) p q = refl
+
+-- a table of the map is one of its forest
+of_forest : (m n : MapData) (t : List Row) → m ≡ n → Stands n.forest t → Stands m.forest t
+of_forest m n t e st = subst (λ (f : ForestData). Stands f t) (sym (ap (λ (x : MapData). x.forest) e)) st
+
+pub returns-in_err-reweight-clause-answer : goal.returns-in_err-reweight-clause-answer
+returns-in_err-reweight-clause-answer g c = λ t st.
+    let s = c.args.self.now.setting in
+    refused_answer (Stands c.reweight.new.forest) _ _ _ c.from_residual.ensures.1
+    (ap (edit s t) (sym (whole c.args.asked.now c.name-1.given.0 c.weight-1.given.0)) ∙ c.in_err-reweight.ensures.answer s t (of_forest _ _ t c.self.view_is st))
+
+pub returns-clause-answer : goal.returns-clause-answer
+returns-clause-answer g c = λ t st.
+    let s = c.args.self.now.setting in
+    let r = c.in_ok-reweight.ensures.answer s t (of_forest _ _ t c.self.view_is st) in
+    (r.0, ap (edit s t) (sym (whole c.args.asked.now c.name-1.given.0 c.weight-1.given.0)) ∙ r.1, r.2)

@@ -1,0 +1,31 @@
+//! Edits of a map.
+
+ghost use Rattle.std.specs.Prelude.{◌≡◌, List, OnErr};
+ghost use Rattle.crush_table.specs.Table.{Row};
+ghost use Rattle.crush_table.specs.Rows.{Stands};
+ghost use Rattle.crush_map.specs.Edit.{edit};
+ghost use Rattle.crush_map.specs.Outcome.{IsAnswer};
+
+mod reweight;
+
+use crate::edit::Edit;
+use crate::map::CrushMap;
+use crate::refusal::{Done, EditFault};
+use reweight::reweight;
+use std::alloc::Allocator;
+
+impl<A: Allocator> CrushMap<A> {
+    /// Makes the edit, or tells why it isn't made; the map is then as before.
+    ///
+    /// Where several refusals hold, the one of least number is told. Want of memory is told only
+    /// where nothing speaks against the edit.
+    pub fn apply(&mut self, asked: &Edit) -> Result<Done, EditFault>
+        ensures answer { (t : List Row) → Stands self.old.forest t → IsAnswer (Stands self.new.forest) (edit self.old.setting t asked.now) result }
+        ensures setting { self.new.setting ≡ self.old.setting }
+        ensures kept { OnErr result (self.new ≡ self.old) }
+    {
+        match asked {
+            Edit::Reweight(name, weight) => Ok(reweight(&mut self.forest, name, *weight)?),
+        }
+    }
+}

@@ -1,0 +1,59 @@
+//! A new weight for one device.
+
+ghost use Rattle.std.specs.Prelude.{◌≡◌, List, Some, OnErr, MatchResult};
+ghost use Rattle.crush_table.specs.Table.{Row};
+ghost use Rattle.crush_table.specs.Rows.{Stands, rows_of};
+ghost use Rattle.crush_table.specs.Setting.{SettingData, Fits};
+ghost use Rattle.crush_map.specs.declared.edit.Edit.TheVariants.{Reweight};
+ghost use Rattle.crush_map.specs.Edit.{edit, refusal};
+ghost use Rattle.crush_map.specs.Can.{CanReweight};
+ghost use Rattle.crush_map.specs.Outcome.{IsReply};
+
+use crate::refusal::{Done, Refusal};
+use crush_tree::Forest;
+use crush_units::{DeviceId, ItemId, Name, Weight};
+use std::alloc::{Allocator, Global};
+
+/// The device whose weight is to be set, or why it isn't.
+fn reweighted<A: Allocator>(
+    forest: &Forest<A>,
+    name: &Name<Global>,
+    weight: Weight,
+) -> Result<DeviceId, Refusal>
+    ensures { (s : SettingData) → (t : List Row) → Stands forest.now t → MatchResult result (λ d. CanReweight t name.now weight d) (λ r. refusal s t (Reweight name.now weight) ≡ Some r) }
+{
+    forest.sound();
+    if !weight.is_device_weight() {
+        return Err(Refusal::WeightTooLarge);
+    }
+    let Some(id) = forest.id_of(name.as_bytes()) else {
+        return Err(Refusal::NoSuchItem);
+    };
+    let ItemId::Device(device) = id else {
+        return Err(Refusal::NotADevice);
+    };
+    if forest.parent(id).is_none() {
+        return Err(Refusal::NotPlaced);
+    }
+    if !forest.fits_weight(device, weight) {
+        return Err(Refusal::SumTooLarge);
+    }
+    Ok(device)
+}
+
+/// Sets the weight of the placed device of this name, or tells why it isn't set.
+pub(super) fn reweight<A: Allocator>(
+    forest: &mut Forest<A>,
+    name: &Name<Global>,
+    weight: Weight,
+) -> Result<Done, Refusal>
+    ensures answer { (s : SettingData) → (t : List Row) → Stands forest.old t → IsReply (Stands forest.new) (edit s t (Reweight name.now weight)) result }
+    ensures fits { (s : SettingData) → Fits s (rows_of forest.old) → Fits s (rows_of forest.new) }
+    ensures kept { OnErr result (forest.new ≡ forest.old) }
+{
+    forest.sound();
+    let device = reweighted(forest, name, weight)?;
+    let changed = forest.weight(ItemId::Device(device)) != Some(weight);
+    forest.set_weight(device, weight);
+    Ok(Done { changed, made: 0 })
+}
