@@ -1,4 +1,5 @@
 pub mod Appended
+pub mod Attached
 pub mod Changes
 pub mod Climbs
 pub mod Columns
