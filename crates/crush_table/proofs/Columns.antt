@@ -1,15 +1,15 @@
 -- A table stays lawful where a column other than id and parent changes.
-use Rattle.std.proofs.Common.{◌≡◌, ℕ, ◌≤◌, Bool, true, false, List, ap, sym, subst, ◌∙◌, refl, ⊎_elim}
-use Rattle.std.specs.Prelude.{◌==◌, not, if◌then◌else◌, Option, Some, None, IfSome, All, map, is_some, option_and_then, bytes_eq}
+use Rattle.std.proofs.Common.{◌≡◌, ℕ, zero, suc, ◌≤◌, Bool, true, false, List, length, ap, sym, subst, ◌∙◌, refl, ⊎_elim}
+use Rattle.std.specs.Prelude.{◌==◌, ◌&&◌, not, if◌then◌else◌, Option, Some, None, IfSome, All, map, is_some, option_and_then, bytes_eq}
 use Rattle.std.specs.List.{sum_by, count_by}
 use Rattle.std.proofs.lemmas.List.Elements.{All-weaker, All-map}
 use Rattle.crush_units.specs.declared.id.ItemId.{ItemId}
 use Rattle.crush_units.specs.declared.id.ItemId.TheVariants.{Device, Bucket}
 use Rattle.crush_units.specs.Id.{same_id}
 use Rattle.crush_units.proofs.Ids.{same_id_tells}
-use Rattle.crush_table.specs.Table.{Row, is_device, is_device_id, is_bucket, row_of, is_there, is_placed}
+use Rattle.crush_table.specs.Table.{Row, is_device, is_device_id, is_bucket, row_of, is_there, is_placed, parent_of, then_up, climb, member, is_below}
 use Rattle.crush_table.specs.Lawful.{IsRow, IsRowOf, HasParent, Lawful, is_too_heavy}
-use Rattle.crush_table.specs.Columns.{set_weights, set_weight}
+use Rattle.crush_table.specs.Columns.{set_weights, set_weight, set_subtree}
 use Rattle.crush_table.proofs.Reorder.{hit, sum_by-map}
 use Rattle.crush_table.proofs.Same.{uses, times_used, times_used-rows}
 use Rattle.crush_table.proofs.Kept.{is_there-map, Distinct-map, is_below-map}
@@ -94,3 +94,27 @@ Lawful-set_weight t d w l placed h light =
           (λ p. (ap is_device_id p.1, sym (ap (λ o. is_some (option_and_then (λ (x : Row). x.parent) o)) (sym (ap (row_of t) p.1) ∙ found)) ∙ placed))
           (λ p. absurd (let no_more : same_id r.id (Device d) ≡ false = p.0 in cc))
           (same_id_tells r.id (Device d))
+
+-- a device below a bucket is placed
+below_placed : (t : List Row) (b : ℕ) (r : Row) → row_of t r.id ≡ Some r → is_below t b r.id ≡ true → is_some r.parent ≡ true
+below_placed t b r found h = climbed (length t) h where
+  by_parent : (n : ℕ) (o : Option ℕ) → member b (then_up o (λ p. climb t n (Bucket p))) ≡ true → is_some o ≡ true
+  by_parent n None h = absurd cc
+  by_parent n (Some p) h = refl
+
+  climbed : (n : ℕ) → member b (climb t n r.id) ≡ true → is_some r.parent ≡ true
+  climbed zero h = absurd cc
+  climbed (suc n) h = sym (ap (λ o. is_some (option_and_then (λ (x : Row). x.parent) o)) found) ∙ by_parent n (parent_of t r.id) h
+
+-- a new weight of each device below a bucket
+pub Lawful-set_subtree : (t : List Row) (b w : ℕ) → Lawful t → w ≤ 2147483647 → is_too_heavy (set_subtree b w t) ≡ false → Lawful (set_subtree b w t)
+Lawful-set_subtree t b w l h light =
+    Lawful-set_weights (λ (r : Row). is_device r && is_below t b r.id) w t l
+    (All-weaker (λ (r : Row). row_of t r.id ≡ Some r) (λ (r : Row). (is_device r && is_below t b r.id) ≡ true → CanWeigh r) (λ r found both. (left_true (is_device r) (is_below t b r.id) both, below_placed t b r found (right_true (is_device r) (is_below t b r.id) both))) t (All-found t l.ids)) h light where
+      left_true : (x y : Bool) → (x && y) ≡ true → x ≡ true
+      left_true true y e = refl
+      left_true false y e = absurd cc
+
+      right_true : (x y : Bool) → (x && y) ≡ true → y ≡ true
+      right_true true y e = e
+      right_true false y e = absurd cc

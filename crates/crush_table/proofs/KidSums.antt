@@ -5,7 +5,6 @@ use Rattle.std.specs.List.{sum_by}
 use Rattle.std.specs.Option.{option_map}
 use Rattle.std.proofs.lemmas.List.Sums.{sum_by-cons}
 use Rattle.std.proofs.lemmas.List.Elements.{All-head, All-tail}
-use Rattle.std.proofs.lemmas.Bool.Decides.{eqb_tells}
 use Rattle.crush_units.specs.declared.id.ItemId.{ItemId}
 use Rattle.crush_units.specs.declared.id.ItemId.TheVariants.{Device, Bucket}
 use Rattle.crush_units.specs.Id.{same_id}
@@ -14,7 +13,7 @@ use Rattle.crush_table.specs.Table.{Row, row_of, parent_of, own_weight_of, then_
 use Rattle.crush_table.specs.Lawful.{IsRow, IsRowOf, Lawful}
 use Rattle.crush_table.proofs.Reorder.{hit}
 use Rattle.crush_table.proofs.Found.{Distinct, times, times-cons}
-use Rattle.crush_table.proofs.Climbs.{meets, by_parent, climb-above, hit-is_below, sum_by-plus, sum_by-zero, sum_below-absent}
+use Rattle.crush_table.proofs.Climbs.{eqb_turned, meets, by_parent, climb-above, hit-is_below, sum_by-plus, sum_by-zero, sum_below-absent}
 
 -- SUMS of sums
 module _ {X : Type 0} where
@@ -97,9 +96,6 @@ kid_once i (r ∷ t) b h = ⊎_elim
       nothing : (c : Bool) → ◌≡◌ {A = ℕ} (if c then 0 else 0) 0
       nothing true = refl
       nothing false = refl
-
-eqb_turned : (a b : ℕ) → (a == b) ≡ (b == a)
-eqb_turned a b = grind (arith, eqb_tells)
 
 none_met : (t : List Row) (b : ℕ) → over_kids t b (λ k. 0) ≡ 0
 none_met t b = sum_by-zero (λ (k : Row). if is_parent b k.parent then 0 else 0) (λ k. nothing (is_parent b k.parent)) t where

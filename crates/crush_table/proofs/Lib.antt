@@ -9,9 +9,11 @@ pub mod KidSums
 pub mod Moved
 pub mod Relocated
 pub mod Removed
+pub mod Renamed
 pub mod Reorder
 pub mod Same
 pub mod Stands
 pub mod Sums
+pub mod Swapped
 pub mod Weighs
 pub mod Worked

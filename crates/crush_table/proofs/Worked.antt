@@ -6,7 +6,7 @@ use Rattle.crush_table.specs.Items.{LeafData, HeaderData, none, device, bucket}
 use Rattle.crush_table.specs.Table.{Row, id_named, is_named, parent_of, kind_of, is_placed, above, is_below, kids, sum_below, total, weight_of, device_count, bucket_count, used_ids, free_ids}
 use Rattle.crush_table.specs.Lawful.{is_too_heavy, has_too_many}
 use Rattle.crush_table.specs.Rows.{ForestData, rows_of, stored_weight, all_items}
-use Rattle.crush_table.specs.Columns.{set_weight, set_subtree, set_name, table_without, part, without_row, exchange_parents}
+use Rattle.crush_table.specs.Columns.{set_weight, set_subtree, table_without, part, without_row, swap_buckets}
 
 abbrev leaf : ℕ → List ℕ → ℕ → LeafData
 leaf d n w = record { id = d; name = n; weight = w; class = None }
@@ -128,7 +128,7 @@ moved_root = refl
 
 -- h1 and h2 exchange their items and their names
 abbrev swapped : List Row
-swapped = exchange_parents 2 3 (set_name (Bucket 2) (codes "h2") (set_name (Bucket 3) (codes "h1") map))
+swapped = swap_buckets 2 3 map
 
 swapped_kids : kids swapped 2 ≡ Device 2 ∷ []
 swapped_kids = refl

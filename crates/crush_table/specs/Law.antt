@@ -1,13 +1,15 @@
 -- Laws of the table, each for every lawful table.
-use Rattle.std.specs.Prelude.{◌≡◌, ℕ, ◌≤◌, List, [], ◌∷◌, ◌++◌, Option, Some, None, IfSome, true, false, length, unwrap_or}
-use Rattle.std.specs.List.{sum_by}
+use Rattle.std.specs.Prelude.{◌≡◌, ℕ, ◌≤◌, List, [], ◌∷◌, ◌++◌, Option, Some, None, IfSome, true, false, length, unwrap_or, All, bytes_eq, ◌==◌}
+use Rattle.std.specs.List.{sum_by, count_by}
 use Rattle.crush_units.specs.declared.id.ItemId.{ItemId}
 use Rattle.crush_units.specs.declared.id.ItemId.TheVariants.{Device, Bucket}
+use Rattle.crush_units.specs.Id.{same_id}
+use Rattle.crush_units.specs.Name.{IsName}
 use Rattle.crush_table.specs.Items.{Items, none, device, bucket}
 use Rattle.crush_table.specs.Table.{Row, row_of, climb, above, kids, sum_below, weight_of, is_there, is_named, is_placed, member, used_ids}
 use Rattle.crush_table.specs.Same.{Same}
 use Rattle.crush_table.specs.Lawful.{IsRow, Lawful, is_too_heavy, has_too_many}
-use Rattle.crush_table.specs.Columns.{set_weight, is_part, table_without, part, without_row}
+use Rattle.crush_table.specs.Columns.{set_weight, set_subtree, set_name, swap_buckets, are_nested, is_part, table_without, part, without_row}
 use Rattle.crush_table.specs.Rows.{ForestData, IsSound, Stands, rows, rows_of}
 
 -- what a bucket weighs, as the sum over all devices that climb to it, is the sum of the weights of its items
@@ -41,6 +43,24 @@ DeviceKeepsLawful = (t : List Row) (d : ℕ) (r : Row) → r.id ≡ Device d →
 
 abbrev pub BucketKeepsLawful : Type 0
 BucketKeepsLawful = (t : List Row) (b : ℕ) (r : Row) → r.id ≡ Bucket b → r.class_ids ≡ [] → Lawful t → IsRow r → r.parent ≡ None → member b (used_ids t) ≡ false → is_named t r.name ≡ false → has_too_many (t ++ r ∷ []) ≡ false → Lawful (t ++ r ∷ [])
+
+-- a new weight of all devices below a bucket, where the sums stay in range
+abbrev pub SubtreeKeepsLawful : Type 0
+SubtreeKeepsLawful = (t : List Row) (b w : ℕ) → Lawful t → w ≤ 2147483647 → is_too_heavy (set_subtree b w t) ≡ false → Lawful (set_subtree b w t)
+
+-- a name that no row has, for an item that is there
+abbrev pub NameKeepsLawful : Type 0
+NameKeepsLawful = (i : ItemId) (n : List ℕ) (t : List Row) (r : Row) → Lawful t → row_of t i ≡ Some r → IsName n → is_named t n ≡ false → Lawful (set_name i n t)
+
+-- two buckets that exchange items and names, neither of them the other or below it, where the sums stay in range
+abbrev pub SwapKeepsLawful : Type 0
+SwapKeepsLawful = (t : List Row) (a b : ℕ) (r s : Row) → Lawful t → row_of t (Bucket a) ≡ Some r → row_of t (Bucket b) ≡ Some s → are_nested t a b ≡ false → is_too_heavy (swap_buckets a b t) ≡ false → Lawful (swap_buckets a b t)
+
+-- the rows of items below a bucket that is there, or as roots, where ids, names and used ids are apart, and sums and counts stay in range
+abbrev pub RowsKeepLawful : Type 0
+RowsKeepLawful = (t : List Row) (p : Option ℕ) (n : Items) → Lawful t → IfSome p (λ b. is_there t (Bucket b) ≡ true) → All IsRow (rows p n)
+    → ((i : ItemId) → count_by (λ (r : Row). same_id r.id i) (t ++ rows p n) ≤ 1) → ((m : List ℕ) → count_by (λ (r : Row). bytes_eq r.name m) (t ++ rows p n) ≤ 1) → ((k : ℕ) → count_by (λ u. u == k) (used_ids (t ++ rows p n)) ≤ 1)
+    → is_too_heavy (t ++ rows p n) ≡ false → has_too_many (t ++ rows p n) ≡ false → Lawful (t ++ rows p n)
 
 -- the tables for which a forest stands: its own rows, and with one all that are the same and no others
 abbrev pub StandsForOne : ForestData → Type 0

@@ -2,8 +2,8 @@
 
 ghost use Rattle.std.specs.Prelude.{◌≡◌, ℕ, List, ◌++◌};
 ghost use Rattle.crush_units.specs.declared.id.ItemId.{ItemId};
-ghost use Rattle.crush_table.specs.Columns.{set_weight, set_subtree, set_name, table_without, part, without_row, exchange_parents};
-ghost use Rattle.crush_table.specs.Law.{SumsItems, ClimbEnds, KeepsSame, KeepsLawful, WeightKeepsLawful, MoveKeepsLawful, DeviceKeepsLawful, BucketKeepsLawful, StandsForOne, Relocates};
+ghost use Rattle.crush_table.specs.Columns.{set_weight, set_subtree, set_name, table_without, part, without_row, exchange_parents, swap_buckets};
+ghost use Rattle.crush_table.specs.Law.{SumsItems, ClimbEnds, KeepsSame, KeepsLawful, WeightKeepsLawful, SubtreeKeepsLawful, NameKeepsLawful, MoveKeepsLawful, SwapKeepsLawful, DeviceKeepsLawful, BucketKeepsLawful, RowsKeepLawful, StandsForOne, Relocates};
 ghost use Rattle.crush_table.specs.Lawful.{Lawful};
 ghost use Rattle.crush_table.specs.Rows.{ForestData};
 ghost use Rattle.crush_table.specs.Table.{Row};
@@ -25,6 +25,7 @@ pub fn changes_keep_same()
     ensures row { (i : ItemId) → KeepsSame (without_row i) }
     ensures part { (i : ItemId) → KeepsSame (part i) }
     ensures parents { (a b : ℕ) → KeepsSame (exchange_parents a b) }
+    ensures swap { (a b : ℕ) → KeepsSame (swap_buckets a b) }
 {}
 
 /// The tables for which a forest stands are the same, and all that are the same as one of them.
@@ -32,15 +33,21 @@ pub fn stands_for_one_table()
     ensures { (f : ForestData) → StandsForOne f }
 {}
 
-/// What leaves a table lawful: that an item goes with what is below it; where the sums stay in
-/// range a new weight of a placed device, and a row that gets a bucket as its parent that isn't
-/// below it; where there is room a row without parent with a fresh id and name.
+/// What leaves a table lawful.
+///
+/// That an item goes, with what is below it. Where the sums stay in range: new weights of placed
+/// devices, a bucket that isn't below it as the parent of an item, the items and names of two
+/// buckets exchanged. Where ids and names are fresh and there is room: new rows.
 pub fn changes_keep_lawful()
     ensures without { (i : ItemId) → KeepsLawful (table_without i) }
     ensures weight { WeightKeepsLawful }
+    ensures subtree { SubtreeKeepsLawful }
+    ensures name { NameKeepsLawful }
     ensures parent { MoveKeepsLawful }
+    ensures swap { SwapKeepsLawful }
     ensures device { DeviceKeepsLawful }
     ensures bucket { BucketKeepsLawful }
+    ensures rows { RowsKeepLawful }
 {}
 
 /// An item that is taken out and put elsewhere is one row that gets another parent and comes last.

@@ -1,8 +1,21 @@
 use Rattle.crush_table.proofs.Appended.{Lawful-push_device, Lawful-push_bucket}
-use Rattle.crush_table.proofs.Columns.{Lawful-set_weight}
+use Rattle.crush_table.proofs.Attached.{Lawful-attach}
+use Rattle.crush_table.proofs.Columns.{Lawful-set_weight, Lawful-set_subtree}
 use Rattle.crush_table.proofs.Moved.{Lawful-moved}
 use Rattle.crush_table.proofs.Removed.{Lawful-without}
+use Rattle.crush_table.proofs.Renamed.{Lawful-set_name}
+use Rattle.crush_table.proofs.Swapped.{Lawful-swap}
 use Rattle.crush_table.proofs.law.changes_keep_lawful.Goals as goal
 
 pub returns : goal.returns
-returns c = record { without = Lawful-without; weight = Lawful-set_weight; parent = Lawful-moved; device = Lawful-push_device; bucket = Lawful-push_bucket }
+returns c = record {
+  without = Lawful-without;
+  weight = Lawful-set_weight;
+  subtree = Lawful-set_subtree;
+  name = Lawful-set_name;
+  parent = Lawful-moved;
+  swap = Lawful-swap;
+  device = Lawful-push_device;
+  bucket = Lawful-push_bucket;
+  rows = Lawful-attach;
+}

@@ -1,4 +1,5 @@
 use Rattle.crush_table.proofs.Changes.{Same-set_weight, Same-set_subtree, Same-set_name, Same-with, Same-without, Same-without_row, Same-part, Same-exchange}
+use Rattle.crush_table.proofs.Swapped.{Same-swap}
 use Rattle.crush_table.proofs.law.changes_keep_same.Goals as goal
 
 pub returns : goal.returns
@@ -11,4 +12,5 @@ returns c = record {
   row = λ i t u l. Same-without_row i t u;
   part = Same-part;
   parents = λ a b t u l. Same-exchange a b t u;
+  swap = Same-swap;
 }
