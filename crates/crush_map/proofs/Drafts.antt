@@ -1,6 +1,6 @@
 -- A builder that is at one draft is at each with the same table.
 use Rattle.std.proofs.Common.{◌≡◌, ℕ, ◌+◌, ◌<◌, ◌≤◌, Bool, true, false, List, [], ◌∷◌, ◌++◌, length, refl, ap, sym, subst, ◌∙◌, arith, zero-add}
-use Rattle.std.proofs.lemmas.Bool.Decides.{nat_tests}
+use Rattle.std.proofs.lemmas.List.Elements.{All-nil}
 use Rattle.std.specs.Prelude.{Option, Some, None, nat_le, nat_lt, ◌==◌, ◌||◌, bytes_eq, not}
 use Rattle.crush_units.specs.declared.id.ItemId.{ItemId}
 use Rattle.crush_units.specs.declared.id.ItemId.TheVariants.{Device, Bucket}
@@ -10,11 +10,11 @@ use Rattle.crush_table.specs.Same.{Same}
 use Rattle.crush_table.specs.Lawful.{Lawful}
 use Rattle.crush_table.specs.Table.{Row, is_there, is_named, parent_of, used_ids, member, device_count, bucket_count}
 use Rattle.crush_table.specs.Rows.{ForestData, rows_of, Stands, IsSound}
-use Rattle.crush_table.specs.Setting.{SettingData, Fits}
+use Rattle.crush_table.specs.Setting.{SettingData, Fits, IsKind, HasKind}
 use Rattle.crush_table.proofs.Found.{is_named-same, is_there-same, parent_of-same}
 use Rattle.crush_table.proofs.Same.{Same-sym, Fits-same, bucket_count-same, used-same}
 use Rattle.crush_table.proofs.Stands.{stands_for_rows, same_stands}
-use Rattle.crush_map.specs.Built.{Pending, nothing, begun, numbered, filling, Draft}
+use Rattle.crush_map.specs.Built.{Pending, nothing, begun, numbered, filling, Draft, empty_draft}
 use Rattle.crush_map.specs.Building.{BuilderData, CanBegin, CanNumber, IsRoot, IsPending, IsDraft, BuilderFits, own_draft, has_pending_name, has_pending_id, has_name, has_bucket_id}
 
 CanBegin-same : (s : SettingData) (t u : List Row) (k : ℕ) (n : List ℕ) → Lawful t → Same t u → CanBegin s t k n → CanBegin s u k n
@@ -34,7 +34,7 @@ CanNumber-same t u b cs e c = record {
   classes = c.classes;
 }
 
-IsRoot-same : (t u : List Row) (b : ℕ) → Lawful t → Same t u → IsRoot t b → IsRoot u b
+pub IsRoot-same : (t u : List Row) (b : ℕ) → Lawful t → Same t u → IsRoot t b → IsRoot u b
 IsRoot-same t u b l e c = record {
   there = sym (is_there-same t u e.rows l.ids (Bucket b)) ∙ c.there;
   root = sym (parent_of-same t u e.rows l.ids (Bucket b)) ∙ c.root;
@@ -83,3 +83,19 @@ reserved b f sound keeps kept =
     let own = own_is_draft b sound keeps in
     let after : Stands f (rows_of b.forest) = kept (rows_of b.forest) own.stands in
     IsDraft-same b (own_draft b) (rows_of f) (Same-sym (rows_of f) (rows_of b.forest) after.same) own
+
+-- a map without types and items is the empty draft
+pub empty_is_draft : (s : SettingData) (f : ForestData) → s.kinds ≡ [] → IsSound f → rows_of f ≡ [] → IsDraft (record { setting = s; forest = f; pending = nothing }) empty_draft
+empty_is_draft s f kinds sound rows = record {
+  setting = λ i. record { kinds = kinds i };
+  pending = refl;
+  stands = subst (Stands f) rows (stands_for_rows f sound);
+  fits = record {
+    numbers = λ n. omega arith;
+    names = λ n. omega arith;
+    kinds = All-nil IsKind;
+    few = omega arith;
+    types = All-nil (HasKind (record { kinds = [] }));
+  };
+  part = tt;
+}

@@ -5,3 +5,4 @@ pub mod TableLaws
 pub mod Drafts
 pub mod KindSteps
 pub mod RowSteps
+pub mod ItemSteps

@@ -6,4 +6,5 @@ pub mod Edit
 pub mod Kinds
 pub mod MapData
 pub mod Outcome
+pub mod Parts
 pub mod Refusal

@@ -3,11 +3,13 @@
 #![tactic(auto)]
 
 mod apply;
+mod builder;
 mod edit;
 mod map;
 mod refusal;
 mod setting;
 
+pub use builder::{BuildFault, MapBuilder};
 pub use edit::Edit;
 pub use map::CrushMap;
 pub use refusal::{Done, EditFault, Refusal};

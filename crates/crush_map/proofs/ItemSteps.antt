@@ -1,0 +1,273 @@
+-- An item is put into the bucket that is being filled.
+use Rattle.std.proofs.Common.{◌≡◌, ℕ, zero, suc, ◌+◌, ◌<◌, ◌≤◌, Bool, true, false, List, [], ◌∷◌, ◌++◌, length, refl, ap, sym, subst, ◌∙◌, arith, ⊎_elim}
+use Rattle.std.proofs.lemmas.List.Elements.{All-nil, All-cons, All-head, All-tail, All-push, All-filter, All-map, All-append, All-weaker}
+use Rattle.std.specs.Prelude.{Option, Some, None, IfSome, if◌then◌else◌, ◌==◌, ◌||◌, not, All, map, filter, is_some, option_and_then}
+use Rattle.std.specs.List.{count_by}
+use Rattle.crush_units.specs.declared.id.ItemId.{ItemId}
+use Rattle.crush_units.specs.declared.id.ItemId.TheVariants.{Device, Bucket}
+use Rattle.crush_units.specs.Id.{same_id}
+use Rattle.crush_units.proofs.Ids.{same_id_refl, same_id_tells}
+use Rattle.crush_table.specs.Items.{LeafData, HeaderData, Items, none, device, bucket}
+use Rattle.crush_table.specs.Law.{IsOne}
+use Rattle.crush_table.specs.Reordered.{IsReordered}
+use Rattle.crush_table.specs.Same.{Same}
+use Rattle.crush_table.specs.Lawful.{Lawful, IsRow, IsRowOf, is_too_heavy}
+use Rattle.crush_table.specs.Table.{Row, is_device, is_device_id, is_there, row_of, parent_of, is_placed, member, above, climb, then_up, is_below}
+use Rattle.crush_table.specs.Columns.{is_under, is_part, table_without, part, as_root, without_row}
+use Rattle.crush_table.specs.Rows.{ForestData, rows, rows_of, StoresSums, Stands, device_row, bucket_row}
+use Rattle.crush_table.specs.Setting.{SettingData, Fits, HasKind}
+use Rattle.crush_table.proofs.Reorder.{hit, reordered-sym, reordered-All, reordered-count}
+use Rattle.crush_table.proofs.Found.{times, times-cons, Distinct, Distinct-same, is_there-times, times-is_there, is_there-same, parent_of-same}
+use Rattle.crush_table.proofs.Same.{Same-sym, Same-trans, Lawful-same, is_too_heavy-same}
+use Rattle.crush_table.proofs.Stands.{same_stands}
+use Rattle.crush_table.proofs.Changes.{Same-with}
+use Rattle.crush_table.proofs.Kept.{is_there-map, Distinct-map}
+use Rattle.crush_table.proofs.Climbs.{above-parent}
+use Rattle.crush_table.proofs.Weighs.{or_left, or_right}
+use Rattle.crush_table.proofs.Removed.{row_of-only, parent_of-only}
+use Rattle.crush_table.proofs.Appended.{row_of-append}
+use Rattle.crush_table.proofs.Moved.{at_parent, place, placed_last, row_id, Lawful-moved}
+use Rattle.crush_table.proofs.Relocated.{relocate, relocate_device}
+use Rattle.crush_map.specs.Parts.{with_first_weight}
+use Rattle.crush_map.specs.Built.{Pending, nothing, begun, numbered, filling, Draft, with_item, placed_row, put_below, table_with_item}
+use Rattle.crush_map.specs.Building.{BuilderData, BuilderFits, IsRoot, IsPending, IsDraft, own_draft, is_open}
+use Rattle.crush_map.proofs.TableLaws.{Fits-rows}
+use Rattle.crush_map.proofs.Drafts.{IsRoot-same, draft_fits}
+
+-- THE ROW of an item that is there
+found : (o : Option Row) → is_some o ≡ true → (r : Row) × o ≡ Some r
+found None h = absurd (let no : false ≡ true = h in cc)
+found (Some r) h = (r, refl)
+
+-- what holds of each row holds of the one that is found
+of_found : (P : Row → Type 0) (t : List Row) (i : ItemId) (r : Row) → All P t → row_of t i ≡ Some r → P r
+of_found P [] i r a e = absurd (let no : ◌≡◌ {A = Option Row} None (Some r) = e in cc)
+of_found P (x ∷ t) i r a e = by_id (same_id x.id i) e (of_found P t i r (All-tail P x t a)) where
+  by_id : (b : Bool) → (if b then Some x else row_of t i) ≡ Some r → (row_of t i ≡ Some r → P r) → P r
+  by_id true h ih = let same : x ≡ r = cc in subst P same (All-head P x t a)
+  by_id false h ih = ih h
+
+none_there : (t : List Row) (i : ItemId) → times i t ≡ 0 → filter (λ (x : Row). same_id x.id i) t ≡ []
+none_there [] i h = refl
+none_there (x ∷ t) i h = by_id (same_id x.id i) (sym (times-cons i x t) ∙ h) (none_there t i) where
+  by_id : (b : Bool) → hit b + times i t ≡ 0 → (times i t ≡ 0 → filter (λ (y : Row). same_id y.id i) t ≡ []) → (if b then x ∷ filter (λ (y : Row). same_id y.id i) t else filter (λ (y : Row). same_id y.id i) t) ≡ []
+  by_id true n ih = absurd (omega (arith, n))
+  by_id false n ih = ih (omega (arith, n))
+
+-- the rows of its id are that one
+only_row : (t : List Row) (i : ItemId) (r : Row) → times i t ≤ 1 → row_of t i ≡ Some r → filter (λ (x : Row). same_id x.id i) t ≡ r ∷ []
+only_row [] i r h e = absurd (let no : ◌≡◌ {A = Option Row} None (Some r) = e in cc)
+only_row (x ∷ t) i r h e = by_id (same_id x.id i) (subst (λ n. n ≤ 1) (times-cons i x t) h) e (only_row t i r) where
+  by_id : (b : Bool) → hit b + times i t ≤ 1 → (if b then Some x else row_of t i) ≡ Some r → (times i t ≤ 1 → row_of t i ≡ Some r → filter (λ (y : Row). same_id y.id i) t ≡ r ∷ [])
+      → (if b then x ∷ filter (λ (y : Row). same_id y.id i) t else filter (λ (y : Row). same_id y.id i) t) ≡ r ∷ []
+  by_id true n h ih = let same : x ≡ r = cc in λ k. same k ∷ none_there t i (omega (arith, n)) k
+  by_id false n h ih = ih (omega (arith, n)) h
+
+-- so the table after is the one that the laws of moves speak of
+put_last : (k : ℕ) (i : ItemId) (w : ℕ) (t : List Row) (r : Row) → times i t ≤ 1 → row_of t i ≡ Some r → put_below k i w t ≡ without_row i t ++ placed_row k w r ∷ []
+put_last k i w t r h e = ap (λ xs. without_row i t ++ map (placed_row k w) xs) (only_row t i r h e)
+
+-- A ROOT is below nothing, so it is no part of another item
+nothing_above : (t : List Row) → Lawful t → (k : ℕ) → parent_of t (Bucket k) ≡ None → above t (Bucket k) ≡ []
+nothing_above t l k h = above-parent t l (Bucket k) ∙ ap (λ o. then_up o (λ p. above t (Bucket p))) h
+
+not_under : (t : List Row) (i : ItemId) (k : ℕ) → above t (Bucket k) ≡ [] → is_under t i (Bucket k) ≡ false
+not_under t (Device d) k e = refl
+not_under t (Bucket b) k e = ap (member b) e
+
+pub apart : (t : List Row) → Lawful t → (i : ItemId) (k : ℕ) → IsRoot t k → same_id (Bucket k) i ≡ false → is_part t i (Bucket k) ≡ false
+apart t l i k root other = λ j. other j || not_under t i k (nothing_above t l k root.root) j
+
+-- WHICH KIND of item: the rows of a device that was taken out are devices
+part_id : (i : ItemId) (r : Row) → (as_root i r).id ≡ r.id
+part_id i r = by_id (same_id r.id i) where
+  by_id : (b : Bool) → (if b then record r { parent = None } else r).id ≡ r.id
+  by_id true = refl
+  by_id false = refl
+
+same_device : (j : ItemId) (x : ℕ) → (same_id j (Device x) || false) ≡ true → is_device_id j ≡ true
+same_device (Device d) x h = refl
+same_device (Bucket b) x h = absurd (let no : false ≡ true = h in cc)
+
+are_devices : (x : ℕ) (u : List Row) → All (λ (r : Row). is_device r ≡ true) (filter (λ (r : Row). same_id r.id (Device x) || false) u)
+are_devices x [] = All-nil (λ (r : Row). is_device r ≡ true)
+are_devices x (r ∷ u) = by_id (same_id r.id (Device x) || false) refl (are_devices x u) where
+  by_id : (b : Bool) → (same_id r.id (Device x) || false) ≡ b → All (λ (y : Row). is_device y ≡ true) (filter (λ (y : Row). same_id y.id (Device x) || false) u)
+      → All (λ (y : Row). is_device y ≡ true) (if b then r ∷ filter (λ (y : Row). same_id y.id (Device x) || false) u else filter (λ (y : Row). same_id y.id (Device x) || false) u)
+  by_id true e ih = All-cons (λ (y : Row). is_device y ≡ true) r (filter (λ (y : Row). same_id y.id (Device x) || false) u) (same_device r.id x e) ih
+  by_id false e ih = ih
+
+part_devices : (t : List Row) (x : ℕ) → All (λ (r : Row). is_device r ≡ true) (part (Device x) t)
+part_devices t x = All-map (λ (r : Row). is_device r ≡ true) (as_root (Device x)) (filter (λ (r : Row). same_id r.id (Device x) || false) t)
+    (All-weaker (λ (r : Row). is_device r ≡ true) (λ (r : Row). is_device (as_root (Device x) r) ≡ true) (λ r h. ap is_device_id (part_id (Device x) r) ∙ h) (filter (λ (r : Row). same_id r.id (Device x) || false) t) (are_devices x t))
+
+-- the item itself is among the rows that were taken out
+part_there : (t : List Row) (i : ItemId) → is_there t i ≡ true → is_there (part i t) i ≡ true
+part_there t i h =
+    is_there-map (as_root i) (part_id i) (filter (λ (r : Row). is_part t i r.id) t) i
+    ∙ ap is_some (row_of-only (is_part t i) t i ∙ (λ j. if same_id_refl i j || is_under t i i then row_of t i else None)) ∙ h
+
+taken_there : (t : List Row) (i : ItemId) (xs : List Row) → is_there t i ≡ true → Same xs (part i t) → is_there xs i ≡ true
+taken_there t i xs h same = times-is_there xs i (subst (λ n. 1 ≤ n) (sym (reordered-count (λ (r : Row). same_id r.id i) same.rows)) (is_there-times (part i t) i (part_there t i h)))
+
+one_there : (b : Bool) (r : Row) → is_some (if b then Some r else None) ≡ true → b ≡ true
+one_there true r h = refl
+one_there false r h = h
+
+-- THE MOVE: what attaching the item with its weight makes of the table is its row put last
+item_moved : (t : List Row) (i : ItemId) (k w : ℕ) (n : Items) (r : Row) → Lawful t → row_of t i ≡ Some r → is_part t i (Bucket k) ≡ false → IsOne n → Same (rows None n) (part i t)
+    → Same (table_without i t ++ rows (Some k) (with_first_weight w n)) (without_row i t ++ placed_row k w r ∷ [])
+item_moved t i k w none r l e far one whole = absurd one
+item_moved t (Device x) k w (device d none) r l e far one whole =
+    let dev : is_device r ≡ true = ap is_device_id (row_id (Device x) t r e) in
+    let row : record r { parent = Some k; weight = w } ≡ placed_row k w r = λ j. record r { parent = Some k; weight = if sym dev j then w else r.weight } in
+    subst (λ z. Same (table_without (Device x) t ++ rows (Some k) (device (record d { weight = w }) none)) (without_row (Device x) t ++ z ∷ [])) row
+    (relocate_device t (Device x) (Some k) d w r l e whole far)
+item_moved t (Bucket x) k w (device d none) r l e far one whole =
+    let there : is_there (device_row None d ∷ []) (Bucket x) ≡ true = taken_there t (Bucket x) (device_row None d ∷ []) (ap is_some e) whole in
+    absurd (let no : false ≡ true = there in cc)
+item_moved t (Device x) k w (bucket h v m kids none) r l e far one whole =
+    let dev = All-head (λ (y : Row). is_device y ≡ true) (bucket_row None h) (rows (Some h.id) kids ++ []) (reordered-All (λ (y : Row). is_device y ≡ true) (reordered-sym whole.rows) (part_devices t x)) in
+    absurd (let no : false ≡ true = dev in cc)
+item_moved t (Bucket x) k w (bucket h v m kids none) r l e far one whole =
+    let buck : is_device r ≡ false = ap is_device_id (row_id (Bucket x) t r e) in
+    let row : record r { parent = Some k } ≡ placed_row k w r = λ j. record r { parent = Some k; weight = if sym buck j then w else r.weight } in
+    subst (λ z. Same (table_without (Bucket x) t ++ rows (Some k) (bucket h v m kids none)) (without_row (Bucket x) t ++ z ∷ [])) row
+    (relocate t (Bucket x) (Some k) (bucket h v m kids none) r l e one whole far)
+item_moved t i k w (device d (device f rest)) r l e far one whole = absurd one
+item_moved t i k w (device d (bucket h v m kids rest)) r l e far one whole = absurd one
+item_moved t i k w (bucket h v m kids (device f rest)) r l e far one whole = absurd one
+item_moved t i k w (bucket h v m kids (bucket g u o more rest)) r l e far one whole = absurd one
+
+pub item_same : (t : List Row) (i : ItemId) (k w : ℕ) (n : Items) → Lawful t → is_there t i ≡ true → is_part t i (Bucket k) ≡ false → IsOne n → Same (rows None n) (part i t)
+    → Same (table_without i t ++ rows (Some k) (with_first_weight w n)) (put_below k i w t)
+item_same t i k w n l there far one whole =
+    let r = found (row_of t i) there in
+    subst (Same (table_without i t ++ rows (Some k) (with_first_weight w n))) (sym (put_last k i w t r.0 (l.ids i) r.1)) (item_moved t i k w n r.0 l r.1 far one whole)
+
+-- the sums that the item stores are as they were
+pub weighted_sums : (w : ℕ) (n : Items) → StoresSums n → StoresSums (with_first_weight w n)
+weighted_sums w none s = s
+weighted_sums w (device d rest) s = s
+weighted_sums w (bucket h v m kids rest) s = s
+
+-- LAWFUL where it isn't too heavy
+placed_form : (i : ItemId) (k w : ℕ) (r : Row) → w ≤ 2147483647 → r.id ≡ i → IsRowOf i r → IsRowOf i (placed_row k w r)
+placed_form (Device d) k w r h e form = record {
+  id = form.id;
+  kind = form.kind;
+  light = subst (λ b. (if b then w else r.weight) ≤ 2147483647) (sym (ap is_device_id e)) h;
+  unplaced = λ p. absurd (let no : ◌≡◌ {A = Option ℕ} (Some k) None = p in cc);
+  alg = form.alg;
+  class_ids = form.class_ids;
+  class = form.class;
+}
+placed_form (Bucket b) k w r h e form = record {
+  some = form.some;
+  most = form.most;
+  kind_some = form.kind_some;
+  kind_most = form.kind_most;
+  weight = (λ j. if ap is_device_id e j then w else r.weight) ∙ form.weight;
+  class = form.class;
+  alg = form.alg;
+  class_ids = form.class_ids;
+  few = form.few;
+  classes = form.classes;
+}
+
+pub item_lawful : (t : List Row) (i : ItemId) (k w : ℕ) → Lawful t → is_there t i ≡ true → is_there t (Bucket k) ≡ true → is_part t i (Bucket k) ≡ false → w ≤ 2147483647 → is_too_heavy (put_below k i w t) ≡ false → Lawful (put_below k i w t)
+item_lawful t i k w l there stands far h light =
+    let r = found (row_of t i) there in
+    let put = put_last k i w t r.0 (l.ids i) r.1 in
+    let row : IsRow r.0 = of_found IsRow t i r.0 l.rows r.1 in
+    subst Lawful (sym put) (Lawful-moved t i k (if is_device r.0 then w else r.0.weight) r.0 l r.1 stands far (record { name = row.name; form = placed_form r.0.id k w r.0 h refl row.form }) (ap is_too_heavy (sym put) ∙ light))
+
+-- its ids are distinct also where it is
+placed_id : (i : ItemId) (p : Option ℕ) (w : ℕ) (r : Row) → (place i p w r).id ≡ r.id
+placed_id i p w r = by_id (same_id r.id i) where
+  by_id : (b : Bool) → (if b then at_parent p w r else r).id ≡ r.id
+  by_id true = refl
+  by_id false = refl
+
+item_distinct : (t : List Row) (i : ItemId) (k w : ℕ) → Lawful t → is_there t i ≡ true → Distinct (put_below k i w t)
+item_distinct t i k w l there =
+    let r = found (row_of t i) there in
+    let v : ℕ = if is_device r.0 then w else r.0.weight in
+    subst Distinct (sym (put_last k i w t r.0 (l.ids i) r.1))
+    (Distinct-same (placed_last i (Some k) v t r.0 (l.ids i) r.1) (Distinct-map (place i (Some k) v) (placed_id i (Some k) v) t l.ids))
+
+-- and the test for sums is that of the table after
+pub item_heavy : (t u : List Row) (i : ItemId) (k w : ℕ) → Lawful t → is_there t i ≡ true → Same u (put_below k i w t) → is_too_heavy u ≡ is_too_heavy (put_below k i w t)
+item_heavy t u i k w l there same = sym (is_too_heavy-same (put_below k i w t) u (reordered-sym same.rows) (item_distinct t i k w l there))
+
+-- THE BUCKET that is being filled is a root, also without the item and with it
+pub open_root : (s : SettingData) (t : List Row) (p : Pending) (k : ℕ) → p ≡ filling k → IsPending s t p → IsRoot t k
+open_root s t p k e h = subst (IsPending s t) e h
+
+root_row : (t u : List Row) (k : ℕ) → row_of u (Bucket k) ≡ row_of t (Bucket k) → IsRoot t k → IsRoot u k
+root_row t u k e root = record { there = ap is_some e ∙ root.there; root = ap (option_and_then (λ (r : Row). r.parent)) e ∙ root.root }
+
+root_without : (t : List Row) (i : ItemId) (k : ℕ) → IsRoot t k → is_part t i (Bucket k) ≡ false → IsRoot (table_without i t) k
+root_without t i k root far = root_row t (table_without i t) k (row_of-only (λ j. not (is_part t i j)) t (Bucket k) ∙ (λ j. if not (far j) then row_of t (Bucket k) else None)) root
+
+root_put : (t : List Row) (i : ItemId) (k w : ℕ) → IsRoot t k → same_id (Bucket k) i ≡ false → IsRoot (put_below k i w t) k
+root_put t i k w root other =
+    let keeps : row_of (without_row i t) (Bucket k) ≡ row_of t (Bucket k) = row_of-only (λ j. not (same_id j i)) t (Bucket k) ∙ (λ j. if not (other j) then row_of t (Bucket k) else None) in
+    let there : is_there (without_row i t) (Bucket k) ≡ true = ap is_some keeps ∙ root.there in
+    let last : List Row = map (placed_row k w) (filter (λ (r : Row). same_id r.id i) t) in
+    root_row t (put_below k i w t) k (row_of-append (without_row i t) last (Bucket k) ∙ (λ j. if there j then row_of (without_row i t) (Bucket k) else row_of last (Bucket k)) ∙ keeps) root
+
+-- the builder once the item is taken out
+pub taken_draft : (b : BuilderData) (g : ForestData) (d : Draft) (i : ItemId) (k : ℕ) → IsDraft b d → b.pending ≡ filling k → same_id (Bucket k) i ≡ false → Stands g (table_without i d.table) →
+    IsDraft (record b { forest = g }) (record d { table = table_without i d.table })
+taken_draft b g d i k at e other st =
+    let p : d.pending ≡ filling k = sym at.pending ∙ e in
+    let root = open_root d.setting d.table d.pending k p at.part in
+    record {
+      setting = at.setting;
+      pending = at.pending;
+      stands = st;
+      fits = Fits-rows d.setting d.table (table_without i d.table) at.fits (All-filter (λ (r : Row). not (is_part d.table i r.id)) (HasKind d.setting) d.table at.fits.types);
+      part = subst (IsPending d.setting (table_without i d.table)) (sym p) (root_without d.table i k root (apart d.table at.stands.lawful i k root other));
+    }
+
+put_fits : (s : SettingData) (t : List Row) (i : ItemId) (k w : ℕ) → Fits s t → Fits s (put_below k i w t)
+put_fits s t i k w f = Fits-rows s t (put_below k i w t) f
+    (All-append (HasKind s) (without_row i t) (map (placed_row k w) (filter (λ (r : Row). same_id r.id i) t))
+    (All-filter (λ (r : Row). not (same_id r.id i)) (HasKind s) t f.types)
+    (All-map (HasKind s) (placed_row k w) (filter (λ (r : Row). same_id r.id i) t) (All-filter (λ (r : Row). same_id r.id i) (HasKind s) t f.types)))
+
+step_at : (b : BuilderData) (h : ForestData) (s : SettingData) (t : List Row) (i : ItemId) (k w : ℕ) → IsDraft b (record { setting = s; table = t; pending = filling k }) → same_id (Bucket k) i ≡ false → Stands h (put_below k i w t) →
+    IsDraft (record b { forest = h }) (with_item (record { setting = s; table = t; pending = filling k }) i w)
+step_at b h s t i k w at other st = record {
+  setting = at.setting;
+  pending = at.pending;
+  stands = st;
+  fits = put_fits s t i k w at.fits;
+  part = root_put t i k w at.part other;
+}
+
+-- the table with the item, where a bucket is being filled
+pub put_table : (d : Draft) (i : ItemId) (k w : ℕ) → d.pending ≡ filling k → (with_item d i w).table ≡ put_below k i w d.table
+put_table d i k w e = ap (λ (p : Pending). table_with_item p i w d.table) e
+
+-- THE STEP: the item stands last in the bucket
+pub item_step : (b : BuilderData) (h : ForestData) (d : Draft) (i : ItemId) (k w : ℕ) (n : Items) → IsDraft b d → b.pending ≡ filling k → is_there d.table i ≡ true → same_id (Bucket k) i ≡ false → IsOne n → Same (rows None n) (part i d.table)
+    → Stands h (table_without i d.table ++ rows (Some k) (with_first_weight w n)) → IsDraft (record b { forest = h }) (with_item d i w)
+item_step b h d i k w n at e there other one whole st =
+    let p : d.pending ≡ filling k = sym at.pending ∙ e in
+    let root = open_root d.setting d.table d.pending k p at.part in
+    let far = apart d.table at.stands.lawful i k root other in
+    let put : Stands h (put_below k i w d.table) = same_stands h (table_without i d.table ++ rows (Some k) (with_first_weight w n)) (put_below k i w d.table) (item_same d.table i k w n at.stands.lawful there far one whole) st in
+    subst (λ (x : Pending). IsDraft (record b { forest = h }) (with_item (record { setting = d.setting; table = d.table; pending = x }) i w)) (sym p)
+    (step_at b h d.setting d.table i k w (subst (λ (x : Pending). IsDraft b (record { setting = d.setting; table = d.table; pending = x })) p at) other put)
+
+-- the rows with the item, as it is attached to a forest that stands for the table without it
+pub attached_lawful : (g : ForestData) (t : List Row) (i : ItemId) (k w : ℕ) (n : Items) → Lawful t → is_there t i ≡ true → IsRoot t k → same_id (Bucket k) i ≡ false → IsOne n → Same (rows None n) (part i t)
+    → w ≤ 2147483647 → Stands g (table_without i t) → is_too_heavy (put_below k i w t) ≡ false → Lawful (rows_of g ++ rows (Some k) (with_first_weight w n))
+attached_lawful g t i k w n l there root other one whole h st light =
+    let far = apart t l i k root other in
+    let m : Items = with_first_weight w n in
+    let near : Same (rows_of g ++ rows (Some k) m) (put_below k i w t) =
+    Same-trans (rows_of g ++ rows (Some k) m) (table_without i t ++ rows (Some k) m) (put_below k i w t) (Same-with (rows (Some k) m) (rows_of g) (table_without i t) st.same) (item_same t i k w n l there far one whole) in
+    Lawful-same (put_below k i w t) (rows_of g ++ rows (Some k) m) (Same-sym (rows_of g ++ rows (Some k) m) (put_below k i w t) near) (item_lawful t i k w l there root.there far h light)

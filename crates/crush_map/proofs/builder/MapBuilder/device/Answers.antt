@@ -1,0 +1,44 @@
+use Rattle.std.proofs.Common.{◌≡◌, List, [], ◌∷◌, ◌++◌, subst, sym, ap, ◌∙◌, arith}
+use Rattle.std.specs.Prelude.{None}
+use Rattle.crush_table.specs.Items.{Items, device, none}
+use Rattle.crush_table.specs.Table.{Row}
+use Rattle.crush_table.specs.Lawful.{Lawful}
+use Rattle.crush_table.specs.Rows.{rows, rows_of, Stands}
+use Rattle.crush_table.proofs.Weighs.{or_left}
+use Rattle.crush_tree.specs.Seen.{items_of}
+use Rattle.crush_map.specs.Parts.{part_data}
+use Rattle.crush_map.specs.Built.{Draft, with_device}
+use Rattle.crush_map.specs.Building.{BuilderData, IsDraft, own_draft}
+use Rattle.crush_map.proofs.Drafts.{own_is_draft, reserved, draft_fits}
+use Rattle.crush_map.proofs.RowSteps.{device_lawful, device_step}
+use Rattle.crush_map.proofs.builder.MapBuilder.device.Goals as goal
+
+pub attach-requires-clause-fits : goal.attach-requires-clause-fits
+attach-requires-clause-fits g c =
+    let b : BuilderData = record { setting = c.self.inside.setting; forest = c.self.inside.forest; pending = part_data c.self.inside.part } in
+    let d : Draft = record { setting = b.setting; table = rows_of c.reserve.new.self; pending = b.pending } in
+    let at : IsDraft c.args.self.now d = subst (λ (x : BuilderData). IsDraft x d) c.self.view_is (reserved b c.reserve.new.self c.sound.ensures c.self.invariant c.reserve.ensures.stands) in
+    let node : ◌≡◌ {A = Items} (device (record { id = c.args.id; name = c.args.name.now; weight = 0; class = None }) none) (items_of (c.device-node.result ∷ [])) =
+    sym (c.device-node.ensures ∙ (λ i. device (record { id = c.args.id; name = c.in_ok-name.ensures i; weight = c.from_units.ensures i; class = None }) none)) in
+    subst (λ (n : Items). Lawful (d.table ++ rows None n)) node
+    (device_lawful d.table c.args.id c.args.name.now at.stands.lawful (omega arith) c.requires.name (c.requires.id d at) (or_left _ _ (c.requires.fresh d at)) (c.requires.room d at))
+
+pub invariant_of-self-2 : goal.invariant_of-self-2
+invariant_of-self-2 g c =
+    let b : BuilderData = record { setting = c.self.inside.setting; forest = c.self.inside.forest; pending = part_data c.self.inside.part } in
+    let d : Draft = own_draft b in
+    let own : IsDraft b d = own_is_draft b c.sound.ensures c.self.invariant in
+    let node : ◌≡◌ {A = Items} (items_of (c.device-node.result ∷ [])) (device (record { id = c.args.id; name = c.args.name.now; weight = 0; class = None }) none) =
+    c.device-node.ensures ∙ (λ i. device (record { id = c.args.id; name = c.in_ok-name.ensures i; weight = c.from_units.ensures i; class = None }) none) in
+    draft_fits (record b { forest = c.attach.new.self }) (with_device d c.args.id c.args.name.now)
+    (device_step b c.attach.new.self d c.args.id c.args.name.now own (ap (λ (x : BuilderData). x.pending) c.self.view_is ∙ c.requires.idle)
+    (subst (λ (n : Items). Stands c.attach.new.self (d.table ++ rows None n)) node (c.attach.ensures.stands d.table (c.reserve.ensures.stands d.table own.stands))))
+
+pub returns : goal.returns
+returns g c = λ d i.
+    let b : BuilderData = record { setting = c.self.inside.setting; forest = c.self.inside.forest; pending = part_data c.self.inside.part } in
+    let at : IsDraft b d = subst (λ (x : BuilderData). IsDraft x d) (sym c.self.view_is) i in
+    let node : ◌≡◌ {A = Items} (items_of (c.device-node.result ∷ [])) (device (record { id = c.args.id; name = c.args.name.now; weight = 0; class = None }) none) =
+    c.device-node.ensures ∙ (λ i. device (record { id = c.args.id; name = c.in_ok-name.ensures i; weight = c.from_units.ensures i; class = None }) none) in
+    device_step b c.attach.new.self d c.args.id c.args.name.now at (ap (λ (x : BuilderData). x.pending) c.self.view_is ∙ c.requires.idle)
+    (subst (λ (n : Items). Stands c.attach.new.self (d.table ++ rows None n)) node (c.attach.ensures.stands d.table (c.reserve.ensures.stands d.table at.stands)))

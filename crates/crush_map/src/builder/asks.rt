@@ -1,0 +1,135 @@
+//! The tests that tell whether a call of the builder may be made.
+
+ghost use Rattle.std.specs.Prelude.{◌≡◌, IfSome, true, false};
+ghost use Rattle.crush_units.specs.declared.id.ItemId.TheVariants.{Device, Bucket};
+ghost use Rattle.crush_table.specs.Table.{is_there, is_placed, weight_of};
+ghost use Rattle.crush_table.specs.Setting.{kind_number};
+ghost use Rattle.crush_map.specs.Built.{Draft};
+ghost use Rattle.crush_map.specs.Building.{IsDraft, is_open, has_kind_number, has_kind_name, has_name, has_bucket_id, is_bucket_kind, item_named, is_full_of_devices, is_full_of_buckets, is_full_of_kinds};
+
+use super::{MapBuilder, Part};
+use crush_units::{BucketId, DeviceId, ItemId, TypeId, Weight};
+use std::alloc::Allocator;
+
+impl<A: Allocator> MapBuilder<A> {
+    /// Whether a device has this id.
+    pub fn has_device(&self, id: DeviceId) -> bool
+        ensures { (d : Draft) → IsDraft self.now d → result ≡ is_there d.table (Device id) }
+    {
+        self.forest.kind(ItemId::Device(id)).is_some()
+    }
+
+    /// Whether a bucket or a class id has this id, also the bucket that isn't complete.
+    pub fn has_bucket_id(&self, id: BucketId) -> bool
+        ensures { (d : Draft) → IsDraft self.now d → result ≡ has_bucket_id d id }
+    {
+        let pending = match &self.part {
+            Part::Numbered(_, _, own) => *own == id,
+            _ => false,
+        };
+        self.forest.is_used(id) || pending
+    }
+
+    /// Whether an item has this name, also the bucket that isn't complete.
+    pub fn has_name(&self, name: &[u8]) -> bool
+        ensures { (d : Draft) → IsDraft self.now d → result ≡ has_name d name.now }
+    {
+        let pending = match &self.part {
+            Part::Begun(_, own) => own.is(name),
+            Part::Numbered(_, own, _) => own.is(name),
+            _ => false,
+        };
+        self.forest.id_of(name).is_some() || pending
+    }
+
+    /// Whether a type has this number.
+    pub fn has_kind_number(&self, number: TypeId) -> bool
+        ensures { (d : Draft) → IsDraft self.now d → result ≡ has_kind_number d.setting number }
+    {
+        self.setting.has_number(number)
+    }
+
+    /// Whether a type has this name.
+    pub fn has_kind_name(&self, name: &[u8]) -> bool
+        ensures { (d : Draft) → IsDraft self.now d → result ≡ has_kind_name d.setting name.now }
+    {
+        self.setting.has_name(name)
+    }
+
+    /// Whether buckets can have the type of this number: it isn't 0, and one of the map's types.
+    pub fn is_bucket_kind(&self, number: TypeId) -> bool
+        ensures { (d : Draft) → IsDraft self.now d → result ≡ is_bucket_kind d.setting number }
+    {
+        number.number() > 0 && self.setting.has_number(number)
+    }
+
+    /// The number of the type of this name, or `None` where the map has no such type.
+    pub fn kind_number(&self, name: &[u8]) -> Option<TypeId>
+        ensures { (d : Draft) → IsDraft self.now d → result ≡ kind_number d.setting name.now }
+    {
+        self.setting.kind_number(name)
+    }
+
+    /// The device or the complete bucket of this name, or `None` where there is none.
+    pub fn item_named(&self, name: &[u8]) -> Option<ItemId>
+        ensures value { (d : Draft) → IsDraft self.now d → result ≡ item_named d name.now }
+        ensures there { IfSome result (λ i. (d : Draft) → IsDraft self.now d → is_there d.table i ≡ true) }
+        ensures closed { IfSome result (λ i. is_open self.now.pending i ≡ false) }
+    {
+        match self.forest.id_of(name)? {
+            ItemId::Device(device) => Some(ItemId::Device(device)),
+            ItemId::Bucket(bucket) => {
+                if self.is_filling(bucket) {
+                    None
+                } else {
+                    Some(ItemId::Bucket(bucket))
+                }
+            }
+        }
+    }
+
+    /// Whether a bucket holds the item.
+    pub fn is_held(&self, id: ItemId) -> bool
+        ensures { (d : Draft) → IsDraft self.now d → result ≡ is_placed d.table id }
+    {
+        self.forest.parent(id).is_some()
+    }
+
+    /// The weight of an item, or `None` where it isn't there.
+    pub fn weight_of(&self, id: ItemId) -> Option<Weight>
+        ensures { (d : Draft) → IsDraft self.now d → result ≡ weight_of d.table id }
+    {
+        self.forest.weight(id)
+    }
+
+    /// Whether there are 65,536 devices.
+    pub fn is_full_of_devices(&self) -> bool
+        ensures { (d : Draft) → IsDraft self.now d → result ≡ is_full_of_devices d }
+    {
+        self.forest.counts().devices >= 65536
+    }
+
+    /// Whether there are 4,096 buckets.
+    pub fn is_full_of_buckets(&self) -> bool
+        ensures { (d : Draft) → IsDraft self.now d → result ≡ is_full_of_buckets d }
+    {
+        self.forest.counts().buckets >= 4096
+    }
+
+    /// Whether there are 256 types.
+    pub fn is_full_of_kinds(&self) -> bool
+        ensures { (d : Draft) → IsDraft self.now d → result ≡ is_full_of_kinds d }
+    {
+        self.setting.kinds().len() >= 256
+    }
+
+    /// Whether the bucket is the one that is being filled.
+    fn is_filling(&self, id: BucketId) -> bool
+        ensures { result ≡ is_open self.now.pending (Bucket id) }
+    {
+        match &self.part {
+            Part::Filling(bucket) => *bucket == id,
+            _ => false,
+        }
+    }
+}
