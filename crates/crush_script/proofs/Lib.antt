@@ -2,3 +2,4 @@ pub mod Cuts
 pub mod Writing
 pub mod Calls
 pub mod Few
+pub mod Histories

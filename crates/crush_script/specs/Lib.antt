@@ -5,3 +5,4 @@ pub mod Sections
 pub mod Steps
 pub mod History
 pub mod HistoryText
+pub mod Turns

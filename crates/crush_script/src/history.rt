@@ -2,6 +2,7 @@
 
 ghost use Rattle.std.specs.Prelude.{◌≡◌, IfErr};
 ghost use Rattle.crush_text.specs.Writes.{Writes};
+ghost use Rattle.crush_script.specs.Turns.{TurnsAreHistory};
 ghost use Rattle.crush_script.specs.HistoryText.{edit_text, call_text, digit_of, line_front, line_end, line_text};
 
 use crate::call::{Call, Reply};
@@ -145,3 +146,10 @@ pub fn write_entry<W: Write>(
     write_call(call, out)?;
     write_reply(reply, out)
 }
+
+/// The history of scripts that run one after the other: each reply is the table's at that point,
+/// and the entries are the calls of each script in order, and no others. There is nothing to run:
+/// the contract is the law.
+pub fn turns_are_history()
+    ensures { TurnsAreHistory }
+{}

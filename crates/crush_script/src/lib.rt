@@ -10,7 +10,7 @@ mod sections;
 
 pub use call::{Call, Reply};
 pub use fault::JobFault;
-pub use history::write_entry;
+pub use history::{turns_are_history, write_entry};
 pub use sections::Script;
 
 #[cfg(test)]
