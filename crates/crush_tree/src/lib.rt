@@ -18,3 +18,6 @@ pub use forest::Forest;
 pub use node::{Bucket, ClassId, Header, Leaf, Node};
 pub use place::Place;
 pub use view::{Counts, View};
+
+#[cfg(test)]
+mod tests;
