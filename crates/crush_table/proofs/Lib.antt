@@ -15,5 +15,6 @@ pub mod Same
 pub mod Stands
 pub mod Sums
 pub mod Swapped
+pub mod Tested
 pub mod Weighs
 pub mod Worked

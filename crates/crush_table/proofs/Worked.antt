@@ -4,9 +4,11 @@ use Rattle.crush_units.specs.declared.id.ItemId.TheVariants.{Device, Bucket}
 use Rattle.crush_units.specs.declared.alg.Alg.TheVariants.{Straw2}
 use Rattle.crush_table.specs.Items.{LeafData, HeaderData, none, device, bucket}
 use Rattle.crush_table.specs.Table.{Row, id_named, is_named, parent_of, kind_of, is_placed, above, is_below, kids, sum_below, total, weight_of, device_count, bucket_count, used_ids, free_ids}
-use Rattle.crush_table.specs.Lawful.{is_too_heavy, has_too_many}
-use Rattle.crush_table.specs.Rows.{ForestData, rows_of, stored_weight, all_items}
-use Rattle.crush_table.specs.Columns.{set_weight, set_subtree, table_without, part, without_row, swap_buckets}
+use Rattle.crush_table.specs.Lawful.{Lawful, is_too_heavy, has_too_many}
+use Rattle.crush_table.specs.Tested.{is_lawful}
+use Rattle.crush_table.proofs.Tested.{Lawful-tested}
+use Rattle.crush_table.specs.Rows.{ForestData, rows, rows_of, stored_weight, all_items, IsSound}
+use Rattle.crush_table.specs.Columns.{set_weight, set_subtree, table_without, part, without_row, exchange_parents, swap_buckets}
 
 abbrev leaf : ℕ → List ℕ → ℕ → LeafData
 leaf d n w = record { id = d; name = n; weight = w; class = None }
@@ -171,3 +173,50 @@ fits_no_more = refl
 
 room : has_too_many map ≡ false
 room = refl
+
+-- a device of 21823 units in a new host h3 (-4) in a new rack r1 (-5) in default
+abbrev added : List Row
+added = map ++ rows (Some 1) (bucket (header 5 3 (codes "r1")) 21823 1 (bucket (header 4 1 (codes "h3")) 21823 1 (device (leaf 3 (codes "osd.3") 21823) none) none) none)
+
+added_kids : kids added 1 ≡ Bucket 2 ∷ (Bucket 3 ∷ (Bucket 5 ∷ []))
+added_kids = refl
+
+added_sum : sum_below added 1 ≡ 185663
+added_sum = refl
+
+added_rack : sum_below added 5 ≡ 21823
+added_rack = refl
+
+added_lawful : is_lawful added ≡ true
+added_lawful = refl
+
+-- two buckets whose sums a swap would bring out of range: a (-2) with one device in p (-1), and q (-3) with two
+abbrev full : List Row
+full = rows None (bucket (header 1 11 (codes "p")) 4294967294 2 (bucket (header 2 1 (codes "a")) 2147483647 1 (device (leaf 0 (codes "d0") 2147483647) none) (device (leaf 1 (codes "d1") 2147483647) none))
+    (bucket (header 3 11 (codes "q")) 4294967294 2 (device (leaf 2 (codes "d2") 2147483647) (device (leaf 3 (codes "d3") 2147483647) none)) none))
+
+full_fits : is_too_heavy full ≡ false
+full_fits = refl
+
+full_swapped : is_too_heavy (swap_buckets 2 3 full) ≡ true
+full_swapped = refl
+
+-- the example map is lawful, as are the tables that the changes make of it
+pub example_lawful : Lawful map
+example_lawful = Lawful-tested map refl
+
+pub example_sound : IsSound example
+example_sound = record { lawful = example_lawful; sums = (refl, (refl, tt, (refl, tt, tt)), tt); roots = tt; unplaced = tt }
+
+moved_lawful : is_lawful moved ≡ true
+moved_lawful = refl
+
+swapped_lawful : is_lawful swapped ≡ true
+swapped_lawful = refl
+
+-- and these are not: a device twice, and a bucket in itself
+twice : is_lawful (map ++ rows (Some 3) (device (leaf 0 (codes "disk") 65536) none)) ≡ false
+twice = refl
+
+loop : is_lawful (exchange_parents 1 2 map) ≡ false
+loop = refl

@@ -7,3 +7,4 @@ pub mod Rows
 pub mod Same
 pub mod Setting
 pub mod Table
+pub mod Tested

@@ -1,12 +1,13 @@
 //! Laws of the table, as contracts of functions that do nothing.
 
-ghost use Rattle.std.specs.Prelude.{◌≡◌, ℕ, List, ◌++◌};
+ghost use Rattle.std.specs.Prelude.{◌≡◌, ℕ, List, ◌++◌, true};
 ghost use Rattle.crush_units.specs.declared.id.ItemId.{ItemId};
 ghost use Rattle.crush_table.specs.Columns.{set_weight, set_subtree, set_name, table_without, part, without_row, exchange_parents, swap_buckets};
 ghost use Rattle.crush_table.specs.Law.{SumsItems, ClimbEnds, KeepsSame, KeepsLawful, WeightKeepsLawful, SubtreeKeepsLawful, NameKeepsLawful, MoveKeepsLawful, SwapKeepsLawful, DeviceKeepsLawful, BucketKeepsLawful, RowsKeepLawful, StandsForOne, Relocates};
 ghost use Rattle.crush_table.specs.Lawful.{Lawful};
 ghost use Rattle.crush_table.specs.Rows.{ForestData};
 ghost use Rattle.crush_table.specs.Table.{Row};
+ghost use Rattle.crush_table.specs.Tested.{is_lawful};
 
 /// A bucket weighs what its items weigh in all, and what is above an item ends.
 pub fn sums_are_those_of_items()
@@ -53,4 +54,9 @@ pub fn changes_keep_lawful()
 /// An item that is taken out and put elsewhere is one row that gets another parent and comes last.
 pub fn moves_are_of_one_row()
     ensures { (t : List Row) → Lawful t → Relocates t }
+{}
+
+/// A table that passes the test is lawful.
+pub fn what_passes_is_lawful()
+    ensures { (t : List Row) → is_lawful t ≡ true → Lawful t }
 {}

@@ -1,0 +1,53 @@
+-- A test that computes on a table that is written out: what passes it is lawful.
+use Rattle.std.specs.Prelude.{ℕ, List, [], ◌∷◌, Option, Some, None, Bool, true, false, not, ◌==◌, ◌&&◌, ◌||◌, length, map, is_some, is_none, bytes_eq, nat_lt, nat_le}
+use Rattle.std.specs.List.{list_any, list_all}
+use Rattle.crush_units.specs.declared.id.ItemId.{ItemId}
+use Rattle.crush_units.specs.declared.id.ItemId.TheVariants.{Device, Bucket}
+use Rattle.crush_units.specs.Id.{same_id}
+use Rattle.crush_units.specs.Name.{is_name}
+use Rattle.crush_table.specs.Items.{ClassData}
+use Rattle.crush_table.specs.Table.{Row, is_there, is_below, used_ids}
+use Rattle.crush_table.specs.Lawful.{is_too_heavy, has_too_many}
+
+-- each of several tests holds
+abbrev pub all_hold : List Bool → Bool
+all_hold [] = true
+all_hold (b ∷ bs) = b && all_hold bs
+
+-- no two are the same
+abbrev pub are_apart : {X : Type 0} → (X → X → Bool) → List X → Bool
+are_apart same [] = true
+are_apart same (x ∷ xs) = not (list_any (same x) xs) && are_apart same xs
+
+abbrev pub name_or_none : Option (List ℕ) → Bool
+name_or_none None = true
+name_or_none (Some n) = is_name n
+
+abbrev pub is_class_id : ClassData → Bool
+is_class_id c = all_hold (nat_lt 0 c.id ∷ (nat_le c.id 2147483648 ∷ (is_name c.class ∷ [])))
+
+-- a row by itself
+abbrev pub is_row_of : ItemId → Row → Bool
+is_row_of (Device d) r =
+    all_hold (nat_lt d 2147483648 ∷ ((r.kind == 0) ∷ (nat_le r.weight 2147483647 ∷ ((is_some r.parent || (r.weight == 0)) ∷ (is_none r.alg ∷ ((length r.class_ids == 0) ∷ (name_or_none r.class ∷ [])))))))
+is_row_of (Bucket b) r =
+    all_hold (nat_lt 0 b ∷ (nat_le b 2147483648 ∷ (nat_lt 0 r.kind ∷ (nat_le r.kind 65535 ∷ ((r.weight == 0) ∷ (is_none r.class ∷ (is_some r.alg ∷ (list_all is_class_id r.class_ids
+    ∷ (nat_le (length r.class_ids) 16 ∷ (are_apart bytes_eq (map (λ (c : ClassData). c.class) r.class_ids) ∷ []))))))))))
+
+abbrev pub is_row : Row → Bool
+is_row r = all_hold (is_name r.name ∷ (is_row_of r.id r ∷ []))
+
+-- its parent is there, and it isn't below itself
+abbrev pub parent_is_there : List Row → Option ℕ → Bool
+parent_is_there t None = true
+parent_is_there t (Some p) = is_there t (Bucket p)
+
+abbrev pub is_loop : List Row → ItemId → Bool
+is_loop t (Device d) = false
+is_loop t (Bucket b) = is_below t b (Bucket b)
+
+-- the whole table
+abbrev pub is_lawful : List Row → Bool
+is_lawful t =
+    all_hold (are_apart same_id (map (λ (r : Row). r.id) t) ∷ (are_apart bytes_eq (map (λ (r : Row). r.name) t) ∷ (are_apart (λ a b. a == b) (used_ids t) ∷ (list_all is_row t
+    ∷ (list_all (λ (r : Row). parent_is_there t r.parent) t ∷ (not (list_any (λ (r : Row). is_loop t r.id) t) ∷ (not (is_too_heavy t) ∷ (not (has_too_many t) ∷ []))))))))
