@@ -4,6 +4,7 @@
 
 mod attach;
 mod child;
+mod detach;
 mod edits;
 mod fit;
 mod forest;
