@@ -1,5 +1,9 @@
 pub mod Appending
 pub mod Forms
+pub mod InOrder
+pub mod ItemLines
 pub mod Printed
 pub mod PrintedMaps
+pub mod Sorting
 pub mod Split
+pub mod Told

@@ -7,8 +7,8 @@ use Rattle.crush_table.specs.Items.{LeafData, HeaderData, none, device, bucket}
 use Rattle.crush_table.specs.Rows.{rows_of}
 use Rattle.crush_table.specs.Setting.{KindData, SettingData}
 use Rattle.crush_table.specs.Table.{Row}
-use Rattle.crush_text.specs.Lines.{device_line, kind_line, item_line, bucket_lines}
-use Rattle.crush_text.specs.MapText.{device_numbers, kind_numbers, root_numbers, of_row, kind_text, items_lines, bucket_text, bucket_texts, tunable_section, device_section, kind_section, bucket_section, rule_section, map_text}
+use Rattle.crush_text.specs.Lines.{device_line, kind_line, item_line, bucket_head, bucket_choice, bucket_lines}
+use Rattle.crush_text.specs.MapText.{device_numbers, kind_numbers, root_numbers, device_lines, root_texts, of_row, kind_text, kids_lines, bucket_text, bucket_texts, tunable_section, device_section, kind_section, bucket_section, rule_section, map_text}
 
 abbrev leaf : ℕ → List ℕ → ℕ → LeafData
 leaf d n w = record { id = d; name = n; weight = w; class = None }
@@ -34,12 +34,12 @@ abbrev setting : SettingData
 setting = record { kinds = type 0 (codes "osd") ∷ (type 1 (codes "host") ∷ (type 3 (codes "rack") ∷ (type 11 (codes "root") ∷ []))) }
 
 empty_map : map_text (record { kinds = [] }) [] ≡ codes "# begin crush map\n\n# devices\n\n# types\n\n# buckets\n\n# rules\n\n# end crush map\n"
-unfolding map_text tunable_section device_section kind_section bucket_section rule_section device_numbers kind_numbers root_numbers
+unfolding map_text tunable_section device_section kind_section bucket_section rule_section device_lines root_texts device_numbers kind_numbers root_numbers
 empty_map = refl
 
 -- the sections of the plain example map, and the whole of it
 example_devices : device_section example ≡ codes "\n# devices\ndevice 0 osd.0\ndevice 1 osd.1\ndevice 2 osd.2\n"
-unfolding device_section device_numbers of_row device_line digits
+unfolding device_section device_lines device_numbers of_row device_line digits
 example_devices = refl
 
 example_types : kind_section setting ≡ codes "\n# types\ntype 0 osd\ntype 1 host\ntype 3 rack\ntype 11 root\n"
@@ -47,17 +47,17 @@ unfolding kind_section kind_numbers kind_text kind_line digits
 example_types = refl
 
 example_host : bucket_text setting example 2 ≡ codes "host h1 {\n\tid -2\t\t# do not change unnecessarily\n\t# weight 2.00000\n\talg straw2\n\thash 0\t# rjenkins1\n\titem osd.0 weight 1.00000\n\titem osd.1 weight 1.00000\n}\n"
-unfolding bucket_text of_row items_lines item_line bucket_lines kind_text digits
+unfolding bucket_text of_row kids_lines item_line bucket_head bucket_choice bucket_lines kind_text digits
 example_host = refl
 
 example_other : bucket_text setting example 3 ≡ codes "host h2 {\n\tid -3\t\t# do not change unnecessarily\n\t# weight 0.50000\n\talg straw2\n\thash 0\t# rjenkins1\n\titem osd.2 weight 0.50000\n}\n"
-unfolding bucket_text of_row items_lines item_line bucket_lines kind_text digits
+unfolding bucket_text of_row kids_lines item_line bucket_head bucket_choice bucket_lines kind_text digits
 example_other = refl
 
 example_root : bucket_text setting example 1 ≡ codes "root default {\n\tid -1\t\t# do not change unnecessarily\n\t# weight 2.50000\n\talg straw2\n\thash 0\t# rjenkins1\n\titem h1 weight 2.00000\n\titem h2 weight 0.50000\n}\n"
-unfolding bucket_text of_row items_lines item_line bucket_lines kind_text digits
+unfolding bucket_text of_row kids_lines item_line bucket_head bucket_choice bucket_lines kind_text digits
 example_root = refl
 
 example_map : map_text setting example ≡ codes "# begin crush map\n\n# devices\ndevice 0 osd.0\ndevice 1 osd.1\ndevice 2 osd.2\n\n# types\ntype 0 osd\ntype 1 host\ntype 3 rack\ntype 11 root\n\n# buckets\nhost h1 {\n\tid -2\t\t# do not change unnecessarily\n\t# weight 2.00000\n\talg straw2\n\thash 0\t# rjenkins1\n\titem osd.0 weight 1.00000\n\titem osd.1 weight 1.00000\n}\nhost h2 {\n\tid -3\t\t# do not change unnecessarily\n\t# weight 0.50000\n\talg straw2\n\thash 0\t# rjenkins1\n\titem osd.2 weight 0.50000\n}\nroot default {\n\tid -1\t\t# do not change unnecessarily\n\t# weight 2.50000\n\talg straw2\n\thash 0\t# rjenkins1\n\titem h1 weight 2.00000\n\titem h2 weight 0.50000\n}\n\n# rules\n\n# end crush map\n"
-unfolding map_text tunable_section device_section kind_section bucket_section rule_section device_numbers kind_numbers root_numbers bucket_texts bucket_text of_row items_lines device_line kind_line item_line bucket_lines kind_text digits
+unfolding map_text tunable_section device_section kind_section bucket_section rule_section device_lines root_texts device_numbers kind_numbers root_numbers bucket_texts bucket_text of_row kids_lines device_line kind_line item_line bucket_head bucket_choice bucket_lines kind_text digits
 example_map = refl

@@ -1,5 +1,6 @@
 pub mod Document
 pub mod Fault
+pub mod ItemsText
 pub mod Lexer
 pub mod Lines
 pub mod MapText

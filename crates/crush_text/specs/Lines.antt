@@ -1,5 +1,5 @@
 -- The lines of a printed map, each written from the row that it shows.
-use Rattle.std.specs.Prelude.{ℕ, List, ◌∷◌, ◌++◌, Option, Some, None, codes, decimal, flat_map}
+use Rattle.std.specs.Prelude.{ℕ, List, [], ◌∷◌, ◌++◌, Option, Some, None, codes, decimal, flat_map}
 use Rattle.std.specs.Option.{option_map_or}
 use Rattle.crush_units.specs.declared.id.ItemId.{ItemId}
 use Rattle.crush_units.specs.declared.id.ItemId.TheVariants.{Device, Bucket}
@@ -15,7 +15,7 @@ id_text (Bucket b) = 45 ∷ decimal b
 
 -- ` class C` behind a device that has one
 abbrev pub class_text : Option (List ℕ) → List ℕ
-class_text None = codes ""
+class_text None = []
 class_text (Some c) = codes " class " ++ c
 
 -- `device N NAME`, and its class
@@ -26,18 +26,22 @@ device_line r = codes "device " ++ id_text r.id ++ codes " " ++ r.name ++ class_
 unfoldable pub kind_line : ℕ → List ℕ → List ℕ
 kind_line n name = codes "type " ++ decimal n ++ codes " " ++ name ++ codes "\n"
 
--- `item NAME weight W`, for an item with this weight
-unfoldable pub item_line : Row → ℕ → List ℕ
-item_line r weight = codes "\titem " ++ r.name ++ codes " weight " ++ weight_text weight ++ codes "\n"
+-- `item NAME weight W`, for an item with this name and this weight
+unfoldable pub item_line : List ℕ → ℕ → List ℕ
+item_line name weight = codes "\titem " ++ name ++ codes " weight " ++ weight_text weight ++ codes "\n"
 
 -- `id -M class C`, with the remark that stands behind each id of a bucket
 unfoldable pub class_id_line : ClassData → List ℕ
 class_id_line c = codes "\tid " ++ id_text (Bucket c.id) ++ codes " class " ++ c.class ++ codes "\t\t# do not change unnecessarily\n"
 
--- a bucket: its type's name, its name, its ids, its weight, its algorithm, its hash, and its items' lines
+-- how a bucket begins: its type's name, its name and its id
+unfoldable pub bucket_head : List ℕ → List ℕ → ItemId → List ℕ
+bucket_head kind name id = kind ++ codes " " ++ name ++ codes " {\n\tid " ++ id_text id ++ codes "\t\t# do not change unnecessarily\n"
+
+-- its weight, its algorithm and its hash
+unfoldable pub bucket_choice : Row → ℕ → List ℕ
+bucket_choice r weight = codes "\t# weight " ++ weight_text weight ++ codes "\n\talg " ++ option_map_or alg_text r.alg [] ++ codes "\n\thash 0\t# rjenkins1\n"
+
+-- a bucket, round its items' lines
 unfoldable pub bucket_lines : List ℕ → Row → ℕ → List ℕ → List ℕ
-bucket_lines kind r weight items =
-    kind ++ codes " " ++ r.name ++ codes " {\n\tid " ++ id_text r.id ++ codes "\t\t# do not change unnecessarily\n"
-    ++ flat_map class_id_line r.class_ids
-    ++ codes "\t# weight " ++ weight_text weight ++ codes "\n\talg " ++ option_map_or alg_text r.alg (codes "") ++ codes "\n\thash 0\t# rjenkins1\n"
-    ++ items ++ codes "}\n"
+bucket_lines kind r weight items = bucket_head kind r.name r.id ++ flat_map class_id_line r.class_ids ++ bucket_choice r weight ++ items ++ codes "}\n"

@@ -43,12 +43,12 @@ unfoldable pub kind_text : SettingData → ℕ → List ℕ
 kind_text s n = unwrap_or (kind_name s n) []
 
 -- the lines of a bucket's items in their order: an item weighs its own weight or its sum
-unfoldable pub items_lines : List Row → ℕ → List ℕ
-items_lines t b = flat_map (λ i. of_row t i (λ (r : Row). item_line r (item_weight t i r.weight))) (kids t b)
+unfoldable pub kids_lines : List Row → ℕ → List ℕ
+kids_lines t b = flat_map (λ i. of_row t i (λ (r : Row). item_line r.name (item_weight t i r.weight))) (kids t b)
 
 -- a bucket, by its row, its sum and its items
 unfoldable pub bucket_text : SettingData → List Row → ℕ → List ℕ
-bucket_text s t b = of_row t (Bucket b) (λ (r : Row). bucket_lines (kind_text s r.kind) r (sum_below t b) (items_lines t b))
+bucket_text s t b = of_row t (Bucket b) (λ (r : Row). bucket_lines (kind_text s r.kind) r (sum_below t b) (kids_lines t b))
 
 -- an item and the buckets below it, n deep at most: a bucket stands behind the buckets among its items, and these in their order
 unfoldable pub bucket_texts : SettingData → List Row → ℕ → ItemId → List ℕ
@@ -56,18 +56,25 @@ bucket_texts s t n (Device d) = []
 bucket_texts s t zero (Bucket b) = []
 bucket_texts s t (suc n) (Bucket b) = flat_map (bucket_texts s t n) (kids t b) ++ bucket_text s t b
 
+-- all devices, and all buckets: as many rows as there are, so deep the roots are at most
+unfoldable pub device_lines : List Row → List ℕ
+device_lines t = flat_map (λ d. of_row t (Device d) device_line) (device_numbers t)
+
+unfoldable pub root_texts : SettingData → List Row → List ℕ
+root_texts s t = flat_map (λ b. bucket_texts s t (length t) (Bucket b)) (root_numbers t)
+
 -- the sections, each with its heading
 unfoldable pub tunable_section : SettingData → List ℕ
 tunable_section s = codes "# begin crush map\n"
 
 unfoldable pub device_section : List Row → List ℕ
-device_section t = codes "\n# devices\n" ++ flat_map (λ d. of_row t (Device d) device_line) (device_numbers t)
+device_section t = codes "\n# devices\n" ++ device_lines t
 
 unfoldable pub kind_section : SettingData → List ℕ
 kind_section s = codes "\n# types\n" ++ flat_map (λ n. kind_line n (kind_text s n)) (kind_numbers s)
 
 unfoldable pub bucket_section : SettingData → List Row → List ℕ
-bucket_section s t = codes "\n# buckets\n" ++ flat_map (λ b. bucket_texts s t (length t) (Bucket b)) (root_numbers t)
+bucket_section s t = codes "\n# buckets\n" ++ root_texts s t
 
 unfoldable pub rule_section : SettingData → List Row → List ℕ
 rule_section s t = codes "\n# rules\n"

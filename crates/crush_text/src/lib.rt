@@ -2,6 +2,8 @@
 #![tactic(auto)]
 
 mod fault;
+mod lines;
+mod printer;
 mod words;
 mod write;
 
