@@ -4,6 +4,7 @@ pub mod InOrder
 pub mod ItemLines
 pub mod Printed
 pub mod PrintedMaps
+pub mod SameText
 pub mod Sorting
 pub mod Split
 pub mod Told

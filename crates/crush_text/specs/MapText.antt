@@ -1,8 +1,10 @@
 -- The printed form of a map, written from its table: docs/FORMATS.md has the same in words.
-use Rattle.std.specs.Prelude.{ℕ, zero, suc, List, [], ◌∷◌, ◌++◌, if◌then◌else◌, is_some, nat_le, length, map, flat_map, unwrap_or, codes}
+use Rattle.std.specs.Prelude.{◌≡◌, ℕ, zero, suc, List, [], ◌∷◌, ◌++◌, if◌then◌else◌, is_some, nat_le, length, map, flat_map, unwrap_or, codes}
 use Rattle.std.specs.Option.{option_map_or}
 use Rattle.crush_units.specs.declared.id.ItemId.{ItemId}
 use Rattle.crush_units.specs.declared.id.ItemId.TheVariants.{Device, Bucket}
+use Rattle.crush_table.specs.Lawful.{Lawful}
+use Rattle.crush_table.specs.Same.{Same}
 use Rattle.crush_table.specs.Setting.{KindData, SettingData, kind_name}
 use Rattle.crush_table.specs.Table.{Row, row_of, kids, sum_below, item_weight, bucket_number}
 use Rattle.crush_text.specs.Lines.{device_line, kind_line, item_line, bucket_lines}
@@ -82,3 +84,7 @@ rule_section s t = codes "\n# rules\n"
 -- MAP TEXT: the text of a map with this setting and this table
 unfoldable pub map_text : SettingData → List Row → List ℕ
 map_text s t = tunable_section s ++ device_section t ++ kind_section s ++ bucket_section s t ++ rule_section s t ++ codes "\n# end crush map\n"
+
+-- tables that are the same, but for the order of their rows, print the same text
+abbrev pub SameTablesPrintAlike : Type 0
+SameTablesPrintAlike = (s : SettingData) (t u : List Row) → Lawful t → Same t u → map_text s t ≡ map_text s u

@@ -8,6 +8,7 @@ mod words;
 mod write;
 
 pub use fault::{TextFault, TextFaultKind};
+pub use printer::{same_tables_print_alike, write_map};
 pub use words::{Reader, Token};
 pub use write::{WriteFault, put, put_all};
 

@@ -7,7 +7,7 @@ ghost use Rattle.crush_table.specs.Table.{Row};
 ghost use Rattle.crush_tree.specs.Seen.{leaf_data, items_of, node_id};
 ghost use Rattle.crush_text.specs.ItemsText.{id_number, leaves, texts};
 ghost use Rattle.crush_text.specs.Lines.{device_line};
-ghost use Rattle.crush_text.specs.MapText.{ascending, kind_text, kind_numbers, device_lines, device_section, kind_section, bucket_section, map_text};
+ghost use Rattle.crush_text.specs.MapText.{ascending, kind_text, kind_numbers, device_lines, device_section, kind_section, bucket_section, map_text, SameTablesPrintAlike};
 ghost use Rattle.crush_text.specs.Writes.{Writes};
 
 use crate::lines;
@@ -38,6 +38,12 @@ pub fn write_map<A: Allocator, W: Write>(
     }
     put(out, text.as_slice())
 }
+
+/// A map's text is that of its table, whatever the order of the table's rows: only the order of
+/// each bucket's items is told. There is nothing to run: the contract is the law.
+pub fn same_tables_print_alike()
+    ensures { SameTablesPrintAlike }
+{}
 
 /// The whole text of a map with this setting and this hierarchy.
 fn push_map<A: Allocator>(
