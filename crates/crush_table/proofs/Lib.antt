@@ -6,6 +6,7 @@ pub mod Columns
 pub mod Found
 pub mod Kept
 pub mod KidSums
+pub mod Marked
 pub mod Moved
 pub mod Relocated
 pub mod Removed
