@@ -1,4 +1,6 @@
 pub mod Falls
+pub mod Held
+pub mod Named
 pub mod Ops
 pub mod Room
 pub mod Search

@@ -4,12 +4,15 @@
 
 mod attach;
 mod child;
+mod contain;
 mod detach;
 mod edits;
 mod fit;
 mod forest;
+mod hold;
 mod node;
 mod place;
+mod rename;
 mod search;
 mod sums;
 mod view;
