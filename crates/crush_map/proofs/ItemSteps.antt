@@ -23,11 +23,16 @@ use Rattle.crush_table.proofs.Stands.{same_stands}
 use Rattle.crush_table.proofs.Changes.{Same-with}
 use Rattle.crush_table.proofs.Kept.{is_there-map, Distinct-map}
 use Rattle.crush_table.proofs.Climbs.{above-parent}
-use Rattle.crush_table.proofs.Weighs.{or_left, or_right}
-use Rattle.crush_table.proofs.Removed.{row_of-only, parent_of-only}
+use Rattle.crush_table.proofs.Weighs.{or_left, or_right, All-found}
+use Rattle.crush_table.proofs.Removed.{row_of-only, parent_of-only, Lawful-only}
 use Rattle.crush_table.proofs.Appended.{row_of-append}
 use Rattle.crush_table.proofs.Moved.{at_parent, place, placed_last, row_id, Lawful-moved}
-use Rattle.crush_table.proofs.Relocated.{relocate, relocate_device}
+use Rattle.crush_table.proofs.Relocated.{under_parent, relocate, relocate_device}
+use Rattle.crush_tree.specs.Ops.{StoresUpTo}
+use Rattle.crush_tree.proofs.RowLaws.{StoresUpTo-lawful}
+use Rattle.crush_tree.specs.Seen.{items_of}
+use Rattle.crush_tree.specs.declared.node.Node.{Node}
+use Rattle.crush_tree.specs.declared.node.Node.TheVariants.{Device as DeviceNode, Bucket as BucketNode}
 use Rattle.crush_map.specs.Parts.{with_first_weight}
 use Rattle.crush_map.specs.Built.{Pending, nothing, begun, numbered, filling, Draft, with_item, placed_row, put_below, table_with_item}
 use Rattle.crush_map.specs.Building.{BuilderData, BuilderFits, IsRoot, IsPending, IsDraft, own_draft, is_open}
@@ -189,7 +194,7 @@ placed_id i p w r = by_id (same_id r.id i) where
   by_id true = refl
   by_id false = refl
 
-item_distinct : (t : List Row) (i : ItemId) (k w : ℕ) → Lawful t → is_there t i ≡ true → Distinct (put_below k i w t)
+pub item_distinct : (t : List Row) (i : ItemId) (k w : ℕ) → Lawful t → is_there t i ≡ true → Distinct (put_below k i w t)
 item_distinct t i k w l there =
     let r = found (row_of t i) there in
     let v : ℕ = if is_device r.0 then w else r.0.weight in
@@ -271,3 +276,46 @@ attached_lawful g t i k w n l there root other one whole h st light =
     let near : Same (rows_of g ++ rows (Some k) m) (put_below k i w t) =
     Same-trans (rows_of g ++ rows (Some k) m) (table_without i t ++ rows (Some k) m) (put_below k i w t) (Same-with (rows (Some k) m) (rows_of g) (table_without i t) st.same) (item_same t i k w n l there far one whole) in
     Lawful-same (put_below k i w t) (rows_of g ++ rows (Some k) m) (Same-sym (rows_of g ++ rows (Some k) m) (put_below k i w t) near) (item_lawful t i k w l there root.there far h light)
+
+-- a node is one item
+pub one_item : {A : _} (n : Node A) → IsOne (items_of (n ∷ []))
+one_item (DeviceNode l) = tt
+one_item (BucketNode b) = tt
+
+-- WHAT WAS TAKEN OUT is lawful by itself, so its sums are in range
+as_it_was : (t : List Row) (i : ItemId) → Lawful t → parent_of t i ≡ None → All (λ (r : Row). as_root i r ≡ r) t
+as_it_was t i l root = All-weaker (λ (r : Row). row_of t r.id ≡ Some r) (λ (r : Row). as_root i r ≡ r) each t (All-found t l.ids) where
+  each : (r : Row) → row_of t r.id ≡ Some r → as_root i r ≡ r
+  each r e = ⊎_elim
+      (λ p. let none : r.parent ≡ None = ap (option_and_then (λ (x : Row). x.parent)) (sym (sym (ap (row_of t) p.1) ∙ e)) ∙ root in
+      ap (λ b. if b then record r { parent = None } else r) p.0 ∙ (λ k. record r { parent = sym none k }))
+      (λ p. ap (λ b. if b then record r { parent = None } else r) p.0)
+      (same_id_tells r.id i)
+
+map_same : (f : Row → Row) (xs : List Row) → All (λ (r : Row). f r ≡ r) xs → map f xs ≡ xs
+map_same f [] a = refl
+map_same f (x ∷ xs) a = λ k. All-head (λ (r : Row). f r ≡ r) x xs a k ∷ map_same f xs (All-tail (λ (r : Row). f r ≡ r) x xs a) k
+
+part_closed : (t : List Row) (i : ItemId) → Lawful t → parent_of t i ≡ None → (j : ItemId) (p : ℕ) → is_part t i j ≡ true → parent_of t j ≡ Some p → is_part t i (Bucket p) ≡ true
+part_closed t i l root j p h e = ⊎_elim
+    (λ q. absurd (let no : ◌≡◌ {A = Option ℕ} None (Some p) = sym root ∙ ap (parent_of t) (sym q.1) ∙ e in cc))
+    (λ q. let under : is_under t i j ≡ true = sym (ap (λ b. b || is_under t i j) q.0) ∙ h in sym (under_parent t l i j p e) ∙ under)
+    (same_id_tells j i)
+
+part_lawful : (t : List Row) (i : ItemId) → Lawful t → parent_of t i ≡ None → Lawful (part i t)
+part_lawful t i l root =
+    subst Lawful (sym (map_same (as_root i) (filter (λ (r : Row). is_part t i r.id) t) (All-filter (λ (r : Row). is_part t i r.id) (λ (r : Row). as_root i r ≡ r) t (as_it_was t i l root))))
+    (Lawful-only (is_part t i) t (part_closed t i l root) l)
+
+weighted_small : (w : ℕ) (n : Items) → StoresUpTo 4294967295 n → StoresUpTo 4294967295 (with_first_weight w n)
+weighted_small w none s = s
+weighted_small w (device d rest) s = s
+weighted_small w (bucket h v m kids rest) s = s
+
+unplaced : (o : Option ℕ) → is_some o ≡ false → o ≡ None
+unplaced None h = refl
+unplaced (Some p) h = absurd (let no : true ≡ false = h in cc)
+
+pub item_small : (t : List Row) (i : ItemId) (w : ℕ) (n : Items) → Lawful t → is_placed t i ≡ false → Same (rows None n) (part i t) → StoresSums n → StoresUpTo 4294967295 (with_first_weight w n)
+item_small t i w n l free whole sums =
+    weighted_small w n (StoresUpTo-lawful n sums (Lawful-same (part i t) (rows None n) (Same-sym (rows None n) (part i t) whole) (part_lawful t i l (unplaced (parent_of t i) free))))

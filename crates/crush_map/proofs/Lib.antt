@@ -1,8 +1,10 @@
 pub mod Changes
-pub mod KindLaws
-pub mod ReweightLaws
-pub mod TableLaws
 pub mod Drafts
-pub mod KindSteps
-pub mod RowSteps
 pub mod ItemSteps
+pub mod ItemTaken
+pub mod KindLaws
+pub mod KindSteps
+pub mod ReweightLaws
+pub mod RowSteps
+pub mod TableLaws
+pub mod Worked

@@ -3,6 +3,7 @@ pub mod Built
 pub mod Can
 pub mod Changed
 pub mod Edit
+pub mod Examples
 pub mod Kinds
 pub mod MapData
 pub mod Outcome

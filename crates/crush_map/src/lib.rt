@@ -13,4 +13,4 @@ pub use builder::{BuildFault, MapBuilder};
 pub use edit::Edit;
 pub use map::CrushMap;
 pub use refusal::{Done, EditFault, Refusal};
-pub use setting::{Kind, Setting};
+pub use setting::{Kind, Setting, is_reserved};

@@ -4,7 +4,7 @@ ghost use Rattle.std.specs.Prelude.{◌≡◌, ◌==◌, [], ◌∷◌, ◌++◌
 ghost use Rattle.crush_map.specs.Building.{has_kind_number, has_kind_name};
 ghost use Rattle.std.specs.Option.{option_copied, option_map};
 ghost use Rattle.crush_map.specs.declared.setting.Kind.{Kind as DeclaredKind};
-ghost use Rattle.crush_table.specs.Setting.{kind_number, kind_name};
+ghost use Rattle.crush_table.specs.Setting.{kind_number, kind_name, is_reserved as is_reserved_name};
 
 use crush_units::{Name, TypeId};
 use std::alloc::{AllocError, Global};
@@ -94,6 +94,19 @@ impl Setting {
     {
         name_of(&self.kinds, number)
     }
+}
+
+/// Whether a type of buckets may not have this name, since a statement of a map's text, or a part of
+/// one, begins with it. The name of type 0 is free.
+pub fn is_reserved(name: &[u8]) -> bool
+    ensures { result ≡ is_reserved_name name.now }
+{
+    b"tunable".as_slice() == name
+        || b"device".as_slice() == name
+        || b"type".as_slice() == name
+        || b"rule".as_slice() == name
+        || b"class".as_slice() == name
+        || b"choose_args".as_slice() == name
 }
 
 /// The number of the first type of this name.

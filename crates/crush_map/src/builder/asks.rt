@@ -1,17 +1,45 @@
 //! The tests that tell whether a call of the builder may be made.
 
-ghost use Rattle.std.specs.Prelude.{◌≡◌, IfSome, true, false};
+ghost use Rattle.std.specs.Prelude.{◌≡◌, ◌↔◌, IsTrue, IfSome, true, false};
 ghost use Rattle.crush_units.specs.declared.id.ItemId.TheVariants.{Device, Bucket};
 ghost use Rattle.crush_table.specs.Table.{is_there, is_placed, weight_of};
 ghost use Rattle.crush_table.specs.Setting.{kind_number};
-ghost use Rattle.crush_map.specs.Built.{Draft};
-ghost use Rattle.crush_map.specs.Building.{IsDraft, is_open, has_kind_number, has_kind_name, has_name, has_bucket_id, is_bucket_kind, item_named, is_full_of_devices, is_full_of_buckets, is_full_of_kinds};
+ghost use Rattle.crush_map.specs.Built.{Draft, nothing};
+ghost use Rattle.crush_map.specs.Building.{IsDraft, is_begun, is_numbered, is_filling, is_open, has_kind_number, has_kind_name, has_name, has_bucket_id, is_bucket_kind, item_named, is_full_of_devices, is_full_of_buckets, is_full_of_kinds};
 
 use super::{MapBuilder, Part};
 use crush_units::{BucketId, DeviceId, ItemId, TypeId, Weight};
 use std::alloc::Allocator;
 
 impl<A: Allocator> MapBuilder<A> {
+    /// Whether no statement is in the middle, so that a type, a device or a bucket may come.
+    pub fn is_idle(&self) -> bool
+        ensures { IsTrue result ↔ (self.now.pending ≡ nothing) }
+    {
+        matches!(self.part, Part::Nothing)
+    }
+
+    /// Whether a bucket has begun and waits for its id.
+    pub fn is_begun(&self) -> bool
+        ensures { result ≡ is_begun self.now.pending }
+    {
+        matches!(self.part, Part::Begun(..))
+    }
+
+    /// Whether a bucket has its id and waits for its algorithm.
+    pub fn is_numbered(&self) -> bool
+        ensures { result ≡ is_numbered self.now.pending }
+    {
+        matches!(self.part, Part::Numbered(..))
+    }
+
+    /// Whether a bucket has its algorithm and waits for items or its end.
+    pub fn is_filling(&self) -> bool
+        ensures { result ≡ is_filling self.now.pending }
+    {
+        matches!(self.part, Part::Filling(_))
+    }
+
     /// Whether a device has this id.
     pub fn has_device(&self, id: DeviceId) -> bool
         ensures { (d : Draft) → IsDraft self.now d → result ≡ is_there d.table (Device id) }
@@ -79,7 +107,7 @@ impl<A: Allocator> MapBuilder<A> {
         match self.forest.id_of(name)? {
             ItemId::Device(device) => Some(ItemId::Device(device)),
             ItemId::Bucket(bucket) => {
-                if self.is_filling(bucket) {
+                if self.fills(bucket) {
                     None
                 } else {
                     Some(ItemId::Bucket(bucket))
@@ -124,7 +152,7 @@ impl<A: Allocator> MapBuilder<A> {
     }
 
     /// Whether the bucket is the one that is being filled.
-    fn is_filling(&self, id: BucketId) -> bool
+    fn fills(&self, id: BucketId) -> bool
         ensures { result ≡ is_open self.now.pending (Bucket id) }
     {
         match &self.part {

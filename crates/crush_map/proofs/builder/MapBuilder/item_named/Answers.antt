@@ -12,8 +12,8 @@ returns-in-Device-clause-there g c = λ d i.
     let at : IsDraft b d = subst (λ (x : BuilderData). IsDraft x d) (sym c.self.view_is) i in
     named_there d.table c.args.name.now (Device c.in-Device.device) (sym (c.id_of.ensures d.table at.stands) ∙ c.in_ok-device.was ∙ ap Some c.in-Device.is)
 
-pub returns-else-is_filling-clause-there : goal.returns-else-is_filling-clause-there
-returns-else-is_filling-clause-there g c = λ d i.
+pub returns-else-fills-clause-there : goal.returns-else-fills-clause-there
+returns-else-fills-clause-there g c = λ d i.
     let b : BuilderData = record { setting = c.self.inside.setting; forest = c.self.inside.forest; pending = part_data c.self.inside.part } in
     let at : IsDraft b d = subst (λ (x : BuilderData). IsDraft x d) (sym c.self.view_is) i in
     named_there d.table c.args.name.now (Bucket c.in-Bucket.bucket) (sym (c.id_of.ensures d.table at.stands) ∙ c.in_ok-device.was ∙ ap Some c.in-Bucket.is)
