@@ -1,8 +1,14 @@
 pub mod Document
 pub mod Fault
+pub mod Flaw
+pub mod Flow
 pub mod ItemsText
+pub mod Judges
 pub mod Lexer
 pub mod Lines
 pub mod MapText
+pub mod Meaning
+pub mod Reads
+pub mod Statements
 pub mod Words
 pub mod Writes

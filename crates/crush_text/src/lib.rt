@@ -4,11 +4,13 @@
 mod fault;
 mod lines;
 mod printer;
+mod reader;
 mod words;
 mod write;
 
 pub use fault::{TextFault, TextFaultKind};
 pub use printer::{same_tables_print_alike, write_map};
+pub use reader::read_map;
 pub use words::{Reader, Token};
 pub use write::{WriteFault, put, put_all};
 

@@ -1,0 +1,193 @@
+-- With a line that the judges take, table and setting are lawful.
+use Rattle.std.proofs.Common.{◌≡◌, ℕ, suc, ◌+◌, ◌<◌, ◌≤◌, Bool, true, false, List, [], ◌∷◌, ◌++◌, Option, Some, None, length, refl, sym, ap, subst, ◌∙◌, arith}
+use Rattle.std.proofs.lemmas.Bool.{lt-ltb, eq-eqb}
+use Rattle.std.proofs.lemmas.List.Elements.{All-head, All-tail, All-filter, All-map, All-append}
+use Rattle.std.proofs.lemmas.Slice.Eq.{bytes_eq-Decides}
+use Rattle.std.specs.Prelude.{◌||◌, ◌&&◌, ◌==◌, not, bytes_eq, map, filter, find, is_some, nat_lt, unwrap_or, option_and_then, All, if◌then◌else◌}
+use Rattle.std.specs.List.{list_any}
+use Rattle.std.specs.Option.{option_map}
+use Rattle.crush_units.specs.declared.id.ItemId.{ItemId}
+use Rattle.crush_units.specs.declared.id.ItemId.TheVariants.{Device, Bucket}
+use Rattle.crush_units.specs.declared.alg.Alg.{Alg}
+use Rattle.crush_units.specs.Id.{same_id}
+use Rattle.crush_units.specs.Name.{IsName}
+use Rattle.crush_units.proofs.Ids.{same_id_refl, same_id_equal}
+use Rattle.crush_table.specs.Table.{Row, is_device, is_device_id, row_of, row_named, id_named, is_there, is_named, is_placed, parent_of, bucket_count, member, used_ids}
+use Rattle.crush_table.specs.Columns.{is_part, without_row}
+use Rattle.crush_table.specs.Lawful.{Lawful, is_too_heavy}
+use Rattle.crush_table.specs.Setting.{KindData, SettingData, IsKind, Fits, HasKind, is_reserved}
+use Rattle.crush_table.proofs.Appended.{row_of-append, unused_fresh}
+use Rattle.crush_table.proofs.Removed.{row_of-only}
+use Rattle.crush_map.specs.Built.{Draft, Pending, nothing, begun, numbered, filling, with_kind, with_device, begun_bucket, with_id, with_alg, placed_row, put_below, table_with_item, with_item}
+use Rattle.crush_map.specs.Building.{CanBegin, CanNumber, IsRoot, is_open, has_name, has_bucket_id, closed_item, item_named, has_kind_number, has_kind_name, is_full_of_devices, is_full_of_buckets, is_full_of_kinds}
+use Rattle.crush_map.proofs.KindSteps.{less, Fits-with_kind}
+use Rattle.crush_map.proofs.RowSteps.{new_device, device_lawful, new_bucket, bucket_lawful}
+use Rattle.crush_map.proofs.TableLaws.{Fits-push, Fits-rows}
+use Rattle.crush_map.proofs.ItemSteps.{apart, item_lawful}
+use Rattle.crush_text.specs.Statements.{Head}
+use Rattle.crush_text.specs.Flow.{number_of}
+use Rattle.crush_text.specs.Meaning.{IsMap, IsWeightOf, after_head}
+
+or_first : (a b : Bool) → (a || b) ≡ false → a ≡ false
+or_first true b e = e
+or_first false b e = refl
+
+-- a type more
+pub map_with_kind : (d : Draft) (n : ℕ) (x : List ℕ) → IsMap d → n ≤ 65535 → IsName x → (0 < n → is_reserved x ≡ false) → has_kind_number d.setting n ≡ false → has_kind_name d.setting x ≡ false → is_full_of_kinds d ≡ false → IsMap (with_kind d n x)
+map_with_kind d n x m most form free number name few = record {
+  lawful = m.lawful;
+  fits = Fits-with_kind d.setting d.table (record { number = n; name = x }) m.fits (record { number = most; name = form; free = free }) number name few;
+}
+
+-- a device more
+pub map_with_device : (d : Draft) (n : ℕ) (x : List ℕ) → IsMap d → n ≤ 2147483647 → IsName x → is_there d.table (Device n) ≡ false → has_name d x ≡ false → is_full_of_devices d ≡ false → IsMap (with_device d n x)
+map_with_device d n x m most form number name few = record {
+  lawful = device_lawful d.table n x m.lawful (omega arith) form number (or_first _ _ name) few;
+  fits = Fits-push d.setting d.table (new_device n x) m.fits (λ some. absurd (omega (arith, some)));
+}
+
+-- the number of a type's name is that of a type
+any_right : (a b : Bool) → b ≡ true → (a || b) ≡ true
+any_right true b h = refl
+any_right false b h = h
+
+record IsTypeOf (kinds : List KindData) (n : ℕ) : Type 0 where
+  there : list_any (λ (x : KindData). x.number == n) kinds ≡ true
+  most : n ≤ 65535
+
+kind_there : (kinds : List KindData) (k : List ℕ) (n : ℕ) → All IsKind kinds → unwrap_or (option_map (λ (x : KindData). x.number) (find (λ (x : KindData). bytes_eq x.name k) kinds)) 0 ≡ n → 0 < n → IsTypeOf kinds n
+kind_there [] k n all e some = absurd (omega arith)
+kind_there (x ∷ kinds) k n all e some = by_test (bytes_eq x.name k) e (λ r. kind_there kinds k n (All-tail IsKind x kinds all) r some)
+  where
+    by_test : (b : Bool) → unwrap_or (option_map (λ (y : KindData). y.number) (if b then Some x else find (λ (y : KindData). bytes_eq y.name k) kinds)) 0 ≡ n
+        → (unwrap_or (option_map (λ (y : KindData). y.number) (find (λ (y : KindData). bytes_eq y.name k) kinds)) 0 ≡ n → IsTypeOf kinds n) → IsTypeOf (x ∷ kinds) n
+    by_test true e ih = record { there = rw (eq-eqb x.number n e) refl; most = subst (λ (m : ℕ). m ≤ 65535) e (All-head IsKind x kinds all).number }
+    by_test false e ih = let r = ih e in record { there = any_right (x.number == n) _ r.there; most = r.most }
+
+-- a row that is put last without parent is a root
+made_root : (t : List Row) (r : Row) (b : ℕ) → r.id ≡ Bucket b → r.parent ≡ None → member b (used_ids t) ≡ false → IsRoot (t ++ r ∷ []) b
+made_root t r b is none free =
+    let last : row_of (r ∷ []) (Bucket b) ≡ Some r = rw (ap (λ (i : ItemId). same_id i (Bucket b)) is ∙ same_id_refl (Bucket b)) refl in
+    let found : row_of (t ++ r ∷ []) (Bucket b) ≡ Some r = row_of-append t (r ∷ []) (Bucket b) ∙ rw (unused_fresh t b free) last in
+    record { there = ap is_some found; root = ap (option_and_then (λ (x : Row). x.parent)) found ∙ none }
+
+-- a bucket more, and it is a root
+pub record HeadMade (d : Draft) (h : Head) : Type 0 where
+  pub map : IsMap (after_head d h)
+  pub root : IsRoot (after_head d h).table h.id
+
+pub map_with_head : (d : Draft) (h : Head) → IsMap d → 0 < number_of d h.kind → IsName h.name → has_name d h.name ≡ false → 0 < h.id → h.id ≤ 2147483648 → has_bucket_id (begun_bucket d (number_of d h.kind) h.name) h.id ≡ false → is_full_of_buckets d ≡ false → HeadMade d h
+map_with_head d h m known form name some most id few =
+    let k = number_of d h.kind in
+    let t = kind_there d.setting.kinds h.kind k m.fits.kinds refl known in
+    let can : CanBegin d.setting d.table k h.name = record { known = rw (lt-ltb 0 k known) t.there; most = t.most; form = form; free = or_first _ _ name; few = less 4096 (bucket_count d.table) few } in
+    let num : CanNumber d.table h.id [] = record { some = some; most = most; free = or_first _ _ id; classes = refl } in
+    record {
+      map = record {
+        lawful = bucket_lawful d.setting d.table k h.name h.id h.alg m.lawful can num;
+        fits = Fits-push d.setting d.table (new_bucket k h.name h.id h.alg) m.fits (λ _. t.there);
+      };
+      root = made_root d.table (new_bucket k h.name h.id h.alg) h.id refl refl num.free;
+    }
+
+-- an item of a name is there, and it isn't the bucket that is being filled
+named_there : (t : List Row) (n : List ℕ) (i : ItemId) → id_named t n ≡ Some i → is_there t i ≡ true
+named_there [] n i e = absurd (let no : (let x : Option ItemId = None in x) ≡ Some i = e in cc)
+named_there (r ∷ t) n i e = by_name (bytes_eq r.name n) e (named_there t n i)
+  where
+    by_id : (b : Bool) → is_there t i ≡ true → is_some (if b then Some r else row_of t i) ≡ true
+    by_id true h = refl
+    by_id false h = h
+
+    by_name : (b : Bool) → option_map (λ (x : Row). x.id) (if b then Some r else row_named t n) ≡ Some i → (id_named t n ≡ Some i → is_there t i ≡ true) → is_there (r ∷ t) i ≡ true
+    by_name true e ih = let k : r.id ≡ i = cc in rw (ap (λ (j : ItemId). same_id j i) k ∙ same_id_refl i) refl
+    by_name false e ih = by_id (same_id r.id i) (ih e)
+
+pub record Listable (d : Draft) (i : ItemId) : Type 0 where
+  pub there : is_there d.table i ≡ true
+  pub closed : is_open d.pending i ≡ false
+
+pub listable : (d : Draft) (n : List ℕ) (i : ItemId) → item_named d n ≡ Some i → Listable d i
+listable d n i e = by_name (id_named d.table n) refl e
+  where
+    by_open : (j : ItemId) (b : Bool) → id_named d.table n ≡ Some j → is_open d.pending j ≡ b → (if b then None else Some j) ≡ Some i → Listable d i
+    by_open j true is o e = absurd (let no : (let x : Option ItemId = None in x) ≡ Some i = e in cc)
+    by_open j false is o e = let k : j ≡ i = cc in record { there = named_there d.table n i (is ∙ ap (λ (l : ItemId). Some l) k); closed = ap (is_open d.pending) (sym k) ∙ o }
+
+    by_name : (o : Option ItemId) → id_named d.table n ≡ o → option_and_then (closed_item d.pending) o ≡ Some i → Listable d i
+    by_name None is e = absurd (let no : (let x : Option ItemId = None in x) ≡ Some i = e in cc)
+    by_name (Some j) is e = by_open j (is_open d.pending j) is refl e
+
+-- the weight of a bucket's line changes nothing
+bucket_rows : (b : ℕ) (x w v : ℕ) (t : List Row) → map (placed_row b w) (filter (λ (r : Row). same_id r.id (Bucket x)) t) ≡ map (placed_row b v) (filter (λ (r : Row). same_id r.id (Bucket x)) t)
+bucket_rows b x w v [] = refl
+bucket_rows b x w v (r ∷ t) = by_id (same_id r.id (Bucket x)) refl (bucket_rows b x w v t)
+  where
+    one : r.id ≡ Bucket x → placed_row b w r ≡ placed_row b v r
+    one e = let no : is_device r ≡ false = ap is_device_id e in rw no refl
+
+    by_id : (c : Bool) → same_id r.id (Bucket x) ≡ c → map (placed_row b w) (filter (λ (y : Row). same_id y.id (Bucket x)) t) ≡ map (placed_row b v) (filter (λ (y : Row). same_id y.id (Bucket x)) t)
+        → map (placed_row b w) (if c then r ∷ filter (λ (y : Row). same_id y.id (Bucket x)) t else filter (λ (y : Row). same_id y.id (Bucket x)) t) ≡ map (placed_row b v) (if c then r ∷ filter (λ (y : Row). same_id y.id (Bucket x)) t else filter (λ (y : Row). same_id y.id (Bucket x)) t)
+    by_id true e ih = λ k. one (same_id_equal r.id (Bucket x) e) k ∷ ih k
+    by_id false e ih = ih
+
+bucket_table : (p : Pending) (x w v : ℕ) (t : List Row) → table_with_item p (Bucket x) w t ≡ table_with_item p (Bucket x) v t
+bucket_table nothing x w v t = refl
+bucket_table (begun k n) x w v t = refl
+bucket_table (numbered k n b cs) x w v t = refl
+bucket_table (filling b) x w v t = ap (λ (l : List Row). without_row (Bucket x) t ++ l) (bucket_rows b x w v t)
+
+pub with_bucket : (d : Draft) (i : ItemId) (x w v : ℕ) → i ≡ Bucket x → with_item d i w ≡ with_item d i v
+with_bucket d i x w v e = ap (λ (j : ItemId). with_item d j w) e ∙ ap (λ (t : List Row). record d { table = t }) (bucket_table d.pending x w v d.table) ∙ ap (λ (j : ItemId). with_item d j v) (sym e)
+
+-- a root stays one where another item is put below it
+pub root_kept : (t : List Row) (i : ItemId) (b w : ℕ) → IsRoot t b → same_id (Bucket b) i ≡ false → IsRoot (put_below b i w t) b
+root_kept t i b w root other =
+    let kept : row_of (without_row i t) (Bucket b) ≡ row_of t (Bucket b) = row_of-only (λ (j : ItemId). not (same_id j i)) t (Bucket b) ∙ rw other refl in
+    let there : is_there (without_row i t) (Bucket b) ≡ true = ap is_some kept ∙ root.there in
+    let found : row_of (put_below b i w t) (Bucket b) ≡ row_of t (Bucket b) = row_of-append (without_row i t) (map (placed_row b w) (filter (λ (r : Row). same_id r.id i) t)) (Bucket b) ∙ rw there kept in
+    record { there = ap is_some found ∙ root.there; root = ap (option_and_then (λ (r : Row). r.parent)) found ∙ root.root }
+
+-- a device's weight is in its range, and a bucket's may be any
+abbrev IsLight : ItemId → ℕ → Type 0
+IsLight (Device n) w = w ≤ 2147483647
+IsLight (Bucket x) w = Unit {0}
+
+light_weight : (d : Draft) (i : ItemId) (w : ℕ) → IsWeightOf d i w → IsLight i w
+light_weight d (Device n) w h = h
+light_weight d (Bucket x) w h = tt
+
+-- the table with the item in its bucket is lawful
+lawful_below : (t : List Row) (i : ItemId) (b w : ℕ) → Lawful t → IsLight i w → is_there t i ≡ true → is_there t (Bucket b) ≡ true → is_part t i (Bucket b) ≡ false → is_too_heavy (put_below b i w t) ≡ false → Lawful (put_below b i w t)
+lawful_below t (Device n) b w l small there stands far h = item_lawful t (Device n) b w l there stands far small h
+lawful_below t (Bucket x) b w l small there stands far h =
+    let same : put_below b (Bucket x) 0 t ≡ put_below b (Bucket x) w t = bucket_table (filling b) x 0 w t in
+    subst Lawful same (item_lawful t (Bucket x) b 0 l there stands far (omega arith) (ap is_too_heavy same ∙ h))
+
+-- and the setting fits it
+fits_below : (s : SettingData) (t : List Row) (i : ItemId) (b w : ℕ) → Fits s t → Fits s (put_below b i w t)
+fits_below s t i b w f =
+    Fits-rows s t (put_below b i w t) f
+    (All-append (HasKind s) (without_row i t) (map (placed_row b w) (filter (λ (r : Row). same_id r.id i) t))
+    (All-filter (λ (r : Row). not (same_id r.id i)) (HasKind s) t f.types)
+    (All-map (HasKind s) (placed_row b w) (filter (λ (r : Row). same_id r.id i) t) (All-filter (λ (r : Row). same_id r.id i) (HasKind s) t f.types)))
+
+-- an item more
+pub record ItemMade (d : Draft) (i : ItemId) (w b : ℕ) : Type 0 where
+  pub map : IsMap (with_item d i w)
+  pub root : IsRoot (with_item d i w).table b
+
+pub map_with_item : (d : Draft) (x : List ℕ) (i : ItemId) (w b : ℕ) → IsMap d → d.pending ≡ filling b → IsRoot d.table b → item_named d x ≡ Some i → IsWeightOf d i w → is_too_heavy (with_item d i w).table ≡ false → ItemMade d i w b
+map_with_item d x i w b m p root named weight light =
+    let l = listable d x i named in
+    let is : (with_item d i w).table ≡ put_below b i w d.table = ap (λ (q : Pending). table_with_item q i w d.table) p in
+    let other : same_id (Bucket b) i ≡ false = ap (λ (q : Pending). is_open q i) (sym p) ∙ l.closed in
+    let far = apart d.table m.lawful i b root other in
+    let h : is_too_heavy (put_below b i w d.table) ≡ false = ap is_too_heavy (sym is) ∙ light in
+    record {
+      map = record {
+        lawful = subst Lawful (sym is) (lawful_below d.table i b w m.lawful (light_weight d i w weight) l.there root.there far h);
+        fits = subst (Fits d.setting) (sym is) (fits_below d.setting d.table i b w m.fits);
+      };
+      root = subst (λ (t : List Row). IsRoot t b) (sym is) (root_kept d.table i b w root other);
+    }

@@ -1,0 +1,16 @@
+-- The statements so far, and what comes of the rest.
+use Rattle.std.proofs.Common.{◌≡◌, false, length}
+use Rattle.crush_map.specs.Built.{Draft}
+use Rattle.crush_map.specs.Building.{IsDraft}
+use Rattle.crush_text.specs.Flow.{between, outcome}
+use Rattle.crush_text.specs.Reads.{IsIdle}
+use Rattle.crush_text.proofs.reader.open.read_statements.Given as goal
+
+abbrev pub invariant-statements : goal.invariant-statements
+invariant-statements l = record {
+  idle : IsIdle l.builder;
+  reads : (d : Draft) → IsDraft l.fn.builder d → (e : Draft) × IsDraft l.builder e × (outcome d (between false) l.fn.reader ≡ outcome e (between l.behind) l.reader);
+}
+
+abbrev pub decreases-statements : goal.decreases-statements
+decreases-statements l = length l.reader.words

@@ -1,0 +1,52 @@
+//! Reads the text of a map.
+
+ghost use Rattle.std.specs.Prelude.{◌≡◌, ℕ, List, IfOk, IfErr, MatchResult};
+ghost use Rattle.crush_table.specs.Setting.{SettingData};
+ghost use Rattle.crush_table.specs.Table.{Row};
+ghost use Rattle.crush_table.specs.Rows.{Stands};
+ghost use Rattle.crush_map.specs.MapData.{MapStands};
+ghost use Rattle.crush_map.specs.Built.{Draft};
+ghost use Rattle.crush_map.specs.Building.{IsDraft};
+ghost use Rattle.crush_text.specs.Document.{IsMapText};
+ghost use Rattle.crush_text.specs.Flaw.{IsWant, IsFlawOrWant};
+
+mod bucket;
+mod first;
+mod judge;
+mod open;
+mod opening;
+mod word;
+
+use crate::fault::{TextFault, TextFaultKind};
+use crate::reader::open::read_statements;
+use crate::words::Reader;
+use crush_map::{CrushMap, MapBuilder};
+use std::alloc::Global;
+
+/// Reads the text of a map, as `crushtool` prints it.
+///
+/// The second value counts the items that are buckets and whose weight in the text wasn't their
+/// sum; since such a text is refused as one that has more than is read here, it is 0. Refused too
+/// are tunables, rules, classes of devices and of ids, and items without a weight, as
+/// [`TextFaultKind::LeftOut`].
+pub fn read_map(alloc: Global, text: &[u8]) -> Result<(CrushMap<Global>, u32), TextFault>
+    // What is read is a map that the text spells.
+    ensures map { IfOk result (λ m. (t : List Row) × IsMapText text.now m.0.setting t m.1 × Stands m.0.forest t) }
+
+    // Each map that the text spells is the one that is read.
+    ensures only { (s : SettingData) (t : List Row) (n : ℕ) → IsMapText text.now s t n
+        → MatchResult result (λ m. MapStands m.0 s t × (m.1 ≡ n)) IsWant }
+
+    // Where none is read the text has a flaw, which is told.
+    ensures flaw { IfErr result (IsFlawOrWant text.now) }
+{
+    let mut reader = Reader::new(text);
+    let Ok(mut builder) = MapBuilder::new(alloc, alloc) else {
+        return Err(TextFault {
+            kind: TextFaultKind::OutOfMemory,
+            place: 0,
+        });
+    };
+    read_statements(&mut reader, &mut builder)?;
+    Ok((builder.finish(), 0))
+}
