@@ -1,17 +1,17 @@
 -- The definitions, computed on worked examples.
-use Rattle.std.proofs.Common.{◌≡◌, ℕ, true, false, List, [], ◌∷◌, ◌++◌, Ok, Err, refl, lit<}
+use Rattle.std.proofs.Common.{◌≡◌, ℕ, true, false, List, [], ◌∷◌, Ok, Err, refl, lit<}
 use Rattle.std.proofs.lemmas.Fmt.{decimal_digit}
 use Rattle.std.specs.Prelude.{codes}
 use Rattle.crush_map.specs.declared.edit.Edit.TheVariants.{Reweight}
-use Rattle.crush_map.specs.declared.refusal.Refusal.TheVariants.{NotPlaced, NotADevice, WeightTooLarge}
+use Rattle.crush_map.specs.declared.refusal.Refusal.TheVariants.{NotPlaced}
 use Rattle.crush_script.specs.declared.call.Call.TheVariants.{One}
 use Rattle.crush_script.specs.declared.call.Reply.TheVariants.{Done, Refused}
 use Rattle.crush_script.specs.declared.command.Command.TheVariants.{Nothing, Edit}
 use Rattle.crush_script.specs.declared.command.LineFault.TheVariants as line
 use Rattle.crush_script.specs.declared.fault.JobFault.TheVariants as job
-use Rattle.crush_script.specs.Lines.{lines, words_in, words, map_part, section_part, section_line}
+use Rattle.crush_script.specs.Lines.{lines, words_in, words, map_part}
 use Rattle.crush_script.specs.Command.{name_at, weight_at, end_at, reweight_at, edit_at, command, operator}
-use Rattle.crush_script.specs.Sections.{no_sections, with_line, with_lines, sections_of}
+use Rattle.crush_script.specs.Sections.{with_line, with_lines, sections_of}
 use Rattle.crush_script.specs.HistoryText.{line_front, line_end, line_text}
 
 -- a comment inside a word, blanks of both kinds, a carriage return

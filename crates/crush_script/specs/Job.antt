@@ -1,5 +1,5 @@
 -- What a job is, and why bytes are none.
-use Rattle.std.specs.Prelude.{◌≡◌, ℕ, ◌<◌, ◌≤◌, List, length, Result, Ok, Err}
+use Rattle.std.specs.Prelude.{◌≡◌, ℕ, ◌<◌, ◌≤◌, List, length, Ok, Err}
 use Rattle.crush_table.specs.Setting.{SettingData}
 use Rattle.crush_table.specs.Table.{Row}
 use Rattle.crush_text.specs.Document.{IsMapText}
@@ -8,7 +8,7 @@ use Rattle.crush_script.specs.declared.fault.JobFault.{JobFault}
 use Rattle.crush_script.specs.declared.fault.JobFault.TheVariants.{BadLine, NoSuchCommand, TooManyOperators, Text, OutOfMemory, TooLong, TooManyCalls}
 use Rattle.crush_script.specs.Lines.{map_part}
 use Rattle.crush_script.specs.MapPart.{IsNoMap}
-use Rattle.crush_script.specs.Sections.{ScriptData, SectionsData, sections_of}
+use Rattle.crush_script.specs.Sections.{ScriptData, sections_of}
 
 -- JOB: the map text is that of a map with this setting and table, which replaces so many weights of items; the rest are these scripts
 pub record IsJob (bytes : List ℕ) (s : SettingData) (t : List Row) (adjusted : ℕ) (scripts : List ScriptData) : Type 0 where

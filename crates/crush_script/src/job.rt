@@ -35,8 +35,11 @@ pub struct Job {
 
 /// The map of a text, and the number of weights that were replaced in it.
 fn read_map_text(alloc: Global, text: &[u8]) -> Result<(CrushMap<Global>, u32), JobFault>
-    ensures map { IfOk result (λ m. (t : List Row) × IsMapText text.now m.0.setting t m.1 × Stands m.0.forest t) }
-    ensures only { (s : SettingData) (t : List Row) (n : ℕ) → IsMapText text.now s t n → MatchResult result (λ m. MapStands m.0 s t × (m.1 ≡ n)) (λ fault. fault ≡ JobFault.OutOfMemory) }
+    ensures map { IfOk result (λ m. (t : List Row)
+        × IsMapText text.now m.0.setting t m.1 × Stands m.0.forest t) }
+    ensures only { (s : SettingData) (t : List Row) (n : ℕ) → IsMapText text.now s t n
+        → MatchResult result (λ m. MapStands m.0 s t × (m.1 ≡ n))
+        (λ fault. fault ≡ JobFault.OutOfMemory) }
     ensures fault { IfErr result (IsMapFault text.now) }
 {
     match read_map(alloc, text) {
@@ -54,9 +57,22 @@ fn read_map_text(alloc: Global, text: &[u8]) -> Result<(CrushMap<Global>, u32), 
 /// each line that begins with `%` is `%operator NAME` and begins the section of that operator;
 /// the other lines are its calls, one a line. `docs/scripts.md` has the commands.
 pub fn read_job(alloc: Global, bytes: &[u8]) -> Result<Job, JobFault>
-    ensures job { IfOk result (λ job. (t : List Row) × IsJob bytes.now job.map.setting t job.adjusted (scripts_data job.scripts.items) × Stands job.map.forest t) }
-    ensures only { (s : SettingData) (t : List Row) (n : ℕ) (scripts : List ScriptData) → IsJob bytes.now s t n scripts → MatchResult result (λ job. MapStands job.map s t × (job.adjusted ≡ n) × (scripts_data job.scripts.items ≡ scripts)) (λ fault. fault ≡ JobFault.OutOfMemory) }
+    // What is read is a job of the bytes.
+    ensures job { IfOk result (λ job. (t : List Row)
+        × IsJob bytes.now job.map.setting t job.adjusted (scripts_data job.scripts.items)
+        × Stands job.map.forest t) }
+
+    // Each job of the bytes is the one that is read.
+    ensures only { (s : SettingData) (t : List Row) (n : ℕ) (scripts : List ScriptData)
+        → IsJob bytes.now s t n scripts
+        → MatchResult result
+        (λ job. MapStands job.map s t × (job.adjusted ≡ n)
+        × (scripts_data job.scripts.items ≡ scripts))
+        (λ fault. fault ≡ JobFault.OutOfMemory) }
+
     ensures fault { IfErr result (IsJobFault bytes.now) }
+
+    // A job has at most 65,536 calls.
     ensures few { IfOk result (λ job. call_count (scripts_data job.scripts.items) ≤ 65536) }
 {
     if bytes.len() > LONGEST_JOB {

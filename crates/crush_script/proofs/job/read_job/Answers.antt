@@ -1,8 +1,8 @@
-use Rattle.std.proofs.Common.{◌≡◌, ℕ, ◌+◌, ◌==◌, List, Ok, length, take, drop, count_by, sym, ap, subst, ◌∙◌, arith}
+use Rattle.std.proofs.Common.{◌≡◌, ℕ, ◌+◌, ◌==◌, List, take, drop, count_by, sym, ap, subst, ◌∙◌, arith}
 use Rattle.std.proofs.lemmas.Result.{err_from_is_err_and}
 use Rattle.crush_text.specs.Document.{IsMapText}
 use Rattle.crush_script.specs.Lines.{lines, map_part, section_part, section_line}
-use Rattle.crush_script.specs.Sections.{no_sections, sections_data, with_lines, sections_of}
+use Rattle.crush_script.specs.Sections.{no_sections, sections_data, with_lines}
 use Rattle.crush_script.proofs.Few.{calls_few}
 use Rattle.crush_script.proofs.job.read_job.Goals as goal
 
