@@ -1,5 +1,5 @@
 -- A call that is added to the last script.
-use Rattle.std.proofs.Common.{◌≡◌, ℕ, zero, suc, ◌+◌, ◌<◌, Bool, true, false, List, [], ◌∷◌, ◌++◌, Ok, length, map, get_or, set, nat_le, refl, ap, sym, ◌∙◌, arith, rules, tests}
+use Rattle.std.proofs.Common.{◌≡◌, ℕ, zero, suc, ◌+◌, ◌<◌, true, false, List, [], ◌∷◌, ◌++◌, Ok, length, map, get_or, set, nat_le, refl, ap, sym, ◌∙◌, arith, rules, tests}
 use Rattle.std.proofs.lemmas.Bool.{false≢true}
 use Rattle.crush_script.specs.declared.call.Call.{Call}
 use Rattle.crush_script.specs.declared.sections.Script.{Script}

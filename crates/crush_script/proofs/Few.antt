@@ -1,13 +1,11 @@
 -- A job has at most 65,536 calls.
-use Rattle.std.proofs.Common.{◌≡◌, ℕ, ◌+◌, ◌<◌, ◌≤◌, Bool, true, false, cond, List, [], ◌∷◌, ◌++◌, Result, Ok, Err, length, nat_le, refl, ap, sym, subst, ◌∙◌, arith, rules, tests, length-append}
+use Rattle.std.proofs.Common.{◌≡◌, ℕ, ◌+◌, ◌<◌, ◌≤◌, Bool, true, false, cond, List, [], ◌∷◌, ◌++◌, Result, Ok, Err, length, nat_le, refl, subst, arith, rules, tests, length-append}
 use Rattle.std.specs.Prelude.{IfOk}
-use Rattle.std.specs.List.{sum_by}
 use Rattle.std.proofs.lemmas.List.Sums.{sum_by-append, sum_by-cons}
 use Rattle.crush_script.specs.declared.call.Call.{Call}
 use Rattle.crush_script.specs.declared.call.Call.TheVariants.{One}
 use Rattle.crush_script.specs.declared.command.Command.{Command}
 use Rattle.crush_script.specs.declared.command.Command.TheVariants.{Nothing, Edit}
-use Rattle.crush_script.specs.declared.command.LineFault.{LineFault}
 use Rattle.crush_script.specs.declared.fault.JobFault.{JobFault}
 use Rattle.crush_script.specs.Command.{◌>>=◌, command, operator}
 use Rattle.crush_script.specs.Lines.{words, begins_section}

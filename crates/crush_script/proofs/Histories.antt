@@ -1,6 +1,5 @@
 -- Laws of histories.
-use Rattle.std.proofs.Common.{◌≡◌, ℕ, zero, suc, ◌+◌, ◌<◌, ◌≤◌, ◌==◌, Bool, true, false, cond, List, [], ◌∷◌, ◌++◌, length, map, filter, refl, ap, sym, subst, ◌∙◌, arith, rules, tests, length-append, zero-add}
-use Rattle.std.specs.List.{sum_by}
+use Rattle.std.proofs.Common.{◌≡◌, ℕ, zero, suc, ◌+◌, ◌<◌, ◌==◌, Bool, true, false, List, [], ◌∷◌, ◌++◌, length, map, filter, refl, ap, sym, subst, ◌∙◌, arith, rules, tests, length-append, zero-add}
 use Rattle.std.proofs.lemmas.List.{map-append, append-nil}
 use Rattle.std.proofs.lemmas.List.Elements.{filter-append}
 use Rattle.std.proofs.lemmas.List.Sums.{sum_by-cons}
@@ -9,7 +8,7 @@ use Rattle.crush_table.specs.Table.{Row}
 use Rattle.crush_script.specs.declared.call.Call.{Call}
 use Rattle.crush_script.specs.Sections.{ScriptData, call_count}
 use Rattle.crush_script.specs.History.{EntryData, SlipData, answer, after, IsLegal, of, turn, turns_from, turns}
-use Rattle.crush_script.specs.Turns.{calls_at, calls_of, IsHistoryOf, TurnsAreHistory}
+use Rattle.crush_script.specs.Turns.{calls_at, calls_of, TurnsAreHistory}
 
 -- the table after two histories, one behind the other
 pub after-append : (s : SettingData) (t : List Row) (h g : List EntryData) → after s t (h ++ g) ≡ after s (after s t h) g

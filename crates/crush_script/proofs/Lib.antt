@@ -3,3 +3,4 @@ pub mod Writing
 pub mod Calls
 pub mod Few
 pub mod Histories
+pub mod Examples

@@ -3,6 +3,8 @@ pub mod Command
 pub mod Gives
 pub mod Sections
 pub mod Steps
+pub mod MapPart
+pub mod Job
 pub mod History
 pub mod HistoryText
 pub mod Turns

@@ -1,5 +1,5 @@
 -- What reading lines leaves, unless memory lacks.
-use Rattle.std.specs.Prelude.{◌≡◌, ℕ, Result, Ok, Err}
+use Rattle.std.specs.Prelude.{◌≡◌, Result, Ok, Err}
 use Rattle.crush_script.specs.declared.fault.JobFault.{JobFault}
 use Rattle.crush_script.specs.declared.fault.JobFault.TheVariants.{BadLine, NoSuchCommand, TooManyOperators, Text, OutOfMemory, TooLong, TooManyCalls}
 use Rattle.crush_script.specs.declared.sections.Sections.{Sections}

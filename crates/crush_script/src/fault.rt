@@ -21,7 +21,7 @@ pub enum JobFault {
     /// The line begins one section more than a job may have.
     #[error("line {0}: TooManyOperators")]
     TooManyOperators(usize),
-    /// The map's text is none. Its places are those of the job.
+    /// The map's text has a flaw, whose place is one in the job.
     #[error("{0}")]
     Text(TextFault),
     /// There was no memory.

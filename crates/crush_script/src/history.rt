@@ -14,7 +14,8 @@ use std::io::Write;
 /// Writes what stands before the call.
 #[tactic(auto, unfolding(crate::specs::HistoryText::line_front))]
 fn write_front<W: Write>(number: u32, operator: &[u8], out: &mut W) -> Result<(), WriteFault>
-    ensures writes { Writes result (W.contents out.old) (W.contents out.new) (line_front number operator.now) }
+    ensures writes { Writes result (W.contents out.old) (W.contents out.new)
+        (line_front number operator.now) }
     ensures fault { IfErr result (λ fault. fault ≡ WriteFault.Write) }
 {
     let mut buffer = Buffer::new();
@@ -74,7 +75,8 @@ fn digit_of(is_true: bool) -> &'static [u8]
 /// Writes the reply to an edit that was made, and ends the line.
 #[tactic(auto, unfolding(crate::specs::HistoryText::line_end))]
 fn write_done<W: Write>(done: Done, out: &mut W) -> Result<(), WriteFault>
-    ensures writes { Writes result (W.contents out.old) (W.contents out.new) (line_end (Reply.Done done)) }
+    ensures writes { Writes result (W.contents out.old) (W.contents out.new)
+        (line_end (Reply.Done done)) }
     ensures fault { IfErr result (λ fault. fault ≡ WriteFault.Write) }
 {
     let mut buffer = Buffer::new();
@@ -95,7 +97,8 @@ fn write_done<W: Write>(done: Done, out: &mut W) -> Result<(), WriteFault>
 /// Writes the reply to an edit that was refused, and ends the line.
 #[tactic(auto, unfolding(crate::specs::HistoryText::line_end))]
 fn write_refused<W: Write>(refusal: Refusal, out: &mut W) -> Result<(), WriteFault>
-    ensures writes { Writes result (W.contents out.old) (W.contents out.new) (line_end (Reply.Refused refusal)) }
+    ensures writes { Writes result (W.contents out.old) (W.contents out.new)
+        (line_end (Reply.Refused refusal)) }
     ensures fault { IfErr result (λ fault. fault ≡ WriteFault.Write) }
 {
     let mut buffer = Buffer::new();
@@ -139,7 +142,8 @@ pub fn write_entry<W: Write>(
     reply: Reply,
     out: &mut W,
 ) -> Result<(), WriteFault>
-    ensures writes { Writes result (W.contents out.old) (W.contents out.new) (line_text number operator.now call.now reply) }
+    ensures writes { Writes result (W.contents out.old) (W.contents out.new)
+        (line_text number operator.now call.now reply) }
     ensures fault { IfErr result (λ fault. fault ≡ WriteFault.Write) }
 {
     write_front(number, operator, out)?;

@@ -132,7 +132,8 @@ impl<'a> Words<'a> {
 
     /// Takes the next word.
     pub fn next(&mut self) -> Option<&'a [u8]>
-        ensures { MatchOption result (self.old ≡ []) (λ word. self.old ≡ word.now ∷ self.new) }
+        ensures { MatchOption result (self.old ≡ [])
+            (λ word. self.old ≡ word.now ∷ self.new) }
     {
         let (_, rest) = self.text.split_at(word_at(self.text));
         if rest.is_empty() {

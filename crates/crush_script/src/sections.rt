@@ -30,7 +30,9 @@ pub struct Script {
 /// What the lines so far say.
 #[derive(Drop)]
 pub struct Sections {
+    /// The scripts, the last of which goes on.
     pub scripts: Vec<Script>,
+    /// How many calls they have in all.
     pub calls: usize,
 }
 
@@ -40,7 +42,8 @@ impl Sections {
 
     /// Begins the section of an operator.
     fn begin(&mut self, alloc: Global, number: usize, name: Name<Global>) -> Result<(), JobFault>
-        ensures { Steps result (sections_data self.new) (with_section number (sections_data self.old) name) }
+        ensures { Steps result (sections_data self.new)
+            (with_section number (sections_data self.old) name) }
     {
         if self.scripts.len() >= MOST_OPERATORS {
             return Err(JobFault::TooManyOperators(number));
@@ -52,7 +55,8 @@ impl Sections {
 
     /// Adds a call to the last script.
     fn add(&mut self, number: usize, call: Call) -> Result<(), JobFault>
-        ensures { Steps result (sections_data self.new) (with_call number (sections_data self.old) call) }
+        ensures { Steps result (sections_data self.new)
+            (with_call number (sections_data self.old) call) }
     {
         if self.calls >= MOST_CALLS {
             return Err(JobFault::TooManyCalls(number));
@@ -67,7 +71,8 @@ impl Sections {
     /// Reads a line.
     #[tactic(auto, unfolding(crate::specs::Sections::with_line))]
     fn read_line(&mut self, alloc: Global, number: usize, line: &[u8]) -> Result<(), JobFault>
-        ensures { Steps result (sections_data self.new) (with_line number (sections_data self.old) line.now) }
+        ensures { Steps result (sections_data self.new)
+            (with_line number (sections_data self.old) line.now) }
     {
         let mut words = Words::of_line(line);
         if begins_section(line) {

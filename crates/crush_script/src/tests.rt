@@ -1,4 +1,5 @@
 //! The worked examples of jobs and of history lines.
 
+mod jobs;
 mod lines;
 mod writing;

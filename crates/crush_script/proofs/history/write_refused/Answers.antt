@@ -1,4 +1,3 @@
-use Rattle.std.proofs.Common.{sym}
 use Rattle.crush_script.specs.HistoryText.{line_end}
 use Rattle.crush_script.proofs.Writing.{five_parts}
 use Rattle.crush_script.proofs.history.write_refused.Goals as goal

@@ -1,4 +1,3 @@
-use Rattle.std.proofs.Common.{arith}
 use Rattle.crush_script.proofs.Cuts.{behind_last, behind_feed}
 use Rattle.crush_script.proofs.line.cut_line.Goals as goal
 

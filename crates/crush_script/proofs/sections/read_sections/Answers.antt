@@ -1,4 +1,4 @@
-use Rattle.std.proofs.Common.{◌≡◌, List, [], ℕ, ap, ◌∙◌, refl, arith, rules}
+use Rattle.std.proofs.Common.{◌≡◌, [], ◌∙◌, refl, rules}
 use Rattle.std.proofs.lemmas.List.{nil_from_length}
 use Rattle.crush_script.specs.Lines.{lines}
 use Rattle.crush_script.specs.Sections.{with_lines}

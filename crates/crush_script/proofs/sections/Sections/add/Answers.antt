@@ -1,7 +1,6 @@
-use Rattle.std.proofs.Common.{◌≡◌, ℕ, ◌+◌, ◌-◌, ◌<◌, List, [], ◌++◌, ◌∷◌, Ok, length, map, ap, sym, ◌∙◌, refl, arith, rules}
+use Rattle.std.proofs.Common.{◌≡◌, ◌+◌, ◌-◌, ◌<◌, List, [], Ok, length, ap, sym, ◌∙◌, refl, arith}
 use Rattle.std.proofs.lemmas.List.{nil_from_length}
-use Rattle.crush_script.specs.declared.sections.Script.{Script}
-use Rattle.crush_script.specs.Sections.{ScriptData, SectionsData, script_data, sections_data, with_call}
+use Rattle.crush_script.specs.Sections.{ScriptData, SectionsData, sections_data}
 use Rattle.crush_script.proofs.Calls.{call_in_last-set, no_script, with_call-few}
 use Rattle.crush_script.proofs.sections.Sections.add.Goals as goal
 use Rattle.crush_script.proofs.sections.Sections.add.Goals.{in-Some+in_ok-push, in_default}

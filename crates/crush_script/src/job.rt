@@ -1,0 +1,90 @@
+//! Jobs: a map's text, and behind it the scripts of its operators.
+
+ghost use Rattle.std.specs.Prelude.{◌≡◌, ◌≤◌, ℕ, List, IfOk, IfErr, MatchResult};
+ghost use Rattle.crush_table.specs.Setting.{SettingData};
+ghost use Rattle.crush_table.specs.Table.{Row};
+ghost use Rattle.crush_table.specs.Rows.{Stands};
+ghost use Rattle.crush_map.specs.MapData.{MapStands};
+ghost use Rattle.crush_text.specs.Document.{IsMapText};
+ghost use Rattle.crush_script.specs.Lines.{map_part};
+ghost use Rattle.crush_script.specs.Sections.{ScriptData, scripts_data, call_count};
+ghost use Rattle.crush_script.specs.Job.{IsJob, IsJobFault};
+ghost use Rattle.crush_script.specs.MapPart.{IsMapFault};
+
+use crate::fault::JobFault;
+use crate::line::{length_to_section, line_feeds};
+use crate::sections::{Script, Sections, read_sections};
+use crush_map::CrushMap;
+use crush_text::{TextFaultKind, read_map};
+use std::alloc::Global;
+
+/// The most bytes that a job may have.
+const LONGEST_JOB: usize = 16_777_216;
+
+/// A map, and what its operators are to do with it.
+#[derive(Drop)]
+pub struct Job {
+    /// The map.
+    pub map: CrushMap<Global>,
+    /// How many bucket items of the map's text had another weight than their sum, by which it was
+    /// replaced.
+    pub adjusted: u32,
+    /// The scripts, in the order of their sections.
+    pub scripts: Vec<Script>,
+}
+
+/// The map of a text, and the number of weights that were replaced in it.
+fn read_map_text(alloc: Global, text: &[u8]) -> Result<(CrushMap<Global>, u32), JobFault>
+    ensures map { IfOk result (λ m. (t : List Row)
+        × IsMapText text.now m.0.setting t m.1 × Stands m.0.forest t) }
+    ensures only { (s : SettingData) (t : List Row) (n : ℕ) → IsMapText text.now s t n
+        → MatchResult result (λ m. MapStands m.0 s t × (m.1 ≡ n))
+        (λ fault. fault ≡ JobFault.OutOfMemory) }
+    ensures fault { IfErr result (IsMapFault text.now) }
+{
+    match read_map(alloc, text) {
+        Ok(read) => Ok(read),
+        Err(fault) => match fault.kind {
+            TextFaultKind::OutOfMemory => Err(JobFault::OutOfMemory),
+            _ => Err(JobFault::Text(fault)),
+        },
+    }
+}
+
+/// Reads a job.
+///
+/// The map's text is all that stands before the first line whose first byte is `%`. From there on
+/// each line that begins with `%` is `%operator NAME` and begins the section of that operator;
+/// the other lines are its calls, one a line. `docs/scripts.md` has the commands.
+pub fn read_job(alloc: Global, bytes: &[u8]) -> Result<Job, JobFault>
+    // What is read is a job of the bytes.
+    ensures job { IfOk result (λ job. (t : List Row)
+        × IsJob bytes.now job.map.setting t job.adjusted (scripts_data job.scripts.items)
+        × Stands job.map.forest t) }
+
+    // Each job of the bytes is the one that is read.
+    ensures only { (s : SettingData) (t : List Row) (n : ℕ) (scripts : List ScriptData)
+        → IsJob bytes.now s t n scripts
+        → MatchResult result
+        (λ job. MapStands job.map s t × (job.adjusted ≡ n)
+        × (scripts_data job.scripts.items ≡ scripts))
+        (λ fault. fault ≡ JobFault.OutOfMemory) }
+
+    ensures fault { IfErr result (IsJobFault bytes.now) }
+
+    // A job has at most 65,536 calls.
+    ensures few { IfOk result (λ job. call_count (scripts_data job.scripts.items) ≤ 65536) }
+{
+    if bytes.len() > LONGEST_JOB {
+        return Err(JobFault::TooLong);
+    }
+    let (text, rest) = bytes.split_at(length_to_section(bytes));
+    let (map, adjusted) = read_map_text(alloc, text)?;
+    let sections = read_sections(alloc, line_feeds(text) + 1, rest)?;
+    let Sections { scripts, calls: _ } = sections;
+    Ok(Job {
+        map,
+        adjusted,
+        scripts,
+    })
+}
