@@ -1,12 +1,12 @@
 -- The lines of a history, one line more.
-use Rattle.std.proofs.Common.{◌≡◌, ℕ, zero, suc, ◌+◌, ◌<◌, ◌≤◌, List, [], ◌∷◌, ◌++◌, length, take, drop, map, get_or, refl, sym, ap, subst, ◌∙◌, append_assoc, arith}
+use Rattle.std.proofs.Common.{◌≡◌, ℕ, ◌+◌, ◌<◌, List, [], ◌∷◌, ◌++◌, length, take, drop, get_or, refl, sym, ap, ◌∙◌, append_assoc, arith}
 use Rattle.std.specs.Prelude.{slice_index_or}
 use Rattle.std.proofs.lemmas.List.{append-nil, take_more, map_push, map-append, length-take-le, length-map, get_or-map, take-append-drop}
 use Rattle.crush_script.specs.History.{EntryData, changes, is_change}
 use Rattle.crush_script.specs.HistoryText.{line_text, entry_text, entries_text}
 use Rattle.crushedit.specs.declared.entry.Entry.{Entry}
 use Rattle.crushedit.specs.Entries.{entry_data, history_data}
-use Rattle.std.specs.Prelude.{if◌then◌else◌, Bool}
+use Rattle.std.specs.Prelude.{if◌then◌else◌}
 use Rattle.crush_script.specs.declared.sections.Script.{Script}
 use Rattle.crush_script.specs.Sections.{ScriptData, script_data, scripts_data}
 use Rattle.crushedit.specs.Run.{names_of}
@@ -69,8 +69,8 @@ pub lines-rest : (names : List (List ℕ)) (entries : List Entry) (i : ℕ) (e :
     → (rest : List ℕ) × (entries_text names 1 (history_data entries) ≡ (entries_text names 1 (history_data (take i entries)) ++ line_text (i + 1) (slice_index_or names e.operator []) e.call.now e.reply) ++ rest)
 lines-rest names entries i e h is =
     let cut = ap (λ xs. entries_text names 1 (history_data xs)) (sym (take-append-drop (i + 1) entries))
-        ∙ ap (entries_text names 1) (map-append entry_data (take (i + 1) entries) (drop (i + 1) entries))
-        ∙ entries_text-append names 1 (history_data (take (i + 1) entries)) (history_data (drop (i + 1) entries)) in
+    ∙ ap (entries_text names 1) (map-append entry_data (take (i + 1) entries) (drop (i + 1) entries))
+    ∙ entries_text-append names 1 (history_data (take (i + 1) entries)) (history_data (drop (i + 1) entries)) in
     (_, cut ∙ ap (λ z. z ++ entries_text names (1 + length (history_data (take (i + 1) entries))) (history_data (drop (i + 1) entries))) (lines-take names entries i e h is))
 
 pub no_lines : (names : List (List ℕ)) → ◌≡◌ {A = List ℕ} [] (entries_text names 1 [])

@@ -1,5 +1,5 @@
 -- Calls that are made one after the other, one call more and one script more.
-use Rattle.std.proofs.Common.{◌≡◌, ℕ, zero, suc, ◌+◌, ◌<◌, ◌≤◌, List, [], ◌∷◌, ◌++◌, length, take, map, get_or, refl, sym, ap, subst, ◌∙◌, append_assoc, arith}
+use Rattle.std.proofs.Common.{◌≡◌, ℕ, suc, ◌+◌, ◌<◌, List, [], ◌∷◌, ◌++◌, length, take, get_or, refl, sym, ap, ◌∙◌, append_assoc, arith}
 use Rattle.std.proofs.lemmas.List.{append-nil, take_more, map_push, length-take-le, length-map}
 use Rattle.std.proofs.lemmas.List.Sums.{sum_by-append, sum_by-cons}
 use Rattle.std.specs.List.{sum_by}
@@ -73,7 +73,7 @@ pub call_made : (s : SettingData) (t : List Row) (k : ℕ) (calls : List Call) (
 call_made s t k calls i c reply start now next h is told so_far more =
     let u : List Row = after s t (turn s t k (take i calls)) in
     let e : ◌≡◌ {A = EntryData} (record { operator = k; call = c; reply = reply }) (entry_on s u k (get_or calls i c)) =
-        (λ j. record { operator = k; call = is j; reply = (told ∙ ap (λ (z : Call). (answer s u z).reply) is) j }) in
+    (λ j. record { operator = k; call = is j; reply = (told ∙ ap (λ (z : Call). (answer s u z).reply) is) j }) in
     more ∙ ap (λ (z : List EntryData). z ++ (record { operator = k; call = c; reply = reply }) ∷ []) so_far
     ∙ append_assoc start (turn s t k (take i calls)) _
     ∙ ap (λ (z : EntryData). start ++ (turn s t k (take i calls) ++ z ∷ [])) e
@@ -124,6 +124,6 @@ count-take scripts i x h is =
     let so_far : List ScriptData = scripts_data (take i scripts) in
     let f : ScriptData → ℕ = λ y. length y.calls in
     let cut : call_count (scripts_data (take (i + 1) scripts)) ≡ sum_by f (so_far ++ script_data (get_or scripts i x) ∷ []) =
-        ap (λ xs. call_count (scripts_data xs)) (take_more scripts i x h) ∙ ap call_count (map_push script_data (take i scripts) (get_or scripts i x)) in
+    ap (λ xs. call_count (scripts_data xs)) (take_more scripts i x h) ∙ ap call_count (map_push script_data (take i scripts) (get_or scripts i x)) in
     let own : length (get_or scripts i x).calls.items ≡ length x.calls.items = ap (λ (z : Script). length z.calls.items) (sym is) in
     omega (arith, cut, own, sum_by-append f so_far (script_data (get_or scripts i x) ∷ []), sum_by-cons f (script_data (get_or scripts i x)) [])

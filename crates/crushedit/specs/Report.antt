@@ -1,5 +1,5 @@
 -- What a run tells on standard error, and its status.
-use Rattle.std.specs.Prelude.{◌≡◌, ℕ, ◌==◌, List, [], ◌++◌, Result, Ok, Err, codes, decimal, if◌then◌else◌}
+use Rattle.std.specs.Prelude.{ℕ, ◌==◌, List, [], ◌++◌, Result, Ok, Err, codes, decimal, if◌then◌else◌}
 use Rattle.crush_text.specs.declared.fault.TextFault.{TextFault}
 use Rattle.crush_text.specs.Fault.{fault_name}
 use Rattle.crush_script.specs.declared.fault.JobFault.{JobFault}

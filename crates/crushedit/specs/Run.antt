@@ -1,5 +1,5 @@
 -- What a run writes, and what it sums up.
-use Rattle.std.specs.Prelude.{◌≡◌, ℕ, Option, IfSome, List, [], ◌++◌, Bool, if◌then◌else◌, length, map}
+use Rattle.std.specs.Prelude.{ℕ, Option, IfSome, List, [], ◌++◌, Bool, if◌then◌else◌, length, map}
 use Rattle.crush_table.specs.Setting.{SettingData}
 use Rattle.crush_table.specs.Table.{Row}
 use Rattle.crush_text.specs.MapText.{map_text}

@@ -24,7 +24,11 @@ fn operator_name(scripts: &[Script], operator: usize) -> &[u8]
 }
 
 /// Writes a line for each entry, which count from 1.
-pub fn write_history<W: Write>(scripts: &[Script], entries: &[Entry<'_>], out: &mut W) -> Result<(), WriteFault>
+pub fn write_history<W: Write>(
+    scripts: &[Script],
+    entries: &[Entry<'_>],
+    out: &mut W,
+) -> Result<(), WriteFault>
     requires { length entries.now < 2 ^ 32 }
     ensures writes { Writes result (W.contents out.old) (W.contents out.new) (entries_text (names_of (scripts_data scripts.now)) 1 (history_data entries.now)) }
     ensures fault { IfErr result (λ fault. fault ≡ WriteFault.Write) }

@@ -21,3 +21,6 @@ fn main(rt: HostRuntime) -> ExitCode {
     let outcome = run_job(&rt, mode, &mut rt.stdin(), &mut rt.stdout());
     ExitCode::from(report(&outcome, &mut rt.stderr()))
 }
+
+#[cfg(test)]
+mod tests;

@@ -16,7 +16,16 @@ fn write_line_fault<E: Write>(number: usize, name: &str, err: &mut E) -> Result<
 {
     let mut buffer = Buffer::new();
     let number = buffer.format(number).as_bytes();
-    put_all(err, &[b"crushedit: line ".as_slice(), number, b": ".as_slice(), name.as_bytes(), b"\n".as_slice()])
+    put_all(
+        err,
+        &[
+            b"crushedit: line ".as_slice(),
+            number,
+            b": ".as_slice(),
+            name.as_bytes(),
+            b"\n".as_slice(),
+        ],
+    )
 }
 
 fn write_text_fault<E: Write>(fault: TextFault, err: &mut E) -> Result<(), WriteFault>
@@ -25,7 +34,16 @@ fn write_text_fault<E: Write>(fault: TextFault, err: &mut E) -> Result<(), Write
     let mut buffer = Buffer::new();
     let place = buffer.format(fault.place).as_bytes();
     let name = fault.kind.name().as_bytes();
-    put_all(err, &[b"crushedit: byte ".as_slice(), place, b": ".as_slice(), name, b"\n".as_slice()])
+    put_all(
+        err,
+        &[
+            b"crushedit: byte ".as_slice(),
+            place,
+            b": ".as_slice(),
+            name,
+            b"\n".as_slice(),
+        ],
+    )
 }
 
 fn write_job_fault<E: Write>(fault: JobFault, err: &mut E) -> Result<(), WriteFault>
@@ -58,10 +76,20 @@ fn write_adjusted<E: Write>(adjusted: u32, err: &mut E) -> Result<(), WriteFault
 {
     let mut buffer = Buffer::new();
     let adjusted = buffer.format(adjusted).as_bytes();
-    put_all(err, &[b"crushedit: adjusted ".as_slice(), adjusted, b"\n".as_slice()])
+    put_all(
+        err,
+        &[
+            b"crushedit: adjusted ".as_slice(),
+            adjusted,
+            b"\n".as_slice(),
+        ],
+    )
 }
 
-fn write_report<E: Write>(outcome: &Result<Summary, RunFault>, err: &mut E) -> Result<(), WriteFault>
+fn write_report<E: Write>(
+    outcome: &Result<Summary, RunFault>,
+    err: &mut E,
+) -> Result<(), WriteFault>
     ensures { Writes result (E.contents err.old) (E.contents err.new) (report_line outcome.now) }
 {
     match outcome {

@@ -84,7 +84,14 @@ fn run_scripts<W: Write>(
         scripts,
     } = job;
     let entries = run_in_turn(alloc, &mut map, scripts.as_slice())?;
-    write_outcome(alloc, mode.history, &map, scripts.as_slice(), entries.as_slice(), writer)?;
+    write_outcome(
+        alloc,
+        mode.history,
+        &map,
+        scripts.as_slice(),
+        entries.as_slice(),
+        writer,
+    )?;
     Ok(Summary {
         adjusted,
         calls: entries.len() as u32,

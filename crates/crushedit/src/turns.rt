@@ -26,7 +26,12 @@ fn make_call(map: &mut CrushMap<Global>, call: &Call) -> Result<Reply, AllocErro
 }
 
 /// Makes the calls of one operator in order.
-fn run_script<'a>(operator: usize, map: &mut CrushMap<Global>, calls: &'a [Call], entries: &mut Vec<Entry<'a>>) -> Result<(), AllocError>
+fn run_script<'a>(
+    operator: usize,
+    map: &mut CrushMap<Global>,
+    calls: &'a [Call],
+    entries: &mut Vec<Entry<'a>>,
+) -> Result<(), AllocError>
     ensures count { OnOk result (length entries.new.items ≡ length entries.old.items + length calls.now) }
     ensures entries { OnOk result ((s : SettingData) (t : List Row) → MapStands map.old s t
         → (history_data entries.new.items ≡ history_data entries.old.items ++ turn s t operator calls.now) × MapStands map.new s (after s t (turn s t operator calls.now))) }
@@ -43,7 +48,11 @@ fn run_script<'a>(operator: usize, map: &mut CrushMap<Global>, calls: &'a [Call]
 }
 
 /// Runs the scripts one after the other, each call by call.
-pub fn run_in_turn<'a>(alloc: Global, map: &mut CrushMap<Global>, scripts: &'a [Script]) -> Result<Vec<Entry<'a>>, AllocError>
+pub fn run_in_turn<'a>(
+    alloc: Global,
+    map: &mut CrushMap<Global>,
+    scripts: &'a [Script],
+) -> Result<Vec<Entry<'a>>, AllocError>
     ensures count { IfOk result (λ entries. length entries.items ≡ call_count (scripts_data scripts.now)) }
     ensures entries { IfOk result (λ entries. (s : SettingData) (t : List Row) → MapStands map.old s t
         → (history_data entries.items ≡ turns s t (scripts_data scripts.now)) × MapStands map.new s (after s t (turns s t (scripts_data scripts.now)))) }

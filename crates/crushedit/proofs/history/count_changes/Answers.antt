@@ -1,4 +1,4 @@
-use Rattle.std.proofs.Common.{◌≡◌, ap, sym, ◌∙◌, refl, arith, ◌≤◌, ◌+◌, length, take}
+use Rattle.std.proofs.Common.{ap, sym, ◌∙◌, arith}
 use Rattle.std.proofs.lemmas.List.{take_all}
 use Rattle.crush_script.specs.History.{changes}
 use Rattle.crushedit.specs.Entries.{history_data}
@@ -14,8 +14,8 @@ loop-entry-preserved c =
     let more = changes-take c.args.entries.now c.loop-entry.entry-index c.entry-item.result c.loop-entry-test.true c.entry-item.is in
     let so_far = c.loop-entry.invariant.count in
     elim c.if-is_change.branch [
-      then-is_change w ↦ let told = rw (sym c.is_change.ensures ∙ w.if-is_change.true) at more in record { few = omega (arith, w.count-is, c.loop-entry.invariant.few); count = omega (arith, w.count-is, told, so_far) }
-    | else-is_change w ↦ let told = rw (sym c.is_change.ensures ∙ w.if-is_change.false) at more in record { few = omega (arith, w.count-is, c.loop-entry.invariant.few); count = omega (arith, w.count-is, told, so_far) }
+      | then-is_change w ↦ let told = rw (sym c.is_change.ensures ∙ w.if-is_change.true) at more in record { few = omega (arith, w.count-is, c.loop-entry.invariant.few); count = omega (arith, w.count-is, told, so_far) }
+      | else-is_change w ↦ let told = rw (sym c.is_change.ensures ∙ w.if-is_change.false) at more in record { few = omega (arith, w.count-is, c.loop-entry.invariant.few); count = omega (arith, w.count-is, told, so_far) }
     ]
 
 pub returns : goal.returns

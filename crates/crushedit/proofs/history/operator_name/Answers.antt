@@ -1,4 +1,4 @@
-use Rattle.std.proofs.Common.{◌≡◌, sym, ◌∙◌}
+use Rattle.std.proofs.Common.{◌∙◌}
 use Rattle.crushedit.proofs.EntryLines.{name_at}
 use Rattle.crushedit.proofs.history.operator_name.Goals as goal
 

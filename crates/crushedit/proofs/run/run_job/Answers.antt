@@ -1,7 +1,7 @@
 use Rattle.std.proofs.Common.{◌≡◌, sym, subst, List, ℕ, take}
 use Rattle.std.specs.Prelude.{IfSome}
 use Rattle.std.proofs.lemmas.Result.{err_from_is_err_and}
-use Rattle.crushedit.proofs.Told.{is_job, is_output, is_summary, is_refused, of_run_refused, of_input_refused, nothing_written}
+use Rattle.crushedit.proofs.Told.{is_job, is_output, is_summary, is_refused, of_input_refused, nothing_written}
 use Rattle.crushedit.proofs.run.run_job.Goals as goal
 
 pub returns-in_err-bytes-clause-refused : goal.returns-in_err-bytes-clause-refused

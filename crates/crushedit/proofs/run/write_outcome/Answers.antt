@@ -1,6 +1,4 @@
-use Rattle.std.proofs.Common.{◌≡◌, ◌++◌, [], ap, sym, subst, ◌∙◌, refl}
 use Rattle.std.proofs.lemmas.Result.{err_from_is_err_and}
-use Rattle.crush_text.specs.MapText.{map_text}
 use Rattle.crush_text.proofs.Appending.{front_of_both, then_front}
 use Rattle.crushedit.proofs.run.write_outcome.Goals as goal
 

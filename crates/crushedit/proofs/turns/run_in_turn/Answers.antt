@@ -1,4 +1,4 @@
-use Rattle.std.proofs.Common.{◌≡◌, ◌++◌, List, length, take, ap, sym, subst, ◌∙◌, refl, arith}
+use Rattle.std.proofs.Common.{◌≡◌, ◌++◌, length, take, ap, subst, ◌∙◌, arith}
 use Rattle.std.proofs.lemmas.List.{take_all}
 use Rattle.crush_map.specs.MapData.{MapStands}
 use Rattle.crush_script.specs.Sections.{scripts_data, call_count}
@@ -20,9 +20,10 @@ loop-operator-preserved c =
           let so_far = c.loop-operator.invariant.entries s t stands in
           let u = after s t (turns s t (scripts_data (take i c.args.scripts.now))) in
           let ran = c.in_ok-run_script.ensures.entries s u so_far.1 in
-          let own = ap (λ cs. turn s u i cs) c.as_slice.ensures.value in
-          (script_run s t c.args.scripts.now i x (history_data c.loop-operator.entries.items) (history_data c.run_script.new.entries.items) c.loop-operator-test.true c.index-scripts-operator.is so_far.0 (ran.0 ∙ ap (λ z. history_data c.loop-operator.entries.items ++ z) own),
-          subst (MapStands c.run_script.new.map s) (ap (after s u) own ∙ table_run s t c.args.scripts.now i x c.loop-operator-test.true c.index-scripts-operator.is) ran.1);
+          let own = ap (λ cs. turn s u i cs) c.as_slice.ensures.value in (
+            script_run s t c.args.scripts.now i x (history_data c.loop-operator.entries.items) (history_data c.run_script.new.entries.items) c.loop-operator-test.true c.index-scripts-operator.is so_far.0 (ran.0 ∙ ap (λ z. history_data c.loop-operator.entries.items ++ z) own),
+            subst (MapStands c.run_script.new.map s) (ap (after s u) own ∙ table_run s t c.args.scripts.now i x c.loop-operator-test.true c.index-scripts-operator.is) ran.1,
+          );
     }
 
 pub returns : goal.returns
