@@ -8,18 +8,13 @@ use Rattle.crush_table.specs.Table.{Row}
 use Rattle.crush_script.specs.declared.call.Call.{Call}
 use Rattle.crush_script.specs.declared.call.Reply.{Reply}
 use Rattle.crush_script.specs.declared.sections.Script.{Script}
+use Rattle.crush_script.proofs.Histories.{after-append}
 use Rattle.crush_script.specs.Sections.{ScriptData, script_data, scripts_data, call_count}
 use Rattle.crush_script.specs.History.{EntryData, answer, after, turn, turns, turns_from}
 
 -- the entry of a call that an operator makes on a table
 abbrev pub entry_on : SettingData → List Row → ℕ → Call → EntryData
 entry_on s t k c = record { operator = k; call = c; reply = (answer s t c).reply }
-
--- the table after two histories, one behind the other
-pub after-append : (s : SettingData) (t : List Row) (h g : List EntryData) → after s t (h ++ g) ≡ after s (after s t h) g
-unfolding after
-after-append s t [] g = refl
-after-append s t (e ∷ h) g = after-append s (answer s t e.call).table h g
 
 -- one call more of an operator
 pub turn-push : (s : SettingData) (t : List Row) (k : ℕ) (cs : List Call) (c : Call) → turn s t k (cs ++ c ∷ []) ≡ turn s t k cs ++ entry_on s (after s t (turn s t k cs)) k c ∷ []
