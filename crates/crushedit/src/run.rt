@@ -1,6 +1,7 @@
 //! A job, from the bytes read to the bytes written.
 
 ghost use Rattle.std.specs.Prelude.{◌≡◌, ◌≢◌, ◌≤◌, ℕ, List, Err, IfOk, IfErr, IfSome, length};
+ghost use Rattle.std.specs.Io.KnownBytes.{Keeps};
 ghost use Rattle.crush_table.specs.Rows.{Stands};
 ghost use Rattle.crush_table.specs.Setting.{SettingData};
 ghost use Rattle.crush_table.specs.Table.{Row};
@@ -55,7 +56,7 @@ fn write_outcome<W: Write>(
     requires { length entries.now ≤ 65536 }
     ensures writes { (t : List Row) → Stands map.now.forest t
         → Writes result (W.contents writer.old) (W.contents writer.new) (outcome_text history map.now.setting t (names_of (scripts_data scripts.now)) (history_data entries.now)) }
-    ensures memory { result ≡ Err WriteFault.OutOfMemory → W.contents writer.new ≡ W.contents writer.old }
+    ensures none { result ≡ Err WriteFault.OutOfMemory → Keeps (W.contents writer.old) (W.contents writer.new) }
 {
     write_map(alloc, map, writer)?;
     if history {
@@ -75,7 +76,7 @@ fn run_scripts<W: Write>(
     ensures writes { (s : SettingData) (t : List Row) → MapStands job.map s t
         → Writes result (W.contents writer.old) (W.contents writer.new) (output mode.history s t (scripts_data job.scripts.items)) }
     ensures summary { IfOk result (λ summary. (s : SettingData) (t : List Row) → MapStands job.map s t → summary ≡ summary_of job.adjusted (turns s t (scripts_data job.scripts.items))) }
-    ensures nothing { IfErr result (λ fault. fault ≢ RunFault.Write → W.contents writer.new ≡ W.contents writer.old) }
+    ensures nothing { IfErr result (λ fault. fault ≢ RunFault.Write → Keeps (W.contents writer.old) (W.contents writer.new)) }
     ensures fault { IfErr result IsOfRun }
 {
     let Job {
@@ -120,7 +121,7 @@ pub fn run_job<H: AllocGlobal, R: Read, W: Write>(
         → summary ≡ summary_of adjusted (turns s t scripts))) }
 
     // Only a failed write leaves anything, and bytes are refused for what is wrong with them.
-    ensures nothing { IfErr result (λ fault. fault ≢ RunFault.Write → W.contents writer.new ≡ W.contents writer.old) }
+    ensures nothing { IfErr result (λ fault. fault ≢ RunFault.Write → Keeps (W.contents writer.old) (W.contents writer.new)) }
     ensures refused { IfErr result (IsRefused (R.remaining reader.old)) }
 {
     let alloc = rt.alloc();
