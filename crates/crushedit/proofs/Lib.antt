@@ -1,1 +1,4 @@
 pub mod Consuming
+pub mod EntryLines
+pub mod InTurn
+pub mod Told

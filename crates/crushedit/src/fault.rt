@@ -1,22 +1,75 @@
-// Why no bytes came.
-use std::alloc::{AllocError, AllocFailed};
+//! Why a run was not done.
 
-/// Why the bytes of a job could not be had.
-#[derive(Clone, Copy, Debug, PartialEq, Eq)]
-pub enum InputFault {
-    /// A read answered an error.
+ghost use Rattle.std.specs.Prelude.{◌≡◌};
+
+use crush_script::JobFault;
+use crush_text::WriteFault;
+use std::alloc::{AllocError, AllocFailed};
+use thiserror::Error;
+
+/// Why a run was not done.
+#[derive(Clone, Copy, Debug, PartialEq, Eq, Error)]
+pub enum RunFault {
+    /// What was read is no job. Nothing was written.
+    #[error("{0}")]
+    Job(JobFault),
+    /// A read answered an error. Nothing was written.
+    #[error("read fault")]
     Read,
-    /// A growth was refused.
-    OutOfMemory,
+    /// A write answered an error or took no byte. What was written is a front of the output.
+    #[error("write fault")]
+    Write,
+    /// A growth was refused. Nothing was written.
+    #[error("out of memory")]
+    Memory,
 }
 
-impl From<AllocError> for InputFault {
+impl<T: Drop> From<AllocFailed<T>> for RunFault {
+    ghost use Rattle.crushedit.specs.declared.fault.RunFault.TheVariants.{Memory};
     ghost use Rattle.std.specs.Prelude.{◌≡◌};
-    ghost use Rattle.crushedit.specs.declared.fault.InputFault.TheVariants.{OutOfMemory};
 
-    ghost from_gives = { λ _ e. e ≡ OutOfMemory };
+    ghost from_gives = { λ _ fault. fault ≡ Memory };
 
-    fn from(_e: AllocError) -> InputFault {
-        InputFault::OutOfMemory
+    fn from(_failed: AllocFailed<T>) -> RunFault {
+        RunFault::Memory
+    }
+}
+
+impl From<AllocError> for RunFault {
+    ghost use Rattle.crushedit.specs.declared.fault.RunFault.TheVariants.{Memory};
+    ghost use Rattle.std.specs.Prelude.{◌≡◌};
+
+    ghost from_gives = { λ _ fault. fault ≡ Memory };
+
+    fn from(_error: AllocError) -> RunFault {
+        RunFault::Memory
+    }
+}
+
+impl From<JobFault> for RunFault {
+    ghost use Rattle.crushedit.specs.Faults.{of_job};
+    ghost use Rattle.std.specs.Prelude.{◌≡◌};
+
+    ghost from_gives = { λ fault made. made ≡ of_job fault };
+
+    fn from(fault: JobFault) -> RunFault {
+        match fault {
+            JobFault::OutOfMemory => RunFault::Memory,
+            other => RunFault::Job(other),
+        }
+    }
+}
+
+impl From<WriteFault> for RunFault {
+    ghost use Rattle.crushedit.specs.Faults.{of_write};
+    ghost use Rattle.std.specs.Prelude.{◌≡◌};
+
+    ghost from_gives = { λ fault made. made ≡ of_write fault };
+
+    fn from(fault: WriteFault) -> RunFault {
+        match fault {
+            WriteFault::Write => RunFault::Write,
+            WriteFault::OutOfMemory => RunFault::Memory,
+        }
     }
 }

@@ -1,7 +1,9 @@
-// The bytes of a job.
-ghost use Rattle.std.specs.Prelude.{◌≡◌, ◌≤◌, ◌<◌, IfOk, IfSome, length, take};
+//! The bytes of a job.
 
-use crate::fault::InputFault;
+ghost use Rattle.std.specs.Prelude.{◌≡◌, ◌≤◌, ◌<◌, IfOk, IfErr, IfSome, length, take};
+ghost use Rattle.crushedit.specs.Run.{IsOfInput};
+
+use crate::fault::RunFault;
 use std::alloc::Global;
 use std::io::Read;
 
@@ -14,8 +16,9 @@ const PIECE: usize = 65_536;
 /// Reads to the end, or to the first byte that no job can have. The reader is asked at most
 /// [`MOST_BYTES`] times: each read but the last gives a byte. A read that answers an error is a
 /// fault, also where it could be tried again.
-pub fn read_bytes<R: Read>(alloc: Global, reader: &mut R) -> Result<Vec<u8>, InputFault>
+pub fn read_bytes<R: Read>(alloc: Global, reader: &mut R) -> Result<Vec<u8>, RunFault>
     ensures few { IfOk result (λ bytes. length bytes.items ≤ MOST_BYTES) }
+    ensures fault { IfErr result IsOfInput }
     ensures bytes { IfOk result (λ bytes. IfSome (R.remaining reader.old) (λ all. bytes.items ≡ take MOST_BYTES all)) }
 {
     let mut bytes = Vec::new(alloc);
@@ -26,7 +29,7 @@ pub fn read_bytes<R: Read>(alloc: Global, reader: &mut R) -> Result<Vec<u8>, Inp
         match reader.read(room) {
             Ok(0) => return Ok(bytes),
             Ok(count) => bytes.extend_from_slice(&room[..count])?,
-            Err(_) => return Err(InputFault::Read),
+            Err(_) => return Err(RunFault::Read),
         }
         if bytes.len() == MOST_BYTES {
             return Ok(bytes);

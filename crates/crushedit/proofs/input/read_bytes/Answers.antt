@@ -1,4 +1,4 @@
-use Rattle.std.proofs.Common.{arith, rules, ◌≡◌, ◌≤◌, ◌<◌, length, ap, subst, sym, ◌∙◌, ◌+◌, length-append}
+use Rattle.std.proofs.Common.{arith, rules}
 use Rattle.crushedit.proofs.Consuming.{Consumes-piece, Consumes-no_more, front_of_all, all_of_it}
 use Rattle.crushedit.proofs.input.read_bytes.Goals as goal
 

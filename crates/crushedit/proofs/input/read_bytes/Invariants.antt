@@ -1,4 +1,4 @@
-use Rattle.std.proofs.Common.{◌≡◌, ◌≤◌, ◌<◌, length}
+use Rattle.std.proofs.Common.{◌≤◌, ◌<◌, length}
 use Rattle.std.specs.Io.KnownBytes.{Consumes}
 use Rattle.crushedit.proofs.input.read_bytes.Given as goal
 

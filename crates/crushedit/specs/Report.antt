@@ -1,0 +1,48 @@
+-- What a run tells on standard error, and its status.
+use Rattle.std.specs.Prelude.{ℕ, ◌==◌, List, [], ◌++◌, Result, Ok, Err, codes, decimal, if◌then◌else◌}
+use Rattle.crush_text.specs.declared.fault.TextFault.{TextFault}
+use Rattle.crush_text.specs.Fault.{fault_name}
+use Rattle.crush_script.specs.declared.fault.JobFault.{JobFault}
+use Rattle.crush_script.specs.declared.fault.JobFault.TheVariants.{BadLine, NoSuchCommand, TooManyOperators, Text, OutOfMemory, TooLong, TooManyCalls}
+use Rattle.crushedit.specs.declared.fault.RunFault.{RunFault}
+use Rattle.crushedit.specs.declared.fault.RunFault.TheVariants as run
+use Rattle.crushedit.specs.declared.run.Summary.{Summary}
+
+-- a fault of a line: its number and the fault's name
+abbrev pub line_fault : ℕ → List ℕ → List ℕ
+line_fault number name = codes "crushedit: line " ++ decimal number ++ codes ": " ++ name ++ codes "\n"
+
+-- a fault of the map's text: its place and its name
+abbrev pub text_fault : TextFault → List ℕ
+text_fault f = codes "crushedit: byte " ++ decimal f.place ++ codes ": " ++ fault_name f.kind ++ codes "\n"
+
+abbrev pub job_fault : JobFault → List ℕ
+job_fault (BadLine number) = line_fault number (codes "BadLine")
+job_fault (NoSuchCommand number) = line_fault number (codes "NoSuchCommand")
+job_fault (TooManyOperators number) = line_fault number (codes "TooManyOperators")
+job_fault (TooManyCalls number) = line_fault number (codes "TooManyCalls")
+job_fault (Text f) = text_fault f
+job_fault TooLong = codes "crushedit: TooLong\n"
+job_fault OutOfMemory = codes "crushedit: out of memory\n"
+
+abbrev pub run_fault : RunFault → List ℕ
+run_fault (run.Job f) = job_fault f
+run_fault run.Read = codes "crushedit: read fault\n"
+run_fault run.Write = codes "crushedit: write fault\n"
+run_fault run.Memory = codes "crushedit: out of memory\n"
+
+-- one line, or nothing where all is well and no weight was replaced
+abbrev pub report_line : Result Summary RunFault → List ℕ
+report_line (Ok s) = if s.adjusted == 0 then [] else codes "crushedit: adjusted " ++ decimal s.adjusted ++ codes "\n"
+report_line (Err f) = run_fault f
+
+abbrev pub fault_status : RunFault → ℕ
+fault_status (run.Job f) = 1
+fault_status run.Read = 3
+fault_status run.Write = 3
+fault_status run.Memory = 4
+
+-- 0 where the run was done, 1 for what is no job, 3 where reading or writing failed, 4 for want of memory
+abbrev pub status : Result Summary RunFault → ℕ
+status (Ok s) = 0
+status (Err f) = fault_status f
