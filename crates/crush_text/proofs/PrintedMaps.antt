@@ -1,13 +1,13 @@
 -- What the empty map and the plain example map print, computed.
 use Rattle.std.proofs.Common.{◌≡◌, refl}
-use Rattle.std.specs.Prelude.{ℕ, List, [], ◌∷◌, None, codes}
+use Rattle.std.specs.Prelude.{ℕ, List, [], ◌∷◌, Some, None, codes}
 use Rattle.std.specs.Fmt.{digits}
-use Rattle.crush_units.specs.declared.alg.Alg.TheVariants.{Straw2}
+use Rattle.crush_units.specs.declared.alg.Alg.TheVariants.{Straw, Straw2}
 use Rattle.crush_table.specs.Items.{LeafData, HeaderData, none, device, bucket}
 use Rattle.crush_table.specs.Rows.{rows_of}
 use Rattle.crush_table.specs.Setting.{KindData, SettingData}
 use Rattle.crush_table.specs.Table.{Row}
-use Rattle.crush_text.specs.Lines.{device_line, kind_line, item_line, bucket_head, bucket_choice, bucket_lines}
+use Rattle.crush_text.specs.Lines.{device_line, kind_line, item_line, class_id_line, bucket_head, bucket_choice, bucket_lines}
 use Rattle.crush_text.specs.MapText.{device_numbers, kind_numbers, root_numbers, device_lines, root_texts, of_row, kind_text, kids_lines, bucket_text, bucket_texts, tunable_section, device_section, kind_section, bucket_section, rule_section, map_text}
 
 abbrev leaf : ℕ → List ℕ → ℕ → LeafData
@@ -61,3 +61,25 @@ example_root = refl
 example_map : map_text setting example ≡ codes "# begin crush map\n\n# devices\ndevice 0 osd.0\ndevice 1 osd.1\ndevice 2 osd.2\n\n# types\ntype 0 osd\ntype 1 host\ntype 3 rack\ntype 11 root\n\n# buckets\nhost h1 {\n\tid -2\t\t# do not change unnecessarily\n\t# weight 2.00000\n\talg straw2\n\thash 0\t# rjenkins1\n\titem osd.0 weight 1.00000\n\titem osd.1 weight 1.00000\n}\nhost h2 {\n\tid -3\t\t# do not change unnecessarily\n\t# weight 0.50000\n\talg straw2\n\thash 0\t# rjenkins1\n\titem osd.2 weight 0.50000\n}\nroot default {\n\tid -1\t\t# do not change unnecessarily\n\t# weight 2.50000\n\talg straw2\n\thash 0\t# rjenkins1\n\titem h1 weight 2.00000\n\titem h2 weight 0.50000\n}\n\n# rules\n\n# end crush map\n"
 unfolding map_text tunable_section device_section kind_section bucket_section rule_section device_lines root_texts device_numbers kind_numbers root_numbers bucket_texts bucket_text of_row kids_lines device_line kind_line item_line bucket_head bucket_choice bucket_lines kind_text digits
 example_map = refl
+
+-- two roots, the later one with class ids and a device that has a class, and a device that no bucket holds
+abbrev ssd : List ℕ
+ssd = codes "ssd"
+
+abbrev two_roots : List Row
+two_roots = rows_of (record {
+  roots = bucket (record { id = 9; kind = 1; name = codes "h9"; alg = Straw; class_ids = record { id = 10; class = ssd } ∷ [] }) 1 1
+      (device (record { id = 12; name = codes "osd.12"; weight = 1; class = Some ssd }) none)
+      (bucket (header 4 11 (codes "spare")) 0 1 none none);
+  unplaced = device (leaf 7 (codes "osd.7") 0) none;
+  root_capacity = 2;
+  unplaced_capacity = 1;
+})
+
+two_roots_devices : device_section two_roots ≡ codes "\n# devices\ndevice 7 osd.7\ndevice 12 osd.12 class ssd\n"
+unfolding device_section device_lines device_numbers of_row device_line digits
+two_roots_devices = refl
+
+two_roots_buckets : bucket_section setting two_roots ≡ codes "\n# buckets\nroot spare {\n\tid -4\t\t# do not change unnecessarily\n\t# weight 0.00000\n\talg straw2\n\thash 0\t# rjenkins1\n}\nhost h9 {\n\tid -9\t\t# do not change unnecessarily\n\tid -10 class ssd\t\t# do not change unnecessarily\n\t# weight 0.00002\n\talg straw\n\thash 0\t# rjenkins1\n\titem osd.12 weight 0.00002\n}\n"
+unfolding bucket_section root_texts root_numbers bucket_texts bucket_text of_row kids_lines item_line class_id_line bucket_head bucket_choice bucket_lines kind_text digits
+two_roots_buckets = refl

@@ -27,7 +27,8 @@ pub(crate) fn push_device<A: Allocator>(
     device: &Leaf<A>,
     out: &mut Vec<u8>,
 ) -> Result<(), AllocError>
-    ensures { OnOk result (out.new.items ≡ out.old.items ++ device_line (device_row None (leaf_data device.now))) }
+    ensures { OnOk result (out.new.items ≡ out.old.items
+        ++ device_line (device_row None (leaf_data device.now))) }
 {
     let mut buffer = Buffer::new();
     let number = buffer.format(device.id.number()).as_bytes();
@@ -131,7 +132,8 @@ fn push_class_id<A: Allocator>(id: &ClassId<A>, out: &mut Vec<u8>) -> Result<(),
 
 /// The lines of a bucket's class ids.
 fn push_class_ids<A: Allocator>(ids: &[ClassId<A>], out: &mut Vec<u8>) -> Result<(), AllocError>
-    ensures { OnOk result (out.new.items ≡ out.old.items ++ flat_map class_id_line (map class_data ids.now)) }
+    ensures { OnOk result (out.new.items ≡ out.old.items
+        ++ flat_map class_id_line (map class_data ids.now)) }
 {
     for id in ids {
         push_class_id(id, out)?;
@@ -146,7 +148,8 @@ fn push_head<A: Allocator>(
     header: &Header<A>,
     out: &mut Vec<u8>,
 ) -> Result<(), AllocError>
-    ensures { OnOk result (out.new.items ≡ out.old.items ++ bucket_head kind.now header.now.name (ItemId.Bucket header.now.id)) }
+    ensures { OnOk result (out.new.items ≡ out.old.items
+        ++ bucket_head kind.now header.now.name (ItemId.Bucket header.now.id)) }
 {
     push_all(&[kind, b" ".as_slice(), header.name.as_bytes()], out)?;
     let mut buffer = Buffer::new();
@@ -168,7 +171,8 @@ fn push_choice<A: Allocator>(
     weight: Weight,
     out: &mut Vec<u8>,
 ) -> Result<(), AllocError>
-    ensures { OnOk result (out.new.items ≡ out.old.items ++ bucket_choice (bucket_row None (header_data header.now)) weight) }
+    ensures { OnOk result (out.new.items ≡ out.old.items
+        ++ bucket_choice (bucket_row None (header_data header.now)) weight) }
 {
     let mut room = [0; 16];
     let len = weight.text(&mut room);
@@ -193,7 +197,9 @@ pub(crate) fn push_bucket<A: Allocator>(
     items: &[Node<A>],
     out: &mut Vec<u8>,
 ) -> Result<(), AllocError>
-    ensures { OnOk result (out.new.items ≡ out.old.items ++ bucket_lines kind.now (bucket_row None (header_data header.now)) weight (item_lines (items_of items.now))) }
+    ensures { OnOk result (out.new.items ≡ out.old.items
+        ++ bucket_lines kind.now (bucket_row None (header_data header.now)) weight
+        (item_lines (items_of items.now))) }
 {
     push_head(kind, header, out)?;
     push_class_ids(header.class_ids.as_slice(), out)?;

@@ -30,7 +30,8 @@ pub fn write_map<A: Allocator, W: Write>(
 ) -> Result<(), WriteFault>
     ensures writes { (t : List Row) → Stands map.now.forest t
         → Writes result (W.contents out.old) (W.contents out.new) (map_text map.now.setting t) }
-    ensures none { result ≡ Err WriteFault.OutOfMemory → Keeps (W.contents out.old) (W.contents out.new) }
+    ensures none { result ≡ Err WriteFault.OutOfMemory
+        → Keeps (W.contents out.old) (W.contents out.new) }
 {
     let mut text = Vec::new(alloc);
     if push_map(alloc, map.setting(), map.forest(), &mut text).is_err() {
@@ -52,7 +53,8 @@ fn push_map<A: Allocator>(
     forest: &Forest<A>,
     out: &mut Vec<u8>,
 ) -> Result<(), AllocError>
-    ensures { (t : List Row) → Stands forest.now t → OnOk result (out.new.items ≡ out.old.items ++ map_text setting.now t) }
+    ensures { (t : List Row) → Stands forest.now t
+        → OnOk result (out.new.items ≡ out.old.items ++ map_text setting.now t) }
 {
     out.extend_from_slice(b"# begin crush map\n")?;
     push_devices(alloc, forest, out)?;
@@ -68,7 +70,8 @@ fn push_devices<A: Allocator>(
     forest: &Forest<A>,
     out: &mut Vec<u8>,
 ) -> Result<(), AllocError>
-    ensures { (t : List Row) → Stands forest.now t → OnOk result (out.new.items ≡ out.old.items ++ device_section t) }
+    ensures { (t : List Row) → Stands forest.now t
+        → OnOk result (out.new.items ≡ out.old.items ++ device_section t) }
 {
     let devices = devices_in_order(alloc, forest)?;
     out.extend_from_slice(b"\n# devices\n")?;
@@ -99,7 +102,8 @@ fn push_roots<A: Allocator>(
     forest: &Forest<A>,
     out: &mut Vec<u8>,
 ) -> Result<(), AllocError>
-    ensures { (t : List Row) → Stands forest.now t → OnOk result (out.new.items ≡ out.old.items ++ bucket_section setting.now t) }
+    ensures { (t : List Row) → Stands forest.now t
+        → OnOk result (out.new.items ≡ out.old.items ++ bucket_section setting.now t) }
 {
     forest.sound();
     let roots = roots_in_order(alloc, forest.roots())?;
@@ -173,7 +177,8 @@ fn find_devices<'a, A: Allocator>(
     nodes: &'a [Node<A>],
     found: &mut Vec<&'a Leaf<A>>,
 ) -> Result<(), AllocError>
-    ensures { OnOk result (map (λ l. leaf_data l.now) found.new.items ≡ map (λ l. leaf_data l.now) found.old.items ++ leaves (items_of nodes.now)) }
+    ensures { OnOk result (map (λ l. leaf_data l.now) found.new.items
+        ≡ map (λ l. leaf_data l.now) found.old.items ++ leaves (items_of nodes.now)) }
 {
     for node in nodes {
         match node {
@@ -204,7 +209,8 @@ fn push_node<A: Allocator>(
     node: &Node<A>,
     out: &mut Vec<u8>,
 ) -> Result<(), AllocError>
-    ensures { OnOk result (out.new.items ≡ out.old.items ++ texts setting.now (items_of (node.now ∷ []))) }
+    ensures { OnOk result (out.new.items ≡ out.old.items
+        ++ texts setting.now (items_of (node.now ∷ []))) }
 {
     match node {
         Node::Device(_) => Ok(()),

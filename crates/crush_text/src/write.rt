@@ -52,7 +52,8 @@ pub fn put<W: Write>(out: &mut W, bytes: &[u8]) -> Result<(), WriteFault>
 
 /// Writes the parts one after the other, as [`put`] writes each.
 pub fn put_all<W: Write>(out: &mut W, parts: &[&[u8]]) -> Result<(), WriteFault>
-    ensures writes { Writes result (W.contents out.old) (W.contents out.new) (flat_map (λ part. part.now) parts.now) }
+    ensures writes { Writes result (W.contents out.old) (W.contents out.new)
+        (flat_map (λ part. part.now) parts.now) }
     ensures fault { IfErr result (λ fault. fault ≡ WriteFault.Write) }
 {
     for part in parts {
