@@ -1,57 +1,10 @@
+use crate::tests::plain_example_map;
 use crate::{TextFaultKind, read_map};
 use std::test::Fail;
 
-/// The plain example map: two hosts below a root, without tunables and rules.
-const PLAIN_EXAMPLE_MAP: &[&[u8]] = &[
-    b"# begin crush map\n",
-    b"\n",
-    b"# devices\n",
-    b"device 0 osd.0\n",
-    b"device 1 osd.1\n",
-    b"device 2 osd.2\n",
-    b"\n",
-    b"# types\n",
-    b"type 0 osd\n",
-    b"type 1 host\n",
-    b"type 3 rack\n",
-    b"type 11 root\n",
-    b"\n",
-    b"# buckets\n",
-    b"host h1 {\n",
-    b"\tid -2\t\t# do not change unnecessarily\n",
-    b"\t# weight 2.00000\n",
-    b"\talg straw2\n",
-    b"\thash 0\t# rjenkins1\n",
-    b"\titem osd.0 weight 1.00000\n",
-    b"\titem osd.1 weight 1.00000\n",
-    b"}\n",
-    b"host h2 {\n",
-    b"\tid -3\t\t# do not change unnecessarily\n",
-    b"\t# weight 0.50000\n",
-    b"\talg straw2\n",
-    b"\thash 0\t# rjenkins1\n",
-    b"\titem osd.2 weight 0.50000\n",
-    b"}\n",
-    b"root default {\n",
-    b"\tid -1\t\t# do not change unnecessarily\n",
-    b"\t# weight 2.50000\n",
-    b"\talg straw2\n",
-    b"\thash 0\t# rjenkins1\n",
-    b"\titem h1 weight 2.00000\n",
-    b"\titem h2 weight 0.50000\n",
-    b"}\n",
-    b"\n",
-    b"# rules\n",
-    b"\n",
-    b"# end crush map\n",
-];
-
 #[test]
 fn the_plain_example_map_is_read(rt: HostRuntime) -> Result<(), Fail> {
-    let mut text = Vec::new(rt.alloc());
-    for line in PLAIN_EXAMPLE_MAP {
-        text.extend_from_slice(line)?;
-    }
+    let text = plain_example_map(&rt)?;
     let (map, adjusted) = read_map(rt.alloc(), text.as_slice())?;
     assert_eq!(rt; adjusted, 0);
     assert_eq!(rt; map.total(), 163840);
