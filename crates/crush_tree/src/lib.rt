@@ -5,6 +5,7 @@
 mod attach;
 mod child;
 mod contain;
+mod copy;
 mod detach;
 mod edits;
 mod fit;
@@ -13,6 +14,7 @@ mod hold;
 mod node;
 mod place;
 mod rename;
+mod same;
 mod search;
 mod sums;
 mod view;
