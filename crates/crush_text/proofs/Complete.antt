@@ -1,24 +1,19 @@
 -- What is spelled is read.
-use Rattle.std.proofs.Common.{◌≡◌, ℕ, ◌<◌, Bool, true, false, cond, eqb, List, [], ◌∷◌, ◌++◌, Some, None, Result, Ok, Err, refl, sym, ap, subst, ◌∙◌, arith, append_assoc}
-use Rattle.std.proofs.lemmas.List.{append-nil}
+use Rattle.std.proofs.Common.{◌≡◌, ℕ, ◌<◌, Bool, true, false, List, [], ◌∷◌, ◌++◌, Result, Ok, refl, sym, ap, subst, ◌∙◌, arith, append_assoc}
 use Rattle.std.proofs.lemmas.Bool.{ne_eqb}
 use Rattle.std.proofs.lemmas.Slice.Eq.{bytes_eq-Decides}
 use Rattle.std.specs.Prelude.{codes, bytes_eq, flat_map, ◌||◌, ◌==◌}
-use Rattle.crush_units.specs.declared.id.ItemId.{ItemId}
 use Rattle.crush_units.specs.declared.alg.Alg.{Alg}
 use Rattle.crush_units.specs.Alg.{alg_text}
-use Rattle.crush_table.specs.Table.{is_placed}
 use Rattle.crush_table.specs.Setting.{is_reserved}
-use Rattle.crush_map.specs.Built.{Draft, nothing, with_kind, with_device, begun_bucket, with_id, with_alg, with_item, ended}
-use Rattle.crush_map.specs.Building.{item_named, is_full_of_devices, is_full_of_buckets, is_full_of_kinds}
+use Rattle.crush_map.specs.Built.{Draft, nothing, with_kind, with_device, begun_bucket, with_id, with_alg, ended}
+use Rattle.crush_map.specs.Building.{is_full_of_buckets}
 use Rattle.crush_text.specs.declared.fault.TextFaultKind.{TextFaultKind}
-use Rattle.crush_text.specs.declared.fault.TextFault.{TextFault}
-use Rattle.crush_text.specs.Words.{Word, Stop, ended as at_length, bad, texts, is_brace_word, begins_with_key}
+use Rattle.crush_text.specs.Words.{Word, Stop, ended as at_length, texts, begins_with_key}
 use Rattle.crush_text.specs.Statements as said
 use Rattle.crush_text.specs.Statements.{Item, Head, Statement, type_line, device_line, bucket_lines, Piece, name, negative, weight, IsSpelled, Spell, pieces, item_pieces, head_pieces, hash_pieces}
-use Rattle.crush_text.specs.Judges.{◌>>=◌, Listed}
-use Rattle.crush_text.specs.Flow.{Part, State, between, type_number, type_name, device_number, device_name, device_class, bucket_name, bucket_brace, id_key, bucket_id, alg_key, bucket_alg, hash_key, hash_number, items, item_name, weight_key, item_weight, at, number_of, is_some_item, opening, step, run, placed}
-use Rattle.crush_text.specs.Meaning.{item_of, after_head, after_item, after_items, after_statement, after, AdmitsItem, AdmitsItems, AdmitsHead, AreAdmitted}
+use Rattle.crush_text.specs.Flow.{Part, State, between, type_number, device_number, bucket_name, bucket_alg, items, number_of, opening, step, run}
+use Rattle.crush_text.specs.Meaning.{item_of, after_head, after_item, after_items, after, AdmitsItem, AdmitsItems, AdmitsHead, AreAdmitted}
 use Rattle.crush_text.proofs.Allowed.{kind_free, known_reserved, device_free, head_free, is_light}
 use Rattle.crush_text.proofs.Slots.{Due, due_type_number, due_type_name, due_device_number, due_device_name, due_bucket_name, due_bucket_brace, due_id_key, due_bucket_id, due_alg_key, due_bucket_alg, due_hash_key, due_hash_number, due_items, due_item_name, due_weight_key, due_item_weight}
 use Rattle.crush_text.proofs.Taken.{key_yes, number_yes, type_yes, type_name_yes, device_yes, name_yes, bucket_yes, alg_word_yes, algorithm_yes, item_yes, weight_word_yes, weight_yes}
@@ -47,10 +42,12 @@ record NoKey (k : List ℕ) : Type 0 where
   class : bytes_eq k (codes "class") ≡ false
   weights : bytes_eq k (codes "choose_args") ≡ false
 
+-- where it isn't so that one of two tests holds, both fail
 or_false : (a b : Bool) → (a || b) ≡ false → (a ≡ false) × (b ≡ false)
 or_false true b e = absurd cc
 or_false false b e = (refl, e)
 
+-- that bytes differ doesn't depend on which stand first
 apart : (a b : List ℕ) → bytes_eq a b ≡ false → bytes_eq b a ≡ false
 apart a b e = by_test (bytes_eq b a) refl
   where
@@ -58,6 +55,7 @@ apart a b e = by_test (bytes_eq b a) refl
     by_test true h = let k : true ≡ false = sym ((bytes_eq-Decides a b).1 (sym ((bytes_eq-Decides b a).0 h))) ∙ e in absurd cc
     by_test false h = h
 
+-- a name that isn't reserved is none of those words
 no_key : (k : List ℕ) → is_reserved k ≡ false → NoKey k
 no_key k h =
     let a = or_false _ _ h in
@@ -76,6 +74,7 @@ no_class behind d (type_line n x ∷ todo) (w ∷ ws) a h = rw h.0 refl
 no_class behind d (device_line n x ∷ todo) (w ∷ ws) a h = rw h.0 refl
 no_class behind d (bucket_lines b is ∷ todo) (w ∷ ws) a h = rw h.0.1 (no_key b.kind (known_reserved d b.kind a.0.0.map.fits.kinds a.0.0.known)).class
 
+-- a type, up to the statements behind it
 type_read : (d : Draft) (behind : Bool) (n : ℕ) (x : List ℕ) (todo : List Statement) (ws : List Word) (p : ℕ) → AreAdmitted behind d (type_line n x ∷ todo) → Spell (texts ws) (pieces (type_line n x) ++ flat_map pieces todo)
     → ((others : List Word) → Spell (texts others) (flat_map pieces todo) → Reading (with_kind d n x) false todo others p) → Reading d behind (type_line n x ∷ todo) ws p
 unfolding opening
@@ -89,6 +88,7 @@ type_read d behind n x todo (u ∷ v ∷ w ∷ ws) p a h go =
     ∙ takes_slot (due_type_name d n) w _ _ x (type_name_yes d n w.text x h.1.1.0 f.reserved f.name)
     ∙ go ws h.1.1.1
 
+-- a device, up to the statements behind it
 device_read : (d : Draft) (behind : Bool) (n : ℕ) (x : List ℕ) (todo : List Statement) (ws : List Word) (p : ℕ) → d.pending ≡ nothing → AreAdmitted behind d (device_line n x ∷ todo) → Spell (texts ws) (pieces (device_line n x) ++ flat_map pieces todo)
     → ((others : List Word) → Spell (texts others) (flat_map pieces todo) → Reading (with_device d n x) false todo others p) → Reading d behind (device_line n x ∷ todo) ws p
 unfolding opening
@@ -107,11 +107,13 @@ device_read d behind n x todo (u ∷ v ∷ w ∷ ws) p idle a h go =
 Closes : Draft → Head → List Item → List Item → List Word → List Piece → ℕ → Type 0
 Closes d b is more ws rest p = (others : List Word) × Spell (texts others) rest × (run d (items b is) ws (at_length p) ≡ run (ended (after_items d more)) (between true) others (at_length p))
 
+-- an item is read, and then the others
 further : (d : Draft) (b : Head) (is : List Item) (i : Item) (more : List Item) (ws us : List Word) (rest : List Piece) (p : ℕ)
     → run d (items b is) ws (at_length p) ≡ run (after_item d i) (items b (is ++ i ∷ [])) us (at_length p) → Closes (after_item d i) b (is ++ i ∷ []) more us rest p → Closes d b is (i ∷ more) ws rest p
 unfolding Closes
 further d b is i more ws us rest p e c = (c.0, c.1, e ∙ c.2)
 
+-- one item, up to the others
 one_item : (d : Draft) (b : Head) (is : List Item) (i : Item) (more : List Item) (rest : List Piece) (ws : List Word) (p : ℕ) → AdmitsItem d i → Spell (texts ws) (flat_map item_pieces (i ∷ more) ++ said.key (codes "}") ∷ rest)
     → ((us : List Word) → Spell (texts us) (flat_map item_pieces more ++ said.key (codes "}") ∷ rest) → Closes (after_item d i) b (is ++ i ∷ []) more us rest p) → Closes d b is (i ∷ more) ws rest p
 one_item d b is i more rest [] p a h ih = absurd h
@@ -127,6 +129,7 @@ one_item d b is i more rest (w0 ∷ w1 ∷ w2 ∷ w3 ∷ ws) p a h ih =
     ∙ takes_slot (due_item_weight d b is i.name it) w3 _ _ i.weight (weight_yes d it w3.text i.weight h.1.1.1.0 a.weight (is_light (after_item d i).table a.map.lawful)))
     (ih ws h.1.1.1.1)
 
+-- all items and the closing brace
 items_read : (d : Draft) (b : Head) (is more : List Item) (rest : List Piece) (ws : List Word) (p : ℕ) → AdmitsItems d more → Spell (texts ws) (flat_map item_pieces more ++ said.key (codes "}") ∷ rest) → Closes d b is more ws rest p
 unfolding Closes
 items_read d b is [] rest [] p a h = absurd h
@@ -140,6 +143,7 @@ no_hash (i ∷ is) rest [] h = refl
 no_hash [] rest (w ∷ ws) h = rw h.0 refl
 no_hash (i ∷ is) rest (w ∷ ws) h = rw h.0 refl
 
+-- the algorithm and the hash, up to the end of the bucket
 hash_read : (d : Draft) (k x : List ℕ) (b : ℕ) (g : Alg) (hash : Bool) (is : List Item) (rest : List Piece) (w : Word) (ws : List Word) (p : ℕ) → AdmitsItems (with_alg d g) is → IsSpelled w.text (said.key (alg_text g)) → Spell (texts ws) (hash_pieces hash ++ (flat_map item_pieces is ++ said.key (codes "}") ∷ rest))
     → (others : List Word) × Spell (texts others) rest × (run d (bucket_alg k x b) (w ∷ ws) (at_length p) ≡ run (ended (after_items (with_alg d g) is)) (between true) others (at_length p))
 unfolding Closes
@@ -160,6 +164,7 @@ hash_read d k x b g false is rest w ws p a hw h =
     let none : begins_with_key (codes "hash") ws ≡ false = no_hash is rest ws h in
     (c.0, c.1, takes_slot (due_bucket_alg d k x b) w ws (at_length p) g (algorithm_yes w.text g hw) ∙ rw none c.2)
 
+-- the name of a type of buckets opens a bucket
 opens_bucket : (d : Draft) (behind : Bool) (w k : List ℕ) → IsSpelled w (name k) → 0 < number_of d k → is_reserved k ≡ false → is_full_of_buckets d ≡ false → opening d behind w ≡ Ok (bucket_name k)
 unfolding opening
 opens_bucket d behind w k h known free few =
@@ -169,6 +174,7 @@ opens_bucket d behind w k h known free few =
     some : (number_of d w == 0) ≡ false
     some = ap (λ (l : List ℕ). number_of d l == 0) h.1 ∙ ne_eqb (number_of d k) 0 (λ e. omega (arith, e, known))
 
+-- a bucket, up to the statements behind it
 bucket_read : (d : Draft) (behind : Bool) (b : Head) (is : List Item) (todo : List Statement) (ws : List Word) (p : ℕ) → d.pending ≡ nothing → AdmitsHead d b → AdmitsItems (after_head d b) is → Spell (texts ws) (head_pieces b ++ (flat_map item_pieces is ++ said.key (codes "}") ∷ flat_map pieces todo))
     → ((others : List Word) → Spell (texts others) (flat_map pieces todo) → Reading (ended (after_items (after_head d b) is)) true todo others p) → Reading d behind (bucket_lines b is ∷ todo) ws p
 bucket_read d behind b is todo [] p idle a ad h go = absurd h
@@ -191,6 +197,7 @@ bucket_read d behind b is todo (w0 ∷ w1 ∷ w2 ∷ w3 ∷ w4 ∷ w5 ∷ w6 ∷
     ∙ takes_slot (due_alg_key e2 b.kind b.name b.id) w5 _ _ tt (alg_word_yes w5.text h.1.1.1.1.1.0)
     ∙ c.2 ∙ go c.0 c.1
 
+-- the pieces of a bucket and of what is behind it, from the left to the right
 regroup : (b : Head) (is : List Item) (rest : List Piece) → pieces (bucket_lines b is) ++ rest ≡ head_pieces b ++ (flat_map item_pieces is ++ said.key (codes "}") ∷ rest)
 regroup b is rest = append_assoc (head_pieces b) (flat_map item_pieces is ++ said.key (codes "}") ∷ []) rest ∙ ap (λ (r : List Piece). head_pieces b ++ r) (append_assoc (flat_map item_pieces is) (said.key (codes "}") ∷ []) rest)
 

@@ -1,6 +1,6 @@
 -- Where a function of the reader returns.
-use Rattle.std.proofs.Common.{◌≡◌, ℕ, Bool, true, false, cond, List, [], ◌∷◌, ◌++◌, Result, Ok, Err, refl, sym, ap, subst, ◌∙◌, inl, inr}
-use Rattle.std.specs.Prelude.{◌⊎◌, OnOk}
+use Rattle.std.proofs.Common.{◌≡◌, ℕ, Bool, true, false, cond, List, [], ◌∷◌, ◌++◌, Result, Ok, Err, refl, sym, ap, ◌∙◌, inl, inr}
+use Rattle.std.specs.Prelude.{OnOk}
 use Rattle.crush_units.specs.declared.id.ItemId.{ItemId}
 use Rattle.crush_map.specs.Built.{Draft, Pending, nothing, begun, numbered, filling, pending_with_id, filled, with_item}
 use Rattle.crush_map.specs.Building.{BuilderData, IsDraft, is_begun, is_numbered, is_filling}
@@ -35,6 +35,7 @@ numbered_next (begun k x) b h = refl
 numbered_next (numbered k x c cs) b h = absurd cc
 numbered_next (filling c) b h = absurd cc
 
+-- a numbered bucket is filled next
 pub filling_next : (p : Pending) → is_numbered p ≡ true → is_filling (filled p) ≡ true
 filling_next nothing h = absurd cc
 filling_next (begun k x) h = absurd cc
@@ -45,6 +46,7 @@ filling_next (filling c) h = absurd cc
 pub takes_second : (b : Bool) (s u : State) (t : Text) → b ≡ false → outcome (cond b s u).draft (cond b s u).part t ≡ outcome u.draft u.part t
 takes_second b s u t h = ap (λ (c : Bool). outcome (cond c s u).draft (cond c s u).part t) h
 
+-- the first, where the optional part is there
 pub takes_first : (b : Bool) (s u : State) (t : Text) → b ≡ true → outcome (cond b s u).draft (cond b s u).part t ≡ outcome s.draft s.part t
 takes_first b s u t h = ap (λ (c : Bool). outcome (cond c s u).draft (cond c s u).part t) h
 
@@ -53,6 +55,7 @@ pub reads_on : (r : Result (Unit {0}) TextFault) (e : Draft) (h : Head) (b : Bui
 reads_on (Ok x) e h b rest all mid is i k = (e, h, i, is ∙ k)
 reads_on (Err f) e h b rest all mid is i k = fails_all f is k
 
+-- the same for any part that the last function ends at
 pub reads_from : {I : Type 0} (part : I → Part) (r : Result (Unit {0}) TextFault) (b : BuilderData) (rest : Text) (all mid : Result Draft TextFault) → all ≡ mid → Reads part r b rest mid → Reads part r b rest all
 reads_from part (Ok x) b rest all mid is k = (k.0, k.1, k.2, is ∙ k.3)
 reads_from part (Err f) b rest all mid is k = fails_all f is k

@@ -19,10 +19,12 @@ use Rattle.crush_text.proofs.Sorting.{lines_in_order, ascending-reordered}
 use Rattle.crush_text.proofs.ItemLines.{leaves-join}
 use Rattle.crush_text.proofs.Told.{Told, leaves_print, leaf_numbers, root_ids, root_numbers_are, root_ids-join, size_le_rows, size_of-join, told_join, texts_print, stands_told}
 
+-- what is seen of what is seen is seen at once
 map-map : {X Y : Type 0} (f : Y → ℕ) (g : X → Y) (xs : List X) → map (λ x. f (g x)) xs ≡ map f (map g xs)
 map-map f g [] = refl
 map-map f g (x ∷ xs) = ap (λ (l : List ℕ). f (g x) ∷ l) (map-map f g xs)
 
+-- what holds of all that is seen holds of what it is seen of
 All-unmap : {X Y : Type 0} (P : Y → Type 0) (g : X → Y) (xs : List X) → All P (map g xs) → All (λ x. P (g x)) xs
 All-unmap P g [] h = All-nil (λ x. P (g x))
 All-unmap P g (x ∷ xs) h = All-cons (λ x. P (g x)) x xs (All-head P (g x) (map g xs) h) (All-unmap P g xs (All-tail P (g x) (map g xs) h))
@@ -68,11 +70,13 @@ root_prints s t (Bucket b ∷ ns) told only le =
     ∙ texts_print s t (length t) None (bucket b.value.header b.value.weight b.value.capacity b.value.kids none) (omega arith) (told.0, told.1, told.2, told.3, tt))
     (root_prints s t ns told.4 only (omega arith))
 
+-- the numbers of nodes that are buckets are those of their items' roots
 root_node_numbers : {A : _} (ns : List (Node A)) → OnlyBuckets (items_of ns) → map (λ node. id_number (node_id node)) ns ≡ root_ids (items_of ns)
 root_node_numbers [] only = refl
 root_node_numbers (Device l ∷ ns) only = absurd only
 root_node_numbers (Bucket b ∷ ns) only = ap (λ (l : List ℕ). b.value.header.id ∷ l) (root_node_numbers ns only)
 
+-- each root prints the buckets below it and itself, as the table tells them
 pub roots_print : {A : _} (s : SettingData) (f : ForestData) (t : List Row) (ns : List (Node A)) → items_of ns ≡ f.roots → IsSound f → Stands f t
     → All (λ node. bucket_texts s t (length t) (BucketItem (id_number (node_id node))) ≡ texts s (items_of (node ∷ []))) ns
 roots_print s f t ns are sound stands =
@@ -80,6 +84,7 @@ roots_print s f t ns are sound stands =
     root_prints s t ns (subst (Told t None) (sym are) told) (subst OnlyBuckets (sym are) sound.roots)
     (omega (arith, ap size_of are, size_of-join f.unplaced f.roots, size_le_rows None (all_items f), reordered-length stands.same.rows))
 
+-- and the roots in ascending order print the table's roots
 pub roots_in_order : {A : _} (s : SettingData) (f : ForestData) (t : List Row) (ns : List (Node A)) → items_of ns ≡ f.roots → IsSound f → Stands f t
     → flat_map (λ b. bucket_texts s t (length t) (BucketItem b)) (ascending (map (λ node. id_number (node_id node)) ns)) ≡ root_texts s t
 unfolding root_texts root_numbers

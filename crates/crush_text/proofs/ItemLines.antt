@@ -19,6 +19,7 @@ item_lines-join none b = refl
 item_lines-join (device d rest) b = ap (λ (l : List ℕ). item_line d.name d.weight ++ l) (item_lines-join rest b) ∙ sym (append_assoc (item_line d.name d.weight) _ _)
 item_lines-join (bucket h w m kids rest) b = ap (λ (l : List ℕ). item_line h.name w ++ l) (item_lines-join rest b) ∙ sym (append_assoc (item_line h.name w) _ _)
 
+-- the buckets among the items of both
 pub texts-join : (s : SettingData) (a b : Items) → texts s (join a b) ≡ texts s a ++ texts s b
 texts-join s none b = refl
 texts-join s (device d rest) b = texts-join s rest b
@@ -29,15 +30,18 @@ pub item_lines-more : {A : _} (ns : List (Node A)) (i : ℕ) (x : Node A) → i 
     → item_lines (items_of (take (i + 1) ns)) ≡ item_lines (items_of (take i ns)) ++ item_lines (items_of (x ∷ []))
 item_lines-more ns i x lt is = ap item_lines (items_of-taken ns i x lt is) ∙ item_lines-join (items_of (take i ns)) (items_of (x ∷ []))
 
+-- the buckets among one item more
 pub texts-more : {A : _} (s : SettingData) (ns : List (Node A)) (i : ℕ) (x : Node A) → i < length ns → x ≡ get_or ns i x
     → texts s (items_of (take (i + 1) ns)) ≡ texts s (items_of (take i ns)) ++ texts s (items_of (x ∷ []))
 texts-more s ns i x lt is = ap (texts s) (items_of-taken ns i x lt is) ∙ texts-join s (items_of (take i ns)) (items_of (x ∷ []))
 
+-- the devices among the items of both
 pub leaves-join : (a b : Items) → leaves (join a b) ≡ leaves a ++ leaves b
 leaves-join none b = refl
 leaves-join (device d rest) b = ap (λ (l : List LeafData). d ∷ l) (leaves-join rest b)
 leaves-join (bucket h w m kids rest) b = ap (λ (l : List LeafData). leaves kids ++ l) (leaves-join rest b) ∙ sym (append_assoc (leaves kids) (leaves rest) (leaves b))
 
+-- the devices among one item more
 pub leaves-more : {A : _} (ns : List (Node A)) (i : ℕ) (x : Node A) → i < length ns → x ≡ get_or ns i x
     → leaves (items_of (take (i + 1) ns)) ≡ leaves (items_of (take i ns)) ++ leaves (items_of (x ∷ []))
 leaves-more ns i x lt is = ap leaves (items_of-taken ns i x lt is) ∙ leaves-join (items_of (take i ns)) (items_of (x ∷ []))
@@ -73,6 +77,7 @@ found_device ns i x l old now new lt is at before after =
     after ∙ ap (λ (r : List LeafData). r ++ leaf_data l ∷ []) before ∙ append_assoc old (leaves (items_of (take i ns))) (leaf_data l ∷ [])
     ∙ ap (λ (r : List LeafData). old ++ r) (sym (leaves-more ns i x lt is ∙ ap (λ y. leaves (items_of (take i ns)) ++ leaves (items_of (y ∷ []))) at))
 
+-- the devices below a bucket are found
 pub found_below : {A : _} (ns : List (Node A)) (i : ℕ) (x : Node A) (b : _) (d : BucketData) (kids : Items) (old now new : List LeafData) → i < length ns → x ≡ get_or ns i x → x ≡ Bucket b → d ≡ b.value → kids ≡ d.kids
     → now ≡ old ++ leaves (items_of (take i ns)) → new ≡ now ++ leaves kids → new ≡ old ++ leaves (items_of (take (i + 1) ns))
 found_below ns i x b d kids old now new lt is at same kid_same before after =

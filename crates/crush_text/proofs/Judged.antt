@@ -1,8 +1,8 @@
 -- What a judge's yes says of a word.
-use Rattle.std.proofs.Common.{◌≡◌, ℕ, ◌<◌, ◌≤◌, Bool, true, false, cond, eqb, ltb, List, [], ◌∷◌, Option, Some, None, Result, Ok, Err, refl, sym, ap, subst, ◌∙◌, arith}
+use Rattle.std.proofs.Common.{◌≡◌, ℕ, ◌<◌, ◌≤◌, Bool, true, false, cond, List, Option, Some, None, Result, Ok, Err, refl, sym, ap, subst, ◌∙◌, arith}
 use Rattle.std.proofs.lemmas.Bool.{leb-true, ltb-true, ltb-false, eqb-true, ne_eqb}
 use Rattle.std.proofs.lemmas.Slice.Eq.{bytes_eq-Decides}
-use Rattle.std.specs.Prelude.{codes, bytes_eq, drop, nat_lt, nat_le, ◌==◌, ◌||◌, ◌&&◌, not, slice_index, if◌then◌else◌}
+use Rattle.std.specs.Prelude.{codes, bytes_eq, drop, nat_lt, nat_le, ◌==◌, ◌||◌, ◌&&◌, not, slice_index}
 use Rattle.std.specs.Str.Parse.{digits_value}
 use Rattle.crush_units.specs.declared.id.ItemId.{ItemId}
 use Rattle.crush_units.specs.declared.id.ItemId.TheVariants.{Device, Bucket}
@@ -17,11 +17,11 @@ use Rattle.crush_table.specs.Setting.{is_reserved}
 use Rattle.crush_map.specs.Built.{Draft, with_item}
 use Rattle.crush_map.specs.Building.{has_name, has_bucket_id, item_named, has_kind_number, has_kind_name}
 use Rattle.crush_text.specs.declared.fault.TextFaultKind.{TextFaultKind}
-use Rattle.crush_text.specs.declared.fault.TextFaultKind.TheVariants.{Unexpected, BadNumber, BadWeight, DuplicateId, DuplicateName, UnknownItem, SecondParent, OtherAlgorithm, LeftOut, SumTooLarge}
+use Rattle.crush_text.specs.declared.fault.TextFaultKind.TheVariants.{Unexpected, BadNumber, BadWeight, DuplicateId, DuplicateName, SecondParent, LeftOut, SumTooLarge}
 use Rattle.crush_text.specs.Words.{is_brace_word}
 use Rattle.crush_text.specs.Statements as said
 use Rattle.crush_text.specs.Statements.{IsSpelled, name, negative, weight, is_number, is_negative}
-use Rattle.crush_text.specs.Judges.{◌>>=◌, plain, key, left_out, number, new_type, new_type_name, new_device, new_name, below_zero, new_bucket, alg_word, known_alg, algorithm, item_or_end, Listed, free_item, new_item, weight_word, weight_for, own_weight, fitting, new_weight}
+use Rattle.crush_text.specs.Judges.{◌>>=◌, key, number, new_type, new_type_name, new_device, new_name, below_zero, new_bucket, alg_word, known_alg, algorithm, item_or_end, Listed, free_item, new_item, weight_word, weight_for, own_weight, fitting, new_weight}
 use Rattle.crush_text.specs.Meaning.{IsWeightOf}
 
 -- a word that is taken
@@ -58,6 +58,7 @@ number_says most w n e =
     let q = when_ok (is_number most w) BadNumber (Ok (digits_value 10 w)) n p.1 in
     (q.0, took_is _ _ q.1)
 
+-- the second of two tests that hold
 and_right : (a b : Bool) → (a && b) ≡ true → b ≡ true
 and_right true b e = e
 and_right false b e = absurd cc
@@ -150,6 +151,7 @@ alg_spells w a false true z hx hy hz e = (bytes_eq-Decides w _).0 hy ∙ ap alg_
 alg_spells w a false false true hx hy hz e = (bytes_eq-Decides w _).0 hz ∙ ap alg_text (took_is Linked a e)
 alg_spells w a false false false hx hy hz e = absurd cc
 
+-- an algorithm's word
 pub algorithm_says : (w : List ℕ) (a : Alg) → algorithm w ≡ Ok a → IsSpelled w (said.key (alg_text a))
 algorithm_says w a e = alg_spells w a _ _ _ refl refl refl (unless_ok (is_brace_word w) Unexpected (known_alg (alg_of w)) a e).1
 
@@ -157,6 +159,7 @@ algorithm_says w a e = alg_spells w a _ _ _ refl refl refl (unless_ok (is_brace_
 abbrev pub more_key : Bool → List ℕ
 more_key more = cond more (codes "item") (codes "}")
 
+-- `item`, or the closing brace
 pub item_or_end_says : (any : Bool) (w : List ℕ) (more : Bool) → item_or_end any w ≡ Ok more → IsSpelled w (said.key (more_key more))
 item_or_end_says any w more e = by_tests (bytes_eq w (codes "item")) (bytes_eq w (codes "}")) (any && bytes_eq w (codes "pos")) refl refl e
   where

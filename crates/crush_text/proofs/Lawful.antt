@@ -1,24 +1,22 @@
 -- With a line that the judges take, table and setting are lawful.
-use Rattle.std.proofs.Common.{◌≡◌, ℕ, suc, ◌+◌, ◌<◌, ◌≤◌, Bool, true, false, List, [], ◌∷◌, ◌++◌, Option, Some, None, length, refl, sym, ap, subst, ◌∙◌, arith}
+use Rattle.std.proofs.Common.{◌≡◌, ℕ, ◌<◌, ◌≤◌, Bool, true, false, List, [], ◌∷◌, ◌++◌, Option, Some, None, refl, sym, ap, subst, ◌∙◌, arith}
 use Rattle.std.proofs.lemmas.Bool.{lt-ltb, eq-eqb}
 use Rattle.std.proofs.lemmas.List.Elements.{All-head, All-tail, All-filter, All-map, All-append}
-use Rattle.std.proofs.lemmas.Slice.Eq.{bytes_eq-Decides}
-use Rattle.std.specs.Prelude.{◌||◌, ◌&&◌, ◌==◌, not, bytes_eq, map, filter, find, is_some, nat_lt, unwrap_or, option_and_then, All, if◌then◌else◌}
+use Rattle.std.specs.Prelude.{◌||◌, ◌==◌, not, bytes_eq, map, filter, find, is_some, unwrap_or, option_and_then, All, if◌then◌else◌}
 use Rattle.std.specs.List.{list_any}
 use Rattle.std.specs.Option.{option_map}
 use Rattle.crush_units.specs.declared.id.ItemId.{ItemId}
 use Rattle.crush_units.specs.declared.id.ItemId.TheVariants.{Device, Bucket}
-use Rattle.crush_units.specs.declared.alg.Alg.{Alg}
 use Rattle.crush_units.specs.Id.{same_id}
 use Rattle.crush_units.specs.Name.{IsName}
 use Rattle.crush_units.proofs.Ids.{same_id_refl, same_id_equal}
-use Rattle.crush_table.specs.Table.{Row, is_device, is_device_id, row_of, row_named, id_named, is_there, is_named, is_placed, parent_of, bucket_count, member, used_ids}
+use Rattle.crush_table.specs.Table.{Row, is_device, is_device_id, row_of, row_named, id_named, is_there, bucket_count, member, used_ids}
 use Rattle.crush_table.specs.Columns.{is_part, without_row}
 use Rattle.crush_table.specs.Lawful.{Lawful, is_too_heavy}
 use Rattle.crush_table.specs.Setting.{KindData, SettingData, IsKind, Fits, HasKind, is_reserved}
 use Rattle.crush_table.proofs.Appended.{row_of-append, unused_fresh}
 use Rattle.crush_table.proofs.Removed.{row_of-only}
-use Rattle.crush_map.specs.Built.{Draft, Pending, nothing, begun, numbered, filling, with_kind, with_device, begun_bucket, with_id, with_alg, placed_row, put_below, table_with_item, with_item}
+use Rattle.crush_map.specs.Built.{Draft, Pending, nothing, begun, numbered, filling, with_kind, with_device, begun_bucket, placed_row, put_below, table_with_item, with_item}
 use Rattle.crush_map.specs.Building.{CanBegin, CanNumber, IsRoot, is_open, has_name, has_bucket_id, closed_item, item_named, has_kind_number, has_kind_name, is_full_of_devices, is_full_of_buckets, is_full_of_kinds}
 use Rattle.crush_map.proofs.KindSteps.{less, Fits-with_kind}
 use Rattle.crush_map.proofs.RowSteps.{new_device, device_lawful, new_bucket, bucket_lawful}
@@ -28,6 +26,7 @@ use Rattle.crush_text.specs.Statements.{Head}
 use Rattle.crush_text.specs.Flow.{number_of}
 use Rattle.crush_text.specs.Meaning.{IsMap, IsWeightOf, after_head}
 
+-- the first of two tests of which none holds
 or_first : (a b : Bool) → (a || b) ≡ false → a ≡ false
 or_first true b e = e
 or_first false b e = refl
@@ -51,10 +50,12 @@ any_right : (a b : Bool) → b ≡ true → (a || b) ≡ true
 any_right true b h = refl
 any_right false b h = h
 
+-- a number is that of a type
 record IsTypeOf (kinds : List KindData) (n : ℕ) : Type 0 where
   there : list_any (λ (x : KindData). x.number == n) kinds ≡ true
   most : n ≤ 65535
 
+-- the number that a type's name has is one
 kind_there : (kinds : List KindData) (k : List ℕ) (n : ℕ) → All IsKind kinds → unwrap_or (option_map (λ (x : KindData). x.number) (find (λ (x : KindData). bytes_eq x.name k) kinds)) 0 ≡ n → 0 < n → IsTypeOf kinds n
 kind_there [] k n all e some = absurd (omega arith)
 kind_there (x ∷ kinds) k n all e some = by_test (bytes_eq x.name k) e (λ r. kind_there kinds k n (All-tail IsKind x kinds all) r some)
@@ -76,6 +77,7 @@ pub record HeadMade (d : Draft) (h : Head) : Type 0 where
   pub map : IsMap (after_head d h)
   pub root : IsRoot (after_head d h).table h.id
 
+-- a bucket's first lines make it
 pub map_with_head : (d : Draft) (h : Head) → IsMap d → 0 < number_of d h.kind → IsName h.name → has_name d h.name ≡ false → 0 < h.id → h.id ≤ 2147483648 → has_bucket_id (begun_bucket d (number_of d h.kind) h.name) h.id ≡ false → is_full_of_buckets d ≡ false → HeadMade d h
 map_with_head d h m known form name some most id few =
     let k = number_of d h.kind in
@@ -103,10 +105,12 @@ named_there (r ∷ t) n i e = by_name (bytes_eq r.name n) e (named_there t n i)
     by_name true e ih = let k : r.id ≡ i = cc in rw (ap (λ (j : ItemId). same_id j i) k ∙ same_id_refl i) refl
     by_name false e ih = by_id (same_id r.id i) (ih e)
 
+-- what an item of a bucket has to be
 pub record Listable (d : Draft) (i : ItemId) : Type 0 where
   pub there : is_there d.table i ≡ true
   pub closed : is_open d.pending i ≡ false
 
+-- an item of a name is such
 pub listable : (d : Draft) (n : List ℕ) (i : ItemId) → item_named d n ≡ Some i → Listable d i
 listable d n i e = by_name (id_named d.table n) refl e
   where
@@ -131,12 +135,14 @@ bucket_rows b x w v (r ∷ t) = by_id (same_id r.id (Bucket x)) refl (bucket_row
     by_id true e ih = λ k. one (same_id_equal r.id (Bucket x) e) k ∷ ih k
     by_id false e ih = ih
 
+-- nor does it change the table
 bucket_table : (p : Pending) (x w v : ℕ) (t : List Row) → table_with_item p (Bucket x) w t ≡ table_with_item p (Bucket x) v t
 bucket_table nothing x w v t = refl
 bucket_table (begun k n) x w v t = refl
 bucket_table (numbered k n b cs) x w v t = refl
 bucket_table (filling b) x w v t = ap (λ (l : List Row). without_row (Bucket x) t ++ l) (bucket_rows b x w v t)
 
+-- nor the draft
 pub with_bucket : (d : Draft) (i : ItemId) (x w v : ℕ) → i ≡ Bucket x → with_item d i w ≡ with_item d i v
 with_bucket d i x w v e = ap (λ (j : ItemId). with_item d j w) e ∙ ap (λ (t : List Row). record d { table = t }) (bucket_table d.pending x w v d.table) ∙ ap (λ (j : ItemId). with_item d j v) (sym e)
 
@@ -153,6 +159,7 @@ abbrev IsLight : ItemId → ℕ → Type 0
 IsLight (Device n) w = w ≤ 2147483647
 IsLight (Bucket x) w = Unit {0}
 
+-- a weight that may stand behind an item is in its range
 light_weight : (d : Draft) (i : ItemId) (w : ℕ) → IsWeightOf d i w → IsLight i w
 light_weight d (Device n) w h = h
 light_weight d (Bucket x) w h = tt
@@ -177,6 +184,7 @@ pub record ItemMade (d : Draft) (i : ItemId) (w b : ℕ) : Type 0 where
   pub map : IsMap (with_item d i w)
   pub root : IsRoot (with_item d i w).table b
 
+-- an item's line makes it
 pub map_with_item : (d : Draft) (x : List ℕ) (i : ItemId) (w b : ℕ) → IsMap d → d.pending ≡ filling b → IsRoot d.table b → item_named d x ≡ Some i → IsWeightOf d i w → is_too_heavy (with_item d i w).table ≡ false → ItemMade d i w b
 map_with_item d x i w b m p root named weight light =
     let l = listable d x i named in

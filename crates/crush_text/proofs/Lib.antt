@@ -8,6 +8,7 @@ pub mod InOrder
 pub mod ItemLines
 pub mod Judged
 pub mod Lawful
+pub mod OneOfBoth
 pub mod Openings
 pub mod Passed
 pub mod Printed

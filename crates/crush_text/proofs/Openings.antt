@@ -1,20 +1,19 @@
 -- The first word of a statement.
-use Rattle.std.proofs.Common.{◌≡◌, ℕ, ◌<◌, Bool, true, false, cond, eqb, List, [], ◌∷◌, Some, None, Result, Ok, Err, refl, sym, ap, subst, ◌∙◌, arith}
-use Rattle.std.specs.Prelude.{codes, bytes_eq, ◌||◌, ◌==◌, Option, if◌then◌else◌, unwrap_or, find, nat_lt, ◌&&◌}
+use Rattle.std.proofs.Common.{◌≡◌, ℕ, ◌<◌, Bool, true, false, cond, List, [], ◌∷◌, Some, Result, Ok, Err, refl, ap, subst, ◌∙◌, arith}
+use Rattle.std.specs.Prelude.{codes, bytes_eq, ◌||◌, ◌==◌, if◌then◌else◌, unwrap_or, find}
 use Rattle.std.specs.List.{list_any}
 use Rattle.std.specs.Option.{option_map}
 use Rattle.std.proofs.lemmas.Bool.{lt-ltb, eq-eqb}
-use Rattle.crush_table.specs.Setting.{KindData, SettingData, kind_number}
+use Rattle.crush_table.specs.Setting.{KindData}
 use Rattle.crush_map.specs.Built.{Draft}
-use Rattle.crush_map.specs.Building.{is_bucket_kind, is_full_of_devices, is_full_of_buckets, is_full_of_kinds}
+use Rattle.crush_map.specs.Building.{is_full_of_devices, is_full_of_buckets, is_full_of_kinds}
 use Rattle.crush_text.specs.declared.fault.TextFaultKind.{TextFaultKind}
 use Rattle.crush_text.specs.declared.fault.TextFaultKind.TheVariants.{BadWord, Unexpected, UnknownType, LeftOut, TooMany}
 use Rattle.crush_text.specs.declared.fault.TextFault.{TextFault}
 use Rattle.crush_text.specs.declared.reader.opening.Opening.{Opening}
 use Rattle.crush_text.specs.declared.reader.opening.Opening.TheVariants as openings
-use Rattle.crush_text.specs.Words.{Word, Stop, Text, first, stopped, ended, bad, is_brace_word}
-use Rattle.crush_text.specs.Judges.{◌>>=◌}
-use Rattle.crush_text.specs.Flow.{Part, between, type_number, device_number, bucket_name, at, number_of, opening, opening_line, opening_bucket, step, run, outcome, placed}
+use Rattle.crush_text.specs.Words.{Text, first, stopped, ended, bad, is_brace_word}
+use Rattle.crush_text.specs.Flow.{Part, between, type_number, device_number, bucket_name, number_of, opening, opening_line, opening_bucket, step, run, outcome, placed}
 use Rattle.crush_text.specs.Reads.{opened_part, IsKindOf, IsOpened, HasRoom}
 use Rattle.crush_text.proofs.Judged.{took, unless_ok, took_is}
 use Rattle.crush_text.proofs.Reached.{opening_line_says, not_here, not_zero}
@@ -54,12 +53,14 @@ OpenAt d s w device_number = (s ≡ false) × (is_full_of_devices d ≡ false)
 OpenAt d s w (bucket_name k) = (0 < number_of d k) × (is_full_of_buckets d ≡ false)
 OpenAt d s w _ = Unit {0}
 
+-- a bucket is opened where its type is there, and room for it
 open_bucket : (d : Draft) (s : Bool) (w : List ℕ) (p : Part) → opening_bucket d w ≡ Ok p → OpenAt d s w p
 open_bucket d s w p e =
     let n = unless_ok (number_of d w == 0) UnknownType (cond (is_full_of_buckets d) (Err TooMany) (Ok (bucket_name w))) p e in
     let f = unless_ok (is_full_of_buckets d) TooMany (Ok (bucket_name w)) p n.1 in
     subst (OpenAt d s w) (took_is (bucket_name w) p f.1) (not_zero (number_of d w) n.0, f.0)
 
+-- a part that is opened is one of which that is known
 open_at : (d : Draft) (s : Bool) (w : List ℕ) (p : Part) → opening d s w ≡ Ok p → OpenAt d s w p
 unfolding opening
 open_at d s w p e = by_tests (bytes_eq w (codes "type")) (bytes_eq w (codes "device")) e
@@ -85,6 +86,7 @@ is_opened openings.Type d s w rest all e k is = let a = open_at d s w type_numbe
 is_opened openings.Device d s w rest all e k is = let a = open_at d s w device_number e in (is, a.0, a.1)
 is_opened (openings.Bucket kind) d s w rest all e k is = let a = open_at d s w (bucket_name w) e in (w, is, k, subst (λ (n : ℕ). 0 < n) k a.0, a.1)
 
+-- the second of two tests is enough
 or_right : (a b : Bool) → b ≡ true → (a || b) ≡ true
 or_right true b h = refl
 or_right false b h = h

@@ -10,12 +10,15 @@ use Rattle.crush_table.specs.Table.{Row}
 use Rattle.crush_text.specs.Lines.{device_line, kind_line, item_line, class_id_line, bucket_head, bucket_choice, bucket_lines}
 use Rattle.crush_text.specs.MapText.{device_numbers, kind_numbers, root_numbers, device_lines, root_texts, of_row, kind_text, kids_lines, bucket_text, bucket_texts, tunable_section, device_section, kind_section, bucket_section, rule_section, map_text}
 
+-- a device without class
 abbrev leaf : ℕ → List ℕ → ℕ → LeafData
 leaf d n w = record { id = d; name = n; weight = w; class = None }
 
+-- a bucket of the algorithm straw2 without class ids
 abbrev header : ℕ → ℕ → List ℕ → HeaderData
 header b k n = record { id = b; kind = k; name = n; alg = Straw2; class_ids = [] }
 
+-- a type
 abbrev type : ℕ → List ℕ → KindData
 type n name = record { number = n; name = name }
 
@@ -30,9 +33,11 @@ example = rows_of (record {
   unplaced_capacity = 0;
 })
 
+-- the types of the plain example map
 abbrev setting : SettingData
 setting = record { kinds = type 0 (codes "osd") ∷ (type 1 (codes "host") ∷ (type 3 (codes "rack") ∷ (type 11 (codes "root") ∷ []))) }
 
+-- the map without anything
 empty_map : map_text (record { kinds = [] }) [] ≡ codes "# begin crush map\n\n# devices\n\n# types\n\n# buckets\n\n# rules\n\n# end crush map\n"
 unfolding map_text tunable_section device_section kind_section bucket_section rule_section device_lines root_texts device_numbers kind_numbers root_numbers
 empty_map = refl
@@ -42,22 +47,27 @@ example_devices : device_section example ≡ codes "\n# devices\ndevice 0 osd.0\
 unfolding device_section device_lines device_numbers of_row device_line digits
 example_devices = refl
 
+-- its types
 example_types : kind_section setting ≡ codes "\n# types\ntype 0 osd\ntype 1 host\ntype 3 rack\ntype 11 root\n"
 unfolding kind_section kind_numbers kind_text kind_line digits
 example_types = refl
 
+-- its buckets: a host
 example_host : bucket_text setting example 2 ≡ codes "host h1 {\n\tid -2\t\t# do not change unnecessarily\n\t# weight 2.00000\n\talg straw2\n\thash 0\t# rjenkins1\n\titem osd.0 weight 1.00000\n\titem osd.1 weight 1.00000\n}\n"
 unfolding bucket_text of_row kids_lines item_line bucket_head bucket_choice bucket_lines kind_text digits
 example_host = refl
 
+-- the other host
 example_other : bucket_text setting example 3 ≡ codes "host h2 {\n\tid -3\t\t# do not change unnecessarily\n\t# weight 0.50000\n\talg straw2\n\thash 0\t# rjenkins1\n\titem osd.2 weight 0.50000\n}\n"
 unfolding bucket_text of_row kids_lines item_line bucket_head bucket_choice bucket_lines kind_text digits
 example_other = refl
 
+-- and the root above them
 example_root : bucket_text setting example 1 ≡ codes "root default {\n\tid -1\t\t# do not change unnecessarily\n\t# weight 2.50000\n\talg straw2\n\thash 0\t# rjenkins1\n\titem h1 weight 2.00000\n\titem h2 weight 0.50000\n}\n"
 unfolding bucket_text of_row kids_lines item_line bucket_head bucket_choice bucket_lines kind_text digits
 example_root = refl
 
+-- all of it
 example_map : map_text setting example ≡ codes "# begin crush map\n\n# devices\ndevice 0 osd.0\ndevice 1 osd.1\ndevice 2 osd.2\n\n# types\ntype 0 osd\ntype 1 host\ntype 3 rack\ntype 11 root\n\n# buckets\nhost h1 {\n\tid -2\t\t# do not change unnecessarily\n\t# weight 2.00000\n\talg straw2\n\thash 0\t# rjenkins1\n\titem osd.0 weight 1.00000\n\titem osd.1 weight 1.00000\n}\nhost h2 {\n\tid -3\t\t# do not change unnecessarily\n\t# weight 0.50000\n\talg straw2\n\thash 0\t# rjenkins1\n\titem osd.2 weight 0.50000\n}\nroot default {\n\tid -1\t\t# do not change unnecessarily\n\t# weight 2.50000\n\talg straw2\n\thash 0\t# rjenkins1\n\titem h1 weight 2.00000\n\titem h2 weight 0.50000\n}\n\n# rules\n\n# end crush map\n"
 unfolding map_text tunable_section device_section kind_section bucket_section rule_section device_lines root_texts device_numbers kind_numbers root_numbers bucket_texts bucket_text of_row kids_lines device_line kind_line item_line bucket_head bucket_choice bucket_lines kind_text digits
 example_map = refl
@@ -66,6 +76,7 @@ example_map = refl
 abbrev ssd : List ℕ
 ssd = codes "ssd"
 
+-- two roots, and devices that aren't in order
 abbrev two_roots : List Row
 two_roots = rows_of (record {
   roots = bucket (record { id = 9; kind = 1; name = codes "h9"; alg = Straw; class_ids = record { id = 10; class = ssd } ∷ [] }) 1 1
@@ -76,10 +87,12 @@ two_roots = rows_of (record {
   unplaced_capacity = 1;
 })
 
+-- the devices, by ascending id
 two_roots_devices : device_section two_roots ≡ codes "\n# devices\ndevice 7 osd.7\ndevice 12 osd.12 class ssd\n"
 unfolding device_section device_lines device_numbers of_row device_line digits
 two_roots_devices = refl
 
+-- the roots, from -1 downward
 two_roots_buckets : bucket_section setting two_roots ≡ codes "\n# buckets\nroot spare {\n\tid -4\t\t# do not change unnecessarily\n\t# weight 0.00000\n\talg straw2\n\thash 0\t# rjenkins1\n}\nhost h9 {\n\tid -9\t\t# do not change unnecessarily\n\tid -10 class ssd\t\t# do not change unnecessarily\n\t# weight 0.00002\n\talg straw\n\thash 0\t# rjenkins1\n\titem osd.12 weight 0.00002\n}\n"
 unfolding bucket_section root_texts root_numbers bucket_texts bucket_text of_row kids_lines item_line class_id_line bucket_head bucket_choice bucket_lines kind_text digits
 two_roots_buckets = refl

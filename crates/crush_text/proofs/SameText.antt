@@ -16,21 +16,26 @@ use Rattle.crush_text.specs.MapText.{device_number, root_number, device_numbers,
 use Rattle.crush_text.proofs.Sorting.{ascending-reordered}
 
 module _ (s : SettingData) (t u : List Row) (l : Lawful t) (same : Same t u) where
+  -- of an item
   of_row-same : (i : ItemId) (f : Row → List ℕ) → of_row t i f ≡ of_row u i f
   unfolding of_row
   of_row-same i f = ap (λ o. option_map_or f o []) (row_of-same t u same.rows l.ids i)
 
+  -- of its line
   item-same : (i : ItemId) → of_row t i (λ (r : Row). item_line r.name (item_weight t i r.weight)) ≡ of_row u i (λ (r : Row). item_line r.name (item_weight u i r.weight))
   item-same i = of_row-same i (λ (r : Row). item_line r.name (item_weight t i r.weight)) ∙ (λ k. of_row u i (λ (r : Row). item_line r.name (item_weight-same t u same.rows l.ids i r.weight k)))
 
+  -- of a bucket's items
   kids_lines-same : (b : ℕ) → kids_lines t b ≡ kids_lines u b
   unfolding kids_lines
   kids_lines-same b = λ k. flat_map (λ i. item-same i k) (same.kids b k)
 
+  -- of a bucket
   bucket_text-same : (b : ℕ) → bucket_text s t b ≡ bucket_text s u b
   unfolding bucket_text
   bucket_text-same b = of_row-same (Bucket b) _ ∙ (λ k. of_row u (Bucket b) (λ (r : Row). bucket_lines (kind_text s r.kind) r (sum_below-same t u same.rows l.ids b k) (kids_lines-same b k)))
 
+  -- and of the buckets below it
   bucket_texts-same : (n : ℕ) (i : ItemId) → bucket_texts s t n i ≡ bucket_texts s u n i
   unfolding bucket_texts
   bucket_texts-same n (Device d) = refl

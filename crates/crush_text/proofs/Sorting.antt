@@ -26,6 +26,7 @@ abbrev pub Rising : List ℕ → Type 0
 Rising [] = Unit {0}
 Rising (x ∷ xs) = AtLeast x xs × Rising xs
 
+-- a number at the front is there once more
 times_here : (n : ℕ) (xs : List ℕ) → times n (n ∷ xs) ≡ 1 + times n xs
 times_here n xs = let one : hit (n == n) ≡ 1 = ap hit (eq-eqb n n refl) in omega (arith, one, sum_by-cons (λ x. hit (x == n)) n xs)
 
@@ -37,6 +38,7 @@ times_below n (x ∷ xs) h = ⊎_elim
     (λ p. let no : hit (x == n) ≡ 0 = ap hit p.0 in omega (arith, no, times_below n xs h.1, sum_by-cons (λ y. hit (y == n)) x xs))
     (eqb_tells x n)
 
+-- what is below a bound of the numbers is one too
 least_less : (m n : ℕ) (xs : List ℕ) → m ≤ n → AtLeast n xs → AtLeast m xs
 least_less m n [] le h = tt
 least_less m n (x ∷ xs) le h = (let a : n ≤ x = h.0 in omega arith, least_less m n xs le h.1)
@@ -71,6 +73,7 @@ put_in_least m n (x ∷ xs) le h = at (nat_le n x) (put_in_least m n xs le h.1) 
   at true rest = (le, h)
   at false rest = (h.0, rest)
 
+-- a list in order stays in order
 put_in_rises : (n : ℕ) (xs : List ℕ) → Rising xs → Rising (put_in n xs)
 put_in_rises n [] h = (tt, tt)
 put_in_rises n (x ∷ xs) h = ⊎_elim
@@ -78,6 +81,7 @@ put_in_rises n (x ∷ xs) h = ⊎_elim
     (λ p. rw p.0 (put_in_least x n xs (let lt : x < n = p.1 in omega arith) h.0, put_in_rises n xs h.1))
     (leb_tells n x)
 
+-- so numbers from the least to the greatest are in order
 ascending_rises : (xs : List ℕ) → Rising (ascending xs)
 ascending_rises [] = tt
 ascending_rises (x ∷ xs) = put_in_rises x (ascending xs) (ascending_rises xs)
@@ -90,6 +94,7 @@ times-put_in k n (x ∷ xs) = at (nat_le n x) (times-put_in k n xs) where
   at true rest = refl
   at false rest = omega (arith, rest, sum_by-cons (λ y. hit (y == k)) x (put_in n xs), sum_by-cons (λ y. hit (y == k)) n xs, sum_by-cons (λ y. hit (y == k)) n (x ∷ xs), sum_by-cons (λ y. hit (y == k)) x xs)
 
+-- nor is one lost of all
 times-ascending : (k : ℕ) (xs : List ℕ) → times k (ascending xs) ≡ times k xs
 times-ascending k [] = refl
 times-ascending k (x ∷ xs) = times-put_in k x (ascending xs) ∙ omega (arith, times-ascending k xs, sum_by-cons (λ y. hit (y == k)) x xs, sum_by-cons (λ y. hit (y == k)) x (ascending xs))
@@ -103,10 +108,12 @@ times-map : {X : Type 0} (number : X → ℕ) (k : ℕ) (xs : List X) → times 
 times-map number k [] = refl
 times-map number k (x ∷ xs) = omega (arith, times-map number k xs, sum_by-cons (λ y. hit (y == k)) (number x) (map number xs), sum_by-cons (λ y. hit (number y == k)) x xs)
 
+-- each element with the numbers that it has
 times-flat_map : {X : Type 0} (numbers : X → List ℕ) (k : ℕ) (xs : List X) → times k (flat_map numbers xs) ≡ sum_by (λ x. times k (numbers x)) xs
 times-flat_map numbers k [] = refl
 times-flat_map numbers k (x ∷ xs) = omega (arith, times-flat_map numbers k xs, sum_by-append (λ y. hit (y == k)) (numbers x) (flat_map numbers xs), sum_by-cons (λ y. times k (numbers y)) x xs)
 
+-- elements in another order have the same numbers in order
 pub ascending-reordered : {X : Type 0} (numbers : X → List ℕ) (xs ys : List X) → IsReordered xs ys → ascending (flat_map numbers xs) ≡ ascending (flat_map numbers ys)
 ascending-reordered numbers xs ys h = ascending_same (flat_map numbers xs) (flat_map numbers ys)
     (λ k. times-flat_map numbers k xs ∙ reordered-sum (λ x. times k (numbers x)) h ∙ sym (times-flat_map numbers k ys))
@@ -116,10 +123,12 @@ least_of_rest : {X : Type 0} (number : X → ℕ) (m : ℕ) (xs : List X) → ((
 least_of_rest number m [] h = tt
 least_of_rest number m (x ∷ xs) h = (h 0 x (omega arith), least_of_rest number m xs (λ j d lt. h (suc j) d (omega arith)))
 
+-- the numbers of sorted elements are in order
 sorted_rises : {X : Type 0} (number : X → ℕ) (xs : List X) → IsNonDecreasingBy number xs → Rising (map number xs)
 sorted_rises number [] h = tt
 sorted_rises number (x ∷ xs) h = (least_of_rest number (number x) xs (λ j d lt. h 0 (suc j) d (omega arith) (omega arith)), sorted_rises number xs (λ i j d le lt. h (suc i) (suc j) d (omega arith) (omega arith)))
 
+-- and so are those of all of them, from the least to the greatest
 pub sorted_is_ascending : {X : Type 0} (number : X → ℕ) (xs ys : List X) → IsPermutation xs ys → IsNonDecreasingBy number ys → map number ys ≡ ascending (map number xs)
 sorted_is_ascending number xs ys same up = rising_same (map number ys) (ascending (map number xs)) (sorted_rises number ys up) (ascending_rises (map number xs))
     (λ k. times-map number k ys ∙ sum_by-IsPermutation (λ x. hit (number x == k)) xs ys same ∙ sym (times-map number k xs) ∙ sym (times-ascending k (map number xs)))

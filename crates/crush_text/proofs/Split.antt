@@ -139,6 +139,7 @@ pub moves_blank : (v w : Bool) (text : List ℕ) (i : ℕ) (whole : Text) → i 
 moves_blank v w text i whole lt so e m b f =
     ap (λ (u : Bool). words_in u (i + 1) (drop (i + 1) text)) (f ∙ e) ∙ sym (blank i _ _ b (ne_eqb _ _ m)) ∙ at_front v false text i whole lt so e
 
+-- no byte is left
 pub is_end : (p : ℕ) (rest : List ℕ) → rest ≡ [] → words p rest ≡ stopped (ended p)
 is_end p rest e = rw e (at_end false p)
 

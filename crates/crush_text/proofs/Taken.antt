@@ -1,28 +1,26 @@
 -- A judge takes each word that spells what is due.
-use Rattle.std.proofs.Common.{◌≡◌, ℕ, ◌<◌, ◌≤◌, Bool, true, false, cond, eqb, List, [], ◌∷◌, Option, Some, None, Result, Ok, Err, refl, sym, ap, subst, ◌∙◌, arith}
+use Rattle.std.proofs.Common.{◌≡◌, ℕ, ◌<◌, Bool, true, false, cond, eqb, List, [], ◌∷◌, Some, Result, Ok, Err, refl, sym, ap, ◌∙◌, arith}
 use Rattle.std.proofs.lemmas.Bool.{le-ltb, eq-eqb}
 use Rattle.std.proofs.lemmas.Bool.Decides.{nat_tests}
 use Rattle.std.proofs.lemmas.Slice.Eq.{bytes_eq-Decides}
-use Rattle.std.specs.Prelude.{codes, bytes_eq, drop, nat_lt, nat_le, ◌==◌, ◌||◌, ◌&&◌, not, if◌then◌else◌}
-use Rattle.std.specs.Str.Parse.{digits_value}
+use Rattle.std.specs.Prelude.{codes, bytes_eq, nat_lt, ◌==◌, ◌&&◌, not}
 use Rattle.crush_units.specs.declared.id.ItemId.{ItemId}
 use Rattle.crush_units.specs.declared.id.ItemId.TheVariants.{Device, Bucket}
 use Rattle.crush_units.specs.declared.alg.Alg.{Alg}
 use Rattle.crush_units.specs.declared.alg.Alg.TheVariants.{Straw, Straw2, List as Linked}
 use Rattle.crush_units.specs.declared.weight.WeightFault.{WeightFault}
-use Rattle.crush_units.specs.Alg.{alg_of, alg_text}
+use Rattle.crush_units.specs.Alg.{alg_text}
 use Rattle.crush_units.specs.Weight.{weight_of}
 use Rattle.crush_table.specs.Table.{is_there, is_placed, sum_below}
 use Rattle.crush_table.specs.Lawful.{is_too_heavy}
 use Rattle.crush_table.specs.Setting.{is_reserved}
 use Rattle.crush_map.specs.Built.{Draft, with_item}
 use Rattle.crush_map.specs.Building.{has_name, has_bucket_id, item_named, has_kind_number, has_kind_name}
-use Rattle.crush_text.specs.declared.fault.TextFaultKind.{TextFaultKind}
-use Rattle.crush_text.specs.declared.fault.TextFaultKind.TheVariants.{Unexpected, BadNumber, DuplicateId, LeftOut}
+use Rattle.crush_text.specs.declared.fault.TextFaultKind.TheVariants.{DuplicateId}
 use Rattle.crush_text.specs.Words.{is_brace_word}
 use Rattle.crush_text.specs.Statements as said
 use Rattle.crush_text.specs.Statements.{IsSpelled, name, negative, weight, is_number, is_negative}
-use Rattle.crush_text.specs.Judges.{◌>>=◌, key, number, new_type, new_type_name, new_device, new_name, below_zero, new_bucket, alg_word, known_alg, algorithm, item_or_end, Listed, free_item, new_item, weight_word, weight_for, own_weight, fitting, new_weight}
+use Rattle.crush_text.specs.Judges.{◌>>=◌, key, number, new_type, new_type_name, new_device, new_name, below_zero, new_bucket, alg_word, algorithm, Listed, new_item, weight_word, new_weight}
 use Rattle.crush_text.specs.Meaning.{IsWeightOf}
 use Rattle.crush_text.proofs.Judged.{took}
 
@@ -47,6 +45,7 @@ number_yes most w n h = rw (no_brace (is_number most) w refl refl h.0, h.0) (ap 
 pub type_yes : (d : Draft) (w : List ℕ) (n : ℕ) → IsSpelled w (said.number 65535 n) → has_kind_number d.setting n ≡ false → new_type d w ≡ Ok n
 type_yes d w n h free = ap (λ r. r >>= λ m. cond (has_kind_number d.setting m) (Err DuplicateId) (Ok m)) (number_yes 65535 w n h) ∙ rw free refl
 
+-- a type's name
 pub type_name_yes : (d : Draft) (n : ℕ) (w x : List ℕ) → IsSpelled w (name x) → (0 < n → is_reserved x ≡ false) → has_kind_name d.setting x ≡ false → new_type_name d n w ≡ Ok x
 type_name_yes d n w x h reserved free =
     let fresh : has_kind_name d.setting w ≡ false = ap (has_kind_name d.setting) h.1 ∙ free in
@@ -78,11 +77,13 @@ bucket_yes d w n h free =
 pub alg_word_yes : (w : List ℕ) → IsSpelled w (said.key (codes "alg")) → alg_word w ≡ Ok tt
 alg_word_yes w h = ap alg_word h
 
+-- the name of an algorithm is that of one
 alg_known : (a : Alg) → algorithm (alg_text a) ≡ Ok a
 alg_known Straw = refl
 alg_known Straw2 = refl
 alg_known Linked = refl
 
+-- so it is taken
 pub algorithm_yes : (w : List ℕ) (a : Alg) → IsSpelled w (said.key (alg_text a)) → algorithm w ≡ Ok a
 algorithm_yes w a h = ap algorithm h ∙ alg_known a
 
@@ -101,6 +102,7 @@ abbrev weighs : Result ℕ WeightFault → Bool
 weighs (Ok u) = true
 weighs (Err e) = false
 
+-- a weight that may stand behind an item is taken
 pub weight_yes : (d : Draft) (i : ItemId) (w : List ℕ) (u : ℕ) → IsSpelled w (weight u) → IsWeightOf d i u → is_too_heavy (with_item d i u).table ≡ false → new_weight d i w ≡ Ok u
 weight_yes d (Device n) w u h light fits =
     let most : nat_lt 2147483647 u ≡ false = le-ltb 2147483647 u light in

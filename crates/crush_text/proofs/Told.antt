@@ -44,6 +44,7 @@ ids_lines t p (bucket h w m k rest) told =
     ap (λ (l : List ℕ). l ++ flat_map (λ i. of_row t i (λ (r : Row). item_line r.name (item_weight t i r.weight))) (ids_of rest)) (row_prints t (Bucket h.id) (bucket_row p h) (λ (r : Row). item_line r.name (sum_below t h.id)) told.0 ∙ ap (item_line h.name) told.2)
     ∙ ap (λ (l : List ℕ). item_line h.name w ++ l) (ids_lines t p rest told.4)
 
+-- so the items of a bucket print their lines
 kids_print : (t : List Row) (p : Option ℕ) (b : ℕ) (n : Items) → kids t b ≡ ids_of n → Told t p n → kids_lines t b ≡ item_lines n
 unfolding kids_lines
 kids_print t p b n are told = ap (flat_map (λ i. of_row t i (λ (r : Row). item_line r.name (item_weight t i r.weight)))) are ∙ ids_lines t p n told
@@ -71,9 +72,11 @@ same_line : (p : Option ℕ) (d : LeafData) → device_line (device_row p d) ≡
 unfolding device_line
 same_line p d = refl
 
+-- a device's row prints its line, whatever its parent
 abbrev pub IsPrinted : List Row → LeafData → Type 0
 IsPrinted t d = of_row t (Device d.id) device_line ≡ device_line (device_row None d)
 
+-- so it is of all devices
 pub leaves_print : (t : List Row) (p : Option ℕ) (n : Items) → Told t p n → All (IsPrinted t) (leaves n)
 leaves_print t p none told = All-nil (IsPrinted t)
 leaves_print t p (device d rest) told = All-cons (IsPrinted t) d (leaves rest) (row_prints t (Device d.id) (device_row p d) device_line told.0 ∙ same_line p d) (leaves_print t p rest told.1)
@@ -92,16 +95,19 @@ root_ids none = []
 root_ids (device d rest) = root_ids rest
 root_ids (bucket h w m k rest) = h.id ∷ root_ids rest
 
+-- no bucket below another is a root
 no_root_below : (b : ℕ) (n : Items) → flat_map root_number (rows (Some b) n) ≡ []
 no_root_below b none = refl
 no_root_below b (device d rest) = no_root_below b rest
 no_root_below b (bucket h w m k rest) = flat_map-append root_number (rows (Some h.id) k) (rows (Some b) rest) ∙ (λ i. no_root_below h.id k i ++ no_root_below b rest i)
 
+-- the roots are the buckets that stand side by side at the top
 pub root_numbers_are : (n : Items) → flat_map root_number (rows None n) ≡ root_ids n
 root_numbers_are none = refl
 root_numbers_are (device d rest) = root_numbers_are rest
 root_numbers_are (bucket h w m k rest) = ap (λ (l : List ℕ). h.id ∷ l) (flat_map-append root_number (rows (Some h.id) k) (rows None rest) ∙ (λ i. no_root_below h.id k i ++ root_numbers_are rest i))
 
+-- which are those of the second items where the first are devices alone
 pub root_ids-join : (a b : Items) → OnlyDevices a → root_ids (join a b) ≡ root_ids b
 root_ids-join none b only = refl
 root_ids-join (device d a) b only = root_ids-join a b only
@@ -113,11 +119,13 @@ size_le_rows p none = omega arith
 size_le_rows p (device d rest) = omega (arith, size_le_rows p rest)
 size_le_rows p (bucket h w m k rest) = omega (arith, size_le_rows (Some h.id) k, size_le_rows p rest, length-append (rows (Some h.id) k) (rows p rest))
 
+-- the second items are no more than both
 pub size_of-join : (a b : Items) → size_of b ≤ size_of (join a b)
 size_of-join none b = omega arith
 size_of-join (device d a) b = size_of-join a b
 size_of-join (bucket h w m k a) b = omega (arith, size_of-join a b)
 
+-- what a table says of both it says of the second
 pub told_join : (t : List Row) (p : Option ℕ) (a b : Items) → Told t p (join a b) → Told t p b
 told_join t p none b told = told
 told_join t p (device d a) b told = told_join t p a b told.1
@@ -127,29 +135,35 @@ told_join t p (bucket h w m k a) b told = told_join t p a b told.4
 not_this : (x b : ℕ) → hit (x == b) ≡ 0 → (x == b) ≡ false
 not_this x b zero_hits = ⊎_elim (λ q. absurd (let one : hit (x == b) ≡ 1 = ap hit q.0 in omega arith)) (λ q. q.0) (eqb_tells x b)
 
+-- a bucket that isn't among items has none there
 kids_in_none : (b : ℕ) (n : Items) → buckets b n ≡ 0 → kids_in b n ≡ None
 kids_in_none b none h = refl
 kids_in_none b (device d rest) h = kids_in_none b rest h
 kids_in_none b (bucket x w m k rest) h =
     ap (λ z. if z then Some k else option_or (kids_in b k) (kids_in b rest)) (not_this x.id b (omega arith)) ∙ (λ i. option_or (kids_in_none b k (omega arith) i) (kids_in_none b rest (omega arith) i))
 
+-- and one that has some is among them
 kids_in_some : (b : ℕ) (n k : Items) → kids_in b n ≡ Some k → 1 ≤ buckets b n
 kids_in_some b n k found = some (buckets b n) (λ e. let none_found : kids_in b n ≡ None = kids_in_none b n e in absurd cc) where
   some : (m : ℕ) → (m ≡ 0 → ⊥) → 1 ≤ m
   some zero not_zero = absurd (not_zero refl)
   some (suc m) not_zero = omega arith
 
+-- of both lists, so of the first
 All_left : {X : Type 0} (P : X → Type 0) (xs ys : List X) → All P (xs ++ ys) → All P xs
 All_left P [] ys h = All-nil P
 All_left P (x ∷ xs) ys h = All-cons P x xs (All-head P x (xs ++ ys) h) (All_left P xs ys (All-tail P x (xs ++ ys) h))
 
+-- and of the second
 All_right : {X : Type 0} (P : X → Type 0) (xs ys : List X) → All P (xs ++ ys) → All P ys
 All_right P [] ys h = h
 All_right P (x ∷ xs) ys h = All_right P xs ys (All-tail P x (xs ++ ys) h)
 
+-- a row is the one of its id
 abbrev IsFound : List Row → Row → Type 0
 IsFound t r = row_of t r.id ≡ Some r
 
+-- what is found of rows, of weights and of kids is all that is told
 told_from : (t : List Row) (p : Option ℕ) (n : Items) → All (IsFound t) (rows p n) → ((b : ℕ) → buckets b n ≤ 1) → ((b : ℕ) → 1 ≤ buckets b n → stored_weight b n ≡ sum_below t b)
     → ((b : ℕ) (k : Items) → kids_in b n ≡ Some k → kids t b ≡ ids_of k) → Told t p n
 told_from t p none found once stored are = tt
@@ -182,6 +196,7 @@ told_from t p (bucket h w m k rest) found once stored are =
       told_from t p rest (All_right (IsFound t) (rows (Some h.id) k) (rows p rest) others) (λ b. omega (arith, once b)) rest_stored rest_are,
     )
 
+-- so the table for which a forest stands tells its items
 pub stands_told : (f : ForestData) (t : List Row) → Stands f t → Told t None (all_items f)
 stands_told f t s =
     let ids = (stands_lawful f t s).ids in

@@ -1,13 +1,12 @@
 -- What is read of a whole text.
-use Rattle.std.proofs.Common.{◌≡◌, ℕ, Bool, false, List, [], Result, Ok, Err, refl, sym, ap, subst, ◌∙◌, arith, inl, inr}
-use Rattle.std.specs.Prelude.{◌⊎◌}
+use Rattle.std.proofs.Common.{◌≡◌, ℕ, false, List, [], Ok, Err, refl, sym, ap, ◌∙◌, arith, inl, inr}
 use Rattle.std.proofs.lemmas.List.Elements.{All-nil}
 use Rattle.crush_table.specs.Lawful.{IsRow, HasParent}
 use Rattle.crush_table.specs.Table.{Row}
 use Rattle.crush_table.specs.Setting.{SettingData, IsKind, HasKind}
 use Rattle.crush_map.specs.Built.{Draft, empty_draft}
 use Rattle.crush_text.specs.declared.fault.TextFault.{TextFault}
-use Rattle.crush_text.specs.Words.{Word, Stop, ended, Text, words, AreFormed}
+use Rattle.crush_text.specs.Words.{Text, words, AreFormed}
 use Rattle.crush_text.specs.Statements.{Statement}
 use Rattle.crush_text.specs.Flow.{between, run, outcome}
 use Rattle.crush_text.specs.Meaning.{after, IsMap}
@@ -15,7 +14,7 @@ use Rattle.crush_text.specs.Document.{IsDocument, IsMapText}
 use Rattle.crush_text.specs.Flaw.{start, IsFlaw, IsWant, IsFlawOrWant}
 use Rattle.crush_text.specs.Reads.{Fails}
 use Rattle.crush_text.proofs.Forms.{words_are_formed}
-use Rattle.crush_text.proofs.Reached.{SoFar, IsRead, built_is, sound, flawed}
+use Rattle.crush_text.proofs.Reached.{SoFar, built_is, sound, flawed}
 use Rattle.crush_text.proofs.Complete.{complete}
 
 -- nothing is there
@@ -63,19 +62,23 @@ flaw_of t f formed e = flawed t [] t.words start f refl formed nothing_yet refl 
 
 -- THE READING of a text whose words these are: what it has no flaw for is its map, and it is the only one
 module _ (bytes : List ℕ) (t : Text) (is : t ≡ words 0 bytes) where
+  -- a fault is a flaw
   pub is_flaw : (f : TextFault) → Fails f (outcome empty_draft (between false) t) → IsFlawOrWant bytes f
   is_flaw f (inl h) = inl h
   is_flaw f (inr h) = inr (flaw_of (words 0 bytes) f (words_are_formed 0 bytes) (ap (outcome empty_draft (between false)) (sym is) ∙ h))
 
+  -- and then none is spelled
   pub no_map : (f : TextFault) (s : SettingData) (u : List Row) (n : ℕ) → Fails f (outcome empty_draft (between false) t) → IsMapText bytes s u n → IsWant f
   no_map f s u n (inl h) m = h
   no_map f s u n (inr h) m = let k = sym (outcome_of (words 0 bytes) m.doc m.document) ∙ ap (outcome empty_draft (between false)) (sym is) ∙ h in absurd cc
 
+  -- a draft is a map that is spelled
   pub is_map : (d : Draft) → outcome empty_draft (between false) t ≡ Ok d → IsMapText bytes d.setting d.table 0
   is_map d h =
       let r = document_of (words 0 bytes) d (words_are_formed 0 bytes) (ap (outcome empty_draft (between false)) (sym is) ∙ h) in
       record { doc = r.0; document = r.1; setting = ap (λ (e : Draft). e.setting) r.2; table = ap (λ (e : Draft). e.table) r.2; none = refl }
 
+  -- and no other is
   pub only_map : (d : Draft) (s : SettingData) (u : List Row) (n : ℕ) → outcome empty_draft (between false) t ≡ Ok d → IsMapText bytes s u n → (d.setting ≡ s) × (d.table ≡ u) × (0 ≡ n)
   only_map d s u n h m =
       let k : d ≡ after empty_draft m.doc = built_is d (after empty_draft m.doc) (sym h ∙ ap (outcome empty_draft (between false)) is ∙ outcome_of (words 0 bytes) m.doc m.document) in

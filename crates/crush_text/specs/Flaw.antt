@@ -1,17 +1,18 @@
 -- What a flaw of a map's text is.
-use Rattle.std.specs.Prelude.{◌≡◌, ℕ, Bool, true, false, List, [], ◌∷◌, ◌++◌, flat_map, codes, Result, Ok, Err, ◌⊎◌}
+use Rattle.std.specs.Prelude.{◌≡◌, ℕ, false, List, [], ◌∷◌, ◌++◌, flat_map, codes, Ok, Err, ◌⊎◌}
 use Rattle.crush_units.specs.Alg.{alg_text}
-use Rattle.crush_map.specs.Built.{Draft, empty_draft}
+use Rattle.crush_map.specs.Built.{empty_draft}
 use Rattle.crush_text.specs.declared.fault.TextFaultKind.TheVariants.{OutOfMemory}
 use Rattle.crush_text.specs.declared.fault.TextFault.{TextFault}
 use Rattle.crush_text.specs.Words.{Word, Stop, Text, texts, words}
-use Rattle.crush_text.specs.Statements.{Item, Head, Statement, Piece, key, number, negative, name, weight, Spell, pieces, head_pieces, item_pieces}
+use Rattle.crush_text.specs.Statements.{Item, Head, Statement, Piece, key, number, negative, name, Spell, pieces, head_pieces, item_pieces}
 use Rattle.crush_text.specs.Flow.{Part, State, between, type_number, type_name, device_number, device_name, device_class, bucket_name, bucket_brace, id_key, bucket_id, alg_key, bucket_alg, hash_key, hash_number, items, item_name, weight_key, item_weight, step, stop_at, at}
 
 -- the first words of a bucket
 abbrev pub begun_pieces : List ℕ → List ℕ → List Piece → List Piece
 begun_pieces k x rest = name k ∷ name x ∷ key (codes "{") ∷ rest
 
+-- and up to its id
 abbrev pub id_pieces : List ℕ → List ℕ → ℕ → List Piece → List Piece
 id_pieces k x b rest = begun_pieces k x (key (codes "id") ∷ negative b ∷ rest)
 

@@ -1,5 +1,5 @@
 -- The grammar word by word: what is due after the words so far, and what comes of each further word.
-use Rattle.std.specs.Prelude.{◌≡◌, ℕ, Bool, true, false, ◌||◌, ◌==◌, List, [], ◌∷◌, ◌++◌, Result, Ok, Err, unwrap_or, bytes_eq, codes, if◌then◌else◌}
+use Rattle.std.specs.Prelude.{ℕ, Bool, true, false, ◌||◌, ◌==◌, List, [], ◌∷◌, ◌++◌, Result, Ok, Err, unwrap_or, bytes_eq, codes, if◌then◌else◌}
 use Rattle.crush_units.specs.declared.id.ItemId.{ItemId}
 use Rattle.crush_table.specs.Setting.{kind_number}
 use Rattle.crush_map.specs.Built.{Draft, with_kind, with_device, begun_bucket, with_id, with_alg, with_item, ended}

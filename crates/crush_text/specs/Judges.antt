@@ -1,5 +1,5 @@
 -- What a word is where one of a kind is due, or its fault. The tests stand in the order of the faults' numbers.
-use Rattle.std.specs.Prelude.{◌≡◌, ℕ, Bool, true, false, ◌&&◌, ◌||◌, not, ◌==◌, nat_lt, List, Option, Some, None, Result, Ok, Err, bytes_eq, codes, drop, if◌then◌else◌}
+use Rattle.std.specs.Prelude.{ℕ, Bool, true, false, ◌&&◌, ◌||◌, not, ◌==◌, nat_lt, List, Option, Some, None, Result, Ok, Err, bytes_eq, codes, drop, if◌then◌else◌}
 use Rattle.std.specs.Str.Parse.{digits_value}
 use Rattle.crush_units.specs.declared.id.ItemId.{ItemId}
 use Rattle.crush_units.specs.declared.id.ItemId.TheVariants.{Device, Bucket}
@@ -39,10 +39,11 @@ left_out text = Err LeftOut
 abbrev pub number : ℕ → List ℕ → Result ℕ TextFaultKind
 number most text = if is_brace_word text then Err Unexpected else (if is_number most text then Ok (digits_value 10 text) else Err BadNumber)
 
--- a type's number, and its name
+-- a type's number that is free
 abbrev pub new_type : Draft → List ℕ → Result ℕ TextFaultKind
 new_type d text = number 65535 text >>= λ n. if has_kind_number d.setting n then Err DuplicateId else Ok n
 
+-- a type's name that is free, and that the grammar doesn't have but for type 0
 abbrev pub new_type_name : Draft → ℕ → List ℕ → Result (List ℕ) TextFaultKind
 new_type_name d n text = if is_brace_word text || (is_reserved text && not (n == 0)) then Err Unexpected else (if has_kind_name d.setting text then Err DuplicateName else Ok text)
 
@@ -58,6 +59,7 @@ new_name d text = if is_brace_word text then Err Unexpected else (if has_name d 
 abbrev pub below_zero : List ℕ → Result ℕ TextFaultKind
 below_zero text = if is_brace_word text then Err Unexpected else (if is_negative text then Ok (digits_value 10 (drop 1 text)) else Err BadNumber)
 
+-- a bucket's id that is free
 abbrev pub new_bucket : Draft → List ℕ → Result ℕ TextFaultKind
 new_bucket d text = below_zero text >>= λ n. if has_bucket_id d n then Err DuplicateId else Ok n
 
@@ -65,11 +67,12 @@ new_bucket d text = below_zero text >>= λ n. if has_bucket_id d n then Err Dupl
 abbrev pub alg_word : List ℕ → Result (Unit {0}) TextFaultKind
 alg_word text = if bytes_eq text (codes "alg") then Ok tt else (if bytes_eq text (codes "id") then Err LeftOut else Err Unexpected)
 
--- an algorithm
+-- an algorithm, where it is one of the three
 abbrev pub known_alg : Option Alg → Result Alg TextFaultKind
 known_alg (Some a) = Ok a
 known_alg None = Err OtherAlgorithm
 
+-- an algorithm's word
 abbrev pub algorithm : List ℕ → Result Alg TextFaultKind
 algorithm text = if is_brace_word text then Err Unexpected else known_alg (alg_of text)
 
@@ -82,10 +85,12 @@ pub record Listed : Type 0 where
   pub name : List ℕ
   pub id : ItemId
 
+-- an item that there may be, where no bucket holds it
 abbrev pub free_item : Draft → List ℕ → Option ItemId → Result Listed TextFaultKind
 free_item d text None = Err UnknownItem
 free_item d text (Some i) = if is_placed d.table i then Err SecondParent else Ok (record { name = text; id = i })
 
+-- an item's name
 abbrev pub new_item : Draft → List ℕ → Result Listed TextFaultKind
 new_item d text = if is_brace_word text then Err Unexpected else free_item d text (item_named d text)
 
@@ -93,12 +98,13 @@ new_item d text = if is_brace_word text then Err Unexpected else free_item d tex
 abbrev pub weight_word : List ℕ → Result (Unit {0}) TextFaultKind
 weight_word text = if bytes_eq text (codes "weight") then Ok tt else Err LeftOut
 
--- an item's weight: of a bucket no other than its sum is read here
+-- what a weight is for an item: of a bucket no other than its sum is read here
 abbrev pub weight_for : Draft → ItemId → Result ℕ WeightFault → Result ℕ TextFaultKind
 weight_for d i (Err e) = Err BadWeight
 weight_for d (Device n) (Ok w) = if nat_lt 2147483647 w then Err BadWeight else Ok w
 weight_for d (Bucket b) (Ok w) = if w == sum_below d.table b then Ok w else Err LeftOut
 
+-- an item's weight
 abbrev pub own_weight : Draft → ItemId → List ℕ → Result ℕ TextFaultKind
 own_weight d i text = if is_brace_word text then Err Unexpected else weight_for d i (weight_of text)
 
@@ -106,5 +112,6 @@ own_weight d i text = if is_brace_word text then Err Unexpected else weight_for 
 abbrev pub fitting : Draft → ItemId → ℕ → Result ℕ TextFaultKind
 fitting d i w = if is_too_heavy (with_item d i w).table then Err SumTooLarge else Ok w
 
+-- so what a word is where a weight is due
 abbrev pub new_weight : Draft → ItemId → List ℕ → Result ℕ TextFaultKind
 new_weight d i text = own_weight d i text >>= fitting d i

@@ -6,6 +6,7 @@ pub mod ItemsText
 pub mod Judges
 pub mod Lexer
 pub mod Lines
+pub mod MapOrFlaw
 pub mod MapText
 pub mod Meaning
 pub mod Reads

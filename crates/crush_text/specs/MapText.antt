@@ -9,30 +9,34 @@ use Rattle.crush_table.specs.Setting.{KindData, SettingData, kind_name}
 use Rattle.crush_table.specs.Table.{Row, row_of, kids, sum_below, item_weight, bucket_number}
 use Rattle.crush_text.specs.Lines.{device_line, kind_line, item_line, bucket_lines}
 
--- numbers from the least to the greatest
+-- a number among numbers that stand from the least to the greatest
 abbrev pub put_in : ℕ → List ℕ → List ℕ
 put_in n [] = n ∷ []
 put_in n (x ∷ xs) = if nat_le n x then n ∷ (x ∷ xs) else x ∷ put_in n xs
 
+-- numbers from the least to the greatest
 abbrev pub ascending : List ℕ → List ℕ
 ascending [] = []
 ascending (n ∷ ns) = put_in n (ascending ns)
 
--- the numbers of the devices, and of the roots, which are the buckets that no bucket holds
+-- the number of a device
 abbrev pub device_number : ItemId → List ℕ
 device_number (Device d) = d ∷ []
 device_number (Bucket b) = []
 
+-- the number of a root, which is a bucket that no bucket holds
 abbrev pub root_number : Row → List ℕ
 root_number r = if is_some r.parent then [] else bucket_number r.id
 
--- devices and types by ascending number, and roots from -1 downward
+-- the devices by ascending number
 unfoldable pub device_numbers : List Row → List ℕ
 device_numbers t = ascending (flat_map (λ (r : Row). device_number r.id) t)
 
+-- the types by ascending number
 unfoldable pub kind_numbers : SettingData → List ℕ
 kind_numbers s = ascending (map (λ (k : KindData). k.number) s.kinds)
 
+-- the roots from -1 downward
 unfoldable pub root_numbers : List Row → List ℕ
 root_numbers t = ascending (flat_map root_number t)
 
@@ -58,26 +62,31 @@ bucket_texts s t n (Device d) = []
 bucket_texts s t zero (Bucket b) = []
 bucket_texts s t (suc n) (Bucket b) = flat_map (bucket_texts s t n) (kids t b) ++ bucket_text s t b
 
--- all devices, and all buckets: as many rows as there are, so deep the roots are at most
+-- the devices, each with its line
 unfoldable pub device_lines : List Row → List ℕ
 device_lines t = flat_map (λ d. of_row t (Device d) device_line) (device_numbers t)
 
+-- the buckets, root by root: a root is at most as deep as there are rows
 unfoldable pub root_texts : SettingData → List Row → List ℕ
 root_texts s t = flat_map (λ b. bucket_texts s t (length t) (Bucket b)) (root_numbers t)
 
--- the sections, each with its heading
+-- the sections, each with its heading: tunables, of which there are none
 unfoldable pub tunable_section : SettingData → List ℕ
 tunable_section s = codes "# begin crush map\n"
 
+-- devices
 unfoldable pub device_section : List Row → List ℕ
 device_section t = codes "\n# devices\n" ++ device_lines t
 
+-- types
 unfoldable pub kind_section : SettingData → List ℕ
 kind_section s = codes "\n# types\n" ++ flat_map (λ n. kind_line n (kind_text s n)) (kind_numbers s)
 
+-- buckets
 unfoldable pub bucket_section : SettingData → List Row → List ℕ
 bucket_section s t = codes "\n# buckets\n" ++ root_texts s t
 
+-- rules, of which there are none
 unfoldable pub rule_section : SettingData → List Row → List ℕ
 rule_section s t = codes "\n# rules\n"
 

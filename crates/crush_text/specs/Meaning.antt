@@ -1,5 +1,5 @@
 -- What statements make of a map, and which documents are maps.
-use Rattle.std.specs.Prelude.{◌≡◌, ℕ, ◌<◌, ◌≤◌, Bool, true, false, List, [], ◌∷◌, Option, Some, None, unwrap_or}
+use Rattle.std.specs.Prelude.{◌≡◌, ℕ, ◌<◌, ◌≤◌, Bool, true, false, List, [], ◌∷◌, Some, unwrap_or}
 use Rattle.crush_units.specs.declared.id.ItemId.{ItemId}
 use Rattle.crush_units.specs.declared.id.ItemId.TheVariants.{Device, Bucket}
 use Rattle.crush_table.specs.Table.{Row, is_placed, sum_below}
@@ -14,31 +14,35 @@ use Rattle.crush_text.specs.Flow.{number_of}
 abbrev pub item_of : Draft → List ℕ → ItemId
 item_of d x = unwrap_or (item_named d x) (Device 0)
 
--- a bucket without items, and then one item after the other
+-- a bucket without items
 abbrev pub after_head : Draft → Head → Draft
 after_head d h = with_alg (with_id (begun_bucket d (number_of d h.kind) h.name) h.id) h.alg
 
+-- an item more in it
 abbrev pub after_item : Draft → Item → Draft
 after_item d i = with_item d (item_of d i.name) i.weight
 
+-- one item after the other
 abbrev pub after_items : Draft → List Item → Draft
 after_items d [] = d
 after_items d (i ∷ is) = after_items (after_item d i) is
 
--- one statement after the other
+-- a statement
 abbrev pub after_statement : Draft → Statement → Draft
 after_statement d (type_line n x) = with_kind d n x
 after_statement d (device_line n x) = with_device d n x
 after_statement d (bucket_lines h is) = ended (after_items (after_head d h) is)
 
+-- one statement after the other
 abbrev pub after : Draft → List Statement → Draft
 after d [] = d
 after d (s ∷ doc) = after (after_statement d s) doc
 
--- the setting and the table of a document
+-- the setting of a document
 abbrev pub setting_of : List Statement → SettingData
 setting_of doc = (after empty_draft doc).setting
 
+-- the table of a document
 abbrev pub table_of : List Statement → List Row
 table_of doc = (after empty_draft doc).table
 
@@ -59,6 +63,7 @@ pub record AdmitsItem (d : Draft) (i : Item) : Type 0 where
   pub weight : IsWeightOf d (item_of d i.name) i.weight
   pub map : IsMap (after_item d i)
 
+-- each item of a list is admitted behind the ones before it
 abbrev pub AdmitsItems : Draft → List Item → Type 0
 AdmitsItems d [] = Unit {0}
 AdmitsItems d (i ∷ is) = AdmitsItem d i × AdmitsItems (after_item d i) is

@@ -1,9 +1,8 @@
 -- What the functions of the reader promise.
-use Rattle.std.specs.Prelude.{◌≡◌, ◌⊎◌, ℕ, ◌<◌, List, [], ◌∷◌, ◌++◌, Bool, true, false, Option, Some, None, Result, Ok, Err, length}
+use Rattle.std.specs.Prelude.{◌≡◌, ◌⊎◌, ℕ, ◌<◌, List, [], ◌∷◌, Bool, true, false, Option, Some, None, Result, Ok, Err, length}
 use Rattle.crush_units.specs.declared.id.ItemId.{ItemId}
 use Rattle.crush_map.specs.Built.{Draft, Pending, nothing, with_item}
 use Rattle.crush_map.specs.Building.{BuilderData, IsDraft, is_full_of_devices, is_full_of_buckets, is_full_of_kinds, is_bucket_kind}
-use Rattle.crush_text.specs.declared.fault.TextFaultKind.{TextFaultKind}
 use Rattle.crush_text.specs.declared.fault.TextFaultKind.TheVariants.{BadWord, Ended, OutOfMemory}
 use Rattle.crush_text.specs.declared.fault.TextFault.{TextFault}
 use Rattle.crush_text.specs.Words.{Word, Stop, ended, bad, Text}
@@ -22,6 +21,7 @@ next_of [] (ended place) = Err (record { kind = Ended; place = place })
 next_of [] (bad place) = Err (record { kind = BadWord; place = place })
 next_of (w ∷ ws) stop = and_rest (record { words = ws; stop = stop }) w
 
+-- of a text that is left
 unfoldable pub next_at : Text → Result (Word × Text) TextFault
 next_at t = next_of t.words t.stop
 
@@ -43,11 +43,12 @@ abbrev pub seen_as : {X Y : Type 0} → (X → Y) → Result X TextFault → Res
 seen_as view (Ok x) = Ok (view x)
 seen_as view (Err f) = Err f
 
--- some draft at which the builder is: between two statements, and in a part of one
+-- the builder is at some draft, between two statements
 pub record IsIdle (b : BuilderData) : Type 0 where
   pub part : b.pending ≡ nothing
   pub some : (d : Draft) × IsDraft b d
 
+-- or in a part of one
 pub record IsAmid (test : Pending → Bool) (b : BuilderData) : Type 0 where
   pub part : test b.pending ≡ true
   pub some : (d : Draft) × IsDraft b d

@@ -9,6 +9,7 @@ ghost use Rattle.crush_map.specs.Built.{Draft};
 ghost use Rattle.crush_map.specs.Building.{IsDraft};
 ghost use Rattle.crush_text.specs.Document.{IsMapText};
 ghost use Rattle.crush_text.specs.Flaw.{IsWant, IsFlawOrWant};
+ghost use Rattle.crush_text.specs.MapOrFlaw.{AFlawExcludesTheMap, AtMostOneFlaw, AtMostOneMap, AMapOrAFlaw};
 
 mod bucket;
 mod first;
@@ -50,3 +51,12 @@ pub fn read_map(alloc: Global, text: &[u8]) -> Result<(CrushMap<Global>, u32), T
     read_statements(&mut reader, &mut builder)?;
     Ok((builder.finish(), 0))
 }
+
+/// Bytes are the text of one map or have one flaw, and never both: where there is a flaw no map is
+/// spelled. There is nothing to run: the contract is the law.
+pub fn a_text_has_one_map_or_one_flaw()
+    ensures excludes { AFlawExcludesTheMap }
+    ensures flaw { AtMostOneFlaw }
+    ensures map { AtMostOneMap }
+    ensures either { AMapOrAFlaw }
+{}

@@ -1,5 +1,5 @@
 -- The words up to a bucket's algorithm, and its hash.
-use Rattle.std.proofs.Common.{◌∙◌, sym, ap}
+use Rattle.std.proofs.Common.{◌∙◌, sym}
 use Rattle.std.proofs.lemmas.Result.{err_from_is_err_and}
 use Rattle.std.specs.Prelude.{true, false}
 use Rattle.crush_map.specs.Built.{with_alg}

@@ -1,5 +1,5 @@
 -- The two words of a hash.
-use Rattle.std.proofs.Common.{◌∙◌, sym, ap}
+use Rattle.std.proofs.Common.{◌∙◌, sym}
 use Rattle.std.proofs.lemmas.Result.{err_from_is_err_and}
 use Rattle.crush_text.proofs.Exits.{fails_all, slot_refused}
 use Rattle.crush_text.proofs.Slots.{slot_ok, slot_stop, due_hash_key, due_hash_number}

@@ -1,5 +1,5 @@
 -- The words up to a bucket's id.
-use Rattle.std.proofs.Common.{◌∙◌, sym, ap}
+use Rattle.std.proofs.Common.{◌∙◌, sym}
 use Rattle.std.proofs.lemmas.Result.{err_from_is_err_and}
 use Rattle.crush_map.specs.Built.{with_id}
 use Rattle.crush_text.proofs.Exits.{fails_all, slot_refused}

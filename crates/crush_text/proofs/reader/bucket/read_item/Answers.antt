@@ -1,5 +1,5 @@
 -- The words of an item.
-use Rattle.std.proofs.Common.{◌∙◌, sym, ap}
+use Rattle.std.proofs.Common.{◌∙◌, sym}
 use Rattle.std.proofs.lemmas.Result.{err_from_is_err_and}
 use Rattle.crush_text.specs.Judges.{Listed, new_item}
 use Rattle.crush_text.proofs.Exits.{fails_all, slot_refused, placed_ok, reads_item}

@@ -1,7 +1,6 @@
 -- The statements one after the other.
-use Rattle.std.proofs.Common.{◌∙◌, subst, Option, ap}
+use Rattle.std.proofs.Common.{◌∙◌, subst, Option}
 use Rattle.std.specs.Prelude.{Ok}
-use Rattle.crush_text.specs.Words.{Text}
 use Rattle.crush_text.specs.Reads.{Opens}
 use Rattle.crush_text.specs.declared.reader.opening.Opening.{Opening}
 use Rattle.crush_text.proofs.Openings.{has_room}

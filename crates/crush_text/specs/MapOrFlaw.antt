@@ -1,0 +1,35 @@
+-- What bytes can be: the text of one map, or bytes with one flaw.
+use Rattle.std.specs.Prelude.{◌≡◌, ◌⊎◌, ℕ, List}
+use Rattle.crush_table.specs.Table.{Row}
+use Rattle.crush_table.specs.Setting.{SettingData}
+use Rattle.crush_text.specs.declared.fault.TextFault.{TextFault}
+use Rattle.crush_text.specs.Document.{IsMapText}
+use Rattle.crush_text.specs.Flaw.{IsMapFlaw}
+
+-- bytes with a flaw are the text of no map
+abbrev pub AFlawExcludesTheMap : Type 0
+AFlawExcludesTheMap = (bytes : List ℕ) (f : TextFault) (s : SettingData) (t : List Row) (n : ℕ) → IsMapFlaw bytes f → IsMapText bytes s t n → ⊥
+
+-- they have no second flaw
+abbrev pub AtMostOneFlaw : Type 0
+AtMostOneFlaw = (bytes : List ℕ) (f g : TextFault) → IsMapFlaw bytes f → IsMapFlaw bytes g → f ≡ g
+
+-- and the text of a map is that of no other one
+abbrev pub AtMostOneMap : Type 0
+AtMostOneMap = (bytes : List ℕ) (s r : SettingData) (t u : List Row) (n m : ℕ) → IsMapText bytes s t n → IsMapText bytes r u m → (s ≡ r) × (t ≡ u) × (n ≡ m)
+
+-- some map whose text the bytes are
+pub record HasMap (bytes : List ℕ) : Type 0 where
+  pub setting : SettingData
+  pub table : List Row
+  pub adjusted : ℕ
+  pub text : IsMapText bytes setting table adjusted
+
+-- some flaw of the bytes
+pub record HasFlaw (bytes : List ℕ) : Type 0 where
+  pub fault : TextFault
+  pub flaw : IsMapFlaw bytes fault
+
+-- all bytes are the one or have the other
+abbrev pub AMapOrAFlaw : Type 0
+AMapOrAFlaw = (bytes : List ℕ) → HasMap bytes ⊎ HasFlaw bytes
