@@ -14,3 +14,6 @@ pub use edit::Edit;
 pub use map::CrushMap;
 pub use refusal::{Done, EditFault, Refusal};
 pub use setting::{Kind, Setting, is_reserved};
+
+#[cfg(test)]
+mod tests;

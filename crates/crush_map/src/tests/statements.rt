@@ -1,0 +1,113 @@
+//! Statements of a map's text, each with the tests that its call asks for.
+
+ghost use Rattle.std.specs.Prelude.{◌≡◌};
+ghost use Rattle.crush_table.specs.Table.{is_placed};
+ghost use Rattle.crush_map.specs.Built.{Draft};
+ghost use Rattle.crush_map.specs.Building.{IsDraft};
+
+use crate::{BuildFault, CrushMap, MapBuilder, is_reserved};
+use crush_units::{Alg, BucketId, DeviceId, ItemId, TypeId, Weight, is_name};
+use std::alloc::Global;
+use std::process::Abort;
+use std::test::Fail;
+
+/// `type NUMBER NAME`
+pub fn add_type(
+    rt: &impl Abort,
+    builder: &mut MapBuilder<Global>,
+    number: u16,
+    name: &[u8],
+) -> Result<(), Fail> {
+    let number = TypeId::new(number);
+    assert!(rt; builder.is_idle());
+    assert!(rt; is_name(name));
+    assert!(rt; !is_reserved(name));
+    assert!(rt; !builder.has_kind_number(number));
+    assert!(rt; !builder.has_kind_name(name));
+    assert!(rt; !builder.is_full_of_kinds());
+    builder.kind(number, name)?;
+    Ok(())
+}
+
+/// `device NUMBER NAME`
+pub fn add_device(
+    rt: &impl Abort,
+    builder: &mut MapBuilder<Global>,
+    number: i32,
+    name: &[u8],
+) -> Result<(), Fail> {
+    let id = DeviceId::new(number).ok_or("a device")?;
+    assert!(rt; builder.is_idle());
+    assert!(rt; is_name(name));
+    assert!(rt; !builder.has_device(id));
+    assert!(rt; !builder.has_name(name));
+    assert!(rt; !builder.is_full_of_devices());
+    builder.device(id, name)?;
+    Ok(())
+}
+
+/// `TYPE NAME {`
+pub fn begin_bucket(
+    rt: &impl Abort,
+    builder: &mut MapBuilder<Global>,
+    kind: &[u8],
+    name: &[u8],
+) -> Result<(), Fail> {
+    let kind = builder.kind_number(kind).ok_or("a type")?;
+    assert!(rt; builder.is_idle());
+    assert!(rt; is_name(name));
+    assert!(rt; builder.is_bucket_kind(kind));
+    assert!(rt; !builder.has_name(name));
+    assert!(rt; !builder.is_full_of_buckets());
+    builder.begin(kind, name)?;
+    Ok(())
+}
+
+/// `id NUMBER`, and `alg straw2`
+pub fn open_bucket(
+    rt: &impl Abort,
+    builder: &mut MapBuilder<Global>,
+    number: i32,
+) -> Result<(), Fail> {
+    let id = BucketId::new(number).ok_or("a bucket")?;
+    assert!(rt; builder.is_begun());
+    assert!(rt; !builder.has_bucket_id(id));
+    builder.id(id);
+    assert!(rt; builder.is_numbered());
+    builder.alg(Alg::Straw2)?;
+    Ok(())
+}
+
+/// Whether a bucket holds the item.
+fn is_held(builder: &MapBuilder<Global>, id: &ItemId) -> bool
+    ensures { (d : Draft) → IsDraft builder.now d → result ≡ is_placed d.table id.now }
+{
+    builder.is_held(*id)
+}
+
+/// `item NAME weight WEIGHT`, with the weight in units
+pub fn add_item(
+    rt: &impl Abort,
+    builder: &mut MapBuilder<Global>,
+    name: &[u8],
+    units: u32,
+) -> Result<(), BuildFault> {
+    let weight = Weight::from_units(units);
+    assert!(rt; builder.is_filling());
+    assert!(rt; weight.is_device_weight());
+    let id = builder.item_named(name).expect(rt, "an item");
+    assert!(rt; !is_held(builder, &id));
+    builder.item(id, weight)
+}
+
+/// `}`
+pub fn end_bucket(rt: &impl Abort, builder: &mut MapBuilder<Global>) {
+    assert!(rt; builder.is_filling());
+    builder.end();
+}
+
+/// The end of the text.
+pub fn finish(rt: &impl Abort, builder: MapBuilder<Global>) -> CrushMap<Global> {
+    assert!(rt; builder.is_idle());
+    builder.finish()
+}
