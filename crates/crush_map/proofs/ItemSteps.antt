@@ -157,11 +157,11 @@ weighted_sums w (device d rest) s = s
 weighted_sums w (bucket h v m kids rest) s = s
 
 -- LAWFUL where it isn't too heavy
-placed_form : (i : ItemId) (k w : ℕ) (r : Row) → w ≤ 2147483647 → r.id ≡ i → IsRowOf i r → IsRowOf i (placed_row k w r)
+placed_form : (i : ItemId) (k w : ℕ) (r : Row) → (is_device_id i ≡ true → w ≤ 2147483647) → r.id ≡ i → IsRowOf i r → IsRowOf i (placed_row k w r)
 placed_form (Device d) k w r h e form = record {
   id = form.id;
   kind = form.kind;
-  light = subst (λ b. (if b then w else r.weight) ≤ 2147483647) (sym (ap is_device_id e)) h;
+  light = subst (λ b. (if b then w else r.weight) ≤ 2147483647) (sym (ap is_device_id e)) (h refl);
   unplaced = λ p. absurd (let no : ◌≡◌ {A = Option ℕ} (Some k) None = p in cc);
   alg = form.alg;
   class_ids = form.class_ids;
@@ -180,12 +180,12 @@ placed_form (Bucket b) k w r h e form = record {
   classes = form.classes;
 }
 
-pub item_lawful : (t : List Row) (i : ItemId) (k w : ℕ) → Lawful t → is_there t i ≡ true → is_there t (Bucket k) ≡ true → is_part t i (Bucket k) ≡ false → w ≤ 2147483647 → is_too_heavy (put_below k i w t) ≡ false → Lawful (put_below k i w t)
+pub item_lawful : (t : List Row) (i : ItemId) (k w : ℕ) → Lawful t → is_there t i ≡ true → is_there t (Bucket k) ≡ true → is_part t i (Bucket k) ≡ false → (is_device_id i ≡ true → w ≤ 2147483647) → is_too_heavy (put_below k i w t) ≡ false → Lawful (put_below k i w t)
 item_lawful t i k w l there stands far h light =
     let r = found (row_of t i) there in
     let put = put_last k i w t r.0 (l.ids i) r.1 in
     let row : IsRow r.0 = of_found IsRow t i r.0 l.rows r.1 in
-    subst Lawful (sym put) (Lawful-moved t i k (if is_device r.0 then w else r.0.weight) r.0 l r.1 stands far (record { name = row.name; form = placed_form r.0.id k w r.0 h refl row.form }) (ap is_too_heavy (sym put) ∙ light))
+    subst Lawful (sym put) (Lawful-moved t i k (if is_device r.0 then w else r.0.weight) r.0 l r.1 stands far (record { name = row.name; form = placed_form r.0.id k w r.0 (λ d. h (sym (ap is_device_id (row_id i t r.0 r.1)) ∙ d)) refl row.form }) (ap is_too_heavy (sym put) ∙ light))
 
 -- its ids are distinct also where it is
 placed_id : (i : ItemId) (p : Option ℕ) (w : ℕ) (r : Row) → (place i p w r).id ≡ r.id
@@ -269,7 +269,7 @@ item_step b h d i k w n at e there other one whole st =
 
 -- the rows with the item, as it is attached to a forest that stands for the table without it
 pub attached_lawful : (g : ForestData) (t : List Row) (i : ItemId) (k w : ℕ) (n : Items) → Lawful t → is_there t i ≡ true → IsRoot t k → same_id (Bucket k) i ≡ false → IsOne n → Same (rows None n) (part i t)
-    → w ≤ 2147483647 → Stands g (table_without i t) → is_too_heavy (put_below k i w t) ≡ false → Lawful (rows_of g ++ rows (Some k) (with_first_weight w n))
+    → (is_device_id i ≡ true → w ≤ 2147483647) → Stands g (table_without i t) → is_too_heavy (put_below k i w t) ≡ false → Lawful (rows_of g ++ rows (Some k) (with_first_weight w n))
 attached_lawful g t i k w n l there root other one whole h st light =
     let far = apart t l i k root other in
     let m : Items = with_first_weight w n in

@@ -8,7 +8,7 @@ use Rattle.crush_table.specs.Items.{Items}
 use Rattle.crush_table.specs.Law.{IsOne}
 use Rattle.crush_table.specs.Same.{Same}
 use Rattle.crush_table.specs.Lawful.{Lawful, is_too_heavy}
-use Rattle.crush_table.specs.Table.{Row, is_there, is_placed}
+use Rattle.crush_table.specs.Table.{Row, is_there, is_placed, is_device_id}
 use Rattle.crush_table.specs.Columns.{table_without, part}
 use Rattle.crush_table.specs.Rows.{ForestData, rows, rows_of, Stands, StoresSums, IsSound}
 use Rattle.crush_tree.specs.Ops.{CanCome}
@@ -89,7 +89,7 @@ module _ (b : BuilderData) (g : ForestData) (i : ItemId) (k : ℕ) (n : Items) (
   heavy_at w d at v e = ap is_too_heavy (put_table d i k w (sym at.pending ∙ took.fills)) ∙ put_heavy w d at v e
 
   -- what attaching it needs, and what it makes
-  pub can_attach : (h : ForestData) (w : ℕ) → ((t : List Row) → Stands g t → Stands h t) → w ≤ 2147483647 → true ≡ not (is_too_heavy (table_without i (rows_of b.forest) ++ rows (Some k) (with_first_weight w n))) → Lawful (rows_of h ++ rows (Some k) (with_first_weight w n))
+  pub can_attach : (h : ForestData) (w : ℕ) → ((t : List Row) → Stands g t → Stands h t) → (is_device_id i ≡ true → w ≤ 2147483647) → true ≡ not (is_too_heavy (table_without i (rows_of b.forest) ++ rows (Some k) (with_first_weight w n))) → Lawful (rows_of h ++ rows (Some k) (with_first_weight w n))
   can_attach h w kept small light =
       attached_lawful h (rows_of b.forest) i k w n took.own.stands.lawful (took.there (own_draft b) took.own) (root_at (own_draft b) took.own) took.other took.one (took.node (rows_of b.forest) took.own.stands) small
       (kept (table_without i (rows_of b.forest)) (took.stands (rows_of b.forest) took.own.stands)) (put_heavy w (own_draft b) took.own true light)

@@ -9,3 +9,4 @@ pub mod MapData
 pub mod Outcome
 pub mod Parts
 pub mod Refusal
+pub mod Stored

@@ -166,10 +166,10 @@ light_weight d (Bucket x) w h = tt
 
 -- the table with the item in its bucket is lawful
 lawful_below : (t : List Row) (i : ItemId) (b w : ℕ) → Lawful t → IsLight i w → is_there t i ≡ true → is_there t (Bucket b) ≡ true → is_part t i (Bucket b) ≡ false → is_too_heavy (put_below b i w t) ≡ false → Lawful (put_below b i w t)
-lawful_below t (Device n) b w l small there stands far h = item_lawful t (Device n) b w l there stands far small h
+lawful_below t (Device n) b w l small there stands far h = item_lawful t (Device n) b w l there stands far (λ _. small) h
 lawful_below t (Bucket x) b w l small there stands far h =
     let same : put_below b (Bucket x) 0 t ≡ put_below b (Bucket x) w t = bucket_table (filling b) x 0 w t in
-    subst Lawful same (item_lawful t (Bucket x) b 0 l there stands far (omega arith) (ap is_too_heavy same ∙ h))
+    subst Lawful same (item_lawful t (Bucket x) b 0 l there stands far (λ _. omega arith) (ap is_too_heavy same ∙ h))
 
 -- and the setting fits it
 fits_below : (s : SettingData) (t : List Row) (i : ItemId) (b w : ℕ) → Fits s t → Fits s (put_below b i w t)
