@@ -7,4 +7,5 @@ pub mod Search
 pub mod Seen
 pub mod SeenForest
 pub mod SeenView
+pub mod Subtree
 pub mod Views

@@ -16,6 +16,7 @@ mod place;
 mod rename;
 mod same;
 mod search;
+mod subtree;
 mod sums;
 mod view;
 mod weights;
