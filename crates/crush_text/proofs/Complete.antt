@@ -1,8 +1,8 @@
 -- What is spelled is read.
 use Rattle.std.proofs.Common.{◌≡◌, ℕ, ◌<◌, Bool, true, false, List, [], ◌∷◌, ◌++◌, Result, Ok, refl, sym, ap, subst, ◌∙◌, arith, append_assoc}
-use Rattle.std.proofs.lemmas.Bool.{ne_eqb}
+use Rattle.std.proofs.lemmas.Bool.{ne_eqb, or_parts}
 use Rattle.std.proofs.lemmas.Slice.Eq.{bytes_eq-Decides}
-use Rattle.std.specs.Prelude.{codes, bytes_eq, flat_map, ◌||◌, ◌==◌}
+use Rattle.std.specs.Prelude.{codes, bytes_eq, flat_map, ◌==◌}
 use Rattle.crush_units.specs.declared.alg.Alg.{Alg}
 use Rattle.crush_units.specs.Alg.{alg_text}
 use Rattle.crush_table.specs.Setting.{is_reserved}
@@ -42,11 +42,6 @@ record NoKey (k : List ℕ) : Type 0 where
   class : bytes_eq k (codes "class") ≡ false
   weights : bytes_eq k (codes "choose_args") ≡ false
 
--- where it isn't so that one of two tests holds, both fail
-or_false : (a b : Bool) → (a || b) ≡ false → (a ≡ false) × (b ≡ false)
-or_false true b e = absurd cc
-or_false false b e = (refl, e)
-
 -- that bytes differ doesn't depend on which stand first
 apart : (a b : List ℕ) → bytes_eq a b ≡ false → bytes_eq b a ≡ false
 apart a b e = by_test (bytes_eq b a) refl
@@ -58,12 +53,12 @@ apart a b e = by_test (bytes_eq b a) refl
 -- a name that isn't reserved is none of those words
 no_key : (k : List ℕ) → is_reserved k ≡ false → NoKey k
 no_key k h =
-    let a = or_false _ _ h in
-    let b = or_false _ _ a.1 in
-    let c = or_false _ _ b.1 in
-    let d = or_false _ _ c.1 in
-    let e = or_false _ _ d.1 in
-    let f = or_false _ _ e.1 in
+    let a = or_parts _ _ h in
+    let b = or_parts _ _ a.1 in
+    let c = or_parts _ _ b.1 in
+    let d = or_parts _ _ c.1 in
+    let e = or_parts _ _ d.1 in
+    let f = or_parts _ _ e.1 in
     record { tunable = apart _ k a.0; device = apart _ k b.0; kind = apart _ k c.0; rule = apart _ k d.0; class = apart _ k e.0; weights = apart _ k f.0 }
 
 -- what follows a device doesn't begin with `class`

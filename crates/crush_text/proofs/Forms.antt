@@ -1,6 +1,6 @@
 -- Each word of a text is a brace or a name.
 use Rattle.std.proofs.Common.{◌≡◌, ℕ, ◌+◌, Bool, true, false, eqb, ltb, List, [], ◌∷◌, length, refl, subst, arith}
-use Rattle.std.proofs.lemmas.Bool.{ltb-false, le-leb, lt-ltb}
+use Rattle.std.proofs.lemmas.Bool.{ltb-false, le-leb, lt-ltb, or_right}
 use Rattle.std.proofs.lemmas.Bool.Decides.{nat_tests}
 use Rattle.std.specs.Prelude.{◌&&◌, ◌||◌, nat_lt}
 use Rattle.std.specs.List.{list_all}
@@ -20,11 +20,6 @@ AreRuns (w ∷ ws) = (is_run w.text ≡ true) × AreRuns ws
 abbrev BeginsWithRun : List Word → Type 0
 BeginsWithRun [] = Unit {0}
 BeginsWithRun (w ∷ ws) = list_all is_name_byte w.text ≡ true
-
--- the second test alone
-or_right : (a b : Bool) → b ≡ true → (a || b) ≡ true
-or_right true b e = refl
-or_right false b e = e
 
 -- a name byte before name bytes is a run
 run_of : (b : ℕ) (text : List ℕ) → is_name_byte b ≡ true → list_all is_name_byte text ≡ true → is_run (b ∷ text) ≡ true

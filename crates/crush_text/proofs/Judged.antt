@@ -1,6 +1,6 @@
 -- What a judge's yes says of a word.
 use Rattle.std.proofs.Common.{◌≡◌, ℕ, ◌<◌, ◌≤◌, Bool, true, false, cond, List, Option, Some, None, Result, Ok, Err, refl, sym, ap, subst, ◌∙◌, arith}
-use Rattle.std.proofs.lemmas.Bool.{leb-true, ltb-true, ltb-false, eqb-true, ne_eqb}
+use Rattle.std.proofs.lemmas.Bool.{and_parts, leb-true, ltb-true, ltb-false, eqb-true, ne_eqb}
 use Rattle.std.proofs.lemmas.Slice.Eq.{bytes_eq-Decides}
 use Rattle.std.specs.Prelude.{codes, bytes_eq, drop, nat_lt, nat_le, ◌==◌, ◌||◌, ◌&&◌, not, slice_index}
 use Rattle.std.specs.Str.Parse.{digits_value}
@@ -58,14 +58,9 @@ number_says most w n e =
     let q = when_ok (is_number most w) BadNumber (Ok (digits_value 10 w)) n p.1 in
     (q.0, took_is _ _ q.1)
 
--- the second of two tests that hold
-and_right : (a b : Bool) → (a && b) ≡ true → b ≡ true
-and_right true b e = e
-and_right false b e = absurd cc
-
 -- and its bound
 pub number_most : (most : ℕ) (w : List ℕ) (n : ℕ) → IsSpelled w (said.number most n) → n ≤ most
-number_most most w n h = subst (λ (v : ℕ). v ≤ most) h.1 (leb-true _ _ (and_right (are_digits 10 w) _ h.0))
+number_most most w n h = subst (λ (v : ℕ). v ≤ most) h.1 (leb-true _ _ (and_parts (are_digits 10 w) _ h.0).1)
 
 -- a type's number
 pub type_says : (d : Draft) (w : List ℕ) (n : ℕ) → new_type d w ≡ Ok n → IsSpelled w (said.number 65535 n) × (has_kind_number d.setting n ≡ false)

@@ -1,8 +1,8 @@
 -- With a line that the judges take, table and setting are lawful.
 use Rattle.std.proofs.Common.{◌≡◌, ℕ, ◌<◌, ◌≤◌, Bool, true, false, List, [], ◌∷◌, ◌++◌, Option, Some, None, refl, sym, ap, subst, ◌∙◌, arith}
-use Rattle.std.proofs.lemmas.Bool.{lt-ltb, eq-eqb}
+use Rattle.std.proofs.lemmas.Bool.{lt-ltb, eq-eqb, or_parts, or_right}
 use Rattle.std.proofs.lemmas.List.Elements.{All-head, All-tail, All-filter, All-map, All-append}
-use Rattle.std.specs.Prelude.{◌||◌, ◌==◌, not, bytes_eq, map, filter, find, is_some, unwrap_or, option_and_then, All, if◌then◌else◌}
+use Rattle.std.specs.Prelude.{◌==◌, not, bytes_eq, map, filter, find, is_some, unwrap_or, option_and_then, All, if◌then◌else◌}
 use Rattle.std.specs.List.{list_any}
 use Rattle.std.specs.Option.{option_map}
 use Rattle.crush_units.specs.declared.id.ItemId.{ItemId}
@@ -26,11 +26,6 @@ use Rattle.crush_text.specs.Statements.{Head}
 use Rattle.crush_text.specs.Flow.{number_of}
 use Rattle.crush_text.specs.Meaning.{IsMap, IsWeightOf, after_head}
 
--- the first of two tests of which none holds
-or_first : (a b : Bool) → (a || b) ≡ false → a ≡ false
-or_first true b e = e
-or_first false b e = refl
-
 -- a type more
 pub map_with_kind : (d : Draft) (n : ℕ) (x : List ℕ) → IsMap d → n ≤ 65535 → IsName x → (0 < n → is_reserved x ≡ false) → has_kind_number d.setting n ≡ false → has_kind_name d.setting x ≡ false → is_full_of_kinds d ≡ false → IsMap (with_kind d n x)
 map_with_kind d n x m most form free number name few = record {
@@ -41,21 +36,16 @@ map_with_kind d n x m most form free number name few = record {
 -- a device more
 pub map_with_device : (d : Draft) (n : ℕ) (x : List ℕ) → IsMap d → n ≤ 2147483647 → IsName x → is_there d.table (Device n) ≡ false → has_name d x ≡ false → is_full_of_devices d ≡ false → IsMap (with_device d n x)
 map_with_device d n x m most form number name few = record {
-  lawful = device_lawful d.table n x m.lawful (omega arith) form number (or_first _ _ name) few;
+  lawful = device_lawful d.table n x m.lawful (omega arith) form number ((or_parts _ _ name).0) few;
   fits = Fits-push d.setting d.table (new_device n x) m.fits (λ some. absurd (omega (arith, some)));
 }
-
--- the number of a type's name is that of a type
-any_right : (a b : Bool) → b ≡ true → (a || b) ≡ true
-any_right true b h = refl
-any_right false b h = h
 
 -- a number is that of a type
 record IsTypeOf (kinds : List KindData) (n : ℕ) : Type 0 where
   there : list_any (λ (x : KindData). x.number == n) kinds ≡ true
   most : n ≤ 65535
 
--- the number that a type's name has is one
+-- the number of a type's name is one
 kind_there : (kinds : List KindData) (k : List ℕ) (n : ℕ) → All IsKind kinds → unwrap_or (option_map (λ (x : KindData). x.number) (find (λ (x : KindData). bytes_eq x.name k) kinds)) 0 ≡ n → 0 < n → IsTypeOf kinds n
 kind_there [] k n all e some = absurd (omega arith)
 kind_there (x ∷ kinds) k n all e some = by_test (bytes_eq x.name k) e (λ r. kind_there kinds k n (All-tail IsKind x kinds all) r some)
@@ -63,7 +53,7 @@ kind_there (x ∷ kinds) k n all e some = by_test (bytes_eq x.name k) e (λ r. k
     by_test : (b : Bool) → unwrap_or (option_map (λ (y : KindData). y.number) (if b then Some x else find (λ (y : KindData). bytes_eq y.name k) kinds)) 0 ≡ n
         → (unwrap_or (option_map (λ (y : KindData). y.number) (find (λ (y : KindData). bytes_eq y.name k) kinds)) 0 ≡ n → IsTypeOf kinds n) → IsTypeOf (x ∷ kinds) n
     by_test true e ih = record { there = rw (eq-eqb x.number n e) refl; most = subst (λ (m : ℕ). m ≤ 65535) e (All-head IsKind x kinds all).number }
-    by_test false e ih = let r = ih e in record { there = any_right (x.number == n) _ r.there; most = r.most }
+    by_test false e ih = let r = ih e in record { there = or_right (x.number == n) _ r.there; most = r.most }
 
 -- a row that is put last without parent is a root
 made_root : (t : List Row) (r : Row) (b : ℕ) → r.id ≡ Bucket b → r.parent ≡ None → member b (used_ids t) ≡ false → IsRoot (t ++ r ∷ []) b
@@ -82,8 +72,8 @@ pub map_with_head : (d : Draft) (h : Head) → IsMap d → 0 < number_of d h.kin
 map_with_head d h m known form name some most id few =
     let k = number_of d h.kind in
     let t = kind_there d.setting.kinds h.kind k m.fits.kinds refl known in
-    let can : CanBegin d.setting d.table k h.name = record { known = rw (lt-ltb 0 k known) t.there; most = t.most; form = form; free = or_first _ _ name; few = less 4096 (bucket_count d.table) few } in
-    let num : CanNumber d.table h.id [] = record { some = some; most = most; free = or_first _ _ id; classes = refl } in
+    let can : CanBegin d.setting d.table k h.name = record { known = rw (lt-ltb 0 k known) t.there; most = t.most; form = form; free = (or_parts _ _ name).0; few = less 4096 (bucket_count d.table) few } in
+    let num : CanNumber d.table h.id [] = record { some = some; most = most; free = (or_parts _ _ id).0; classes = refl } in
     record {
       map = record {
         lawful = bucket_lawful d.setting d.table k h.name h.id h.alg m.lawful can num;

@@ -3,7 +3,7 @@ use Rattle.std.proofs.Common.{◌≡◌, ℕ, ◌<◌, Bool, true, false, cond, 
 use Rattle.std.specs.Prelude.{codes, bytes_eq, ◌||◌, ◌==◌, if◌then◌else◌, unwrap_or, find}
 use Rattle.std.specs.List.{list_any}
 use Rattle.std.specs.Option.{option_map}
-use Rattle.std.proofs.lemmas.Bool.{lt-ltb, eq-eqb}
+use Rattle.std.proofs.lemmas.Bool.{lt-ltb, eq-eqb, or_right}
 use Rattle.crush_table.specs.Setting.{KindData}
 use Rattle.crush_map.specs.Built.{Draft}
 use Rattle.crush_map.specs.Building.{is_full_of_devices, is_full_of_buckets, is_full_of_kinds}
@@ -85,11 +85,6 @@ pub is_opened : (o : Opening) (d : Draft) (s : Bool) (w : List ℕ) (rest : Text
 is_opened openings.Type d s w rest all e k is = let a = open_at d s w type_number e in (is, a.0, a.1)
 is_opened openings.Device d s w rest all e k is = let a = open_at d s w device_number e in (is, a.0, a.1)
 is_opened (openings.Bucket kind) d s w rest all e k is = let a = open_at d s w (bucket_name w) e in (w, is, k, subst (λ (n : ℕ). 0 < n) k a.0, a.1)
-
--- the second of two tests is enough
-or_right : (a b : Bool) → b ≡ true → (a || b) ≡ true
-or_right true b h = refl
-or_right false b h = h
 
 -- the number of a type's name is that of a type
 kind_there : (kinds : List KindData) (k : List ℕ) (n : ℕ) → unwrap_or (option_map (λ (x : KindData). x.number) (find (λ (x : KindData). bytes_eq x.name k) kinds)) 0 ≡ n → 0 < n → list_any (λ (x : KindData). x.number == n) kinds ≡ true

@@ -2,6 +2,7 @@
 use Rattle.std.proofs.Common.{◌≡◌, ℕ, ◌<◌, Bool, true, false, cond, eqb, List, [], ◌∷◌, ◌++◌, Result, Ok, Err, refl, sym, ap, subst, ◌∙◌, arith, append_assoc}
 use Rattle.std.proofs.lemmas.List.{append-nil, map-append}
 use Rattle.std.proofs.lemmas.Slice.Eq.{bytes_eq-Decides}
+use Rattle.std.proofs.lemmas.Bool.{or_parts}
 use Rattle.std.proofs.lemmas.Bool.Decides.{nat_tests}
 use Rattle.std.specs.Prelude.{codes, bytes_eq, flat_map, ◌||◌, ◌==◌}
 use Rattle.crush_units.specs.Name.{is_name}
@@ -31,11 +32,6 @@ pub not_here : {A : Type 0} (b after : Bool) (r : Result A TextFaultKind) (x : A
 not_here true true r x e = absurd cc
 not_here true false r x e = absurd cc
 not_here false after r x e = (refl, e)
-
--- where it isn't so that one of two tests holds, both fail
-or_false : (a b : Bool) → (a || b) ≡ false → (a ≡ false) × (b ≡ false)
-or_false true b e = absurd cc
-or_false false b e = (refl, e)
 
 -- a number that isn't 0 is more
 pub not_zero : (n : ℕ) → eqb n 0 ≡ false → 0 < n
@@ -88,7 +84,7 @@ module _ (doc : List Statement) (d : Draft) (behind : Bool) (w : List ℕ) (base
       let c = unless_ok (bytes_eq w (codes "rule") || bytes_eq w (codes "choose_args")) LeftOut (known_type d w) p b.1 in
       let n = unless_ok (number_of d w == 0) UnknownType (room_for d w) p c.1 in
       let f = unless_ok (is_full_of_buckets d) TooMany (Ok (bucket_name w)) p n.1 in
-      let class = or_false (is_brace_word w) (bytes_eq w (codes "class")) a.0 in
+      let class = or_parts (is_brace_word w) (bytes_eq w (codes "class")) a.0 in
       subst (λ (q : Part). Moves doc (between behind) w (at d q)) (took_is (bucket_name w) p f.1) (record { further = doc; piece = name w; spelled = (class.0, refl); grows = longer (flat_map pieces doc) [] _; is_at = (behind, record { base = base; known = not_zero _ n.0; few = f.0 }) })
 
   -- so each first word that is no fault opens one of the three

@@ -10,7 +10,7 @@ mod write;
 
 pub use fault::{TextFault, TextFaultKind};
 pub use printer::{same_tables_print_alike, write_map};
-pub use reader::{a_text_has_one_map_or_one_flaw, read_map};
+pub use reader::{a_text_has_one_map_or_one_flaw, read_map, read_map_in};
 pub use words::{Reader, Token};
 pub use write::{WriteFault, put, put_all};
 

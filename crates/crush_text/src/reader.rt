@@ -22,7 +22,7 @@ use crate::fault::{TextFault, TextFaultKind};
 use crate::reader::open::read_statements;
 use crate::words::Reader;
 use crush_map::{CrushMap, MapBuilder};
-use std::alloc::Global;
+use std::alloc::{Allocator, Global};
 
 /// Reads the text of a map, as `crushtool` prints it.
 ///
@@ -41,8 +41,28 @@ pub fn read_map(alloc: Global, text: &[u8]) -> Result<(CrushMap<Global>, u32), T
     // Where none is read the text has a flaw, which is told.
     ensures flaw { IfErr result (IsFlawOrWant text.now) }
 {
+    read_map_in(alloc, alloc, text)
+}
+
+/// Reads the text of a map, as [`read_map`] does. Its types are kept in the machine's memory, all
+/// else in that of the allocator.
+pub fn read_map_in<A: Allocator + Clone>(
+    machine: Global,
+    alloc: A,
+    text: &[u8],
+) -> Result<(CrushMap<A>, u32), TextFault>
+    // What is read is a map that the text spells.
+    ensures map { IfOk result (λ m. (t : List Row) × IsMapText text.now m.0.setting t m.1 × Stands m.0.forest t) }
+
+    // Each map that the text spells is the one that is read.
+    ensures only { (s : SettingData) (t : List Row) (n : ℕ) → IsMapText text.now s t n
+        → MatchResult result (λ m. MapStands m.0 s t × (m.1 ≡ n)) IsWant }
+
+    // Where none is read the text has a flaw, which is told.
+    ensures flaw { IfErr result (IsFlawOrWant text.now) }
+{
     let mut reader = Reader::new(text);
-    let Ok(mut builder) = MapBuilder::new(alloc, alloc) else {
+    let Ok(mut builder) = MapBuilder::new(machine, alloc) else {
         return Err(TextFault {
             kind: TextFaultKind::OutOfMemory,
             place: 0,

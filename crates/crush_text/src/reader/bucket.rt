@@ -17,12 +17,12 @@ use crate::reader::word::Found;
 use crate::words::Reader;
 use crush_map::{BuildFault, MapBuilder};
 use crush_units::{ItemId, TypeId, Weight};
-use std::alloc::Global;
+use std::alloc::Allocator;
 
 /// A bucket, behind the name of its type.
-pub(crate) fn read_bucket(
+pub(crate) fn read_bucket<A: Allocator + Clone>(
     reader: &mut Reader<'_>,
-    builder: &mut MapBuilder<Global>,
+    builder: &mut MapBuilder<A>,
     kind: TypeId,
 ) -> Result<(), TextFault>
     requires idle { IsIdle builder.old }
@@ -40,9 +40,9 @@ pub(crate) fn read_bucket(
 }
 
 /// The name of a bucket.
-fn read_name(
+fn read_name<A: Allocator + Clone>(
     reader: &mut Reader<'_>,
-    builder: &mut MapBuilder<Global>,
+    builder: &mut MapBuilder<A>,
     kind: TypeId,
 ) -> Result<(), TextFault>
     requires idle { IsIdle builder.old }
@@ -62,7 +62,10 @@ fn read_name(
 }
 
 /// The opening brace of a bucket and its id.
-fn read_id(reader: &mut Reader<'_>, builder: &mut MapBuilder<Global>) -> Result<(), TextFault>
+fn read_id<A: Allocator>(
+    reader: &mut Reader<'_>,
+    builder: &mut MapBuilder<A>,
+) -> Result<(), TextFault>
     requires begun { IsAmid is_begun builder.old }
     ensures numbered { OnOk result (IsAmid is_numbered builder.new) }
     ensures reads { (d : Draft) (k x : List ℕ) → IsDraft builder.old d
@@ -80,7 +83,10 @@ fn read_id(reader: &mut Reader<'_>, builder: &mut MapBuilder<Global>) -> Result<
 }
 
 /// The algorithm of a bucket, and its hash where that is given. A class id isn't read.
-fn read_alg(reader: &mut Reader<'_>, builder: &mut MapBuilder<Global>) -> Result<(), TextFault>
+fn read_alg<A: Allocator + Clone>(
+    reader: &mut Reader<'_>,
+    builder: &mut MapBuilder<A>,
+) -> Result<(), TextFault>
     requires numbered { IsAmid is_numbered builder.old }
     ensures filling { OnOk result (IsAmid is_filling builder.new) }
     ensures reads { (d : Draft) (k x : List ℕ) (b : ℕ) → IsDraft builder.old d
@@ -114,7 +120,10 @@ fn read_hash(reader: &mut Reader<'_>) -> Result<(), TextFault>
 }
 
 /// The items of a bucket and its closing brace.
-fn read_items(reader: &mut Reader<'_>, builder: &mut MapBuilder<Global>) -> Result<(), TextFault>
+fn read_items<A: Allocator>(
+    reader: &mut Reader<'_>,
+    builder: &mut MapBuilder<A>,
+) -> Result<(), TextFault>
     requires filling { IsAmid is_filling builder.old }
     ensures idle { OnOk result (IsIdle builder.new) }
     ensures reads { (d : Draft) (h : Head) → IsDraft builder.old d
@@ -135,7 +144,10 @@ fn read_items(reader: &mut Reader<'_>, builder: &mut MapBuilder<Global>) -> Resu
 }
 
 /// An item of a bucket, behind the word `item`.
-fn read_item(reader: &mut Reader<'_>, builder: &mut MapBuilder<Global>) -> Result<(), TextFault>
+fn read_item<A: Allocator>(
+    reader: &mut Reader<'_>,
+    builder: &mut MapBuilder<A>,
+) -> Result<(), TextFault>
     requires filling { IsAmid is_filling builder.old }
     ensures filling { OnOk result (IsAmid is_filling builder.new) }
     ensures reads { (d : Draft) (h : Head) (is : List Item) → IsDraft builder.old d
@@ -151,10 +163,10 @@ fn read_item(reader: &mut Reader<'_>, builder: &mut MapBuilder<Global>) -> Resul
 }
 
 /// Puts an item with the weight that the word says into the bucket.
-fn add_item(
+fn add_item<A: Allocator>(
     word: Found<'_>,
     item: ItemId,
-    builder: &mut MapBuilder<Global>,
+    builder: &mut MapBuilder<A>,
 ) -> Result<(), TextFault>
     requires filling { IsAmid is_filling builder.old }
     requires closed { is_open builder.old.pending item ≡ false }
@@ -173,8 +185,8 @@ fn add_item(
 }
 
 /// Puts an item into the bucket. A bucket's weight is its sum, whatever is given.
-fn put_item(
-    builder: &mut MapBuilder<Global>,
+fn put_item<A: Allocator>(
+    builder: &mut MapBuilder<A>,
     item: ItemId,
     weight: Weight,
 ) -> Result<(), BuildFault>

@@ -10,12 +10,12 @@ use crate::fault::{TextFault, TextFaultKind};
 use crate::reader::judge::{new_device, new_name, new_type, new_type_name, next_word};
 use crate::words::Reader;
 use crush_map::MapBuilder;
-use std::alloc::Global;
+use std::alloc::Allocator;
 
 /// A type, behind the word `type`.
-pub(crate) fn read_type(
+pub(crate) fn read_type<A: Allocator>(
     reader: &mut Reader<'_>,
-    builder: &mut MapBuilder<Global>,
+    builder: &mut MapBuilder<A>,
 ) -> Result<(), TextFault>
     requires idle { IsIdle builder.old }
     requires room { (d : Draft) → IsDraft builder.old d → is_full_of_kinds d ≡ false }
@@ -34,9 +34,9 @@ pub(crate) fn read_type(
 }
 
 /// A device, behind the word `device`. A class isn't read.
-pub(crate) fn read_device(
+pub(crate) fn read_device<A: Allocator + Clone>(
     reader: &mut Reader<'_>,
-    builder: &mut MapBuilder<Global>,
+    builder: &mut MapBuilder<A>,
 ) -> Result<(), TextFault>
     requires idle { IsIdle builder.old }
     requires room { (d : Draft) → IsDraft builder.old d → is_full_of_devices d ≡ false }

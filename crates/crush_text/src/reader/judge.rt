@@ -16,7 +16,7 @@ use crate::reader::word::Found;
 use crate::words::{Reader, Token};
 use crush_map::MapBuilder;
 use crush_units::{BucketId, DeviceId, ItemId, TypeId, Weight};
-use std::alloc::Global;
+use std::alloc::Allocator;
 
 /// The next word of a text, or the fault where there is none.
 #[tactic(auto, unfolding(crate::specs::Reads::next_at))]
@@ -39,7 +39,10 @@ pub(crate) fn next_word<'a>(reader: &mut Reader<'a>) -> Result<Found<'a>, TextFa
 }
 
 /// The number of a type that isn't there.
-pub(crate) fn new_type(word: Found<'_>, builder: &MapBuilder<Global>) -> Result<TypeId, TextFault>
+pub(crate) fn new_type<A: Allocator>(
+    word: Found<'_>,
+    builder: &MapBuilder<A>,
+) -> Result<TypeId, TextFault>
     ensures { (d : Draft) → IsDraft builder.now d
         → result ≡ placed word.entry.place (new_type d word.entry.text.now) }
 {
@@ -64,9 +67,9 @@ fn is_reserved(word: &[u8]) -> bool
 }
 
 /// The name of a new type.
-pub(crate) fn new_type_name<'a>(
+pub(crate) fn new_type_name<'a, A: Allocator>(
     word: Found<'a>,
-    builder: &MapBuilder<Global>,
+    builder: &MapBuilder<A>,
     number: TypeId,
 ) -> Result<&'a [u8], TextFault>
     ensures { (d : Draft) → IsDraft builder.now d
@@ -82,9 +85,9 @@ pub(crate) fn new_type_name<'a>(
 }
 
 /// The id of a device that isn't there.
-pub(crate) fn new_device(
+pub(crate) fn new_device<A: Allocator>(
     word: Found<'_>,
-    builder: &MapBuilder<Global>,
+    builder: &MapBuilder<A>,
 ) -> Result<DeviceId, TextFault>
     ensures { (d : Draft) → IsDraft builder.now d
         → result ≡ placed word.entry.place (new_device d word.entry.text.now) }
@@ -100,9 +103,9 @@ pub(crate) fn new_device(
 }
 
 /// A name that no device and no bucket has.
-pub(crate) fn new_name<'a>(
+pub(crate) fn new_name<'a, A: Allocator>(
     word: Found<'a>,
-    builder: &MapBuilder<Global>,
+    builder: &MapBuilder<A>,
 ) -> Result<&'a [u8], TextFault>
     ensures { (d : Draft) → IsDraft builder.now d
         → seen_as (λ x. x.now) result ≡ placed word.entry.place (new_name d word.entry.text.now) }
@@ -117,9 +120,9 @@ pub(crate) fn new_name<'a>(
 }
 
 /// An id that no bucket has.
-pub(crate) fn new_bucket(
+pub(crate) fn new_bucket<A: Allocator>(
     word: Found<'_>,
-    builder: &MapBuilder<Global>,
+    builder: &MapBuilder<A>,
 ) -> Result<BucketId, TextFault>
     ensures { (d : Draft) → IsDraft builder.now d
         → result ≡ placed word.entry.place (new_bucket d word.entry.text.now) }
@@ -132,7 +135,10 @@ pub(crate) fn new_bucket(
 }
 
 /// A device or a complete bucket that no bucket holds.
-pub(crate) fn new_item(word: Found<'_>, builder: &MapBuilder<Global>) -> Result<ItemId, TextFault>
+pub(crate) fn new_item<A: Allocator>(
+    word: Found<'_>,
+    builder: &MapBuilder<A>,
+) -> Result<ItemId, TextFault>
     ensures { (d : Draft) → IsDraft builder.now d
         → seen_as (λ i. record { name = word.entry.text.now; id = i }) result
         ≡ placed word.entry.place (new_item d word.entry.text.now) }
@@ -148,10 +154,10 @@ pub(crate) fn new_item(word: Found<'_>, builder: &MapBuilder<Global>) -> Result<
 }
 
 /// The weight of an item: a device's is at most 2147483647 units, a bucket's is its sum.
-pub(crate) fn own_weight(
+pub(crate) fn own_weight<A: Allocator>(
     word: Found<'_>,
     item: &ItemId,
-    builder: &MapBuilder<Global>,
+    builder: &MapBuilder<A>,
 ) -> Result<Weight, TextFault>
     requires { (d : Draft) → IsDraft builder.now d → is_there d.table item.now ≡ true }
     ensures { (d : Draft) → IsDraft builder.now d

@@ -14,12 +14,12 @@ use crate::reader::opening::Opening;
 use crate::reader::word::Found;
 use crate::words::{Reader, Token};
 use crush_map::MapBuilder;
-use std::alloc::Global;
+use std::alloc::Allocator;
 
 /// All statements up to the end of the text.
-pub(crate) fn read_statements(
+pub(crate) fn read_statements<A: Allocator + Clone>(
     reader: &mut Reader<'_>,
-    builder: &mut MapBuilder<Global>,
+    builder: &mut MapBuilder<A>,
 ) -> Result<(), TextFault>
     requires { IsIdle builder.old }
     ensures idle { OnOk result (IsIdle builder.new) }
@@ -38,10 +38,10 @@ pub(crate) fn read_statements(
 }
 
 /// The rest of a statement, and whether it was a bucket.
-fn read_statement(
+fn read_statement<A: Allocator + Clone>(
     opening: Opening,
     reader: &mut Reader<'_>,
-    builder: &mut MapBuilder<Global>,
+    builder: &mut MapBuilder<A>,
 ) -> Result<bool, TextFault>
     requires idle { IsIdle builder.old }
     requires room { (d : Draft) → IsDraft builder.old d → HasRoom opening d }
@@ -67,9 +67,9 @@ fn read_statement(
 }
 
 /// The first word of a statement, or `None` where the text ends.
-fn read_opening(
+fn read_opening<A: Allocator>(
     reader: &mut Reader<'_>,
-    builder: &MapBuilder<Global>,
+    builder: &MapBuilder<A>,
     behind: bool,
 ) -> Result<Option<Opening>, TextFault>
     ensures opens { (d : Draft) → IsDraft builder.now d → Opens result d behind reader.old reader.new }
@@ -90,9 +90,9 @@ fn read_opening(
 
 /// What a statement's first word opens. Types and devices come before the buckets.
 #[tactic(auto, unfolding(crate::specs::Flow::opening))]
-fn opening_of(
+fn opening_of<A: Allocator>(
     word: Found<'_>,
-    builder: &MapBuilder<Global>,
+    builder: &MapBuilder<A>,
     behind: bool,
 ) -> Result<Opening, TextFault>
     ensures part { (d : Draft) → IsDraft builder.now d
@@ -142,7 +142,7 @@ fn first_line(
 }
 
 /// A bucket, where its type is there and isn't type 0, and there is room for one more.
-fn bucket_line(word: Found<'_>, builder: &MapBuilder<Global>) -> Result<Opening, TextFault>
+fn bucket_line<A: Allocator>(word: Found<'_>, builder: &MapBuilder<A>) -> Result<Opening, TextFault>
     ensures part { (d : Draft) → IsDraft builder.now d
         → seen_as (opened_part word.entry.text.now) result ≡ placed word.entry.place (opening_bucket d word.entry.text.now) }
     ensures kind { (d : Draft) → IsDraft builder.now d → IfOk result (IsKindOf d word.entry.text.now) }

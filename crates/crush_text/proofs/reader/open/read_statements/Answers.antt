@@ -7,11 +7,11 @@ use Rattle.crush_text.proofs.Openings.{has_room}
 use Rattle.crush_text.proofs.reader.open.read_statements.Goals as goal
 
 pub read_statement-requires-clause-room : goal.read_statement-requires-clause-room
-read_statement-requires-clause-room c = λ d h.
+read_statement-requires-clause-room g c = λ d h.
     has_room c.in-Some.opening d c.statements.behind c.read_opening.new.reader _ (subst (λ (o : Option Opening). Opens (Ok o) d c.statements.behind c.statements.reader c.read_opening.new.reader) c.in-Some.is (c.in_ok-first.ensures.opens d h))
 
 pub statements-preserved : goal.statements-preserved
-statements-preserved c = record {
+statements-preserved g c = record {
   idle = c.in_ok-buckets.ensures.idle;
   reads = λ d h.
       let s = c.statements.invariant.reads d h in

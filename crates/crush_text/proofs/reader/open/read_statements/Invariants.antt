@@ -7,10 +7,10 @@ use Rattle.crush_text.specs.Reads.{IsIdle}
 use Rattle.crush_text.proofs.reader.open.read_statements.Given as goal
 
 abbrev pub invariant-statements : goal.invariant-statements
-invariant-statements l = record {
+invariant-statements g l = record {
   idle : IsIdle l.builder;
   reads : (d : Draft) → IsDraft l.fn.builder d → (e : Draft) × IsDraft l.builder e × (outcome d (between false) l.fn.reader ≡ outcome e (between l.behind) l.reader);
 }
 
 abbrev pub decreases-statements : goal.decreases-statements
-decreases-statements l = length l.reader.words
+decreases-statements g l = length l.reader.words

@@ -6,26 +6,26 @@ use Rattle.crush_table.specs.Setting.{SettingData}
 use Rattle.crush_map.specs.Built.{empty_draft}
 use Rattle.crush_text.specs.Document.{IsMapText}
 use Rattle.crush_text.proofs.Whole.{is_flaw, no_map, is_map, only_map}
-use Rattle.crush_text.proofs.reader.read_map.Goals as goal
+use Rattle.crush_text.proofs.reader.read_map_in.Goals as goal
 
 pub returns-in_err-read_statements-clause-only : goal.returns-in_err-read_statements-clause-only
-returns-in_err-read_statements-clause-only c = λ s t n k.
+returns-in_err-read_statements-clause-only g c = λ s t n k.
     let p = err_from_is_err_and c.from_residual.result c.from_residual.ensures.1 in
     rw (p.1, p.2) (no_map c.args.text.now c.new-reader.result c.new-reader.ensures _ s t n (c.in_err-read_statements.ensures.reads empty_draft c.in-Ok.ensures) k)
 
 pub returns-in_err-read_statements-clause-flaw : goal.returns-in_err-read_statements-clause-flaw
-returns-in_err-read_statements-clause-flaw c =
+returns-in_err-read_statements-clause-flaw g c =
     let p = err_from_is_err_and c.from_residual.result c.from_residual.ensures.1 in
     rw (p.1, p.2) (is_flaw c.args.text.now c.new-reader.result c.new-reader.ensures _ (c.in_err-read_statements.ensures.reads empty_draft c.in-Ok.ensures))
 
 pub returns-clause-map : goal.returns-clause-map
-returns-clause-map c =
+returns-clause-map g c =
     let a = c.in_ok-read_statements.ensures.reads empty_draft c.in-Ok.ensures in
     let m = c.finish.ensures a.0 a.1 in
     (a.0.table, subst (λ (s : SettingData). IsMapText c.args.text.now s a.0.table 0) (sym m.setting) (is_map c.args.text.now c.new-reader.result c.new-reader.ensures a.0 a.2), m.forest)
 
 pub returns-clause-only : goal.returns-clause-only
-returns-clause-only c = λ s t n k.
+returns-clause-only g c = λ s t n k.
     let a = c.in_ok-read_statements.ensures.reads empty_draft c.in-Ok.ensures in
     let m = c.finish.ensures a.0 a.1 in
     let o = only_map c.args.text.now c.new-reader.result c.new-reader.ensures a.0 s t n a.2 k in
