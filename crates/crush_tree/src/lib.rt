@@ -11,6 +11,7 @@ mod edits;
 mod fit;
 mod forest;
 mod hold;
+mod moved;
 mod node;
 mod place;
 mod rename;
