@@ -15,6 +15,10 @@ pub option_or-found : {X : Type 0} (o p : Option X) → is_some o ≡ true → o
 option_or-found None p h = cc
 option_or-found (Some x) p h = refl
 
+pub option_or-none : {X : Type 0} (o : Option X) → option_or o None ≡ o
+option_or-none None = refl
+option_or-none (Some x) = refl
+
 pub option_or-assoc : {X : Type 0} (o p q : Option X) → option_or (option_or o p) q ≡ option_or o (option_or p q)
 option_or-assoc None p q = refl
 option_or-assoc (Some x) p q = refl

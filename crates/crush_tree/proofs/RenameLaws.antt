@@ -1,6 +1,6 @@
 -- Setting a name: laws of the items.
 use Rattle.std.proofs.Common.{◌≡◌, ℕ, ◌+◌, ◌<◌, Bool, true, false, List, ap, sym, ◌∙◌, refl, arith}
-use Rattle.std.specs.Prelude.{Option, Some, None, if◌then◌else◌}
+use Rattle.std.specs.Prelude.{Some, None, if◌then◌else◌}
 use Rattle.std.specs.Option.{option_or}
 use Rattle.crush_units.specs.declared.id.ItemId.{ItemId}
 use Rattle.crush_units.specs.declared.id.ItemId.TheVariants.{Device, Bucket}
@@ -11,7 +11,7 @@ use Rattle.crush_tree.specs.Named.{name_in, leaf_with_name, header_with_name, wi
 use Rattle.crush_tree.specs.Ops.{ids}
 use Rattle.crush_tree.specs.Room.{hit}
 use Rattle.crush_tree.proofs.Joins.{ids-join, pick_no, pick_yes, at_child}
-use Rattle.crush_tree.proofs.Options.{option_or-assoc, option_or-if}
+use Rattle.crush_tree.proofs.Options.{option_or-none, option_or-assoc, option_or-if}
 
 pub with_name-join : (i : ItemId) (n : List ℕ) (a b : Items) → with_name i n (join a b) ≡ join (with_name i n a) (with_name i n b)
 with_name-join i n none b = refl
@@ -50,10 +50,6 @@ name_in-absent i none h = refl
 name_in-absent i (device d r) h = pick_no (same_id (Device d.id) i) (Some d.name) (name_in i r) (omega arith) ∙ name_in-absent i r (omega arith)
 name_in-absent i (bucket x w m k r) h =
     pick_no (same_id (Bucket x.id) i) (Some x.name) (option_or (name_in i k) (name_in i r)) (omega arith) ∙ (λ j. option_or (name_in-absent i k (omega arith) j) (name_in-absent i r (omega arith) j))
-
-option_or-none : {X : Type 0} (o : Option X) → option_or o None ≡ o
-option_or-none None = refl
-option_or-none (Some x) = refl
 
 -- what is known of the one item x that has the id, or has it below it
 pub record NamesIn (i : ItemId) (n : List ℕ) (t before x after : Items) : Type 0 where
