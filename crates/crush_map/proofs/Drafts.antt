@@ -1,21 +1,18 @@
 -- A builder that is at one draft is at each with the same table.
-use Rattle.std.proofs.Common.{◌≡◌, ℕ, ◌+◌, ◌<◌, ◌≤◌, Bool, true, false, List, [], ◌∷◌, ◌++◌, length, refl, ap, sym, subst, ◌∙◌, arith, zero-add}
+use Rattle.std.proofs.Common.{◌≡◌, ℕ, ◌<◌, List, [], refl, sym, subst, ◌∙◌, arith}
 use Rattle.std.proofs.lemmas.List.Elements.{All-nil}
-use Rattle.std.specs.Prelude.{Option, Some, None, nat_le, nat_lt, ◌==◌, ◌||◌, bytes_eq, not}
-use Rattle.crush_units.specs.declared.id.ItemId.{ItemId}
-use Rattle.crush_units.specs.declared.id.ItemId.TheVariants.{Device, Bucket}
-use Rattle.crush_units.specs.Name.{IsName}
+use Rattle.crush_units.specs.declared.id.ItemId.TheVariants.{Bucket}
 use Rattle.crush_table.specs.Items.{ClassData}
 use Rattle.crush_table.specs.Same.{Same}
 use Rattle.crush_table.specs.Lawful.{Lawful}
-use Rattle.crush_table.specs.Table.{Row, is_there, is_named, parent_of, used_ids, member, device_count, bucket_count}
+use Rattle.crush_table.specs.Table.{Row}
 use Rattle.crush_table.specs.Rows.{ForestData, rows_of, Stands, IsSound}
 use Rattle.crush_table.specs.Setting.{SettingData, Fits, IsKind, HasKind}
 use Rattle.crush_table.proofs.Found.{is_named-same, is_there-same, parent_of-same}
 use Rattle.crush_table.proofs.Same.{Same-sym, Fits-same, bucket_count-same, used-same}
 use Rattle.crush_table.proofs.Stands.{stands_for_rows, same_stands}
 use Rattle.crush_map.specs.Built.{Pending, nothing, begun, numbered, filling, Draft, empty_draft}
-use Rattle.crush_map.specs.Building.{BuilderData, CanBegin, CanNumber, IsRoot, IsPending, IsDraft, BuilderFits, own_draft, has_pending_name, has_pending_id, has_name, has_bucket_id}
+use Rattle.crush_map.specs.Building.{BuilderData, CanBegin, CanNumber, IsRoot, IsPending, IsDraft, BuilderFits, own_draft}
 
 CanBegin-same : (s : SettingData) (t u : List Row) (k : ℕ) (n : List ℕ) → Lawful t → Same t u → CanBegin s t k n → CanBegin s u k n
 CanBegin-same s t u k n l e c = record {

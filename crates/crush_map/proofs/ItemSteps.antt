@@ -1,30 +1,28 @@
 -- An item is put into the bucket that is being filled.
-use Rattle.std.proofs.Common.{◌≡◌, ℕ, zero, suc, ◌+◌, ◌<◌, ◌≤◌, Bool, true, false, List, [], ◌∷◌, ◌++◌, length, refl, ap, sym, subst, ◌∙◌, arith, ⊎_elim}
-use Rattle.std.proofs.lemmas.List.Elements.{All-nil, All-cons, All-head, All-tail, All-push, All-filter, All-map, All-append, All-weaker}
-use Rattle.std.specs.Prelude.{Option, Some, None, IfSome, if◌then◌else◌, ◌==◌, ◌||◌, not, All, map, filter, is_some, option_and_then}
-use Rattle.std.specs.List.{count_by}
+use Rattle.std.proofs.Common.{◌≡◌, ℕ, ◌+◌, ◌≤◌, Bool, true, false, List, [], ◌∷◌, ◌++◌, refl, ap, sym, subst, ◌∙◌, arith, ⊎_elim}
+use Rattle.std.proofs.lemmas.List.Elements.{All-nil, All-cons, All-head, All-tail, All-filter, All-map, All-append, All-weaker}
+use Rattle.std.specs.Prelude.{Option, Some, None, if◌then◌else◌, ◌||◌, not, All, map, filter, is_some, option_and_then}
 use Rattle.crush_units.specs.declared.id.ItemId.{ItemId}
 use Rattle.crush_units.specs.declared.id.ItemId.TheVariants.{Device, Bucket}
 use Rattle.crush_units.specs.Id.{same_id}
 use Rattle.crush_units.proofs.Ids.{same_id_refl, same_id_tells}
-use Rattle.crush_table.specs.Items.{LeafData, HeaderData, Items, none, device, bucket}
+use Rattle.crush_table.specs.Items.{Items, none, device, bucket}
 use Rattle.crush_table.specs.Law.{IsOne}
-use Rattle.crush_table.specs.Reordered.{IsReordered}
 use Rattle.crush_table.specs.Same.{Same}
 use Rattle.crush_table.specs.Lawful.{Lawful, IsRow, IsRowOf, is_too_heavy}
-use Rattle.crush_table.specs.Table.{Row, is_device, is_device_id, is_there, row_of, parent_of, is_placed, member, above, climb, then_up, is_below}
+use Rattle.crush_table.specs.Table.{Row, is_device, is_device_id, is_there, row_of, parent_of, is_placed, member, above, then_up}
 use Rattle.crush_table.specs.Columns.{is_under, is_part, table_without, part, as_root, without_row}
 use Rattle.crush_table.specs.Rows.{ForestData, rows, rows_of, StoresSums, Stands, device_row, bucket_row}
 use Rattle.crush_table.specs.Setting.{SettingData, Fits, HasKind}
 use Rattle.crush_table.proofs.Reorder.{hit, reordered-sym, reordered-All, reordered-count}
-use Rattle.crush_table.proofs.Found.{times, times-cons, Distinct, Distinct-same, is_there-times, times-is_there, is_there-same, parent_of-same}
+use Rattle.crush_table.proofs.Found.{times, times-cons, Distinct, Distinct-same, is_there-times, times-is_there}
 use Rattle.crush_table.proofs.Same.{Same-sym, Same-trans, Lawful-same, is_too_heavy-same}
 use Rattle.crush_table.proofs.Stands.{same_stands}
 use Rattle.crush_table.proofs.Changes.{Same-with}
 use Rattle.crush_table.proofs.Kept.{is_there-map, Distinct-map}
 use Rattle.crush_table.proofs.Climbs.{above-parent}
-use Rattle.crush_table.proofs.Weighs.{or_left, or_right, All-found}
-use Rattle.crush_table.proofs.Removed.{row_of-only, parent_of-only, Lawful-only}
+use Rattle.crush_table.proofs.Weighs.{All-found}
+use Rattle.crush_table.proofs.Removed.{row_of-only, Lawful-only}
 use Rattle.crush_table.proofs.Appended.{row_of-append}
 use Rattle.crush_table.proofs.Moved.{at_parent, place, placed_last, row_id, Lawful-moved}
 use Rattle.crush_table.proofs.Relocated.{under_parent, relocate, relocate_device}
@@ -34,10 +32,9 @@ use Rattle.crush_tree.specs.Seen.{items_of}
 use Rattle.crush_tree.specs.declared.node.Node.{Node}
 use Rattle.crush_tree.specs.declared.node.Node.TheVariants.{Device as DeviceNode, Bucket as BucketNode}
 use Rattle.crush_map.specs.Parts.{with_first_weight}
-use Rattle.crush_map.specs.Built.{Pending, nothing, begun, numbered, filling, Draft, with_item, placed_row, put_below, table_with_item}
-use Rattle.crush_map.specs.Building.{BuilderData, BuilderFits, IsRoot, IsPending, IsDraft, own_draft, is_open}
+use Rattle.crush_map.specs.Built.{Pending, filling, Draft, with_item, placed_row, put_below, table_with_item}
+use Rattle.crush_map.specs.Building.{BuilderData, IsRoot, IsPending, IsDraft}
 use Rattle.crush_map.proofs.TableLaws.{Fits-rows}
-use Rattle.crush_map.proofs.Drafts.{IsRoot-same, draft_fits}
 
 -- THE ROW of an item that is there
 found : (o : Option Row) → is_some o ≡ true → (r : Row) × o ≡ Some r

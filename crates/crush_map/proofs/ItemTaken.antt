@@ -1,5 +1,5 @@
 -- An item that was taken out of the forest, on its way into the bucket that is being filled.
-use Rattle.std.proofs.Common.{◌≡◌, ℕ, ◌≤◌, Bool, true, false, not, List, [], ◌∷◌, ◌++◌, refl, ap, sym, subst, ◌∙◌}
+use Rattle.std.proofs.Common.{◌≡◌, ℕ, ◌≤◌, Bool, true, false, not, List, ◌++◌, ap, sym, subst, ◌∙◌}
 use Rattle.std.specs.Prelude.{Some, None, Result, Ok, Err, IsErrAnd}
 use Rattle.crush_units.specs.declared.id.ItemId.{ItemId}
 use Rattle.crush_units.specs.declared.id.ItemId.TheVariants.{Bucket}
@@ -19,7 +19,7 @@ use Rattle.crush_map.specs.declared.builder.BuildFault.{BuildFault}
 use Rattle.crush_map.specs.declared.builder.BuildFault.TheVariants.{SumTooLarge, OutOfMemory}
 use Rattle.crush_map.specs.Parts.{with_first_weight}
 use Rattle.crush_map.specs.Built.{Draft, Pending, filling, put_below, with_item}
-use Rattle.crush_map.specs.Building.{BuilderData, BuilderFits, IsRoot, IsPending, IsDraft, own_draft, is_open}
+use Rattle.crush_map.specs.Building.{BuilderData, BuilderFits, IsRoot, IsDraft, own_draft, is_open}
 use Rattle.crush_map.proofs.Drafts.{own_is_draft, draft_fits}
 use Rattle.crush_map.proofs.ItemSteps.{open_root, apart, taken_draft, put_table, item_step, item_same, item_heavy, item_distinct, item_small, attached_lawful, weighted_sums}
 use Rattle.crush_map.proofs.ReweightLaws.{flip}

@@ -1,6 +1,6 @@
 -- Types looked up in the list that is kept, and in the list that contracts see.
-use Rattle.std.proofs.Common.{◌≡◌, ℕ, Bool, true, false, List, [], ◌∷◌, ◌++◌, refl, ap, ◌∙◌}
-use Rattle.std.specs.Prelude.{Option, Some, None, if◌then◌else◌, find, map, bytes_eq, ◌==◌}
+use Rattle.std.proofs.Common.{◌≡◌, ℕ, Bool, true, false, List, [], ◌∷◌, refl, ap}
+use Rattle.std.specs.Prelude.{Option, Some, if◌then◌else◌, find, map, bytes_eq, ◌==◌}
 use Rattle.std.specs.Option.{option_map}
 use Rattle.crush_table.specs.Setting.{KindData}
 use Rattle.crush_map.specs.declared.setting.Kind.{Kind}

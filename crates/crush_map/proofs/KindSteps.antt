@@ -1,21 +1,20 @@
 -- One more type.
-use Rattle.std.proofs.Common.{◌≡◌, ℕ, ◌+◌, ◌<◌, ◌≤◌, Bool, true, false, List, [], ◌∷◌, ◌++◌, length, refl, ap, sym, subst, ◌∙◌, arith, length-append, ⊎_elim}
+use Rattle.std.proofs.Common.{◌≡◌, ℕ, ◌<◌, ◌≤◌, Bool, true, false, List, [], ◌∷◌, ◌++◌, length, refl, ap, sym, subst, ◌∙◌, arith, length-append, ⊎_elim}
 use Rattle.std.proofs.lemmas.Bool.Decides.{nat_tests}
 use Rattle.std.proofs.lemmas.Bool.{eqb-true}
 use Rattle.std.proofs.lemmas.Slice.Eq.{bytes_eq-Decides}
 use Rattle.std.proofs.lemmas.List.Sums.{sum_by_push, sum_by-cons}
 use Rattle.std.proofs.lemmas.List.Folds.{list_any-append}
 use Rattle.std.proofs.lemmas.List.Elements.{All-push, All-weaker}
-use Rattle.std.specs.Prelude.{Option, Some, None, if◌then◌else◌, nat_le, ◌==◌, ◌||◌, bytes_eq, All, is_some, find}
+use Rattle.std.specs.Prelude.{Option, Some, None, if◌then◌else◌, nat_le, ◌==◌, ◌||◌, bytes_eq, is_some, find}
 use Rattle.std.specs.List.{count_by, list_any}
 use Rattle.std.specs.Option.{option_map, option_copied}
 use denote.Ref.{Bor}
-use Rattle.crush_units.specs.Name.{IsName}
 use Rattle.crush_table.specs.Table.{Row}
-use Rattle.crush_table.specs.Setting.{KindData, SettingData, IsKind, Fits, HasKind, is_reserved, kind_number, kind_name}
+use Rattle.crush_table.specs.Setting.{KindData, SettingData, IsKind, Fits, HasKind, kind_number, kind_name}
 use Rattle.crush_table.proofs.Reorder.{hit}
 use Rattle.crush_table.proofs.Weighs.{true_or_false}
-use Rattle.crush_map.specs.Built.{Draft, Pending, nothing, with_kind}
+use Rattle.crush_map.specs.Built.{Draft, nothing, with_kind}
 use Rattle.crush_map.specs.Building.{BuilderData, IsDraft, IsPending, has_kind_number, has_kind_name, is_full_of_kinds}
 
 -- where no element passes none is counted

@@ -1,13 +1,13 @@
 -- What the table answers to a new weight, told by what the code has seen.
-use Rattle.std.proofs.Common.{◌≡◌, ℕ, ◌≤◌, List, true, false, not, Bool, refl, sym, ap, subst, ◌∙◌, arith, nat_lt, nat_eq}
+use Rattle.std.proofs.Common.{◌≡◌, ℕ, ◌≤◌, List, true, false, not, Bool, refl, sym, ap, subst, ◌∙◌, arith, nat_eq}
 use Rattle.std.proofs.lemmas.Bool.Decides.{nat_tests}
-use Rattle.std.specs.Prelude.{Option, Some, None, is_some, option_and_then, All, Result, Ok, Err, IsErrAnd}
+use Rattle.std.specs.Prelude.{Option, Some, None, is_some, option_and_then, Result, Ok, Err, IsErrAnd}
 use Rattle.std.specs.Option.{option_map, option_eq}
 use Rattle.crush_units.specs.declared.id.ItemId.{ItemId}
 use Rattle.crush_units.specs.declared.id.ItemId.TheVariants.{Device}
-use Rattle.crush_table.specs.Table.{Row, row_of, id_named, parent_of, own_weight_of, weight_of, is_placed, item_weight}
+use Rattle.crush_table.specs.Table.{Row, row_of, id_named, own_weight_of, weight_of, is_placed, item_weight}
 use Rattle.crush_table.specs.Columns.{set_weight}
-use Rattle.crush_table.specs.Lawful.{Lawful, is_too_heavy}
+use Rattle.crush_table.specs.Lawful.{is_too_heavy}
 use Rattle.crush_table.specs.Setting.{SettingData}
 use Rattle.crush_table.proofs.Found.{times}
 use Rattle.crush_map.specs.declared.refusal.Refusal.{Refusal}

@@ -1,10 +1,9 @@
 -- One more row: a device, and an empty bucket.
-use Rattle.std.proofs.Common.{◌≡◌, ℕ, ◌+◌, ◌<◌, ◌≤◌, Bool, true, false, List, [], ◌∷◌, ◌++◌, length, refl, ap, sym, subst, ◌∙◌, arith}
+use Rattle.std.proofs.Common.{◌≡◌, ℕ, ◌<◌, ◌≤◌, Bool, true, false, List, [], ◌∷◌, ◌++◌, refl, ap, sym, subst, ◌∙◌, arith}
 use Rattle.std.proofs.lemmas.Bool.Decides.{nat_tests}
 use Rattle.std.proofs.lemmas.List.Sums.{sum_by_push}
 use Rattle.std.proofs.lemmas.List.Elements.{All-nil}
-use Rattle.std.specs.Prelude.{Option, Some, None, if◌then◌else◌, nat_le, nat_lt, ◌==◌, ◌||◌, ◌&&◌, bytes_eq, All, is_some, option_and_then}
-use Rattle.std.specs.List.{count_by, list_any}
+use Rattle.std.specs.Prelude.{Option, Some, None, if◌then◌else◌, nat_le, nat_lt, ◌||◌, ◌&&◌, bytes_eq, is_some, option_and_then}
 use Rattle.std.specs.Option.{option_map}
 use Rattle.crush_units.specs.declared.id.ItemId.{ItemId}
 use Rattle.crush_units.specs.declared.id.ItemId.TheVariants.{Device, Bucket}
@@ -12,19 +11,17 @@ use Rattle.crush_units.specs.declared.alg.Alg.{Alg}
 use Rattle.crush_units.specs.Id.{same_id}
 use Rattle.crush_units.specs.Name.{IsName}
 use Rattle.crush_units.proofs.Ids.{same_id_refl}
-use Rattle.crush_table.specs.Items.{ClassData, Items, none, device, bucket}
-use Rattle.crush_table.specs.Table.{Row, is_device, is_bucket, is_there, is_named, row_of, row_named, id_named, parent_of, used_ids, member, device_count, bucket_count}
-use Rattle.crush_table.specs.Lawful.{Lawful, IsRow, IsClassId, has_too_many}
-use Rattle.crush_table.specs.Rows.{ForestData, rows, rows_of, device_row, bucket_row, Stands, IsSound}
-use Rattle.crush_table.specs.Setting.{KindData, SettingData, Fits, HasKind}
+use Rattle.crush_table.specs.Table.{Row, is_device, is_bucket, is_there, is_named, row_of, row_named, id_named, device_count, bucket_count}
+use Rattle.crush_table.specs.Lawful.{Lawful, IsClassId, has_too_many}
+use Rattle.crush_table.specs.Rows.{ForestData, rows_of, device_row, bucket_row, Stands}
+use Rattle.crush_table.specs.Setting.{SettingData}
 use Rattle.crush_table.proofs.Reorder.{hit}
-use Rattle.crush_table.proofs.Weighs.{or_left, or_right}
+use Rattle.crush_table.proofs.Weighs.{or_left}
 use Rattle.crush_table.proofs.Appended.{row_of-append, unused_fresh, Lawful-push_device, Lawful-push_bucket}
 use Rattle.crush_map.proofs.KindSteps.{less}
 use Rattle.crush_map.proofs.TableLaws.{Fits-push}
-use Rattle.crush_map.proofs.Drafts.{own_is_draft}
 use Rattle.crush_map.specs.Built.{Pending, nothing, begun, numbered, filling, Draft, with_device, with_alg}
-use Rattle.crush_map.specs.Building.{BuilderData, BuilderFits, CanBegin, CanNumber, IsRoot, IsPending, IsDraft, own_draft, is_bucket_kind, has_name, has_bucket_id, is_full_of_devices, is_full_of_buckets}
+use Rattle.crush_map.specs.Building.{BuilderData, BuilderFits, CanBegin, CanNumber, IsRoot, IsPending, IsDraft, own_draft, is_bucket_kind, has_name, has_bucket_id, is_full_of_buckets}
 
 not_less : (m n : ℕ) → n ≤ m → nat_lt m n ≡ false
 not_less m n h = grind (arith, nat_tests)

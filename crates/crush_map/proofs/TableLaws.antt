@@ -1,13 +1,12 @@
 -- What a change of the table leaves fitting.
-use Rattle.std.proofs.Common.{◌≡◌, ℕ, ◌<◌, ◌≤◌, Bool, List, [], ◌∷◌, ◌++◌, true, false, ap, sym, subst, refl, ◌∙◌, arith}
-use Rattle.std.specs.Prelude.{All, map, if◌then◌else◌, ◌==◌}
-use Rattle.std.specs.List.{list_any}
+use Rattle.std.proofs.Common.{ℕ, Bool, List, [], ◌∷◌, ◌++◌, true, false}
+use Rattle.std.specs.Prelude.{All, if◌then◌else◌}
 use Rattle.std.proofs.lemmas.List.Elements.{All-map, All-weaker, All-push}
 use Rattle.crush_units.specs.declared.id.ItemId.{ItemId}
 use Rattle.crush_units.specs.Id.{same_id}
 use Rattle.crush_table.specs.Table.{Row}
 use Rattle.crush_table.specs.Columns.{set_weight}
-use Rattle.crush_table.specs.Setting.{KindData, SettingData, Fits, HasKind}
+use Rattle.crush_table.specs.Setting.{SettingData, Fits, HasKind}
 
 -- a row's type is what it was
 kind_kept : (s : SettingData) (b : Bool) (w : ℕ) (r : Row) → HasKind s r → HasKind s (if b then record r { weight = w } else r)

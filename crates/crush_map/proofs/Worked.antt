@@ -1,9 +1,8 @@
 -- The worked examples of a new weight, computed on the plain example map.
-use Rattle.std.proofs.Common.{◌≡◌, ℕ, List, [], ◌∷◌, Bool, true, false, refl}
+use Rattle.std.proofs.Common.{◌≡◌, List, [], ◌∷◌, true, false, refl}
 use Rattle.std.specs.Prelude.{codes, Some, None}
-use Rattle.crush_units.specs.declared.id.ItemId.TheVariants.{Device, Bucket}
-use Rattle.crush_table.specs.Table.{Row, sum_below, total, weight_of}
-use Rattle.crush_table.specs.Lawful.{is_too_heavy}
+use Rattle.crush_units.specs.declared.id.ItemId.TheVariants.{Bucket}
+use Rattle.crush_table.specs.Table.{Row, weight_of}
 use Rattle.crush_map.specs.declared.refusal.Refusal.TheVariants.{WeightTooLarge, NoSuchItem, NotPlaced, NotADevice, SumTooLarge}
 use Rattle.crush_map.specs.declared.edit.Edit.TheVariants.{Reweight}
 use Rattle.crush_map.specs.Edit.{edit, refused, done}

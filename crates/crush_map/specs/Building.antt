@@ -1,13 +1,13 @@
 -- The state of a builder, the draft at which it is, and the tests that a reader makes before each step.
-use Rattle.std.specs.Prelude.{◌≡◌, ℕ, ◌<◌, ◌≤◌, List, [], ◌∷◌, Option, Some, None, Bool, true, false, ◌==◌, ◌||◌, ◌&&◌, not, if◌then◌else◌, length, bytes_eq, nat_lt, nat_le, refl, is_some, option_and_then}
+use Rattle.std.specs.Prelude.{◌≡◌, ℕ, ◌<◌, ◌≤◌, List, [], Option, Some, None, Bool, true, false, ◌==◌, ◌||◌, ◌&&◌, if◌then◌else◌, length, bytes_eq, nat_lt, nat_le, refl, option_and_then}
 use Rattle.std.specs.List.{list_any}
-use Rattle.std.specs.Coded.{Coded, code_by, coded×, coded_ℕ, coded_list}
+use Rattle.std.specs.Coded.{Coded, code_by, coded×}
 use Rattle.crush_units.specs.declared.id.ItemId.{ItemId}
-use Rattle.crush_units.specs.declared.id.ItemId.TheVariants.{Device, Bucket}
+use Rattle.crush_units.specs.declared.id.ItemId.TheVariants.{Bucket}
 use Rattle.crush_units.specs.Id.{same_id}
 use Rattle.crush_units.specs.Name.{IsName}
-use Rattle.crush_table.specs.Items.{ClassData, coded_class}
-use Rattle.crush_table.specs.Table.{Row, is_there, is_named, is_placed, parent_of, id_named, used_ids, member, device_count, bucket_count}
+use Rattle.crush_table.specs.Items.{ClassData}
+use Rattle.crush_table.specs.Table.{Row, is_there, is_named, parent_of, id_named, used_ids, member, device_count, bucket_count}
 use Rattle.crush_table.specs.Rows.{ForestData, coded_forest, rows_of, Stands}
 use Rattle.crush_table.specs.Setting.{KindData, SettingData, coded_setting, Fits}
 use Rattle.crush_map.specs.Built.{Pending, nothing, begun, numbered, filling, Draft}

@@ -1,17 +1,13 @@
 -- What a builder makes, statement by statement, of the text of a map.
-use Rattle.std.specs.Prelude.{◌≡◌, ℕ, ◌<◌, ◌≤◌, ◌^◌, List, [], ◌∷◌, ◌++◌, Option, Some, None, Bool, true, false, ◌==◌, ◌||◌, if◌then◌else◌, length, map, filter, bytes_eq, nat_lt, nat_le, refl, is_some}
-use Rattle.std.specs.List.{list_any}
-use Rattle.std.specs.Coded.{Coded, code_by, coded×, coded_ℕ, coded_list}
+use Rattle.std.specs.Prelude.{ℕ, List, [], ◌∷◌, ◌++◌, Some, None, if◌then◌else◌, map, filter}
 use Rattle.crush_units.specs.declared.id.ItemId.{ItemId}
-use Rattle.crush_units.specs.declared.id.ItemId.TheVariants.{Device, Bucket}
 use Rattle.crush_units.specs.declared.alg.Alg.{Alg}
 use Rattle.crush_units.specs.Id.{same_id}
-use Rattle.crush_units.specs.Name.{IsName}
-use Rattle.crush_table.specs.Items.{ClassData, coded_class}
-use Rattle.crush_table.specs.Table.{Row, is_device, is_there, is_named, is_placed, id_named, weight_of, used_ids, member, device_count, bucket_count}
+use Rattle.crush_table.specs.Items.{ClassData}
+use Rattle.crush_table.specs.Table.{Row, is_device}
 use Rattle.crush_table.specs.Columns.{without_row}
-use Rattle.crush_table.specs.Rows.{ForestData, coded_forest, rows_of, device_row, bucket_row, Stands}
-use Rattle.crush_table.specs.Setting.{KindData, SettingData, coded_setting, kind_number, kind_name, Fits}
+use Rattle.crush_table.specs.Rows.{device_row, bucket_row}
+use Rattle.crush_table.specs.Setting.{SettingData}
 
 -- what of a bucket was read before it is in the table, and then the bucket that is being filled
 pub data Pending : Type 0 where

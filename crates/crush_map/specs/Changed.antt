@@ -1,5 +1,5 @@
 -- Whether two tables are one, by comparison of their rows.
-use Rattle.std.specs.Prelude.{ℕ, List, Option, Bool, ◌==◌, ◌&&◌, bytes_eq, nat_eq}
+use Rattle.std.specs.Prelude.{List, Bool, ◌==◌, ◌&&◌, bytes_eq, nat_eq}
 use Rattle.std.specs.Option.{option_eq}
 use lib.Pointwise.{pointwise}
 use Rattle.crush_units.specs.Id.{same_id}

@@ -1,5 +1,5 @@
 -- What an edit does to the table: the edits of `ceph osd crush`, with this editor's refusals.
-use Rattle.std.specs.Prelude.{ℕ, List, [], ◌∷◌, Option, Some, None, Bool, true, false, not, ◌&&◌, if◌then◌else◌, is_none, nat_lt}
+use Rattle.std.specs.Prelude.{ℕ, List, [], ◌∷◌, Option, Some, None, Bool, false, not, ◌&&◌, if◌then◌else◌, is_none, nat_lt}
 use Rattle.crush_units.specs.declared.id.ItemId.{ItemId}
 use Rattle.crush_units.specs.Id.{is_device}
 use Rattle.crush_table.specs.Table.{Row, id_named, is_named, parent_of}

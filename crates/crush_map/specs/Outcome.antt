@@ -1,5 +1,5 @@
 -- What a call answers, beside what the table answers.
-use Rattle.std.specs.Prelude.{◌≡◌, ℕ, List, Bool, Option, None, Result, Ok, Err}
+use Rattle.std.specs.Prelude.{◌≡◌, ℕ, List, Bool, Result, Ok, Err}
 use Rattle.crush_table.specs.Table.{Row}
 use Rattle.crush_map.specs.declared.refusal.Refusal.{Refusal}
 use Rattle.crush_map.specs.declared.refusal.Done.{Done}

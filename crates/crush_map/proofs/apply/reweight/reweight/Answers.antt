@@ -1,13 +1,12 @@
-use Rattle.std.proofs.Common.{◌≡◌, List, [], not, sym, ap, ◌∙◌}
+use Rattle.std.proofs.Common.{List, [], ap, ◌∙◌}
 use Rattle.crush_units.specs.declared.id.ItemId.TheVariants.{Device}
 use Rattle.crush_table.specs.Table.{Row}
 use Rattle.crush_table.specs.Columns.{set_weight}
 use Rattle.crush_table.specs.Rows.{rows_of, Stands}
-use Rattle.crush_table.specs.Setting.{Fits}
 use Rattle.crush_table.proofs.Stands.{stands_for_rows}
 use Rattle.crush_table.proofs.Same.{Same-sym, Fits-same}
 use Rattle.crush_map.specs.declared.edit.Edit.TheVariants.{Reweight}
-use Rattle.crush_map.specs.Edit.{edit, done}
+use Rattle.crush_map.specs.Edit.{done}
 use Rattle.crush_map.proofs.ReweightLaws.{reweight_done, refused_reply, refused_edit, weight_changes, light_bound}
 use Rattle.crush_table.proofs.Columns.{Lawful-set_weight}
 use Rattle.crush_map.proofs.TableLaws.{Fits-set_weight}

@@ -1,5 +1,5 @@
-use Rattle.std.proofs.Common.{rules, ◌≡◌, true, false, sym, ap, ◌∙◌}
-use Rattle.std.specs.Prelude.{Some, is_some}
+use Rattle.std.proofs.Common.{sym, ap, ◌∙◌}
+use Rattle.std.specs.Prelude.{is_some}
 use Rattle.crush_table.specs.Rows.{rows_of}
 use Rattle.crush_table.proofs.Stands.{stands_for_rows}
 use Rattle.crush_map.proofs.apply.reweight.reweighted.Goals as goal

@@ -1,10 +1,8 @@
-use Rattle.std.proofs.Common.{◌≡◌, List, [], ◌∷◌, ◌++◌, subst, sym, ap, ◌∙◌}
+use Rattle.std.proofs.Common.{◌≡◌, [], ◌++◌, subst, sym, ap, ◌∙◌}
 use Rattle.std.specs.Prelude.{None}
-use Rattle.crush_table.specs.Items.{Items, bucket, none}
-use Rattle.crush_table.specs.Table.{Row}
+use Rattle.crush_table.specs.Items.{Items}
 use Rattle.crush_table.specs.Lawful.{Lawful}
 use Rattle.crush_table.specs.Rows.{rows, rows_of, Stands}
-use Rattle.crush_tree.specs.Seen.{items_of}
 use Rattle.crush_map.specs.Parts.{part_data}
 use Rattle.crush_map.specs.Built.{Draft, Pending, numbered, filling, with_alg}
 use Rattle.crush_map.specs.Building.{BuilderData, IsDraft, IsPending, own_draft}

@@ -1,4 +1,4 @@
-use Rattle.std.proofs.Common.{◌≡◌, ap, sym, subst, ◌∙◌}
+use Rattle.std.proofs.Common.{ap, sym, subst, ◌∙◌}
 use Rattle.crush_table.specs.Rows.{ForestData, Stands}
 use Rattle.crush_map.specs.Building.{BuilderData}
 use Rattle.crush_map.proofs.builder.MapBuilder.finish.Goals as goal

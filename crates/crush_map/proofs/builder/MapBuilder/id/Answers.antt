@@ -1,6 +1,5 @@
-use Rattle.std.proofs.Common.{◌≡◌, subst, sym, ap, ◌∙◌, arith}
+use Rattle.std.proofs.Common.{subst, sym, ap, ◌∙◌, arith}
 use Rattle.crush_map.specs.Parts.{part_data}
-use Rattle.crush_map.specs.Built.{Draft}
 use Rattle.crush_map.specs.Building.{BuilderData, IsDraft, own_draft}
 use Rattle.crush_map.proofs.Drafts.{own_is_draft}
 use Rattle.crush_map.proofs.RowSteps.{id_fits}

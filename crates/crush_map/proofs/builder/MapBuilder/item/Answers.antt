@@ -1,20 +1,20 @@
 -- The builder, the item that was taken out, and what `ItemTaken` says of them.
-use Rattle.std.proofs.Common.{◌≡◌, ℕ, List, [], ◌∷◌, ◌++◌, Bool, true, false, not, subst, sym, ap, ◌∙◌, refl}
-use Rattle.std.specs.Prelude.{Some, None}
+use Rattle.std.proofs.Common.{◌≡◌, ℕ, [], ◌∷◌, ◌++◌, true, false, not, subst, sym, ap, ◌∙◌, refl}
+use Rattle.std.specs.Prelude.{Some}
 use Rattle.crush_table.specs.Items.{Items}
-use Rattle.crush_table.specs.Table.{Row, is_there}
+use Rattle.crush_table.specs.Table.{is_there}
 use Rattle.crush_table.specs.Columns.{table_without}
 use Rattle.crush_table.specs.Lawful.{Lawful, is_too_heavy}
 use Rattle.crush_table.specs.Rows.{rows, rows_of, Stands}
 use Rattle.crush_tree.specs.Seen.{items_of}
 use Rattle.crush_tree.specs.Ops.{CanCome}
 use Rattle.crush_tree.specs.declared.place.Place.TheVariants.{Bucket as AtBucket}
-use Rattle.crush_map.specs.Parts.{part_data, with_first_weight}
-use Rattle.crush_map.specs.Built.{Draft, filling, with_item}
+use Rattle.crush_map.specs.Parts.{part_data}
+use Rattle.crush_map.specs.Built.{Draft, with_item}
 use Rattle.crush_map.specs.Building.{BuilderData, IsDraft, own_draft}
 use Rattle.crush_map.proofs.Drafts.{own_is_draft, draft_fits}
-use Rattle.crush_map.proofs.ItemSteps.{weighted_sums, one_item}
-use Rattle.crush_map.proofs.ItemTaken.{Taken, taken, left_fits, left_there, heavy_at, can_come, can_attach, attached, distinct_at, no_sum}
+use Rattle.crush_map.proofs.ItemSteps.{one_item}
+use Rattle.crush_map.proofs.ItemTaken.{Taken, taken, left_fits, left_there, heavy_at, can_come, can_attach, attached, no_sum}
 use Rattle.crush_map.proofs.builder.MapBuilder.item.Goals as goal
 
 pub unreachable-requires-in_default-detach : goal.unreachable-requires-in_default-detach

@@ -22,10 +22,10 @@ pub returns-in_err-reweight-clause-answer : goal.returns-in_err-reweight-clause-
 returns-in_err-reweight-clause-answer g c = λ t st.
     let s = c.args.self.now.setting in
     refused_answer (Stands c.reweight.new.forest) _ _ _ c.from_residual.ensures.1
-    (ap (edit s t) (sym (whole c.args.asked.now c.name-1.given.0 c.weight-1.given.0)) ∙ c.in_err-reweight.ensures.answer s t (of_forest _ _ t c.self.view_is st))
+    (ap (edit s t) (sym (whole c.args.asked.now _ _)) ∙ c.in_err-reweight.ensures.answer s t (of_forest _ _ t c.self.view_is st))
 
 pub returns-clause-answer : goal.returns-clause-answer
 returns-clause-answer g c = λ t st.
     let s = c.args.self.now.setting in
     let r = c.in_ok-reweight.ensures.answer s t (of_forest _ _ t c.self.view_is st) in
-    (r.0, ap (edit s t) (sym (whole c.args.asked.now c.name-1.given.0 c.weight-1.given.0)) ∙ r.1, r.2)
+    (r.0, ap (edit s t) (sym (whole c.args.asked.now _ _)) ∙ r.1, r.2)

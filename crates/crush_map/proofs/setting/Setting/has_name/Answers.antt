@@ -1,4 +1,4 @@
-use Rattle.std.proofs.Common.{◌≡◌, ap, ◌∙◌}
+use Rattle.std.proofs.Common.{ap, ◌∙◌}
 use Rattle.std.specs.Prelude.{is_some}
 use Rattle.crush_map.proofs.KindSteps.{has_name_found}
 use Rattle.crush_map.proofs.setting.Setting.has_name.Goals as goal

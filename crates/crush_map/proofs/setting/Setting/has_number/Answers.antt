@@ -1,4 +1,4 @@
-use Rattle.std.proofs.Common.{◌≡◌, ap, sym, ◌∙◌}
+use Rattle.std.proofs.Common.{ap, sym, ◌∙◌}
 use Rattle.std.specs.Prelude.{is_some}
 use Rattle.crush_map.proofs.KindSteps.{has_number_found, some_copied}
 use Rattle.crush_map.proofs.setting.Setting.has_number.Goals as goal

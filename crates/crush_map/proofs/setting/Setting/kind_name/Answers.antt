@@ -1,4 +1,4 @@
-use Rattle.std.proofs.Common.{◌≡◌, sym, ap, ◌∙◌}
+use Rattle.std.proofs.Common.{ap, ◌∙◌}
 use Rattle.crush_table.specs.Setting.{kind_name}
 use Rattle.crush_map.proofs.KindLaws.{name_found}
 use Rattle.crush_map.proofs.setting.Setting.kind_name.Goals as goal

@@ -1,4 +1,4 @@
-use Rattle.std.proofs.Common.{◌≡◌, sym, ap, ◌∙◌}
+use Rattle.std.proofs.Common.{ap, ◌∙◌}
 use Rattle.crush_table.specs.Setting.{kind_number}
 use Rattle.crush_map.proofs.KindLaws.{number_found}
 use Rattle.crush_map.proofs.setting.Setting.kind_number.Goals as goal
