@@ -8,4 +8,5 @@ pub mod Seen
 pub mod SeenForest
 pub mod SeenView
 pub mod Subtree
+pub mod Swapping
 pub mod Views

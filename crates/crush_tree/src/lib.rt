@@ -19,6 +19,7 @@ mod same;
 mod search;
 mod subtree;
 mod sums;
+mod swap;
 mod view;
 mod weights;
 
