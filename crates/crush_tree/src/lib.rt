@@ -20,6 +20,7 @@ mod search;
 mod subtree;
 mod sums;
 mod swap;
+mod swap_fit;
 mod view;
 mod weights;
 
