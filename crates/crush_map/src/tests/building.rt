@@ -3,9 +3,9 @@
 use crate::tests::statements::{
     add_device, add_item, add_type, begin_bucket, end_bucket, finish, open_bucket,
 };
-use crate::{BuildFault, CrushMap, MapBuilder};
+use crate::{BuildFault, CrushMap, Kind, MapBuilder, Setting};
 use crush_tree::Counts;
-use crush_units::{BucketId, DeviceId, ItemId, TypeId};
+use crush_units::{BucketId, DeviceId, ItemId, TypeId, Weight};
 use std::alloc::Global;
 use std::process::Abort;
 use std::test::Fail;
@@ -58,18 +58,40 @@ pub fn map_with_spare(rt: &impl Abort, alloc: Global) -> Result<CrushMap<Global>
     Ok(finish(rt, builder))
 }
 
-/// The weight of the item of this name, in units.
-pub fn units_of(map: &CrushMap<Global>, name: &[u8]) -> Option<u32> {
-    map.weight_of(name).map(|weight| weight.units())
+/// Asserts what the item of this name weighs, in units.
+pub fn weighs(rt: &impl Abort, map: &CrushMap<Global>, name: &str, units: u32) {
+    let weight = map.weight_of(name.as_bytes());
+    assert_eq!(rt; weight, Some(Weight::from_units(units)), "at {name}");
 }
 
-/// The number of the item of this name.
-fn number_of(map: &CrushMap<Global>, name: &[u8]) -> Option<i32> {
-    map.locate(name).map(|id| id.number())
+/// Asserts the number of the item of this name.
+fn is_numbered(rt: &impl Abort, map: &CrushMap<Global>, name: &str, number: i32) {
+    let id = map.locate(name.as_bytes()).expect(rt, name);
+    assert_eq!(rt; id.number(), number, "at {name}");
 }
 
 #[test]
 fn the_plain_example_map_is_made(rt: HostRuntime) -> Result<(), Fail> {
+    let map = example_map(&rt, rt.alloc())?;
+    let items = [
+        ("osd.0", 0, 65536),
+        ("osd.1", 1, 65536),
+        ("osd.2", 2, 32768),
+        ("h1", -2, 131072),
+        ("h2", -3, 32768),
+        ("default", -1, 163840),
+    ];
+    for (name, number, units) in items {
+        is_numbered(&rt, &map, name, number);
+        weighs(&rt, &map, name, units);
+    }
+    assert_eq!(rt; map.locate(b"h3"), None);
+    assert_eq!(rt; map.weight_of(b"h3"), None);
+    Ok(())
+}
+
+#[test]
+fn the_plain_example_map_is_counted(rt: HostRuntime) -> Result<(), Fail> {
     let map = example_map(&rt, rt.alloc())?;
     let counts = Counts {
         devices: 3,
@@ -78,35 +100,30 @@ fn the_plain_example_map_is_made(rt: HostRuntime) -> Result<(), Fail> {
     assert_eq!(rt; map.counts(), counts);
     assert_eq!(rt; map.total(), 163840);
     assert_eq!(rt; map.forest().total(), 163840);
-    let items: [(&[u8], i32, u32); 6] = [
-        (b"osd.0", 0, 65536),
-        (b"osd.1", 1, 65536),
-        (b"osd.2", 2, 32768),
-        (b"h1", -2, 131072),
-        (b"h2", -3, 32768),
-        (b"default", -1, 163840),
-    ];
-    for (name, number, units) in items {
-        assert_eq!(rt; number_of(&map, name), Some(number));
-        assert_eq!(rt; units_of(&map, name), Some(units));
-    }
-    assert_eq!(rt; number_of(&map, b"h3"), None);
-    assert_eq!(rt; units_of(&map, b"h3"), None);
     Ok(())
+}
+
+/// Asserts that the type has this number and this name, and is found by both.
+fn is_type(rt: &impl Abort, setting: &Setting, kind: &Kind, number: u16, name: &str) {
+    let number = TypeId::new(number);
+    assert_eq!(rt; kind.number, number, "at {name}");
+    assert_eq!(rt; kind.name.as_str(), name);
+    assert_eq!(rt;
+        setting.kind_number(name.as_bytes()),
+        Some(number),
+        "at {name}"
+    );
+    assert_eq!(rt; setting.kind_name(number).expect(rt, name).as_str(), name);
 }
 
 #[test]
 fn the_types_of_the_plain_example_map(rt: HostRuntime) -> Result<(), Fail> {
     let map = example_map(&rt, rt.alloc())?;
     let setting = map.setting();
-    let kinds: [(u16, &[u8]); 4] = [(0, b"osd"), (1, b"host"), (3, b"rack"), (11, b"root")];
+    let kinds = [(0, "osd"), (1, "host"), (3, "rack"), (11, "root")];
     assert_eq!(rt; setting.kinds().len(), kinds.len());
     for (kind, (number, name)) in setting.kinds().iter().zip(kinds) {
-        let number = TypeId::new(number);
-        assert_eq!(rt; kind.number, number);
-        assert!(rt; kind.name.is(name));
-        assert_eq!(rt; setting.kind_number(name), Some(number));
-        assert!(rt; setting.kind_name(number).is_some_and(|own| own.is(name)));
+        is_type(&rt, setting, kind, number, name);
     }
     assert_eq!(rt; setting.kind_number(b"row"), None);
     assert!(rt; setting.kind_name(TypeId::new(2)).is_none());
@@ -114,54 +131,78 @@ fn the_types_of_the_plain_example_map(rt: HostRuntime) -> Result<(), Fail> {
 }
 
 #[test]
-fn what_was_said_is_taken(rt: HostRuntime) -> Result<(), Fail> {
-    let mut builder = types_and_devices(&rt, rt.alloc())?;
-    add_buckets(&rt, &mut builder)?;
+fn types_that_were_declared(rt: HostRuntime) -> Result<(), Fail> {
+    let builder = types_and_devices(&rt, rt.alloc())?;
     assert!(rt; builder.has_kind_number(TypeId::new(3)));
     assert!(rt; !builder.has_kind_number(TypeId::new(2)));
     assert!(rt; builder.has_kind_name(b"rack"));
     assert!(rt; !builder.has_kind_name(b"row"));
-    assert!(rt; builder.has_name(b"osd.2"));
-    assert!(rt; builder.has_name(b"h2"));
-    assert!(rt; builder.has_name(b"default"));
-    assert!(rt; !builder.has_name(b"rack"));
-    assert!(rt; builder.has_device(DeviceId::new(2).ok_or("a device")?));
-    assert!(rt; !builder.has_device(DeviceId::new(3).ok_or("a device")?));
-    assert!(rt; builder.has_bucket_id(BucketId::new(-1).ok_or("a bucket")?));
-    assert!(rt; !builder.has_bucket_id(BucketId::new(-4).ok_or("a bucket")?));
     assert!(rt; !builder.is_bucket_kind(TypeId::new(0)));
     assert!(rt; !builder.is_bucket_kind(TypeId::new(2)));
-    assert!(rt; !builder.is_idle());
+    Ok(())
+}
+
+#[test]
+fn names_and_ids_that_are_taken(rt: HostRuntime) -> Result<(), Fail> {
+    let mut builder = types_and_devices(&rt, rt.alloc())?;
+    begin_bucket(&rt, &mut builder, b"host", b"h1")?;
+    open_bucket(&rt, &mut builder, -2)?;
+    for name in [b"osd.2".as_slice(), b"h1".as_slice()] {
+        assert!(rt; builder.has_name(name));
+    }
+    assert!(rt; !builder.has_name(b"rack"));
+    assert!(rt; builder.has_device(device(&rt, 2)));
+    assert!(rt; !builder.has_device(device(&rt, 3)));
+    assert!(rt; builder.has_bucket_id(bucket(&rt, -2)));
+    assert!(rt; !builder.has_bucket_id(bucket(&rt, -1)));
     Ok(())
 }
 
 /// The device of this number.
-fn device(number: i32) -> Result<ItemId, Fail> {
-    Ok(ItemId::Device(DeviceId::new(number).ok_or("a device")?))
+fn device(rt: &impl Abort, number: i32) -> DeviceId {
+    DeviceId::new(number).expect(rt, "a device")
+}
+
+/// The bucket of this number.
+fn bucket(rt: &impl Abort, number: i32) -> BucketId {
+    BucketId::new(number).expect(rt, "a bucket")
+}
+
+#[test]
+fn a_bucket_that_is_open(rt: HostRuntime) -> Result<(), Fail> {
+    let mut builder = types_and_devices(&rt, rt.alloc())?;
+    begin_bucket(&rt, &mut builder, b"host", b"h1")?;
+    assert!(rt; builder.has_name(b"h1"));
+    open_bucket(&rt, &mut builder, -2)?;
+    assert!(rt; !builder.is_idle());
+    assert_eq!(rt; builder.item_named(b"h1"), None);
+    assert_eq!(rt;
+        builder.item_named(b"osd.0"),
+        Some(ItemId::Device(device(&rt, 0)))
+    );
+    Ok(())
+}
+
+/// Asserts what the item of this name weighs so far, in units.
+fn weighs_now(rt: &impl Abort, builder: &MapBuilder<Global>, name: &str, units: u32) {
+    let id = builder.item_named(name.as_bytes()).expect(rt, name);
+    let weight = builder.weight_of(id);
+    assert_eq!(rt; weight, Some(Weight::from_units(units)), "at {name}");
 }
 
 #[test]
 fn an_item_is_held_once(rt: HostRuntime) -> Result<(), Fail> {
     let mut builder = types_and_devices(&rt, rt.alloc())?;
     begin_bucket(&rt, &mut builder, b"host", b"h1")?;
-    assert!(rt; builder.has_name(b"h1"));
     open_bucket(&rt, &mut builder, -2)?;
-    assert_eq!(rt; builder.item_named(b"h1"), None);
-    assert_eq!(rt; builder.item_named(b"osd.0"), Some(device(0)?));
-    assert!(rt; !builder.is_held(device(0)?));
-    assert_eq!(rt; units_in(&builder, b"osd.0"), Some(0));
+    assert!(rt; !builder.is_held(ItemId::Device(device(&rt, 0))));
+    weighs_now(&rt, &builder, "osd.0", 0);
     add_item(&rt, &mut builder, b"osd.0", 65536)?;
-    assert!(rt; builder.is_held(device(0)?));
-    assert_eq!(rt; units_in(&builder, b"osd.0"), Some(65536));
+    assert!(rt; builder.is_held(ItemId::Device(device(&rt, 0))));
+    weighs_now(&rt, &builder, "osd.0", 65536);
     end_bucket(&rt, &mut builder);
-    assert_eq!(rt; units_in(&builder, b"h1"), Some(65536));
+    weighs_now(&rt, &builder, "h1", 65536);
     Ok(())
-}
-
-/// The units that the item of this name weighs so far.
-fn units_in(builder: &MapBuilder<Global>, name: &[u8]) -> Option<u32> {
-    let id = builder.item_named(name)?;
-    builder.weight_of(id).map(|weight| weight.units())
 }
 
 #[test]

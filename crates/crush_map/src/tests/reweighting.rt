@@ -1,6 +1,6 @@
 //! New weights for the devices of the plain example map.
 
-use crate::tests::building::{example_map, map_with_spare, types_and_devices, units_of};
+use crate::tests::building::{example_map, map_with_spare, types_and_devices, weighs};
 use crate::tests::statements::{add_item, begin_bucket, end_bucket, finish, open_bucket};
 use crate::{CrushMap, Done, Edit, EditFault, Refusal};
 use crush_units::{Name, Weight};
@@ -19,10 +19,10 @@ fn a_new_weight(rt: HostRuntime) -> Result<(), Fail> {
     let mut map = example_map(&rt, rt.alloc())?;
     let edit = reweight(b"osd.2", 65536, rt.alloc())?;
     for changed in [true, false] {
-        assert_eq!(rt; map.apply(&edit)?, Done { changed, made: 0 });
-        assert_eq!(rt; units_of(&map, b"osd.2"), Some(65536));
-        assert_eq!(rt; units_of(&map, b"h2"), Some(65536));
-        assert_eq!(rt; units_of(&map, b"default"), Some(196608));
+        assert_eq!(rt; map.apply(&edit), Ok(Done { changed, made: 0 }));
+        weighs(&rt, &map, "osd.2", 65536);
+        weighs(&rt, &map, "h2", 65536);
+        weighs(&rt, &map, "default", 196608);
         assert_eq!(rt; map.total(), 196608);
     }
     Ok(())
@@ -43,9 +43,8 @@ fn refused_new_weights(rt: HostRuntime) -> Result<(), Fail> {
         let edit = reweight(name, units, rt.alloc())?;
         assert_eq!(rt; map.apply(&edit), Err(EditFault::Refused(refusal)));
     }
-    assert_eq!(rt; map.counts().devices, 4);
-    assert_eq!(rt; map.total(), 163840);
-    assert_eq!(rt; units_of(&map, b"osd.9"), Some(0));
+    weighs(&rt, &map, "osd.9", 0);
+    weighs(&rt, &map, "default", 163840);
     Ok(())
 }
 
@@ -64,15 +63,19 @@ fn full_host(rt: &impl Abort, alloc: Global) -> Result<CrushMap<Global>, Fail> {
 #[test]
 fn a_full_host(rt: HostRuntime) -> Result<(), Fail> {
     let mut map = full_host(&rt, rt.alloc())?;
-    assert_eq!(rt; units_of(&map, b"h1"), Some(4294967295));
+    weighs(&rt, &map, "h1", 4294967295);
     let edit = reweight(b"osd.2", 2, rt.alloc())?;
     assert_eq!(rt;
         map.apply(&edit),
         Err(EditFault::Refused(Refusal::SumTooLarge))
     );
-    assert_eq!(rt; units_of(&map, b"h1"), Some(4294967295));
+    weighs(&rt, &map, "h1", 4294967295);
     let edit = reweight(b"osd.2", 0, rt.alloc())?;
-    assert!(rt; map.apply(&edit)?.changed);
-    assert_eq!(rt; units_of(&map, b"h1"), Some(4294967294));
+    let done = Done {
+        changed: true,
+        made: 0,
+    };
+    assert_eq!(rt; map.apply(&edit), Ok(done));
+    weighs(&rt, &map, "h1", 4294967294);
     Ok(())
 }
