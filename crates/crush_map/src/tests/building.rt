@@ -4,8 +4,7 @@ use crate::tests::statements::{
     add_device, add_item, add_type, begin_bucket, end_bucket, finish, open_bucket,
 };
 use crate::{BuildFault, CrushMap, Kind, MapBuilder, Setting};
-use crush_tree::Counts;
-use crush_units::{BucketId, DeviceId, ItemId, TypeId, Weight};
+use crush_units::{BucketId, DeviceId, ItemId, TypeId};
 use std::alloc::Global;
 use std::process::Abort;
 use std::test::Fail;
@@ -60,8 +59,8 @@ pub fn map_with_spare(rt: &impl Abort, alloc: Global) -> Result<CrushMap<Global>
 
 /// Asserts what the item of this name weighs, in units.
 pub fn weighs(rt: &impl Abort, map: &CrushMap<Global>, name: &str, units: u32) {
-    let weight = map.weight_of(name.as_bytes());
-    assert_eq!(rt; weight, Some(Weight::from_units(units)), "at {name}");
+    let weight = map.weight_of(name.as_bytes()).expect(rt, name);
+    assert_eq!(rt; weight.units(), units, "at {name}");
 }
 
 /// Asserts the number of the item of this name.
@@ -85,19 +84,16 @@ fn the_plain_example_map_is_made(rt: HostRuntime) -> Result<(), Fail> {
         is_numbered(&rt, &map, name, number);
         weighs(&rt, &map, name, units);
     }
-    assert_eq!(rt; map.locate(b"h3"), None);
-    assert_eq!(rt; map.weight_of(b"h3"), None);
+    assert!(rt; map.locate(b"h3").is_none());
+    assert!(rt; map.weight_of(b"h3").is_none());
     Ok(())
 }
 
 #[test]
 fn the_plain_example_map_is_counted(rt: HostRuntime) -> Result<(), Fail> {
     let map = example_map(&rt, rt.alloc())?;
-    let counts = Counts {
-        devices: 3,
-        buckets: 3,
-    };
-    assert_eq!(rt; map.counts(), counts);
+    assert_eq!(rt; map.counts().devices, 3);
+    assert_eq!(rt; map.counts().buckets, 3);
     assert_eq!(rt; map.total(), 163840);
     assert_eq!(rt; map.forest().total(), 163840);
     Ok(())
@@ -105,15 +101,12 @@ fn the_plain_example_map_is_counted(rt: HostRuntime) -> Result<(), Fail> {
 
 /// Asserts that the type has this number and this name, and is found by both.
 fn is_type(rt: &impl Abort, setting: &Setting, kind: &Kind, number: u16, name: &str) {
-    let number = TypeId::new(number);
-    assert_eq!(rt; kind.number, number, "at {name}");
-    assert_eq!(rt; kind.name.as_str(), name);
-    assert_eq!(rt;
-        setting.kind_number(name.as_bytes()),
-        Some(number),
-        "at {name}"
-    );
-    assert_eq!(rt; setting.kind_name(number).expect(rt, name).as_str(), name);
+    assert_eq!(rt; kind.number.number(), number, "at {name}");
+    assert!(rt; kind.name.is(name.as_bytes()), "at {number}");
+    let found = setting.kind_number(name.as_bytes()).expect(rt, name);
+    assert_eq!(rt; found.number(), number, "at {name}");
+    let found = setting.kind_name(kind.number).expect(rt, name);
+    assert!(rt; found.is(name.as_bytes()), "at {number}");
 }
 
 #[test]
@@ -125,7 +118,7 @@ fn the_types_of_the_plain_example_map(rt: HostRuntime) -> Result<(), Fail> {
     for (kind, (number, name)) in setting.kinds().iter().zip(kinds) {
         is_type(&rt, setting, kind, number, name);
     }
-    assert_eq!(rt; setting.kind_number(b"row"), None);
+    assert!(rt; setting.kind_number(b"row").is_none());
     assert!(rt; setting.kind_name(TypeId::new(2)).is_none());
     Ok(())
 }
@@ -175,19 +168,17 @@ fn a_bucket_that_is_open(rt: HostRuntime) -> Result<(), Fail> {
     assert!(rt; builder.has_name(b"h1"));
     open_bucket(&rt, &mut builder, -2)?;
     assert!(rt; !builder.is_idle());
-    assert_eq!(rt; builder.item_named(b"h1"), None);
-    assert_eq!(rt;
-        builder.item_named(b"osd.0"),
-        Some(ItemId::Device(device(&rt, 0)))
-    );
+    assert!(rt; builder.item_named(b"h1").is_none());
+    let id = builder.item_named(b"osd.0").expect(&rt, "an item");
+    assert_eq!(rt; id.number(), 0);
     Ok(())
 }
 
 /// Asserts what the item of this name weighs so far, in units.
 fn weighs_now(rt: &impl Abort, builder: &MapBuilder<Global>, name: &str, units: u32) {
     let id = builder.item_named(name.as_bytes()).expect(rt, name);
-    let weight = builder.weight_of(id);
-    assert_eq!(rt; weight, Some(Weight::from_units(units)), "at {name}");
+    let weight = builder.weight_of(id).expect(rt, name);
+    assert_eq!(rt; weight.units(), units, "at {name}");
 }
 
 #[test]
@@ -213,7 +204,7 @@ fn two_of_the_heaviest_devices_fit_a_host(rt: HostRuntime) -> Result<(), Fail> {
     add_item(&rt, &mut builder, b"osd.0", 2147483647)?;
     add_item(&rt, &mut builder, b"osd.1", 2147483647)?;
     let told = add_item(&rt, &mut builder, b"osd.2", 2);
-    assert_eq!(rt; told, Err(BuildFault::SumTooLarge));
+    assert!(rt; told == Err(BuildFault::SumTooLarge));
     Ok(())
 }
 

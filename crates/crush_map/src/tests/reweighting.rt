@@ -19,7 +19,7 @@ fn a_new_weight(rt: HostRuntime) -> Result<(), Fail> {
     let mut map = example_map(&rt, rt.alloc())?;
     let edit = reweight(b"osd.2", 65536, rt.alloc())?;
     for changed in [true, false] {
-        assert_eq!(rt; map.apply(&edit), Ok(Done { changed, made: 0 }));
+        assert!(rt; map.apply(&edit) == Ok(Done { changed, made: 0 }));
         weighs(&rt, &map, "osd.2", 65536);
         weighs(&rt, &map, "h2", 65536);
         weighs(&rt, &map, "default", 196608);
@@ -41,7 +41,10 @@ fn refused_new_weights(rt: HostRuntime) -> Result<(), Fail> {
     ];
     for (name, units, refusal) in refused {
         let edit = reweight(name, units, rt.alloc())?;
-        assert_eq!(rt; map.apply(&edit), Err(EditFault::Refused(refusal)));
+        assert!(rt;
+            map.apply(&edit) == Err(EditFault::Refused(refusal)),
+            "at {units}"
+        );
     }
     weighs(&rt, &map, "osd.9", 0);
     weighs(&rt, &map, "default", 163840);
@@ -65,17 +68,15 @@ fn a_full_host(rt: HostRuntime) -> Result<(), Fail> {
     let mut map = full_host(&rt, rt.alloc())?;
     weighs(&rt, &map, "h1", 4294967295);
     let edit = reweight(b"osd.2", 2, rt.alloc())?;
-    assert_eq!(rt;
-        map.apply(&edit),
-        Err(EditFault::Refused(Refusal::SumTooLarge))
-    );
+    let refused = EditFault::Refused(Refusal::SumTooLarge);
+    assert!(rt; map.apply(&edit) == Err(refused));
     weighs(&rt, &map, "h1", 4294967295);
     let edit = reweight(b"osd.2", 0, rt.alloc())?;
     let done = Done {
         changed: true,
         made: 0,
     };
-    assert_eq!(rt; map.apply(&edit), Ok(done));
+    assert!(rt; map.apply(&edit) == Ok(done));
     weighs(&rt, &map, "h1", 4294967294);
     Ok(())
 }
