@@ -1,0 +1,226 @@
+//! The forest of the example map, in the machine's memory and in a small heap, and each call of a
+//! forest once.
+
+use super::puts::{
+    Refused, bucket, device, exchange, give_name, has_item, header, is_held, leaf, put_bucket,
+    put_device, put_host, put_root, put_unplaced, weigh, weigh_all,
+};
+use crate::{Forest, Node, Place};
+use crush_units::{ItemId, Name, Weight};
+use linked_list_allocator::LocalHeap;
+use std::alloc::Allocator;
+use std::process::Abort;
+use std::test::Fail;
+
+/// The hosts h1 and h2 in the root `default`: osd.0 and osd.1 in h1 weigh 1.0 each, osd.2 in h2
+/// weighs 0.5.
+fn example<A: Allocator + Clone>(alloc: A) -> Result<Forest<A>, Refused> {
+    let roots = alloc.clone()?;
+    let unplaced = alloc.clone()?;
+    let mut forest = Forest::new(roots, unplaced);
+    add_root(&mut forest, &alloc)?;
+    add_h1(&mut forest, &alloc)?;
+    add_h2(&mut forest, &alloc)?;
+    Ok(forest)
+}
+
+fn add_root<A: Allocator + Clone>(forest: &mut Forest<A>, alloc: &A) -> Result<(), Refused> {
+    let default = header(alloc.clone()?, 1, 11, b"default")?;
+    let alloc = alloc.clone()?;
+    put_root(forest, alloc, default)
+}
+
+/// The host h1 by a bucket and two devices.
+fn add_h1<A: Allocator + Clone>(forest: &mut Forest<A>, alloc: &A) -> Result<(), Refused> {
+    let root = bucket(1)?;
+    let host = bucket(2)?;
+    let h1 = header(alloc.clone()?, 2, 1, b"h1")?;
+    let first = leaf(alloc.clone()?, 0, b"osd.0", 65536)?;
+    let second = leaf(alloc.clone()?, 1, b"osd.1", 65536)?;
+    let alloc = alloc.clone()?;
+    put_bucket(forest, alloc, root, h1)?;
+    put_device(forest, host, first)?;
+    put_device(forest, host, second)
+}
+
+/// The host h2, which holds its device before it comes.
+fn add_h2<A: Allocator + Clone>(forest: &mut Forest<A>, alloc: &A) -> Result<(), Refused> {
+    let root = bucket(1)?;
+    let h2 = header(alloc.clone()?, 3, 1, b"h2")?;
+    let osd = leaf(alloc.clone()?, 2, b"osd.2", 32768)?;
+    let alloc = alloc.clone()?;
+    put_host(forest, alloc, root, h2, osd)
+}
+
+fn is_built<A: Allocator + Clone>(rt: &impl Abort, alloc: A) -> Result<(), Fail> {
+    let (h1, h2, osd) = (bucket(2)?, bucket(3)?, device(2)?);
+    let forest = example(alloc)?;
+    assert_eq!(rt; forest.total(), 163840);
+    assert_eq!(rt; forest.counts().devices, 3);
+    assert_eq!(rt; forest.counts().buckets, 3);
+    assert_eq!(rt;
+        forest.weight(ItemId::Bucket(h1)),
+        Some(Weight::from_units(131072))
+    );
+    assert_eq!(rt;
+        forest.weight(ItemId::Bucket(h2)),
+        Some(Weight::from_units(32768))
+    );
+    assert_eq!(rt; forest.id_of(b"osd.2"), Some(ItemId::Device(osd)));
+    assert_eq!(rt; forest.parent(ItemId::Device(osd)), Some(h2));
+    let copy = forest.try_copy()?;
+    assert!(rt; copy.is_same(&forest));
+    assert_eq!(rt; copy.total(), 163840);
+    Ok(())
+}
+
+#[test]
+fn in_the_machines_memory(rt: HostRuntime) -> Result<(), Fail> {
+    is_built(&rt, rt.alloc())
+}
+
+#[test]
+fn in_a_heap(rt: HostRuntime) -> Result<(), Fail> {
+    let heap = LocalHeap::new(rt.alloc(), 65536)?;
+    is_built(&rt, &heap)
+}
+
+#[test]
+fn without_memory(rt: HostRuntime) -> Result<(), Fail> {
+    let heap = LocalHeap::new(rt.alloc(), 64)?;
+    match example(&heap) {
+        Ok(_) => assert!(rt; false),
+        Err(refused) => assert_eq!(rt; refused, Refused::NoMemory),
+    }
+    Ok(())
+}
+
+#[test]
+fn same_in_any_memory(rt: HostRuntime) -> Result<(), Fail> {
+    let osd = device(2)?;
+    let first = ItemId::Device(device(1)?);
+    let heap = LocalHeap::new(rt.alloc(), 65536)?;
+    let name = Name::read(&heap, b"osd.9")?;
+    let forest = example(rt.alloc())?;
+    let mut other = example(&heap)?;
+    assert!(rt; forest.is_same(&other));
+    weigh(&mut other, osd, Weight::from_units(32769))?;
+    assert!(rt; !forest.is_same(&other));
+    weigh(&mut other, osd, Weight::from_units(32768))?;
+    assert!(rt; forest.is_same(&other));
+    let old = give_name(&mut other, &first, name)?;
+    assert_eq!(rt; old.as_str(), "osd.1");
+    assert!(rt; !other.is_same(&forest));
+    Ok(())
+}
+
+#[test]
+fn class_matters(rt: HostRuntime) -> Result<(), Fail> {
+    let mut ssd = leaf(rt.alloc(), 3, b"osd.3", 0)?;
+    ssd.class = Some(Name::read(rt.alloc(), b"ssd")?);
+    let plain = leaf(rt.alloc(), 3, b"osd.3", 0)?;
+    let mut forest = example(rt.alloc())?;
+    let mut other = forest.try_copy()?;
+    put_unplaced(&mut forest, ssd)?;
+    assert!(rt; !forest.is_same(&other));
+    put_unplaced(&mut other, plain)?;
+    assert!(rt; !forest.is_same(&other));
+    let copy = forest.try_copy()?;
+    assert!(rt; copy.is_same(&forest));
+    Ok(())
+}
+
+#[test]
+fn weights(rt: HostRuntime) -> Result<(), Fail> {
+    let (root, h1, h2, osd) = (bucket(1)?, bucket(2)?, bucket(3)?, device(2)?);
+    let missing = ItemId::Device(device(3)?);
+    let mut forest = example(rt.alloc())?;
+    weigh(&mut forest, osd, Weight::from_units(65536))?;
+    assert_eq!(rt; forest.total(), 196608);
+    assert_eq!(rt;
+        forest.weight(ItemId::Bucket(h2)),
+        Some(Weight::from_units(65536))
+    );
+    weigh_all(&mut forest, root, Weight::from_units(1))?;
+    assert_eq!(rt; forest.total(), 3);
+    assert_eq!(rt;
+        forest.weight(ItemId::Bucket(h1)),
+        Some(Weight::from_units(2))
+    );
+    assert!(rt; !is_held(&forest, &missing));
+    Ok(())
+}
+
+#[test]
+fn names(rt: HostRuntime) -> Result<(), Fail> {
+    let h1 = ItemId::Bucket(bucket(2)?);
+    let free = Name::read(rt.alloc(), b"h9")?;
+    let taken = Name::read(rt.alloc(), b"h2")?;
+    let mut forest = example(rt.alloc())?;
+    let old = give_name(&mut forest, &h1, free)?;
+    assert_eq!(rt; old.as_str(), "h1");
+    assert_eq!(rt; forest.id_of(b"h9"), Some(h1));
+    assert_eq!(rt; forest.id_of(b"h1"), None);
+    assert!(rt; give_name(&mut forest, &h1, taken).is_err());
+    Ok(())
+}
+
+#[test]
+fn what_is_below(rt: HostRuntime) -> Result<(), Fail> {
+    let (root, h1, osd) = (bucket(1)?, bucket(2)?, device(2)?);
+    let forest = example(rt.alloc())?;
+    assert!(rt; forest.contains(root, ItemId::Device(osd)));
+    assert!(rt; forest.contains(h1, ItemId::Bucket(h1)));
+    assert!(rt; !forest.contains(h1, ItemId::Device(osd)));
+    assert!(rt; !forest.contains(h1, ItemId::Bucket(root)));
+    Ok(())
+}
+
+#[test]
+fn out_and_in_again(rt: HostRuntime) -> Result<(), Fail> {
+    let (root, h2, osd) = (bucket(1)?, bucket(3)?, device(2)?);
+    let gone = ItemId::Device(osd);
+    let mut forest = example(rt.alloc())?;
+    let whole = forest.try_copy()?;
+    let Some(node) = forest.detach(ItemId::Bucket(h2)) else {
+        return Err("h2 is there".into());
+    };
+    assert_eq!(rt; node.weight(), Weight::from_units(32768));
+    assert_eq!(rt; forest.total(), 131072);
+    assert!(rt; !has_item(&forest, &gone));
+    assert!(rt; forest.detach(ItemId::Device(osd)).is_none());
+    assert!(rt; forest.has_room(Place::Bucket(root)));
+    add_h2(&mut forest, &rt.alloc())?;
+    assert!(rt; forest.is_same(&whole));
+    Ok(())
+}
+
+#[test]
+fn two_hosts_exchanged(rt: HostRuntime) -> Result<(), Fail> {
+    let (root, h1, h2) = (bucket(1)?, bucket(2)?, bucket(3)?);
+    let mut forest = example(rt.alloc())?;
+    let whole = forest.try_copy()?;
+    exchange(&mut forest, h1, h2)?;
+    assert_eq!(rt; forest.id_of(b"h1"), Some(ItemId::Bucket(h2)));
+    assert_eq!(rt;
+        forest.weight(ItemId::Bucket(h2)),
+        Some(Weight::from_units(131072))
+    );
+    assert_eq!(rt; forest.total(), 163840);
+    assert_eq!(rt; exchange(&mut forest, root, h1), Err(Refused::Unfit));
+    exchange(&mut forest, h1, h2)?;
+    assert!(rt; forest.is_same(&whole));
+    Ok(())
+}
+
+#[test]
+fn held_by_hand(rt: HostRuntime) -> Result<(), Fail> {
+    let header = header(rt.alloc(), 2, 1, b"h1")?;
+    let osd = leaf(rt.alloc(), 0, b"osd.0", 65536)?;
+    let Ok(mut host) = Node::bucket(rt.alloc(), header) else {
+        return Err("no memory".into());
+    };
+    host.hold(Node::device(osd.id, osd.name, Weight::from_units(65536), osd.class));
+    assert_eq!(rt; host.weight(), Weight::from_units(65536));
+    Ok(())
+}
