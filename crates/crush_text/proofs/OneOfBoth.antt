@@ -1,15 +1,15 @@
 -- Bytes are the text of one map or have one flaw, and never both.
-use Rattle.std.proofs.Common.{◌≡◌, ℕ, false, List, [], ◌∷◌, ◌++◌, Result, Ok, Err, refl, sym, ap, ◌∙◌, inl, inr}
+use Rattle.std.proofs.Common.{◌≡◌, ℕ, false, List, [], ◌∷◌, ◌++◌, Result, Ok, Err, refl, sym, ap, subst, ◌∙◌, inl, inr}
 use Rattle.std.specs.Prelude.{◌⊎◌}
 use Rattle.crush_map.specs.Built.{Draft, empty_draft}
 use Rattle.crush_text.specs.declared.fault.TextFaultKind.{TextFaultKind}
 use Rattle.crush_text.specs.declared.fault.TextFault.{TextFault}
 use Rattle.crush_text.specs.Words.{Word, Stop, Text, words}
-use Rattle.crush_text.specs.Judges.{◌>>=◌}
-use Rattle.crush_text.specs.Flow.{State, between, run, outcome, placed}
+use Rattle.crush_text.specs.Judges.{◌>>=◌, new_name, algorithm}
+use Rattle.crush_text.specs.Flow.{Part, State, between, device_name, bucket_alg, step, run, outcome, placed}
 use Rattle.crush_text.specs.Meaning.{after}
 use Rattle.crush_text.specs.Flaw.{Reaches, IsFaulty, start, IsFlaw}
-use Rattle.crush_text.specs.MapOrFlaw.{AFlawExcludesTheMap, AtMostOneFlaw, AtMostOneMap, HasMap, HasFlaw, AMapOrAFlaw}
+use Rattle.crush_text.specs.MapOrFlaw.{AFlawExcludesTheMap, AtMostOneFlaw, SameWordsSameFlaw, AtMostOneMap, HasMap, HasFlaw, AMapOrAFlaw}
 use Rattle.crush_text.proofs.Forms.{words_are_formed}
 use Rattle.crush_text.proofs.Reached.{built_is}
 use Rattle.crush_text.proofs.Whole.{document_of, outcome_of, flaw_of}
@@ -47,6 +47,45 @@ pub at_most_one_flaw : AtMostOneFlaw
 at_most_one_flaw bytes f g x y =
     let k = sym (flaw_outcome (words 0 bytes) f x) ∙ flaw_outcome (words 0 bytes) g y in
     cc
+
+-- where a word leads depends on no more than the next one
+next_alone : (d : Draft) (part : Part) (text : List ℕ) (w : Word) (ws us : List Word) → step d part text (w ∷ ws) ≡ step d part text (w ∷ us)
+unfolding step
+next_alone d (between b) text w ws us = refl
+next_alone d part text w ws us = refl
+
+-- a fault stays one, whatever else would be done
+still_err : {A : Type 0} (r : Result A TextFaultKind) (g h : A → State) (k : TextFaultKind) → (r >>= λ a. Ok (g a)) ≡ Err k → (r >>= λ a. Ok (h a)) ≡ Err k
+still_err (Ok a) g h k e = absurd cc
+still_err (Err j) g h k e = e
+
+-- and whatever follows
+fault_alone : (d : Draft) (part : Part) (text : List ℕ) (ws us : List Word) (k : TextFaultKind) → step d part text ws ≡ Err k → step d part text us ≡ Err k
+unfolding step
+fault_alone d (device_name n) text ws us k e = still_err (new_name d text) _ _ k e
+fault_alone d (bucket_alg c x b) text ws us k e = still_err (algorithm text) _ _ k e
+fault_alone d part text ws us k e = e
+
+-- words lead to the same where the same word follows them
+reached_so : (s : State) (ws : List Word) (w : Word) (next more : List Word) (u : State) → Reaches s ws (w ∷ next) u → Reaches s ws (w ∷ more) u
+reached_so s [] w next more u r = r
+reached_so s (v ∷ []) w next more u r = (r.0, next_alone s.draft s.part v.text w more next ∙ r.1, r.2)
+reached_so s (v ∷ x ∷ ws) w next more u r = (r.0, next_alone s.draft s.part v.text x (ws ++ w ∷ more) (ws ++ w ∷ next) ∙ r.1, reached_so r.0 (x ∷ ws) w next more u r.2)
+
+-- so the words up to a fault's word have the flaw, whatever follows them
+pub same_words_same_flaw : SameWordsSameFlaw
+same_words_same_flaw bytes others f x w next more is begins =
+    let fault : IsFaulty x.so_far (w ∷ next) (words 0 bytes).stop f = subst (λ (ws : List Word). IsFaulty x.so_far ws (words 0 bytes).stop f) is x.fault in
+    record {
+      before = x.before;
+      next = w ∷ more;
+      all = begins;
+      so_far = x.so_far;
+      reached = reached_so start x.before w next more x.so_far (subst (λ (ws : List Word). Reaches start x.before ws x.so_far) is x.reached);
+      doc = x.doc;
+      spelled = x.spelled;
+      fault = (fault_alone x.so_far.draft x.so_far.part w.text next more f.kind fault.0, fault.1);
+    }
 
 -- what is spelled is the one map that is read
 pub at_most_one_map : AtMostOneMap

@@ -1,8 +1,9 @@
 -- What bytes can be: the text of one map, or bytes with one flaw.
-use Rattle.std.specs.Prelude.{◌≡◌, ◌⊎◌, ℕ, List}
+use Rattle.std.specs.Prelude.{◌≡◌, ◌⊎◌, ℕ, List, ◌∷◌, ◌++◌}
 use Rattle.crush_table.specs.Table.{Row}
 use Rattle.crush_table.specs.Setting.{SettingData}
 use Rattle.crush_text.specs.declared.fault.TextFault.{TextFault}
+use Rattle.crush_text.specs.Words.{Word, words}
 use Rattle.crush_text.specs.Document.{IsMapText}
 use Rattle.crush_text.specs.Flaw.{IsMapFlaw}
 
@@ -14,7 +15,11 @@ AFlawExcludesTheMap = (bytes : List ℕ) (f : TextFault) (s : SettingData) (t : 
 abbrev pub AtMostOneFlaw : Type 0
 AtMostOneFlaw = (bytes : List ℕ) (f g : TextFault) → IsMapFlaw bytes f → IsMapFlaw bytes g → f ≡ g
 
--- and the text of a map is that of no other one
+-- nor does what follows the fault's word change it: bytes with the same words up to that word have the same flaw
+abbrev pub SameWordsSameFlaw : Type 0
+SameWordsSameFlaw = (bytes others : List ℕ) (f : TextFault) (x : IsMapFlaw bytes f) (w : Word) (next more : List Word) → x.next ≡ w ∷ next → (words 0 others).words ≡ x.before ++ w ∷ more → IsMapFlaw others f
+
+-- the text of a map is that of no other one
 abbrev pub AtMostOneMap : Type 0
 AtMostOneMap = (bytes : List ℕ) (s r : SettingData) (t u : List Row) (n m : ℕ) → IsMapText bytes s t n → IsMapText bytes r u m → (s ≡ r) × (t ≡ u) × (n ≡ m)
 

@@ -9,7 +9,7 @@ ghost use Rattle.crush_map.specs.Built.{Draft};
 ghost use Rattle.crush_map.specs.Building.{IsDraft};
 ghost use Rattle.crush_text.specs.Document.{IsMapText};
 ghost use Rattle.crush_text.specs.Flaw.{IsWant, IsFlawOrWant};
-ghost use Rattle.crush_text.specs.MapOrFlaw.{AFlawExcludesTheMap, AtMostOneFlaw, AtMostOneMap, AMapOrAFlaw};
+ghost use Rattle.crush_text.specs.MapOrFlaw.{AFlawExcludesTheMap, AtMostOneFlaw, SameWordsSameFlaw, AtMostOneMap, AMapOrAFlaw};
 
 mod bucket;
 mod first;
@@ -73,10 +73,12 @@ pub fn read_map_in<A: Allocator + Clone>(
 }
 
 /// Bytes are the text of one map or have one flaw, and never both: where there is a flaw no map is
-/// spelled. There is nothing to run: the contract is the law.
+/// spelled, nor is one whatever else follows the fault's word. There is nothing to run: the contract
+/// is the law.
 pub fn a_text_has_one_map_or_one_flaw()
     ensures excludes { AFlawExcludesTheMap }
     ensures flaw { AtMostOneFlaw }
+    ensures same { SameWordsSameFlaw }
     ensures map { AtMostOneMap }
     ensures either { AMapOrAFlaw }
 {}

@@ -1,4 +1,4 @@
-use Rattle.crush_text.proofs.OneOfBoth.{a_flaw_excludes_the_map, at_most_one_flaw, at_most_one_map, a_map_or_a_flaw}
+use Rattle.crush_text.proofs.OneOfBoth.{a_flaw_excludes_the_map, at_most_one_flaw, same_words_same_flaw, at_most_one_map, a_map_or_a_flaw}
 use Rattle.crush_text.proofs.reader.a_text_has_one_map_or_one_flaw.Goals as goal
 
 pub returns-clause-excludes : goal.returns-clause-excludes
@@ -6,6 +6,9 @@ returns-clause-excludes c = a_flaw_excludes_the_map
 
 pub returns-clause-flaw : goal.returns-clause-flaw
 returns-clause-flaw c = at_most_one_flaw
+
+pub returns-clause-same : goal.returns-clause-same
+returns-clause-same c = same_words_same_flaw
 
 pub returns-clause-map : goal.returns-clause-map
 returns-clause-map c = at_most_one_map
