@@ -1,9 +1,10 @@
 //! The forest of the example map, in the machine's memory and in a small heap, and each call of a
 //! forest once.
 
+use super::asks::{has_item, is_held};
 use super::puts::{
-    Refused, bucket, device, exchange, give_name, has_item, header, is_held, leaf, put_bucket,
-    put_device, put_host, put_root, put_unplaced, weigh, weigh_all,
+    Refused, bucket, device, exchange, give_name, header, leaf, put_bucket, put_device, put_host,
+    put_root, put_unplaced, weigh, weigh_all,
 };
 use crate::{Forest, Node, Place};
 use crush_units::{ItemId, Name, Weight};

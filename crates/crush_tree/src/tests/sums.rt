@@ -1,8 +1,8 @@
 //! Sums at their limits: 4294967295 units in a bucket, 8796093022207 in all.
 
+use super::asks::{fits, fits_moved};
 use super::puts::{
-    Refused, bucket, device as number, fits, fits_moved, header, leaf, put_bucket, put_device,
-    put_root,
+    Refused, bucket, device as number, header, leaf, put_bucket, put_device, put_root,
 };
 use crate::Forest;
 use crush_units::{BucketId, Weight};

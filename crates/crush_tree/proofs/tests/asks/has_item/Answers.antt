@@ -4,7 +4,7 @@ use Rattle.crush_table.specs.Rows.{rows_of}
 use Rattle.crush_table.specs.Table.{Row, row_of}
 use Rattle.crush_table.proofs.Stands.{stands_for_rows}
 use Rattle.crush_tree.proofs.Options.{is_some-map}
-use Rattle.crush_tree.proofs.tests.puts.has_item.Goals as goal
+use Rattle.crush_tree.proofs.tests.asks.has_item.Goals as goal
 
 pub returns : goal.returns
 returns g c =

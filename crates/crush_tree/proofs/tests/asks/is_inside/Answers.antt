@@ -6,7 +6,7 @@ use Rattle.crush_table.specs.Rows.{rows_of}
 use Rattle.crush_table.specs.Table.{is_below}
 use Rattle.crush_table.proofs.Stands.{stands_for_rows}
 use Rattle.crush_tree.proofs.IntoLaws.{same_bucket}
-use Rattle.crush_tree.proofs.tests.puts.is_inside.Goals as goal
+use Rattle.crush_tree.proofs.tests.asks.is_inside.Goals as goal
 
 pub returns-in-Bucket : goal.returns-in-Bucket
 returns-in-Bucket g c =

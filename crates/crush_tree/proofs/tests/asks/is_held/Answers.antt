@@ -2,7 +2,7 @@ use Rattle.std.proofs.Common.{ap, ◌∙◌}
 use Rattle.std.specs.Prelude.{is_some}
 use Rattle.crush_table.specs.Rows.{rows_of}
 use Rattle.crush_table.proofs.Stands.{stands_for_rows}
-use Rattle.crush_tree.proofs.tests.puts.is_held.Goals as goal
+use Rattle.crush_tree.proofs.tests.asks.is_held.Goals as goal
 
 pub returns : goal.returns
 returns g c =

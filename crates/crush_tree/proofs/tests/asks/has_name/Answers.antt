@@ -3,7 +3,7 @@ use Rattle.std.specs.Prelude.{is_some}
 use Rattle.crush_table.specs.Rows.{rows_of}
 use Rattle.crush_table.specs.Table.{is_named}
 use Rattle.crush_table.proofs.Stands.{stands_for_rows}
-use Rattle.crush_tree.proofs.tests.puts.has_name.Goals as goal
+use Rattle.crush_tree.proofs.tests.asks.has_name.Goals as goal
 
 pub returns-clause-named : goal.returns-clause-named
 returns-clause-named g c =
