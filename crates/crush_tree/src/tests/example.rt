@@ -86,14 +86,23 @@ fn in_a_heap(rt: HostRuntime) -> Result<(), Fail> {
     is_built(&rt, &heap)
 }
 
+/// Heaps that are too small have no memory for the forest. The first that holds it has none for a
+/// copy, and the forest is then as it was.
 #[test]
-fn without_memory(rt: HostRuntime) -> Result<(), Fail> {
-    let heap = LocalHeap::new(rt.alloc(), 64)?;
-    match example(&heap) {
-        Ok(_) => assert!(rt; false),
-        Err(refused) => assert_eq!(rt; refused, Refused::NoMemory),
+fn in_heaps_of_each_size(rt: HostRuntime) -> Result<(), Fail> {
+    let whole = example(rt.alloc())?;
+    for i in 1..1024 {
+        let heap = LocalHeap::new(rt.alloc(), 64 * i)?;
+        match example(&heap) {
+            Ok(forest) => {
+                assert!(rt; forest.try_copy().is_err());
+                assert!(rt; forest.is_same(&whole));
+                return Ok(());
+            }
+            Err(refused) => assert_eq!(rt; refused, Refused::NoMemory),
+        }
     }
-    Ok(())
+    Err("no heap holds the forest".into())
 }
 
 #[test]
