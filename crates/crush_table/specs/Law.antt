@@ -6,7 +6,7 @@ use Rattle.crush_units.specs.declared.id.ItemId.TheVariants.{Device, Bucket}
 use Rattle.crush_units.specs.Id.{same_id}
 use Rattle.crush_units.specs.Name.{IsName}
 use Rattle.crush_table.specs.Items.{Items, none, device, bucket}
-use Rattle.crush_table.specs.Table.{Row, row_of, climb, above, kids, sum_below, weight_of, is_there, is_named, is_placed, member, used_ids}
+use Rattle.crush_table.specs.Table.{Row, row_of, row_named, climb, above, kids, sum_below, total, weight_of, is_there, is_named, is_placed, member, used_ids, free_ids, device_count, bucket_count}
 use Rattle.crush_table.specs.Same.{Same}
 use Rattle.crush_table.specs.Lawful.{IsRow, Lawful, is_too_heavy, has_too_many}
 use Rattle.crush_table.specs.Columns.{set_weight, set_subtree, set_name, swap_buckets, are_nested, is_part, table_without, part, without_row}
@@ -19,6 +19,24 @@ SumsItems t = (b : ℕ) → sum_below t b ≡ sum_by (λ i. unwrap_or (weight_of
 -- to climb more often than there are rows leads no further
 abbrev pub ClimbEnds : List Row → Type 0
 ClimbEnds t = (n : ℕ) (i : ItemId) → length t ≤ n → climb t n i ≡ above t i
+
+-- what is read off both tables is equal: the row of each id and each name, and so all columns; the items of a bucket in order; what is above an item; weights, counts and ids in use
+pub record AreReadAlike (t u : List Row) : Type 0 where
+  pub row : (i : ItemId) → row_of t i ≡ row_of u i
+  pub named : (n : List ℕ) → row_named t n ≡ row_named u n
+  pub kids : (b : ℕ) → kids t b ≡ kids u b
+  pub above : (i : ItemId) → above t i ≡ above u i
+  pub sum : (b : ℕ) → sum_below t b ≡ sum_below u b
+  pub weight : (i : ItemId) → weight_of t i ≡ weight_of u i
+  pub total : total t ≡ total u
+  pub devices : device_count t ≡ device_count u
+  pub buckets : bucket_count t ≡ bucket_count u
+  pub used : (k : ℕ) → member k (used_ids t) ≡ member k (used_ids u)
+  pub free : (n : ℕ) → free_ids t n ≡ free_ids u n
+
+-- so it is of a lawful table and each that is the same, and both are lawful
+abbrev pub SameIsAlike : Type 0
+SameIsAlike = (t u : List Row) → Lawful t → Same t u → AreReadAlike t u × Lawful u
 
 -- a change makes the same of tables that are the same
 abbrev pub KeepsSame : (List Row → List Row) → Type 0

@@ -4,7 +4,6 @@ use Rattle.std.specs.Prelude.{refl, ◌≡◌, ℕ, ◌<◌, ◌≤◌, List, []
 use Rattle.std.specs.Option.{option_map}
 use Rattle.std.specs.List.{count_by, list_any}
 use Rattle.crush_units.specs.Name.{IsName}
-use Rattle.crush_table.specs.Reordered.{IsReordered}
 use Rattle.crush_table.specs.Table.{Row}
 
 -- a type: its number and its name
@@ -37,10 +36,6 @@ pub record IsKind (k : KindData) : Type 0 where
   pub number : k.number ≤ 65535
   pub name : IsName k.name
   pub free : 0 < k.number → is_reserved k.name ≡ false
-
--- the same types, in whatever order
-pub record SameSetting (s u : SettingData) : Type 0 where
-  pub kinds : IsReordered s.kinds u.kinds
 
 -- the type of the row is one of the setting's, but that a device's type 0 need not be declared
 abbrev pub HasKind : SettingData → Row → Type 0

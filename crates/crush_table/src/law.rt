@@ -3,7 +3,7 @@
 ghost use Rattle.std.specs.Prelude.{◌≡◌, ℕ, List, ◌++◌, true};
 ghost use Rattle.crush_units.specs.declared.id.ItemId.{ItemId};
 ghost use Rattle.crush_table.specs.Columns.{set_weight, set_subtree, set_name, table_without, part, without_row, exchange_parents, swap_buckets};
-ghost use Rattle.crush_table.specs.Law.{SumsItems, ClimbEnds, KeepsSame, KeepsLawful, WeightKeepsLawful, SubtreeKeepsLawful, NameKeepsLawful, MoveKeepsLawful, SwapKeepsLawful, DeviceKeepsLawful, BucketKeepsLawful, RowsKeepLawful, StandsForOne, Relocates};
+ghost use Rattle.crush_table.specs.Law.{SumsItems, ClimbEnds, SameIsAlike, KeepsSame, KeepsLawful, WeightKeepsLawful, SubtreeKeepsLawful, NameKeepsLawful, MoveKeepsLawful, SwapKeepsLawful, DeviceKeepsLawful, BucketKeepsLawful, RowsKeepLawful, StandsForOne, Relocates};
 ghost use Rattle.crush_table.specs.Lawful.{Lawful};
 ghost use Rattle.crush_table.specs.Rows.{ForestData};
 ghost use Rattle.crush_table.specs.Table.{Row};
@@ -13,6 +13,12 @@ ghost use Rattle.crush_table.specs.Tested.{is_lawful};
 pub fn sums_are_those_of_items()
     ensures sums { (t : List Row) → Lawful t → SumsItems t }
     ensures ends { (t : List Row) → Lawful t → ClimbEnds t }
+{}
+
+/// Whatever is read off a lawful table is equal on a table that is the same, and that one is lawful
+/// too: the order of the rows tells nothing but the order of each bucket's items.
+pub fn same_tables_are_read_alike()
+    ensures { SameIsAlike }
 {}
 
 /// Each change of a table makes the same of tables that are the same, whatever the order of their

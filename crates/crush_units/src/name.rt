@@ -62,8 +62,9 @@ impl<A: Allocator> Model for Name<A> {
 impl<A: Allocator> Name<A> {
     /// The name that has these bytes.
     ///
-    /// Refused where the bytes are none: [`NameFault::Empty`] first, then the first bad byte, then
-    /// the length.
+    /// Refused where the bytes are none: [`NameFault::Empty`], then [`NameFault::BadByte`] with the
+    /// place of the first bad byte, then [`NameFault::TooLong`]. [`NameFault::OutOfMemory`] is told
+    /// only of bytes that are a name.
     pub fn read(alloc: A, bytes: &[u8]) -> Result<Name<A>, NameFault>
         ensures value { IfOk result (λ name. name ≡ bytes.now) }
         ensures name { OnOk result (IsName bytes.now) }
@@ -87,7 +88,7 @@ impl<A: Allocator> Name<A> {
         }
     }
 
-    /// The name as text.
+    /// The name as text, of 1 to 255 bytes.
     pub fn as_str(&self) -> &str
         ensures value { result.now ≡ self.now }
         ensures name { IsName self.now }
@@ -103,7 +104,8 @@ impl<A: Allocator> Name<A> {
         self.text.as_bytes()
     }
 
-    /// A copy in memory of the given allocator, which may be another than the name's own.
+    /// A copy in memory of the given allocator, which may be another than the name's own. An Err is
+    /// want of memory there.
     pub fn try_copy<B: Allocator>(&self, alloc: B) -> Result<Name<B>, AllocError>
         ensures { IfOk result (λ copy. copy ≡ self.now) }
     {

@@ -73,16 +73,20 @@ impl Weight {
         self.units <= 2147483647
     }
 
-    /// The weight that a text says, rounded to the nearest unit, a half going up.
+    /// The weight that a text says, rounded to the nearest unit, a half going up: `1.0` is 65536
+    /// units, and so is what `crushtool` prints as `1.00000`.
     ///
-    /// The text is 1 to 10 digits, and optionally a point and 1 to 18 digits.
+    /// The text is 1 to 10 digits, and optionally a point and 1 to 18 digits, else it is refused
+    /// as [`WeightFault::Syntax`]. More than 4294967295 units after rounding are
+    /// [`WeightFault::TooLarge`].
     pub fn read(text: &str) -> Result<Weight, WeightFault>
         ensures { result ≡ weight_of text.now }
     {
         Weight::read_bytes(text.as_bytes())
     }
 
-    /// The same for the bytes of a text.
+    /// The weight that the bytes of a text say, by the rule and with the faults of
+    /// [`Weight::read`].
     pub fn read_bytes(text: &[u8]) -> Result<Weight, WeightFault>
         ensures { result ≡ weight_of text.now }
     {
@@ -102,7 +106,11 @@ impl Weight {
         rounded(number, fraction.len())
     }
 
-    /// Writes the weight with five digits after the point, and returns the length of the text.
+    /// Writes the weight to the front of the given bytes and returns the length of the text, 7 to
+    /// 11: a whole number, a point and five digits, as `crushtool` prints it.
+    ///
+    /// It is rounded to the nearest hundred-thousandth of 1.0, a half going up. Nothing is said of
+    /// the bytes behind the text.
     #[tactic(auto, using(crate::proofs::Parts::whole_part_short))]
     pub fn text(&self, out: &mut [u8; 16]) -> usize
         ensures fits { result ≤ 16 }
