@@ -73,8 +73,8 @@ impl Weight {
         self.units <= 2147483647
     }
 
-    /// The weight that a text says, rounded to the nearest unit, a half going up: `1.0` is 65536
-    /// units, and so is what `crushtool` prints as `1.00000`.
+    /// The weight that a text says, rounded to the nearest unit, a half going up: `1.0` and
+    /// `1.00000` are 65536 units.
     ///
     /// The text is 1 to 10 digits, and optionally a point and 1 to 18 digits, else it is refused
     /// as [`WeightFault::Syntax`]. More than 4294967295 units after rounding are
@@ -107,7 +107,7 @@ impl Weight {
     }
 
     /// Writes the weight to the front of the given bytes and returns the length of the text, 7 to
-    /// 11: a whole number, a point and five digits, as `crushtool` prints it.
+    /// 11: a whole number, a point and five digits.
     ///
     /// It is rounded to the nearest hundred-thousandth of 1.0, a half going up. Nothing is said of
     /// the bytes behind the text.
