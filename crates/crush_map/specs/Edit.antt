@@ -39,9 +39,6 @@ meets test (Some x) = test x
 abbrev pub is_heavy : ℕ → Bool
 is_heavy w = nat_lt 2147483647 w
 
-abbrev pub is_a_device : Option ItemId → Bool
-is_a_device i = meets is_device i
-
 abbrev pub is_a_bucket : Option ItemId → Bool
 is_a_bucket i = meets (λ x. not (is_device x)) i
 
@@ -75,3 +72,7 @@ refusal s t e = first_refusal (tests s t e (after s t e))
 -- THE EDIT
 abbrev pub edit : SettingData → List Row → Edit → Answer
 edit s t e = answer (refusal s t e) t (after s t e)
+
+-- whether the edit is made with memory that is taken for it: a weight is set in its place
+abbrev pub takes_memory : Edit → Bool
+takes_memory (Reweight n w) = false

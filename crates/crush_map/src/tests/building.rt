@@ -5,13 +5,17 @@ use crate::tests::statements::{
 };
 use crate::{BuildFault, CrushMap, Kind, MapBuilder, Setting};
 use crush_units::{BucketId, DeviceId, ItemId, TypeId};
-use std::alloc::Global;
+use std::alloc::{Allocator, Global};
 use std::process::Abort;
 use std::test::Fail;
 
 /// The types and devices of the plain example map.
-pub fn types_and_devices(rt: &impl Abort, alloc: Global) -> Result<MapBuilder<Global>, Fail> {
-    let mut builder = MapBuilder::new(alloc, alloc)?;
+pub fn types_and_devices<A: Allocator + Clone>(
+    rt: &impl Abort,
+    machine: Global,
+    alloc: A,
+) -> Result<MapBuilder<A>, BuildFault> {
+    let mut builder = MapBuilder::new(machine, alloc)?;
     add_device(rt, &mut builder, 0, b"osd.0")?;
     add_device(rt, &mut builder, 1, b"osd.1")?;
     add_device(rt, &mut builder, 2, b"osd.2")?;
@@ -23,7 +27,10 @@ pub fn types_and_devices(rt: &impl Abort, alloc: Global) -> Result<MapBuilder<Gl
 }
 
 /// The buckets of the plain example map, but for the last brace.
-fn add_buckets(rt: &impl Abort, builder: &mut MapBuilder<Global>) -> Result<(), Fail> {
+fn add_buckets<A: Allocator + Clone>(
+    rt: &impl Abort,
+    builder: &mut MapBuilder<A>,
+) -> Result<(), BuildFault> {
     begin_bucket(rt, builder, b"host", b"h1")?;
     open_bucket(rt, builder, -2)?;
     add_item(rt, builder, b"osd.0", 65536)?;
@@ -41,8 +48,12 @@ fn add_buckets(rt: &impl Abort, builder: &mut MapBuilder<Global>) -> Result<(), 
 }
 
 /// The plain example map.
-pub fn example_map(rt: &impl Abort, alloc: Global) -> Result<CrushMap<Global>, Fail> {
-    let mut builder = types_and_devices(rt, alloc)?;
+pub fn example_map<A: Allocator + Clone>(
+    rt: &impl Abort,
+    machine: Global,
+    alloc: A,
+) -> Result<CrushMap<A>, BuildFault> {
+    let mut builder = types_and_devices(rt, machine, alloc)?;
     add_buckets(rt, &mut builder)?;
     end_bucket(rt, &mut builder);
     Ok(finish(rt, builder))
@@ -50,7 +61,7 @@ pub fn example_map(rt: &impl Abort, alloc: Global) -> Result<CrushMap<Global>, F
 
 /// The plain example map with the unplaced device osd.9.
 pub fn map_with_spare(rt: &impl Abort, alloc: Global) -> Result<CrushMap<Global>, Fail> {
-    let mut builder = types_and_devices(rt, alloc)?;
+    let mut builder = types_and_devices(rt, alloc, alloc)?;
     add_device(rt, &mut builder, 9, b"osd.9")?;
     add_buckets(rt, &mut builder)?;
     end_bucket(rt, &mut builder);
@@ -71,7 +82,7 @@ fn is_numbered(rt: &impl Abort, map: &CrushMap<Global>, name: &str, number: i32)
 
 #[test]
 fn the_plain_example_map_is_made(rt: HostRuntime) -> Result<(), Fail> {
-    let map = example_map(&rt, rt.alloc())?;
+    let map = example_map(&rt, rt.alloc(), rt.alloc())?;
     let items = [
         ("osd.0", 0, 65536),
         ("osd.1", 1, 65536),
@@ -91,7 +102,7 @@ fn the_plain_example_map_is_made(rt: HostRuntime) -> Result<(), Fail> {
 
 #[test]
 fn the_plain_example_map_is_counted(rt: HostRuntime) -> Result<(), Fail> {
-    let map = example_map(&rt, rt.alloc())?;
+    let map = example_map(&rt, rt.alloc(), rt.alloc())?;
     assert_eq!(rt; map.counts().devices, 3);
     assert_eq!(rt; map.counts().buckets, 3);
     assert_eq!(rt; map.total(), 163840);
@@ -111,7 +122,7 @@ fn is_type(rt: &impl Abort, setting: &Setting, kind: &Kind, number: u16, name: &
 
 #[test]
 fn the_types_of_the_plain_example_map(rt: HostRuntime) -> Result<(), Fail> {
-    let map = example_map(&rt, rt.alloc())?;
+    let map = example_map(&rt, rt.alloc(), rt.alloc())?;
     let setting = map.setting();
     let kinds = [(0, "osd"), (1, "host"), (3, "rack"), (11, "root")];
     assert_eq!(rt; setting.kinds().len(), kinds.len());
@@ -125,7 +136,7 @@ fn the_types_of_the_plain_example_map(rt: HostRuntime) -> Result<(), Fail> {
 
 #[test]
 fn types_that_were_declared(rt: HostRuntime) -> Result<(), Fail> {
-    let builder = types_and_devices(&rt, rt.alloc())?;
+    let builder = types_and_devices(&rt, rt.alloc(), rt.alloc())?;
     assert!(rt; builder.has_kind_number(TypeId::new(3)));
     assert!(rt; !builder.has_kind_number(TypeId::new(2)));
     assert!(rt; builder.has_kind_name(b"rack"));
@@ -137,7 +148,7 @@ fn types_that_were_declared(rt: HostRuntime) -> Result<(), Fail> {
 
 #[test]
 fn names_and_ids_that_are_taken(rt: HostRuntime) -> Result<(), Fail> {
-    let mut builder = types_and_devices(&rt, rt.alloc())?;
+    let mut builder = types_and_devices(&rt, rt.alloc(), rt.alloc())?;
     begin_bucket(&rt, &mut builder, b"host", b"h1")?;
     open_bucket(&rt, &mut builder, -2)?;
     for name in [b"osd.2".as_slice(), b"h1".as_slice()] {
@@ -163,7 +174,7 @@ fn bucket(rt: &impl Abort, number: i32) -> BucketId {
 
 #[test]
 fn a_bucket_that_is_open(rt: HostRuntime) -> Result<(), Fail> {
-    let mut builder = types_and_devices(&rt, rt.alloc())?;
+    let mut builder = types_and_devices(&rt, rt.alloc(), rt.alloc())?;
     begin_bucket(&rt, &mut builder, b"host", b"h1")?;
     assert!(rt; builder.has_name(b"h1"));
     open_bucket(&rt, &mut builder, -2)?;
@@ -183,7 +194,7 @@ fn weighs_now(rt: &impl Abort, builder: &MapBuilder<Global>, name: &str, units: 
 
 #[test]
 fn an_item_is_held_once(rt: HostRuntime) -> Result<(), Fail> {
-    let mut builder = types_and_devices(&rt, rt.alloc())?;
+    let mut builder = types_and_devices(&rt, rt.alloc(), rt.alloc())?;
     begin_bucket(&rt, &mut builder, b"host", b"h1")?;
     open_bucket(&rt, &mut builder, -2)?;
     assert!(rt; !builder.is_held(ItemId::Device(device(&rt, 0))));
@@ -198,7 +209,7 @@ fn an_item_is_held_once(rt: HostRuntime) -> Result<(), Fail> {
 
 #[test]
 fn two_of_the_heaviest_devices_fit_a_host(rt: HostRuntime) -> Result<(), Fail> {
-    let mut builder = types_and_devices(&rt, rt.alloc())?;
+    let mut builder = types_and_devices(&rt, rt.alloc(), rt.alloc())?;
     begin_bucket(&rt, &mut builder, b"host", b"h1")?;
     open_bucket(&rt, &mut builder, -2)?;
     add_item(&rt, &mut builder, b"osd.0", 2147483647)?;

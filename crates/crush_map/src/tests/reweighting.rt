@@ -16,7 +16,7 @@ fn reweight(name: &[u8], units: u32, alloc: Global) -> Result<Edit, Fail> {
 
 #[test]
 fn a_new_weight(rt: HostRuntime) -> Result<(), Fail> {
-    let mut map = example_map(&rt, rt.alloc())?;
+    let mut map = example_map(&rt, rt.alloc(), rt.alloc())?;
     let edit = reweight(b"osd.2", 65536, rt.alloc())?;
     for changed in [true, false] {
         assert!(rt; map.apply(&edit) == Ok(Done { changed, made: 0 }));
@@ -53,7 +53,7 @@ fn refused_new_weights(rt: HostRuntime) -> Result<(), Fail> {
 
 /// A host that holds as much as it can: osd.0 and osd.1 of the largest weight, and one unit more.
 fn full_host(rt: &impl Abort, alloc: Global) -> Result<CrushMap<Global>, Fail> {
-    let mut builder = types_and_devices(rt, alloc)?;
+    let mut builder = types_and_devices(rt, alloc, alloc)?;
     begin_bucket(rt, &mut builder, b"host", b"h1")?;
     open_bucket(rt, &mut builder, -2)?;
     add_item(rt, &mut builder, b"osd.0", 2147483647)?;

@@ -7,17 +7,16 @@ ghost use Rattle.crush_map.specs.Building.{IsDraft};
 
 use crate::{BuildFault, CrushMap, MapBuilder, is_reserved};
 use crush_units::{Alg, BucketId, DeviceId, ItemId, TypeId, Weight, is_name};
-use std::alloc::Global;
+use std::alloc::Allocator;
 use std::process::Abort;
-use std::test::Fail;
 
 /// `type NUMBER NAME`
-pub fn add_type(
+pub fn add_type<A: Allocator + Clone>(
     rt: &impl Abort,
-    builder: &mut MapBuilder<Global>,
+    builder: &mut MapBuilder<A>,
     number: u16,
     name: &[u8],
-) -> Result<(), Fail> {
+) -> Result<(), BuildFault> {
     let number = TypeId::new(number);
     assert!(rt; builder.is_idle());
     assert!(rt; is_name(name));
@@ -30,13 +29,13 @@ pub fn add_type(
 }
 
 /// `device NUMBER NAME`
-pub fn add_device(
+pub fn add_device<A: Allocator + Clone>(
     rt: &impl Abort,
-    builder: &mut MapBuilder<Global>,
+    builder: &mut MapBuilder<A>,
     number: i32,
     name: &[u8],
-) -> Result<(), Fail> {
-    let id = DeviceId::new(number).ok_or("a device")?;
+) -> Result<(), BuildFault> {
+    let id = DeviceId::new(number).expect(rt, "a device");
     assert!(rt; builder.is_idle());
     assert!(rt; is_name(name));
     assert!(rt; !builder.has_device(id));
@@ -47,13 +46,13 @@ pub fn add_device(
 }
 
 /// `TYPE NAME {`
-pub fn begin_bucket(
+pub fn begin_bucket<A: Allocator + Clone>(
     rt: &impl Abort,
-    builder: &mut MapBuilder<Global>,
+    builder: &mut MapBuilder<A>,
     kind: &[u8],
     name: &[u8],
-) -> Result<(), Fail> {
-    let kind = builder.kind_number(kind).ok_or("a type")?;
+) -> Result<(), BuildFault> {
+    let kind = builder.kind_number(kind).expect(rt, "a type");
     assert!(rt; builder.is_idle());
     assert!(rt; is_name(name));
     assert!(rt; builder.is_bucket_kind(kind));
@@ -64,12 +63,12 @@ pub fn begin_bucket(
 }
 
 /// `id NUMBER`, and `alg straw2`
-pub fn open_bucket(
+pub fn open_bucket<A: Allocator + Clone>(
     rt: &impl Abort,
-    builder: &mut MapBuilder<Global>,
+    builder: &mut MapBuilder<A>,
     number: i32,
-) -> Result<(), Fail> {
-    let id = BucketId::new(number).ok_or("a bucket")?;
+) -> Result<(), BuildFault> {
+    let id = BucketId::new(number).expect(rt, "a bucket");
     assert!(rt; builder.is_begun());
     assert!(rt; !builder.has_bucket_id(id));
     builder.id(id);
@@ -79,16 +78,16 @@ pub fn open_bucket(
 }
 
 /// Whether a bucket holds the item.
-fn is_held(builder: &MapBuilder<Global>, id: &ItemId) -> bool
+fn is_held<A: Allocator>(builder: &MapBuilder<A>, id: &ItemId) -> bool
     ensures { (d : Draft) → IsDraft builder.now d → result ≡ is_placed d.table id.now }
 {
     builder.is_held(*id)
 }
 
 /// `item NAME weight WEIGHT`, with the weight in units
-pub fn add_item(
+pub fn add_item<A: Allocator + Clone>(
     rt: &impl Abort,
-    builder: &mut MapBuilder<Global>,
+    builder: &mut MapBuilder<A>,
     name: &[u8],
     units: u32,
 ) -> Result<(), BuildFault> {
@@ -101,13 +100,13 @@ pub fn add_item(
 }
 
 /// `}`
-pub fn end_bucket(rt: &impl Abort, builder: &mut MapBuilder<Global>) {
+pub fn end_bucket<A: Allocator>(rt: &impl Abort, builder: &mut MapBuilder<A>) {
     assert!(rt; builder.is_filling());
     builder.end();
 }
 
 /// The end of the text.
-pub fn finish(rt: &impl Abort, builder: MapBuilder<Global>) -> CrushMap<Global> {
+pub fn finish<A: Allocator>(rt: &impl Abort, builder: MapBuilder<A>) -> CrushMap<A> {
     assert!(rt; builder.is_idle());
     builder.finish()
 }
