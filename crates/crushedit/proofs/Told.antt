@@ -63,24 +63,23 @@ is_summary (Ok x) (Some xs) bytes m adjusted own e short only told = λ s t n sc
     told s t found.0 ∙ (λ i. summary_of (found.1 i) (turns s t (found.2 i)))
 
 -- a fault of the bytes read is one of all bytes
-fault_of_all : (bytes all : List ℕ) (f : JobFault) → bytes ≡ take 16777217 all → length bytes ≤ 16777216 → IsJobFault bytes f → IsJobFault all f
-fault_of_all bytes all f e short h = subst (λ (z : List ℕ). IsJobFault z f) (all_read bytes all e short) h
+fault_of_all : (all : Option (List ℕ)) (bytes : List ℕ) (f : JobFault) → IfSome all (λ xs. bytes ≡ take 16777217 xs) → length bytes ≤ 16777216 → IsJobFault bytes f → IfSome all (λ xs. IsJobFault xs f)
+fault_of_all None bytes f e short h = tt
+fault_of_all (Some xs) bytes f e short h = subst (λ (z : List ℕ). IsJobFault z f) (all_read bytes xs e short) h
+
+-- a reader that gave too many bytes has too many
+too_long : (all : Option (List ℕ)) (bytes : List ℕ) → IfSome all (λ xs. bytes ≡ take 16777217 xs) → IsJobFault bytes TooLong → IfSome all (λ xs. IsJobFault xs TooLong)
+too_long None bytes e h = tt
+too_long (Some xs) bytes e h = omega (arith, h, ap length e, length-take 16777217 xs)
 
 pub is_refused : (all : Option (List ℕ)) (bytes : List ℕ) (f : JobFault) → IfSome all (λ xs. bytes ≡ take 16777217 xs) → IsJobFault bytes f → IsRefused all (of_job f)
-is_refused None bytes (BadLine n) e h = tt
-is_refused None bytes (NoSuchCommand n) e h = tt
-is_refused None bytes (TooManyOperators n) e h = tt
-is_refused None bytes (TooManyCalls n) e h = tt
-is_refused None bytes (Text f) e h = tt
-is_refused None bytes TooLong e h = tt
-is_refused None bytes OutOfMemory e h = tt
-is_refused (Some xs) bytes (BadLine n) e h = fault_of_all bytes xs (BadLine n) e h.short h
-is_refused (Some xs) bytes (NoSuchCommand n) e h = fault_of_all bytes xs (NoSuchCommand n) e h.short h
-is_refused (Some xs) bytes (TooManyOperators n) e h = fault_of_all bytes xs (TooManyOperators n) e h.short h
-is_refused (Some xs) bytes (TooManyCalls n) e h = fault_of_all bytes xs (TooManyCalls n) e h.short h
-is_refused (Some xs) bytes (Text f) e h = fault_of_all bytes xs (Text f) e h.short h
-is_refused (Some xs) bytes TooLong e h = omega (arith, h, ap length e, length-take 16777217 xs)
-is_refused (Some xs) bytes OutOfMemory e h = tt
+is_refused all bytes (BadLine n) e h = (λ x. absurd cc, fault_of_all all bytes (BadLine n) e h.short h)
+is_refused all bytes (NoSuchCommand n) e h = (λ x. absurd cc, fault_of_all all bytes (NoSuchCommand n) e h.short h)
+is_refused all bytes (TooManyOperators n) e h = (λ x. absurd cc, fault_of_all all bytes (TooManyOperators n) e h.short h)
+is_refused all bytes (TooManyCalls n) e h = (λ x. absurd cc, fault_of_all all bytes (TooManyCalls n) e h.short h)
+is_refused all bytes (Text f) e h = (λ x. absurd cc, fault_of_all all bytes (Text f) e h.short h)
+is_refused all bytes TooLong e h = (λ x. absurd cc, too_long all bytes e h)
+is_refused all bytes OutOfMemory e h = tt
 
 -- a fault of the run, or of a read, is none of the bytes
 pub of_run_refused : (r : Result Summary RunFault) (all : Option (List ℕ)) → IfErr r IsOfRun → IfErr r (IsRefused all)

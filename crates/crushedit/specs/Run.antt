@@ -1,5 +1,5 @@
 -- What a run writes, and what it sums up.
-use Rattle.std.specs.Prelude.{ℕ, Option, IfSome, List, [], ◌++◌, Bool, if◌then◌else◌, length, map}
+use Rattle.std.specs.Prelude.{◌≢◌, ℕ, Option, IfSome, List, [], ◌++◌, Bool, if◌then◌else◌, length, map}
 use Rattle.crush_table.specs.Setting.{SettingData}
 use Rattle.crush_table.specs.Table.{Row}
 use Rattle.crush_text.specs.MapText.{map_text}
@@ -7,6 +7,8 @@ use Rattle.crush_script.specs.Sections.{ScriptData}
 use Rattle.crush_script.specs.History.{EntryData, after, changes, turns}
 use Rattle.crush_script.specs.HistoryText.{entries_text, job_text}
 use Rattle.crush_script.specs.Job.{IsJob, IsJobFault}
+use Rattle.crush_script.specs.declared.fault.JobFault.{JobFault}
+use Rattle.crush_script.specs.declared.fault.JobFault.TheVariants.{OutOfMemory}
 use Rattle.crushedit.specs.declared.fault.RunFault.{RunFault}
 use Rattle.crushedit.specs.declared.fault.RunFault.TheVariants as run
 use Rattle.crushedit.specs.declared.run.Summary.{Summary}
@@ -35,9 +37,13 @@ pub record HasJob (bytes : List ℕ) : Type 0 where
   pub scripts : List ScriptData
   pub job : IsJob bytes setting table adjusted scripts
 
--- a fault of the job is one of the bytes; the others have nothing to do with them
+-- what is told as a fault of the job is one of the bytes, and never want of memory
+abbrev pub IsRefusal : Option (List ℕ) → JobFault → Type 0
+IsRefusal all fault = (fault ≢ OutOfMemory) × IfSome all (λ bytes. IsJobFault bytes fault)
+
+-- the other faults have nothing to do with the bytes
 abbrev pub IsRefused : Option (List ℕ) → RunFault → Type 0
-IsRefused all (run.Job fault) = IfSome all (λ bytes. IsJobFault bytes fault)
+IsRefused all (run.Job fault) = IsRefusal all fault
 IsRefused all run.Read = Unit {0}
 IsRefused all run.Write = Unit {0}
 IsRefused all run.Memory = Unit {0}

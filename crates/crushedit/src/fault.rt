@@ -10,7 +10,8 @@ use thiserror::Error;
 /// Why a run was not done.
 #[derive(Clone, Copy, Debug, PartialEq, Eq, Error)]
 pub enum RunFault {
-    /// What was read is no job. Nothing was written.
+    /// What was read is no job. Nothing was written. Want of memory is never told here, but as
+    /// [`RunFault::Memory`].
     #[error("{0}")]
     Job(JobFault),
     /// A read answered an error. Nothing was written.

@@ -103,8 +103,9 @@ fn run_scripts<W: Write>(
 /// Reads a job, runs the scripts of its operators, and writes the map after them and, where the
 /// mode asks for it, a line for each call with its reply.
 ///
-/// After [`RunFault::Write`] a front of the output was written, after any other fault nothing. The
-/// reader is asked for at most 16,777,217 bytes, at most that many times.
+/// After [`RunFault::Write`] a front of the output was written, after any other fault nothing.
+/// [`RunFault::Job`] says what is wrong with the bytes, and never that memory lacked, which is
+/// [`RunFault::Memory`]. The reader is asked for at most 16,777,217 bytes, at most that many times.
 pub fn run_job<H: AllocGlobal, R: Read, W: Write>(
     rt: &H,
     mode: Mode,
