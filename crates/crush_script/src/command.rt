@@ -11,7 +11,7 @@ use std::alloc::Global;
 
 /// Why a line says nothing.
 #[derive(Clone, Copy, Debug, PartialEq, Eq)]
-pub enum LineFault {
+pub(crate) enum LineFault {
     /// The line isn't of the form that its first word asks for.
     BadLine,
     /// The first word is no command.
@@ -22,7 +22,7 @@ pub enum LineFault {
 
 /// What a line says that begins no section.
 #[derive(Debug, Drop)]
-pub enum Command {
+pub(crate) enum Command {
     /// There are no words.
     Nothing,
     /// An edit.
@@ -92,7 +92,7 @@ fn read_edit(alloc: Global, first: &[u8], words: &mut Words<'_>) -> Result<Edit,
 
 /// What the words of a line say that begins no section.
 #[tactic(auto, unfolding(crate::specs::Command::command))]
-pub fn read_command(alloc: Global, words: &mut Words<'_>) -> Result<Command, LineFault>
+pub(crate) fn read_command(alloc: Global, words: &mut Words<'_>) -> Result<Command, LineFault>
     ensures { Gives result (command words.old) }
 {
     let Some(first) = words.next() else {
@@ -104,7 +104,7 @@ pub fn read_command(alloc: Global, words: &mut Words<'_>) -> Result<Command, Lin
 
 /// The operator's name in the words of a line that begins a section.
 #[tactic(auto, unfolding(crate::specs::Command::operator))]
-pub fn read_operator(alloc: Global, words: &mut Words<'_>) -> Result<Name<Global>, LineFault>
+pub(crate) fn read_operator(alloc: Global, words: &mut Words<'_>) -> Result<Name<Global>, LineFault>
     ensures { Gives result (operator words.old) }
 {
     let Some(first) = words.next() else {

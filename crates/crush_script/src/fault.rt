@@ -50,7 +50,7 @@ impl LineFault {
     ghost use Rattle.crush_script.specs.Sections.{fault_at};
 
     /// The fault, told with the line's number.
-    pub fn at(self, number: usize) -> JobFault
+    pub(crate) fn at(self, number: usize) -> JobFault
         ensures { result ≡ fault_at number self }
     {
         match self {

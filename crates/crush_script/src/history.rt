@@ -130,8 +130,8 @@ fn write_reply<W: Write>(reply: Reply, out: &mut W) -> Result<(), WriteFault>
 /// Writes the line of an entry: `# NUMBER OPERATOR CALL = REPLY`.
 ///
 /// Entries count from 1. An edit shows as its command, its weight with five decimals. The reply is
-/// `done changed C made M`, where C is 1 or 0, or `refused NAME ERROR`. As each line begins with
-/// `#`, a map's text with a history behind it is a map's text again.
+/// `done changed C made M`, where C is 1 or 0, or `refused NAME ERROR`; `docs/scripts.md` has the
+/// form. The line begins with `#`, and so is a comment by the grammar of a map's text.
 ///
 /// It takes no memory, so the one fault is [`WriteFault::Write`], after which the writer holds a
 /// front of the line.

@@ -56,6 +56,15 @@ fn read_map_text(alloc: Global, text: &[u8]) -> Result<(CrushMap<Global>, u32), 
 /// The map's text is all that stands before the first line whose first byte is `%`. From there on
 /// each line that begins with `%` is `%operator NAME` and begins the section of that operator;
 /// the other lines are its calls, one a line. `docs/scripts.md` has the commands.
+///
+/// Of several faults the first of these is told:
+/// - [`JobFault::TooLong`]: there are more than 16,777,216 bytes.
+/// - [`JobFault::Text`]: the map's text has this flaw, whose place is that of a byte of the job.
+/// - a fault of the first faulty line of the sections, with its number from 1:
+///   [`JobFault::BadLine`], [`JobFault::NoSuchCommand`], [`JobFault::TooManyOperators`] or
+///   [`JobFault::TooManyCalls`].
+///
+/// [`JobFault::OutOfMemory`] may come in place of any but the first.
 pub fn read_job(alloc: Global, bytes: &[u8]) -> Result<Job, JobFault>
     // What is read is a job of the bytes.
     ensures job { IfOk result (λ job. (t : List Row)

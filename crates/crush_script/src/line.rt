@@ -7,7 +7,7 @@ ghost use Rattle.crush_script.specs.Lines.{lines, length_to_section, without_ret
 use std::marker::Model;
 
 /// How many bytes stand before the first line that begins with `%`.
-pub fn length_to_section(job: &[u8]) -> usize
+pub(crate) fn length_to_section(job: &[u8]) -> usize
     ensures length { result ≡ length_to_section true job.now }
     ensures within { result ≤ length job.now }
 {
@@ -22,7 +22,7 @@ pub fn length_to_section(job: &[u8]) -> usize
 }
 
 /// How many line feeds a text has.
-pub fn line_feeds(text: &[u8]) -> usize
+pub(crate) fn line_feeds(text: &[u8]) -> usize
     ensures count { result ≡ count_by (λ b. b == 10) text.now }
     ensures within { result ≤ length text.now }
 {
@@ -43,7 +43,7 @@ fn place_of(byte: u8, text: &[u8]) -> usize
 }
 
 /// The first line of a text, and what stands behind its line feed.
-pub fn cut_line(text: &[u8]) -> (&[u8], &[u8])
+pub(crate) fn cut_line(text: &[u8]) -> (&[u8], &[u8])
     requires { 0 < length text.now }
     ensures cut { lines text.now ≡ result.0.now ∷ lines result.1.now }
     ensures shorter { length result.1.now < length text.now }
@@ -56,7 +56,7 @@ pub fn cut_line(text: &[u8]) -> (&[u8], &[u8])
 }
 
 /// Whether a line begins a section.
-pub fn begins_section(line: &[u8]) -> bool
+pub(crate) fn begins_section(line: &[u8]) -> bool
     ensures { result ≡ begins_section line.now }
 {
     matches!(line, [b'%', ..])
@@ -106,7 +106,7 @@ fn word_at(text: &[u8]) -> usize
 
 /// The words of a line that are left to read. Contracts see them as a list.
 #[derive(Drop)]
-pub struct Words<'a> {
+pub(crate) struct Words<'a> {
     text: &'a [u8],
 }
 
@@ -122,7 +122,7 @@ impl<'a> Model for Words<'a> {
 
 impl<'a> Words<'a> {
     /// All words of a line. `#` begins a comment, wherever it stands.
-    pub fn of_line(line: &'a [u8]) -> Words<'a>
+    pub(crate) fn of_line(line: &'a [u8]) -> Words<'a>
         ensures { result ≡ words line.now }
     {
         let line = without_return(line);
@@ -131,7 +131,7 @@ impl<'a> Words<'a> {
     }
 
     /// Takes the next word.
-    pub fn next(&mut self) -> Option<&'a [u8]>
+    pub(crate) fn next(&mut self) -> Option<&'a [u8]>
         ensures { MatchOption result (self.old ≡ [])
             (λ word. self.old ≡ word.now ∷ self.new) }
     {

@@ -29,11 +29,11 @@ pub struct Script {
 
 /// What the lines so far say.
 #[derive(Drop)]
-pub struct Sections {
+pub(crate) struct Sections {
     /// The scripts, the last of which goes on.
-    pub scripts: Vec<Script>,
+    pub(crate) scripts: Vec<Script>,
     /// How many calls they have in all.
-    pub calls: usize,
+    pub(crate) calls: usize,
 }
 
 impl Sections {
@@ -88,7 +88,7 @@ impl Sections {
 
 /// Reads the lines of the sections, the first of which has this number.
 #[tactic(auto, unfolding(crate::specs::Sections::with_lines))]
-pub fn read_sections(alloc: Global, first: usize, text: &[u8]) -> Result<Sections, JobFault>
+pub(crate) fn read_sections(alloc: Global, first: usize, text: &[u8]) -> Result<Sections, JobFault>
     requires { first + length text.now < 2 ^ 64 }
     ensures { GivesSections result (with_lines first no_sections (lines text.now)) }
 {

@@ -23,8 +23,9 @@ fn operator_name(scripts: &[Script], operator: usize) -> &[u8]
     }
 }
 
-/// Writes a line for each entry, which count from 1.
-pub fn write_history<W: Write>(
+/// Writes a line for each entry, which count from 1. There are fewer than 2^32 of them, so that
+/// each has a number; a job's are at most 65,536.
+pub(crate) fn write_history<W: Write>(
     scripts: &[Script],
     entries: &[Entry<'_>],
     out: &mut W,
@@ -50,8 +51,9 @@ fn is_change(reply: Reply) -> bool
     }
 }
 
-/// How many entries are a change of the map.
-pub fn count_changes(entries: &[Entry<'_>]) -> u32
+/// How many entries are a change of the map. There are fewer than 2^32 of them, so that the count
+/// has room.
+pub(crate) fn count_changes(entries: &[Entry<'_>]) -> u32
     requires { length entries.now < 2 ^ 32 }
     ensures { result ≡ changes (history_data entries.now) }
 {

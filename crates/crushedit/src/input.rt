@@ -8,7 +8,7 @@ use std::alloc::Global;
 use std::io::Read;
 
 /// The most bytes that are asked of a reader: one more than a job may have, so that a longer one shows.
-pub const MOST_BYTES: usize = 16_777_217;
+pub(crate) const MOST_BYTES: usize = 16_777_217;
 
 /// How many bytes one read asks for at the most.
 const PIECE: usize = 65_536;
@@ -16,7 +16,7 @@ const PIECE: usize = 65_536;
 /// Reads to the end, or to the first byte that no job can have. The reader is asked at most
 /// [`MOST_BYTES`] times: each read but the last gives a byte. A read that answers an error is a
 /// fault, also where it could be tried again.
-pub fn read_bytes<R: Read>(alloc: Global, reader: &mut R) -> Result<Vec<u8>, RunFault>
+pub(crate) fn read_bytes<R: Read>(alloc: Global, reader: &mut R) -> Result<Vec<u8>, RunFault>
     ensures few { IfOk result (λ bytes. length bytes.items ≤ MOST_BYTES) }
     ensures fault { IfErr result IsOfInput }
     ensures bytes { IfOk result (λ bytes. IfSome (R.remaining reader.old) (λ all. bytes.items ≡ take MOST_BYTES all)) }

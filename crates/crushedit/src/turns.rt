@@ -48,7 +48,7 @@ fn run_script<'a>(
 }
 
 /// Runs the scripts one after the other, each call by call.
-pub fn run_in_turn<'a>(
+pub(crate) fn run_in_turn<'a>(
     alloc: Global,
     map: &mut CrushMap<Global>,
     scripts: &'a [Script],
