@@ -1,16 +1,24 @@
 //! Runs of whole jobs, from their bytes to the bytes written.
 
-use crate::run::Mode;
+use crate::fault::RunFault;
+use crate::report::report;
+use crate::run::{Mode, Summary};
 use std::test::Fail;
 
 mod failing;
+mod limits;
 mod refusals;
+mod replies;
 mod reports;
 mod runs;
 
 /// The plain example map, with nothing behind it.
 const PLAIN: &[u8] =
     b"# begin crush map\n\n# devices\ndevice 0 osd.0\ndevice 1 osd.1\ndevice 2 osd.2\n\n# types\ntype 0 osd\ntype 1 host\ntype 3 rack\ntype 11 root\n\n# buckets\nhost h1 {\n\tid -2\t\t# do not change unnecessarily\n\t# weight 2.00000\n\talg straw2\n\thash 0\t# rjenkins1\n\titem osd.0 weight 1.00000\n\titem osd.1 weight 1.00000\n}\nhost h2 {\n\tid -3\t\t# do not change unnecessarily\n\t# weight 0.50000\n\talg straw2\n\thash 0\t# rjenkins1\n\titem osd.2 weight 0.50000\n}\nroot default {\n\tid -1\t\t# do not change unnecessarily\n\t# weight 2.50000\n\talg straw2\n\thash 0\t# rjenkins1\n\titem h1 weight 2.00000\n\titem h2 weight 0.50000\n}\n\n# rules\n\n# end crush map\n";
+
+/// The same where osd.2 weighs 1.0.
+const REWEIGHED: &[u8] =
+    b"# begin crush map\n\n# devices\ndevice 0 osd.0\ndevice 1 osd.1\ndevice 2 osd.2\n\n# types\ntype 0 osd\ntype 1 host\ntype 3 rack\ntype 11 root\n\n# buckets\nhost h1 {\n\tid -2\t\t# do not change unnecessarily\n\t# weight 2.00000\n\talg straw2\n\thash 0\t# rjenkins1\n\titem osd.0 weight 1.00000\n\titem osd.1 weight 1.00000\n}\nhost h2 {\n\tid -3\t\t# do not change unnecessarily\n\t# weight 1.00000\n\talg straw2\n\thash 0\t# rjenkins1\n\titem osd.2 weight 1.00000\n}\nroot default {\n\tid -1\t\t# do not change unnecessarily\n\t# weight 3.00000\n\talg straw2\n\thash 0\t# rjenkins1\n\titem h1 weight 2.00000\n\titem h2 weight 1.00000\n}\n\n# rules\n\n# end crush map\n";
 
 /// The text of a map without anything.
 const EMPTY: &[u8] =
@@ -38,4 +46,15 @@ fn count_of(bytes: &[u8], part: &[u8]) -> usize {
         }
     }
     count
+}
+
+/// Whether standard error is told this line of an outcome, and the program ends with this status.
+fn is_told(
+    rt: &impl AllocGlobal,
+    outcome: &Result<Summary, RunFault>,
+    line: &[u8],
+    status: u8,
+) -> bool {
+    let mut err = Vec::new(rt.alloc());
+    report(outcome, &mut err) == status && err.as_slice() == line
 }

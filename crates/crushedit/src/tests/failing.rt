@@ -1,6 +1,6 @@
 //! Readers and writers that fail, and a reader that never ends.
 
-use super::{MODE, PLAIN, joined};
+use super::{MODE, PLAIN, is_told, joined};
 use crate::fault::RunFault;
 use crate::run::run_job;
 use crush_script::JobFault;
@@ -56,6 +56,26 @@ impl Write for FailingWriter {
     }
 }
 
+/// Takes at most 7 bytes a write, and keeps how many it had before each.
+#[derive(Drop)]
+struct CountingWriter {
+    taken: usize,
+    before: Vec<usize>,
+}
+
+impl Write for CountingWriter {
+    fn write(&mut self, bytes: &[u8]) -> io::Result<usize> {
+        self.before.push(self.taken)?;
+        let count = bytes.len().min(7);
+        self.taken = self.taken.saturating_add(count);
+        Ok(count)
+    }
+
+    fn flush(&mut self) -> io::Result<()> {
+        Ok(())
+    }
+}
+
 /// Gives one space a read, without end, and counts how often it is asked.
 #[derive(Drop)]
 struct EndlessReader {
@@ -82,11 +102,10 @@ fn stops_at_a_failed_read(rt: HostRuntime) -> Result<(), Fail> {
             reads_left,
         };
         let mut out = Vec::new(rt.alloc());
-        assert_eq!(rt;
-            run_job(&rt, MODE, &mut reader, &mut out).err(),
-            Some(RunFault::Read)
-        );
+        let outcome = run_job(&rt, MODE, &mut reader, &mut out);
+        assert!(rt; outcome == Err(RunFault::Read));
         assert!(rt; out.is_empty());
+        assert!(rt; is_told(&rt, &outcome, b"crushedit: read fault\n", 3));
     }
     Ok(())
 }
@@ -96,8 +115,12 @@ fn leaves_a_front_at_a_failed_write(rt: HostRuntime) -> Result<(), Fail> {
     let job = joined(&rt, PLAIN, b"%operator a\nreweight osd.2 1.0\n")?;
     let mut whole = Vec::new(rt.alloc());
     assert!(rt; run_job(&rt, MODE, &mut job.as_slice(), &mut whole).is_ok());
+    let before = Vec::new(rt.alloc());
+    let mut counting = CountingWriter { taken: 0, before };
+    assert!(rt; run_job(&rt, MODE, &mut job.as_slice(), &mut counting).is_ok());
+    assert_eq!(rt; counting.taken, whole.len());
     for answers_error in [true, false] {
-        for writes_left in 0..whole.len() / 7 {
+        for (writes_left, length) in counting.before.iter().enumerate() {
             let taken = Vec::new(rt.alloc());
             let mut writer = FailingWriter {
                 taken,
@@ -105,8 +128,10 @@ fn leaves_a_front_at_a_failed_write(rt: HostRuntime) -> Result<(), Fail> {
                 answers_error,
             };
             let outcome = run_job(&rt, MODE, &mut job.as_slice(), &mut writer);
-            assert_eq!(rt; outcome.err(), Some(RunFault::Write));
+            assert!(rt; outcome == Err(RunFault::Write));
+            assert_eq!(rt; writer.taken.len(), *length);
             assert!(rt; whole.starts_with(writer.taken.as_slice()));
+            assert!(rt; is_told(&rt, &outcome, b"crushedit: write fault\n", 3));
         }
     }
     Ok(())
@@ -117,7 +142,8 @@ fn asks_an_endless_reader_for_one_byte_too_many(rt: HostRuntime) {
     let mut reader = EndlessReader { asked: 0 };
     let mut out = Vec::new(rt.alloc());
     let outcome = run_job(&rt, MODE, &mut reader, &mut out);
-    assert_eq!(rt; outcome.err(), Some(RunFault::Job(JobFault::TooLong)));
+    assert!(rt; outcome == Err(RunFault::Job(JobFault::TooLong)));
     assert_eq!(rt; reader.asked, 16_777_217);
     assert!(rt; out.is_empty());
+    assert!(rt; is_told(&rt, &outcome, b"crushedit: TooLong\n", 1));
 }

@@ -1,68 +1,192 @@
-//! Bytes that are no job, each with its fault and the place.
+//! Bytes that are no job, each with its fault, the line that standard error is told, and the status.
 
-use super::{MODE, PLAIN, joined};
+use super::{MODE, PLAIN, is_told, joined};
 use crate::fault::RunFault;
 use crate::run::run_job;
 use crush_script::JobFault;
 use crush_text::{TextFault, TextFaultKind};
 use std::test::Fail;
 
-/// What a job behind the plain example map is refused for.
-fn refusal_of(rt: &impl AllocGlobal, lines: &[u8]) -> Result<Option<RunFault>, Fail> {
-    let job = joined(rt, PLAIN, lines)?;
+/// Whether the bytes are refused for this fault, of which standard error is told this line, and
+/// nothing is written.
+fn is_refused(rt: &impl AllocGlobal, bytes: &[u8], fault: JobFault, line: &[u8]) -> bool {
     let mut out = Vec::new(rt.alloc());
-    let outcome = run_job(rt, MODE, &mut job.as_slice(), &mut out);
-    Ok(outcome.err())
+    let outcome = run_job(rt, MODE, &mut &*bytes, &mut out);
+    out.is_empty() && outcome == Err(RunFault::Job(fault)) && is_told(rt, &outcome, line, 1)
 }
 
 #[test]
 fn refuses_faulty_lines(rt: HostRuntime) -> Result<(), Fail> {
-    let long = refusal_of(&rt, b"%operator a\nreweight osd.0 0.0000000000000000001\n")?;
-    assert_eq!(rt; long, Some(RunFault::Job(JobFault::BadLine(43))));
-    let unknown = refusal_of(&rt, b"%operator a\nfly x\n")?;
-    assert_eq!(rt; unknown, Some(RunFault::Job(JobFault::NoSuchCommand(43))));
-    let second = refusal_of(&rt, b"%operator a\n%operator b\n")?;
-    assert_eq!(rt; second, Some(RunFault::Job(JobFault::TooManyOperators(43))));
-    let nameless = refusal_of(&rt, b"%operator\n")?;
-    assert_eq!(rt; nameless, Some(RunFault::Job(JobFault::BadLine(42))));
+    let cases: [(&[u8], JobFault, &[u8]); 5] = [
+        (
+            b"%operator a\nreweight osd.0 0.0000000000000000001\n",
+            JobFault::BadLine(43),
+            b"crushedit: line 43: BadLine\n",
+        ),
+        (
+            b"%operator\n",
+            JobFault::BadLine(42),
+            b"crushedit: line 42: BadLine\n",
+        ),
+        (
+            b"%operator a\nfly x\n",
+            JobFault::NoSuchCommand(43),
+            b"crushedit: line 43: NoSuchCommand\n",
+        ),
+        (
+            b"%operator a\nreweight osd.2 1.0\nreweight osd.2\n",
+            JobFault::BadLine(44),
+            b"crushedit: line 44: BadLine\n",
+        ),
+        (
+            b"%operator a\n%operator b\n",
+            JobFault::TooManyOperators(43),
+            b"crushedit: line 43: TooManyOperators\n",
+        ),
+    ];
+    for (lines, fault, line) in cases {
+        let job = joined(&rt, PLAIN, lines)?;
+        assert!(rt; is_refused(&rt, job.as_slice(), fault, line), "{fault:?}");
+    }
     Ok(())
 }
 
-/// What a text is refused for.
-fn fault_of(rt: &impl AllocGlobal, text: &[u8]) -> Option<RunFault> {
-    let mut out = Vec::new(rt.alloc());
-    run_job(rt, MODE, &mut &*text, &mut out).err()
+#[test]
+fn refuses_one_call_too_many(rt: HostRuntime) -> Result<(), Fail> {
+    let mut job = joined(&rt, PLAIN, b"%operator a\n")?;
+    for _ in 0..65_537 {
+        job.extend_from_slice(b"reweight osd.0 1\n")?;
+    }
+    assert!(rt;
+        is_refused(
+            &rt,
+            job.as_slice(),
+            JobFault::TooManyCalls(65_579),
+            b"crushedit: line 65579: TooManyCalls\n"
+        )
+    );
+    Ok(())
+}
+
+/// Whether a text has this flaw, of which standard error is told this line.
+fn is_flawed(
+    rt: &impl AllocGlobal,
+    text: &[u8],
+    kind: TextFaultKind,
+    place: usize,
+    line: &[u8],
+) -> bool {
+    is_refused(rt, text, JobFault::Text(TextFault { kind, place }), line)
 }
 
 #[test]
-fn refuses_faulty_texts(rt: HostRuntime) {
-    let unknown = fault_of(&rt, b"type 1 host\n%operator a\nfly x\n");
-    assert_eq!(rt; unknown, Some(RunFault::Job(JobFault::NoSuchCommand(3))));
-    let cases: [(&[u8], TextFaultKind, usize); 9] = [
-        (b"type 1 host $", TextFaultKind::BadWord, 12),
-        (b"type 1", TextFaultKind::Ended, 6),
-        (b"type 1 {", TextFaultKind::Unexpected, 7),
-        (b"type x host", TextFaultKind::BadNumber, 5),
-        (b"type 1 host type 1 rack", TextFaultKind::DuplicateId, 17),
-        (b"type 1 host type 2 host", TextFaultKind::DuplicateName, 19),
+fn refuses_faulty_words(rt: HostRuntime) {
+    let cases: [(&[u8], TextFaultKind, usize, &[u8]); 9] = [
+        (
+            b"type 1 host $",
+            TextFaultKind::BadWord,
+            12,
+            b"crushedit: byte 12: BadWord\n",
+        ),
+        (
+            b"type 1",
+            TextFaultKind::Ended,
+            6,
+            b"crushedit: byte 6: Ended\n",
+        ),
+        (
+            b"type 1 {",
+            TextFaultKind::Unexpected,
+            7,
+            b"crushedit: byte 7: Unexpected\n",
+        ),
+        (
+            b"type x host",
+            TextFaultKind::BadNumber,
+            5,
+            b"crushedit: byte 5: BadNumber\n",
+        ),
+        (
+            b"type 1 host type 1 rack",
+            TextFaultKind::DuplicateId,
+            17,
+            b"crushedit: byte 17: DuplicateId\n",
+        ),
+        (
+            b"type 1 host type 2 host",
+            TextFaultKind::DuplicateName,
+            19,
+            b"crushedit: byte 19: DuplicateName\n",
+        ),
         (
             b"host h { id -1 alg straw2 }",
             TextFaultKind::UnknownType,
             0,
+            b"crushedit: byte 0: UnknownType\n",
         ),
         (
             b"type 1 host host h { id -1 alg uniform }",
             TextFaultKind::OtherAlgorithm,
             31,
+            b"crushedit: byte 31: OtherAlgorithm\n",
         ),
-        (b"choose_args 0 { }", TextFaultKind::LeftOut, 0),
+        (
+            b"choose_args 0 { }",
+            TextFaultKind::LeftOut,
+            0,
+            b"crushedit: byte 0: LeftOut\n",
+        ),
     ];
-    for (text, kind, place) in cases {
-        assert_eq!(rt;
-            fault_of(&rt, text),
-            Some(RunFault::Job(JobFault::Text(TextFault { kind, place })))
+    for (text, kind, place, line) in cases {
+        assert!(rt; is_flawed(&rt, text, kind, place, line), "{kind:?}");
+    }
+}
+
+/// Two types and a device, in 36 bytes.
+const DEVICE: &[u8] = b"type 1 host\ntype 11 root\ndevice 0 d\n";
+
+#[test]
+fn refuses_faulty_buckets(rt: HostRuntime) -> Result<(), Fail> {
+    let cases: [(&[u8], TextFaultKind, usize, &[u8]); 5] = [
+        (
+            b"host a { id -1 alg straw2 item d weight 1 }\nhost b { id -2 alg straw2 item d weight 1 }\n",
+            TextFaultKind::SecondParent,
+            111,
+            b"crushedit: byte 111: SecondParent\n",
+        ),
+        (
+            b"root r { id -1 alg straw2 item a }",
+            TextFaultKind::UnknownItem,
+            67,
+            b"crushedit: byte 67: UnknownItem\n",
+        ),
+        (
+            b"host a { id -1 alg",
+            TextFaultKind::Ended,
+            54,
+            b"crushedit: byte 54: Ended\n",
+        ),
+        (
+            b"choose_args 0 { }",
+            TextFaultKind::LeftOut,
+            36,
+            b"crushedit: byte 36: LeftOut\n",
+        ),
+        (
+            b"host a { id -1 alg straw2 item d weight 32768 }",
+            TextFaultKind::BadWeight,
+            76,
+            b"crushedit: byte 76: BadWeight\n",
+        ),
+    ];
+    for (buckets, kind, place, line) in cases {
+        let text = joined(&rt, DEVICE, buckets)?;
+        assert!(rt;
+            is_flawed(&rt, text.as_slice(), kind, place, line),
+            "{kind:?}"
         );
     }
+    Ok(())
 }
 
 /// A text with so many types, numbered from 0.
@@ -78,15 +202,18 @@ fn with_types(rt: &impl AllocGlobal, count: u32) -> Result<Vec<u8>, Fail> {
 #[test]
 fn refuses_one_type_too_many(rt: HostRuntime) -> Result<(), Fail> {
     let most = with_types(&rt, 256)?;
-    assert_eq!(rt; fault_of(&rt, most.as_slice()), None);
+    assert_eq!(rt; most.len(), 3364);
+    let mut out = Vec::new(rt.alloc());
+    assert!(rt; run_job(&rt, MODE, &mut most.as_slice(), &mut out).is_ok());
     let more = with_types(&rt, 257)?;
-    let fault = TextFault {
-        kind: TextFaultKind::TooMany,
-        place: most.len(),
-    };
-    assert_eq!(rt;
-        fault_of(&rt, more.as_slice()),
-        Some(RunFault::Job(JobFault::Text(fault)))
+    assert!(rt;
+        is_flawed(
+            &rt,
+            more.as_slice(),
+            TextFaultKind::TooMany,
+            3364,
+            b"crushedit: byte 3364: TooMany\n"
+        )
     );
     Ok(())
 }
@@ -95,12 +222,13 @@ fn refuses_one_type_too_many(rt: HostRuntime) -> Result<(), Fail> {
 fn refuses_a_bucket_that_is_too_heavy(rt: HostRuntime) {
     let text =
         b"type 1 host device 0 a device 1 b device 2 c host h { id -1 alg straw2 item a weight 32767.99998 item b weight 32767.99998 item c weight 1 }";
-    let fault = TextFault {
-        kind: TextFaultKind::SumTooLarge,
-        place: 137,
-    };
-    assert_eq!(rt;
-        fault_of(&rt, text.as_slice()),
-        Some(RunFault::Job(JobFault::Text(fault)))
+    assert!(rt;
+        is_flawed(
+            &rt,
+            text.as_slice(),
+            TextFaultKind::SumTooLarge,
+            137,
+            b"crushedit: byte 137: SumTooLarge\n"
+        )
     );
 }
