@@ -1,6 +1,5 @@
 -- Where a function of the reader returns.
 use Rattle.std.proofs.Common.{◌≡◌, ℕ, Bool, true, false, cond, List, [], ◌∷◌, ◌++◌, Result, Ok, Err, refl, sym, ap, ◌∙◌, inl, inr}
-use Rattle.std.specs.Prelude.{OnOk}
 use Rattle.crush_units.specs.declared.id.ItemId.{ItemId}
 use Rattle.crush_map.specs.Built.{Draft, Pending, nothing, begun, numbered, filling, pending_with_id, filled, with_item}
 use Rattle.crush_map.specs.Building.{BuilderData, IsDraft, is_begun, is_numbered, is_filling}
@@ -75,8 +74,3 @@ reads_item d h is x i t rest w (Err f) b all n so (inr k) = inr (so ∙ slot_err
 -- a fault as a result
 abbrev pub refused : {A : Type 0} → TextFault → Result A TextFault
 refused f = Err f
-
--- what holds on success
-pub on_ok_map : {X E : Type 0} {P Q : Type 0} (r : Result X E) → (P → Q) → OnOk r P → OnOk r Q
-on_ok_map (Ok x) f h = f h
-on_ok_map (Err e) f h = h

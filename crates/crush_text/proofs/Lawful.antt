@@ -132,10 +132,6 @@ bucket_table (begun k n) x w v t = refl
 bucket_table (numbered k n b cs) x w v t = refl
 bucket_table (filling b) x w v t = ap (λ (l : List Row). without_row (Bucket x) t ++ l) (bucket_rows b x w v t)
 
--- nor the draft
-pub with_bucket : (d : Draft) (i : ItemId) (x w v : ℕ) → i ≡ Bucket x → with_item d i w ≡ with_item d i v
-with_bucket d i x w v e = ap (λ (j : ItemId). with_item d j w) e ∙ ap (λ (t : List Row). record d { table = t }) (bucket_table d.pending x w v d.table) ∙ ap (λ (j : ItemId). with_item d j v) (sym e)
-
 -- a root stays one where another item is put below it
 pub root_kept : (t : List Row) (i : ItemId) (b w : ℕ) → IsRoot t b → same_id (Bucket b) i ≡ false → IsRoot (put_below b i w t) b
 root_kept t i b w root other =

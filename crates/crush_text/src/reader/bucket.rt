@@ -1,10 +1,8 @@
 //! Buckets and their items.
 
-ghost use Rattle.std.specs.Prelude.{◌≡◌, ◌<◌, ◌≤◌, ◌↔◌, ◌++◌, ◌∷◌, ℕ, List, [], length, true, false, OnOk, IsErrOf};
-ghost use Rattle.crush_units.specs.declared.id.ItemId.TheVariants.{Device};
-ghost use Rattle.crush_table.specs.Table.{is_there, is_placed, is_device_id};
-ghost use Rattle.crush_table.specs.Lawful.{is_too_heavy};
-ghost use Rattle.crush_map.specs.Built.{Draft, with_item};
+ghost use Rattle.std.specs.Prelude.{◌≡◌, ◌≤◌, ◌++◌, ◌∷◌, ℕ, List, [], length, true, false, OnOk};
+ghost use Rattle.crush_table.specs.Table.{is_there, is_placed};
+ghost use Rattle.crush_map.specs.Built.{Draft};
 ghost use Rattle.crush_map.specs.Building.{IsDraft, is_bucket_kind, is_begun, is_numbered, is_filling, is_open, is_full_of_buckets};
 ghost use Rattle.crush_text.specs.Statements.{Head, Item};
 ghost use Rattle.crush_text.specs.Judges.{new_weight};
@@ -16,7 +14,7 @@ use crate::reader::judge::{new_bucket, new_item, new_name, next_word, own_weight
 use crate::reader::word::Found;
 use crate::words::Reader;
 use crush_map::{BuildFault, MapBuilder};
-use crush_units::{ItemId, TypeId, Weight};
+use crush_units::{ItemId, TypeId};
 use std::alloc::Allocator;
 
 /// A bucket, behind the name of its type.
@@ -177,30 +175,9 @@ fn add_item<A: Allocator>(
         → Adds result builder.new d item (placed word.entry.place (new_weight d item word.entry.text.now)) }
 {
     let weight = own_weight(word, &item, builder)?;
-    match put_item(builder, item, weight) {
+    match builder.item(item, weight) {
         Ok(()) => Ok(()),
         Err(BuildFault::SumTooLarge) => Err(word.fault(TextFaultKind::SumTooLarge)),
         Err(BuildFault::OutOfMemory) => Err(word.fault(TextFaultKind::OutOfMemory)),
-    }
-}
-
-/// Puts an item into the bucket. A bucket's weight is its sum, whatever is given.
-fn put_item<A: Allocator>(
-    builder: &mut MapBuilder<A>,
-    item: ItemId,
-    weight: Weight,
-) -> Result<(), BuildFault>
-    requires filling { is_filling builder.old.pending ≡ true }
-    requires closed { is_open builder.old.pending item ≡ false }
-    requires there { (d : Draft) → IsDraft builder.old d → is_there d.table item ≡ true }
-    requires free { (d : Draft) → IsDraft builder.old d → is_placed d.table item ≡ false }
-    requires light { is_device_id item ≡ true → weight ≤ 2147483647 }
-    ensures ok { OnOk result ((d : Draft) → IsDraft builder.old d → IsDraft builder.new (with_item d item weight)) }
-    ensures heavy { (d : Draft) → IsDraft builder.old d
-        → IsErrOf result BuildFault.SumTooLarge ↔ (is_too_heavy (with_item d item weight).table ≡ true) }
-{
-    match item {
-        ItemId::Device(_) => builder.item(item, weight),
-        ItemId::Bucket(_) => builder.item(item, Weight::from_units(0)),
     }
 }

@@ -2,7 +2,6 @@
 
 ghost use Rattle.std.specs.Prelude.{◌≡◌, ◌<◌, ◌||◌, length, true, IfOk, OnOk};
 ghost use Rattle.crush_units.specs.Name.{is_name};
-ghost use Rattle.crush_table.specs.Setting.{is_reserved};
 ghost use Rattle.crush_map.specs.Built.{Draft};
 ghost use Rattle.crush_map.specs.Building.{IsDraft};
 ghost use Rattle.crush_text.specs.Words.{is_brace_word};
@@ -14,7 +13,7 @@ ghost use Rattle.crush_text.specs.Reads.{Gives, word_of, next_at, seen_as};
 use crate::fault::{TextFault, TextFaultKind};
 use crate::reader::word::Found;
 use crate::words::{Reader, Token};
-use crush_map::MapBuilder;
+use crush_map::{MapBuilder, is_reserved};
 use crush_units::{BucketId, DeviceId, ItemId, TypeId, Weight};
 use std::alloc::Allocator;
 
@@ -51,19 +50,6 @@ pub(crate) fn new_type<A: Allocator>(
         return Err(word.fault(TextFaultKind::DuplicateId));
     }
     Ok(number)
-}
-
-/// Whether a word begins a statement or a part of one, so that no type of buckets has it as its
-/// name.
-fn is_reserved(word: &[u8]) -> bool
-    ensures { result ≡ is_reserved word.now }
-{
-    b"tunable".as_slice() == word
-        || b"device".as_slice() == word
-        || b"type".as_slice() == word
-        || b"rule".as_slice() == word
-        || b"class".as_slice() == word
-        || b"choose_args".as_slice() == word
 }
 
 /// The name of a new type.
