@@ -1,7 +1,12 @@
+mod faults;
+mod heaps;
+mod limits;
 mod printing;
 mod reading;
 mod writing;
 
+use crate::{TextFault, TextFaultKind, read_map, write_map};
+use std::alloc::Global;
 use std::test::Fail;
 
 /// The plain example map: two hosts below a root, without tunables and rules.
@@ -50,10 +55,35 @@ const PLAIN_EXAMPLE_MAP: &[&[u8]] = &[
 ];
 
 /// The text of the plain example map.
-fn plain_example_map(rt: &HostRuntime) -> Result<Vec<u8>, Fail> {
-    let mut text = Vec::new(rt.alloc());
+fn plain_example_map(alloc: Global) -> Result<Vec<u8>, Fail> {
+    let mut text = Vec::new(alloc);
     for line in PLAIN_EXAMPLE_MAP {
         text.extend_from_slice(line)?;
     }
     Ok(text)
+}
+
+/// What is wrong with the text where these two types and this device stand before it, in 36 bytes,
+/// or `None` where nothing is.
+fn fault_of(alloc: Global, line: &[u8]) -> Result<Option<TextFault>, Fail> {
+    let mut text = Vec::new(alloc);
+    text.extend_from_slice(b"type 1 host\ntype 11 root\ndevice 0 d\n")?;
+    text.extend_from_slice(line)?;
+    Ok(read_map(alloc, text.as_slice()).err())
+}
+
+/// Whether the text is refused for this at this place.
+fn is_refused(alloc: Global, text: &[u8], kind: TextFaultKind, place: usize) -> bool {
+    match read_map(alloc, text) {
+        Ok(_) => false,
+        Err(fault) => fault.kind == kind && fault.place == place,
+    }
+}
+
+/// What is printed of the map that the text spells.
+fn printed(alloc: Global, text: &[u8]) -> Result<Vec<u8>, Fail> {
+    let (map, _) = read_map(alloc, text)?;
+    let mut out = Vec::new(alloc);
+    write_map(alloc, &map, &mut out)?;
+    Ok(out)
 }

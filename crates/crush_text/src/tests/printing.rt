@@ -1,5 +1,5 @@
-use crate::tests::plain_example_map;
 use crate::tests::writing::Slow;
+use crate::tests::{plain_example_map, printed};
 use crate::{WriteFault, read_map, write_map};
 use std::test::Fail;
 
@@ -60,25 +60,17 @@ const SCATTERED_MAP_PRINTED: &[&[u8]] = &[
     b"# end crush map\n",
 ];
 
-/// What is printed of the map that the text spells.
-fn printed(rt: &HostRuntime, text: &[u8]) -> Result<Vec<u8>, Fail> {
-    let (map, _) = read_map(rt.alloc(), text)?;
-    let mut out = Vec::new(rt.alloc());
-    write_map(rt.alloc(), &map, &mut out)?;
-    Ok(out)
-}
-
 #[test]
 fn the_plain_example_map_is_printed_as_it_stands(rt: HostRuntime) -> Result<(), Fail> {
-    let text = plain_example_map(&rt)?;
-    let out = printed(&rt, text.as_slice())?;
+    let text = plain_example_map(rt.alloc())?;
+    let out = printed(rt.alloc(), text.as_slice())?;
     assert!(rt; out.as_slice() == text.as_slice());
     Ok(())
 }
 
 #[test]
 fn the_empty_map_has_eleven_lines(rt: HostRuntime) -> Result<(), Fail> {
-    let out = printed(&rt, b"")?;
+    let out = printed(rt.alloc(), b"")?;
     assert_eq!(rt; out.len(), 75);
     assert!(rt; out.as_slice() == EMPTY_MAP);
     Ok(())
@@ -90,14 +82,14 @@ fn lines_are_printed_in_order(rt: HostRuntime) -> Result<(), Fail> {
     for line in SCATTERED_MAP_PRINTED {
         text.extend_from_slice(line)?;
     }
-    let out = printed(&rt, SCATTERED_MAP)?;
+    let out = printed(rt.alloc(), SCATTERED_MAP)?;
     assert!(rt; out.as_slice() == text.as_slice());
     Ok(())
 }
 
 #[test]
 fn a_front_of_the_map_stands_after_a_failure(rt: HostRuntime) -> Result<(), Fail> {
-    let text = plain_example_map(&rt)?;
+    let text = plain_example_map(rt.alloc())?;
     let (map, _) = read_map(rt.alloc(), text.as_slice())?;
     for fails in [true, false] {
         for room in 0..text.len() {
