@@ -18,8 +18,9 @@ use crush_units::{ItemId, TypeId};
 use std::alloc::{AllocError, Allocator, Global};
 use std::io::Write;
 
-/// Writes the map's text, in Ceph's form: tunables, devices, types, buckets and rules, as
-/// docs/FORMATS.md says.
+/// Writes the map's text, in Ceph's form, as docs/FORMATS.md says: its devices, its types and its
+/// buckets, and the fixed lines round them. Tunables and rules, which no map has, aren't written;
+/// the heading of the rules is.
 ///
 /// The text is laid out in the given memory first. With [`WriteFault::OutOfMemory`] nothing is
 /// written, with [`WriteFault::Write`] a front of the text.

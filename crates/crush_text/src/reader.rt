@@ -27,9 +27,9 @@ use std::alloc::{Allocator, Global};
 /// Reads the text of a map, as `crushtool` prints it.
 ///
 /// The second value counts the items that are buckets and whose weight in the text wasn't their
-/// sum; since such a text is refused as one that has more than is read here, it is 0. Refused too
-/// are tunables, rules, classes of devices and of ids, and items without a weight, as
-/// [`TextFaultKind::LeftOut`].
+/// sum; since such a text is refused as [`TextFaultKind::LeftOut`], it is 0. Refused so too are
+/// tunables, rules and weight sets, classes of devices and of ids, items without a weight, and the
+/// positions of items. docs/FORMATS.md has the grammar, and each fault with its place.
 pub fn read_map(alloc: Global, text: &[u8]) -> Result<(CrushMap<Global>, u32), TextFault>
     // What is read is a map that the text spells.
     ensures map { IfOk result (λ m. (t : List Row) × IsMapText text.now m.0.setting t m.1 × Stands m.0.forest t) }
