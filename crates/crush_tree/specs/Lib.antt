@@ -1,3 +1,4 @@
+pub mod Apart
 pub mod Falls
 pub mod Held
 pub mod Named
@@ -7,6 +8,7 @@ pub mod Search
 pub mod Seen
 pub mod SeenForest
 pub mod SeenView
+pub mod Stored
 pub mod Subtree
 pub mod Swapping
 pub mod Views

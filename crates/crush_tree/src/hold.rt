@@ -10,7 +10,8 @@ use crate::sums::with_more;
 use std::alloc::Allocator;
 
 impl<A: Allocator> Node<A> {
-    /// Puts a child last into a bucket that has room for it, and adds its weight. Where both store
+    /// Puts a child last into a bucket that has room for it, which [`Node::has_room`] tests, and
+    /// adds its weight. The weights of both together are at most 4294967295 units. Where both store
     /// their sums, the bucket still does. It takes no memory.
     pub fn hold(&mut self, child: Node<A>)
         requires room { 0 < first_room (items_of (self.old ∷ [])) }

@@ -2,6 +2,7 @@
 //! any allocator.
 #![tactic(auto)]
 
+mod apart;
 mod attach;
 mod child;
 mod contain;
@@ -17,6 +18,7 @@ mod place;
 mod rename;
 mod same;
 mod search;
+mod stored;
 mod subtree;
 mod sums;
 mod swap;

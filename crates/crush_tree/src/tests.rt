@@ -3,6 +3,7 @@
 mod asks;
 mod chain;
 mod example;
+mod nodes;
 mod puts;
 mod reads;
 mod sums;

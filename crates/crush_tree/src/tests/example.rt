@@ -7,7 +7,7 @@ use super::puts::{
     put_root, put_unplaced, weigh, weigh_all,
 };
 use crate::{Forest, Node, Place};
-use crush_units::{ItemId, Name, Weight};
+use crush_units::{Alg, ItemId, Name, Weight};
 use linked_list_allocator::LocalHeap;
 use std::alloc::Allocator;
 use std::process::Abort;
@@ -15,7 +15,7 @@ use std::test::Fail;
 
 /// The hosts h1 and h2 in the root `default`: osd.0 and osd.1 in h1 weigh 1.0 each, osd.2 in h2
 /// weighs 0.5.
-fn example<A: Allocator + Clone>(alloc: A) -> Result<Forest<A>, Refused> {
+pub fn example<A: Allocator + Clone>(alloc: A) -> Result<Forest<A>, Refused> {
     let roots = alloc.clone()?;
     let unplaced = alloc.clone()?;
     let mut forest = Forest::new(roots, unplaced);
@@ -172,6 +172,69 @@ fn names(rt: HostRuntime) -> Result<(), Fail> {
     assert_eq!(rt; forest.id_of(b"h9"), Some(h1));
     assert_eq!(rt; forest.id_of(b"h1"), None);
     assert!(rt; give_name(&mut forest, &h1, taken).is_err());
+    Ok(())
+}
+
+/// The id of the item at a place, as the number that a map shows.
+fn number_at<A: Allocator>(items: &[Node<A>], k: usize) -> Option<i32> {
+    match items.get(k) {
+        Some(node) => Some(node.id().number()),
+        None => None,
+    }
+}
+
+#[test]
+fn items_in_order(rt: HostRuntime) -> Result<(), Fail> {
+    let (root, h1, h3) = (bucket(1)?, bucket(2)?, bucket(4)?);
+    let forest = example(rt.alloc())?;
+    assert_eq!(rt; forest.roots().len(), 1);
+    assert_eq!(rt; number_at(forest.roots(), 0), Some(-1));
+    assert_eq!(rt; forest.unplaced().len(), 0);
+    let hosts = forest.items(root).ok_or("default is there")?;
+    assert_eq!(rt; hosts.len(), 2);
+    assert_eq!(rt; number_at(hosts, 0), Some(-2));
+    assert_eq!(rt; number_at(hosts, 1), Some(-3));
+    let devices = forest.items(h1).ok_or("h1 is there")?;
+    assert_eq!(rt; devices.len(), 2);
+    assert_eq!(rt; number_at(devices, 0), Some(0));
+    assert_eq!(rt; number_at(devices, 1), Some(1));
+    assert!(rt; forest.items(h3).is_none());
+    Ok(())
+}
+
+#[test]
+fn unplaced_devices(rt: HostRuntime) -> Result<(), Fail> {
+    let idle = leaf(rt.alloc(), 3, b"osd.3", 0)?;
+    let mut forest = example(rt.alloc())?;
+    put_unplaced(&mut forest, idle)?;
+    assert_eq!(rt; forest.unplaced().len(), 1);
+    assert_eq!(rt; number_at(forest.unplaced(), 0), Some(3));
+    assert_eq!(rt; forest.roots().len(), 1);
+    Ok(())
+}
+
+#[test]
+fn one_item(rt: HostRuntime) -> Result<(), Fail> {
+    let (h2, osd) = (ItemId::Bucket(bucket(3)?), ItemId::Device(device(2)?));
+    let forest = example(rt.alloc())?;
+    let Some(found) = forest.find(h2) else {
+        return Err("h2 is there".into());
+    };
+    assert_eq!(rt; found.id.number(), -3);
+    assert_eq!(rt; found.kind.number(), 1);
+    assert_eq!(rt; found.name, "h2");
+    assert_eq!(rt; found.weight.units(), 32768);
+    assert!(rt; found.parent == Some(bucket(1)?));
+    assert!(rt; found.class.is_none());
+    assert!(rt; found.alg == Some(Alg::Straw2));
+    let Some(device) = forest.find(osd) else {
+        return Err("osd.2 is there".into());
+    };
+    assert_eq!(rt; device.kind.number(), 0);
+    assert_eq!(rt; device.name, "osd.2");
+    assert!(rt; device.parent == Some(bucket(3)?));
+    assert!(rt; device.alg.is_none());
+    assert!(rt; forest.find(ItemId::Bucket(bucket(4)?)).is_none());
     Ok(())
 }
 
