@@ -1,4 +1,5 @@
 pub mod Apart
+pub mod Attachable
 pub mod Falls
 pub mod Held
 pub mod Named

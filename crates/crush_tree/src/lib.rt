@@ -4,6 +4,7 @@
 
 mod apart;
 mod attach;
+mod attachable;
 mod child;
 mod contain;
 mod copy;
@@ -11,6 +12,7 @@ mod detach;
 mod edits;
 mod fit;
 mod forest;
+mod form;
 mod hold;
 mod moved;
 mod node;

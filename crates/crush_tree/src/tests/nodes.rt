@@ -2,7 +2,7 @@
 
 use super::example::example;
 use super::puts::{Refused, bucket, header, leaf};
-use crate::{ClassId, Forest, Node};
+use crate::{ClassId, Forest, Node, Place};
 use crush_units::{Name, Weight};
 use std::alloc::Global;
 use std::test::Fail;
@@ -102,5 +102,29 @@ fn apart_among_themselves(rt: HostRuntime) -> Result<(), Fail> {
         host(rt.alloc(), 5, b"h4", 0)?,
     );
     assert!(rt; !is_apart(&forest, reused)?);
+    Ok(())
+}
+
+fn can_come(
+    forest: &Forest<Global>,
+    place: Place,
+    node: Result<Node<Global>, Refused>,
+) -> Result<bool, Fail> {
+    Ok(forest.can_attach(place, &node?))
+}
+
+#[test]
+fn places_of_a_node(rt: HostRuntime) -> Result<(), Fail> {
+    let h2 = Place::Bucket(bucket(3)?);
+    let h3 = Place::Bucket(bucket(4)?);
+    let forest = example(rt.alloc())?;
+    assert!(rt; can_come(&forest, h2, osd(rt.alloc(), 3, b"osd.3"))?);
+    assert!(rt; !can_come(&forest, h3, osd(rt.alloc(), 3, b"osd.3"))?);
+    assert!(rt; !can_come(&forest, h2, osd(rt.alloc(), 2, b"osd.3"))?);
+    assert!(rt; !can_come(&forest, Place::Root, osd(rt.alloc(), 3, b"osd.3"))?);
+    assert!(rt; !can_come(&forest, Place::Unplaced, osd(rt.alloc(), 3, b"osd.3"))?);
+    assert!(rt; can_come(&forest, Place::Root, host(rt.alloc(), 4, b"h3", 5))?);
+    assert!(rt; !can_come(&forest, Place::Unplaced, host(rt.alloc(), 4, b"h3", 5))?);
+    assert!(rt; !can_come(&forest, Place::Root, host(rt.alloc(), 4, b"h1", 5))?);
     Ok(())
 }
