@@ -12,10 +12,9 @@ use Rattle.crush_units.specs.declared.id.ItemId.TheVariants.{Device, Bucket}
 use Rattle.crush_units.specs.Id.{same_id}
 use Rattle.crush_units.proofs.Ids.{same_id_tells, same_id_refl}
 use Rattle.crush_table.specs.Items.{LeafData, HeaderData, Items, none, device, bucket}
-use Rattle.crush_table.specs.Lawful.{Lawful}
 use Rattle.crush_table.specs.Reordered.{IsReordered}
-use Rattle.crush_table.specs.Rows.{ForestData, all_items, rows_of, rows, device_row, bucket_row, Stands}
-use Rattle.crush_table.specs.Table.{Row, row_named, is_named, member, used_ids}
+use Rattle.crush_table.specs.Rows.{ForestData, rows_of, rows, device_row, bucket_row, Stands}
+use Rattle.crush_table.specs.Table.{Row, row_named, is_named, used_ids}
 use Rattle.crush_table.specs.Tested.{are_apart}
 use Rattle.crush_table.proofs.Appended.{unnamed, times-used, unused_times}
 use Rattle.crush_table.proofs.Climbs.{eqb_turned}

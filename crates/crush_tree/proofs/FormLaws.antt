@@ -1,6 +1,6 @@
 -- What the tests of forms tell: each row of the items is of its form.
 use Rattle.std.proofs.Common.{◌≡◌, ℕ, ◌+◌, ◌<◌, ◌≤◌, Bool, true, false, List, [], ◌∷◌, ◌++◌, length, get_or, take, ap, sym, subst, ◌∙◌, refl, arith}
-use Rattle.std.specs.Prelude.{◌==◌, ◌&&◌, ◌||◌, not, Option, Some, None, IfSome, All, map, bytes_eq, nat_lt, nat_le}
+use Rattle.std.specs.Prelude.{◌&&◌, ◌||◌, not, Option, Some, None, IfSome, All, map, bytes_eq, nat_lt, nat_le}
 use Rattle.std.specs.List.{count_by, list_any}
 use Rattle.std.proofs.lemmas.Bool.{ltb-true, leb-true}
 use Rattle.std.proofs.lemmas.Bool.Decides.{nat_tests}
@@ -9,20 +9,16 @@ use Rattle.std.proofs.lemmas.List.Sums.{sum_by-cons}
 use Rattle.std.proofs.lemmas.Slice.Eq.{bytes_eq-Decides}
 use Rattle.crush_units.specs.Name.{IsName}
 use Rattle.crush_table.specs.Items.{LeafData, ClassData, HeaderData, Items, none, device, bucket}
-use Rattle.crush_table.specs.Lawful.{IsClassId, IsRow, Lawful}
-use Rattle.crush_table.specs.Rows.{rows, device_row, bucket_row, join, OnlyBuckets, OnlyDevices}
+use Rattle.crush_table.specs.Lawful.{IsRow}
+use Rattle.crush_table.specs.Rows.{rows, device_row, bucket_row, join}
 use Rattle.crush_table.specs.Table.{Row}
 use Rattle.crush_table.specs.Tested.{are_apart}
 use Rattle.crush_table.proofs.Reorder.{hit, sum_by-map}
 use Rattle.crush_table.proofs.Tested.{apart_once}
-use Rattle.crush_table.proofs.Weighs.{true_or_false}
-use Rattle.crush_tree.specs.Attachable.{takes, is_formed, are_formed, IsTyped, AreTyped}
-use Rattle.crush_tree.specs.Ops.{FitsPlace, StoresUpTo}
-use Rattle.crush_tree.specs.Room.{parent_at}
-use Rattle.crush_tree.specs.Seen.{items_of, leaf_data}
+use Rattle.crush_tree.specs.Attachable.{is_formed, are_formed, IsTyped, AreTyped}
+use Rattle.crush_tree.specs.Ops.{StoresUpTo}
+use Rattle.crush_tree.specs.Seen.{items_of}
 use Rattle.crush_tree.specs.declared.node.Node.{Node}
-use Rattle.crush_tree.specs.declared.place.Place.{Place}
-use Rattle.crush_tree.specs.declared.place.Place.TheVariants.{Bucket as AtBucket, Root, Unplaced}
 use Rattle.crush_tree.proofs.Steps.{items_of-taken}
 use Rattle.crush_tree.proofs.StoredLaws.{first_of, second_of}
 

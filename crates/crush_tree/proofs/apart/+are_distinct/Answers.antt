@@ -1,7 +1,5 @@
-use Rattle.std.proofs.Common.{◌≡◌, ◌∷◌, [], ◌+◌, true, false, drop, ap, sym, ◌∙◌, arith}
-use Rattle.std.specs.Prelude.{◌&&◌, not}
+use Rattle.std.proofs.Common.{◌≡◌, ap, ◌∙◌, arith}
 use Rattle.crush_table.specs.Items.{BucketData, size_of}
-use Rattle.crush_tree.specs.Apart.{meets, is_alone, are_distinct}
 use Rattle.crush_tree.specs.Seen.{items_of}
 use Rattle.crush_tree.proofs.Steps.{kids_smaller}
 use Rattle.crush_tree.proofs.apart.+are_distinct.Goals as goal

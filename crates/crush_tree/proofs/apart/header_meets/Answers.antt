@@ -1,5 +1,5 @@
-use Rattle.std.proofs.Common.{◌≡◌, true, false, ap, sym, ◌∙◌}
-use Rattle.std.specs.Prelude.{Bool, ◌||◌, is_some}
+use Rattle.std.proofs.Common.{◌≡◌, true, false, ap, ◌∙◌}
+use Rattle.std.specs.Prelude.{◌||◌, is_some}
 use Rattle.std.specs.List.{list_any}
 use Rattle.crush_tree.specs.Search.{id_in, uses_in}
 use Rattle.crush_tree.specs.Seen.{class_numbers, items_of}

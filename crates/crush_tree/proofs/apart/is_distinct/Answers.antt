@@ -1,5 +1,4 @@
 use Rattle.std.proofs.Common.{◌≡◌, ◌∷◌, [], true, ap, sym, ◌∙◌}
-use Rattle.std.specs.Prelude.{◌&&◌, not}
 use Rattle.crush_table.specs.Items.{BucketData}
 use Rattle.crush_tree.specs.Apart.{is_alone, are_distinct}
 use Rattle.crush_tree.specs.Seen.{items_of}

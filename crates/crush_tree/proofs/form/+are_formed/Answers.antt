@@ -1,6 +1,6 @@
-use Rattle.std.proofs.Common.{◌≡◌, ◌∷◌, [], ◌+◌, ◌≤◌, true, drop, take, ap, sym, subst, ◌∙◌, arith}
-use Rattle.std.specs.Prelude.{◌&&◌, nat_le}
-use Rattle.crush_table.specs.Items.{BucketData, size_of, none, bucket, device}
+use Rattle.std.proofs.Common.{◌≡◌, ◌∷◌, [], ◌+◌, ◌≤◌, true, drop, ap, sym, subst, ◌∙◌, arith}
+use Rattle.std.specs.Prelude.{◌&&◌}
+use Rattle.crush_table.specs.Items.{BucketData, size_of}
 use Rattle.crush_tree.specs.Attachable.{is_formed, are_formed, AreTyped, IsTyped}
 use Rattle.crush_tree.specs.Seen.{items_of}
 use Rattle.crush_tree.proofs.FormLaws.{typed_more}

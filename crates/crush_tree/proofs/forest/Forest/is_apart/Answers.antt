@@ -1,7 +1,7 @@
 use Rattle.std.proofs.Common.{◌≡◌, ◌∷◌, [], true, false, ap, sym, subst, ◌∙◌}
 use Rattle.std.specs.Prelude.{None}
 use Rattle.crush_table.specs.Rows.{Stands}
-use Rattle.crush_tree.specs.Apart.{meets, are_distinct}
+use Rattle.crush_tree.specs.Apart.{meets}
 use Rattle.crush_tree.specs.Seen.{items_of}
 use Rattle.crush_tree.specs.SeenForest.{forest_data}
 use Rattle.crush_tree.proofs.ApartLaws.{tested_apart, apart_distinct, apart_roots, apart_unplaced}

@@ -1,10 +1,10 @@
-use Rattle.std.proofs.Common.{◌≡◌, ◌∷◌, [], true, ap, sym, subst, ◌∙◌}
-use Rattle.std.specs.Prelude.{IsTrue, ◌↔◌, ◌==◌, ◌&&◌}
+use Rattle.std.proofs.Common.{◌≡◌, ◌∷◌, [], true, ap, sym, ◌∙◌}
+use Rattle.std.specs.Prelude.{◌==◌, ◌&&◌}
 use Rattle.crush_table.specs.Items.{BucketData}
-use Rattle.crush_table.specs.Rows.{weight_sum, StoresSums}
+use Rattle.crush_table.specs.Rows.{weight_sum}
 use Rattle.crush_tree.specs.Seen.{items_of}
 use Rattle.crush_tree.specs.Stored.{stores_sums}
-use Rattle.crush_tree.proofs.StoredLaws.{first_of, StoresSums-tested, stores_sums-fact, one_told}
+use Rattle.crush_tree.proofs.StoredLaws.{StoresSums-tested, stores_sums-fact, one_told}
 use Rattle.crush_tree.proofs.node.Node.stores_sums.Goals as goal
 
 pub returns-then-stores_sum : goal.returns-then-stores_sum
