@@ -8,10 +8,10 @@ use Rattle.crush_units.specs.declared.alg.Alg.{Alg}
 use Rattle.crush_units.specs.Alg.{same_alg, alg_number}
 use Rattle.crush_units.specs.Id.{same_id}
 use Rattle.crush_units.proofs.Ids.{same_id_refl, same_id_tells}
-use Rattle.crush_table.specs.Items.{ClassData}
+use Rattle.crush_table.specs.Items.{ShadowData}
 use Rattle.crush_table.specs.Table.{Row, row_of, own_weight_of}
 use Rattle.crush_table.specs.Columns.{set_weight}
-use Rattle.crush_table.proofs.Reorder.{hit}
+use Rattle.crush_table.specs.Count.{one_if}
 use Rattle.crush_table.proofs.Found.{times, times-cons}
 use Rattle.crush_map.specs.Changed.{same_class, same_row, same_table}
 
@@ -41,7 +41,7 @@ option_refl p h (Some x) = h x
 alg_refl : (a : Alg) → same_alg a a ≡ true
 alg_refl a = eqb_refl (alg_number a)
 
-class_refl : (c : ClassData) → same_class c c ≡ true
+class_refl : (c : ShadowData) → same_class c c ≡ true
 class_refl c = λ i. eqb_refl c.id i && bytes_refl c.class i
 
 -- two rows that differ at most in their weights
@@ -60,7 +60,7 @@ table_refl t = pointwise_refl same_row row_refl t
 absent : (i : ItemId) (w : ℕ) (t : List Row) → times i t ≡ 0 → same_table t (set_weight i w t) ≡ true
 absent i w [] h = refl
 absent i w (r ∷ t) h = ⊎_elim
-    (λ p. absurd (let one : hit (same_id r.id i) ≡ 1 = ap hit p.0 in omega (arith, one, h, times-cons i r t)))
+    (λ p. absurd (let one : one_if (same_id r.id i) ≡ 1 = ap one_if p.0 in omega (arith, one, h, times-cons i r t)))
     (λ p. let rest = absent i w t (omega (arith, h, times-cons i r t)) in
     (λ k. same_row r (if p.0 k then record r { weight = w } else r) && rest k) ∙ (λ k. row_refl r k && true))
     (same_id_tells r.id i)
@@ -69,7 +69,7 @@ absent i w (r ∷ t) h = ⊎_elim
 pub same_weight : (i : ItemId) (w v : ℕ) (t : List Row) → times i t ≤ 1 → own_weight_of t i ≡ Some v → same_table t (set_weight i w t) ≡ (v == w)
 same_weight i w v [] h e = cc
 same_weight i w v (r ∷ t) h e = ⊎_elim
-    (λ p. let one : hit (same_id r.id i) ≡ 1 = ap hit p.0 in
+    (λ p. let one : one_if (same_id r.id i) ≡ 1 = ap one_if p.0 in
     let rest = absent i w t (omega (arith, one, h, times-cons i r t)) in
     let own : Some r.weight ≡ Some v = (λ k. option_map (λ (x : Row). x.weight) (if sym p.0 k then Some r else row_of t i)) ∙ e in
     let weight : r.weight ≡ v = cc in

@@ -2,11 +2,12 @@
 use Rattle.std.proofs.Common.{◌≡◌, ℕ, ◌<◌, List, [], refl, sym, subst, ◌∙◌, arith}
 use Rattle.std.proofs.lemmas.List.Elements.{All-nil}
 use Rattle.crush_units.specs.declared.id.ItemId.TheVariants.{Bucket}
-use Rattle.crush_table.specs.Items.{ClassData}
+use Rattle.crush_table.specs.Items.{ShadowData}
 use Rattle.crush_table.specs.Same.{Same}
 use Rattle.crush_table.specs.Lawful.{Lawful}
 use Rattle.crush_table.specs.Table.{Row}
-use Rattle.crush_table.specs.Rows.{ForestData, rows_of, Stands, IsSound}
+use Rattle.crush_table.specs.Forest.{ForestData, rows_of, IsSound}
+use Rattle.crush_table.specs.Stands.{Stands}
 use Rattle.crush_table.specs.Setting.{SettingData, Fits, IsKind, HasKind}
 use Rattle.crush_table.proofs.Found.{is_named-same, is_there-same, parent_of-same}
 use Rattle.crush_table.proofs.Same.{Same-sym, Fits-same, bucket_count-same, used-same}
@@ -23,7 +24,7 @@ CanBegin-same s t u k n l e c = record {
   few = subst (λ m. m < 4096) (bucket_count-same t u e.rows) c.few;
 }
 
-CanNumber-same : (t u : List Row) (b : ℕ) (cs : List ClassData) → Same t u → CanNumber t b cs → CanNumber u b cs
+CanNumber-same : (t u : List Row) (b : ℕ) (cs : List ShadowData) → Same t u → CanNumber t b cs → CanNumber u b cs
 CanNumber-same t u b cs e c = record {
   some = c.some;
   most = c.most;
@@ -75,8 +76,8 @@ own_is_draft b sound keeps = record {
 }
 
 -- and at that of the rows that it has once there is room
-pub reserved : (b : BuilderData) (f : ForestData) → IsSound b.forest → BuilderFits b → ((t : List Row) → Stands b.forest t → Stands f t) → IsDraft b (record { setting = b.setting; table = rows_of f; pending = b.pending })
-reserved b f sound keeps kept =
+pub room_is_draft : (b : BuilderData) (f : ForestData) → IsSound b.forest → BuilderFits b → ((t : List Row) → Stands b.forest t → Stands f t) → IsDraft b (record { setting = b.setting; table = rows_of f; pending = b.pending })
+room_is_draft b f sound keeps kept =
     let own = own_is_draft b sound keeps in
     let after : Stands f (rows_of b.forest) = kept (rows_of b.forest) own.stands in
     IsDraft-same b (own_draft b) (rows_of f) (Same-sym (rows_of f) (rows_of b.forest) after.same) own

@@ -12,9 +12,13 @@ use Rattle.crush_table.specs.Same.{Same}
 use Rattle.crush_table.specs.Lawful.{Lawful, IsRow, IsRowOf, is_too_heavy}
 use Rattle.crush_table.specs.Table.{Row, is_device, is_device_id, is_there, row_of, parent_of, is_placed, member, above, then_up}
 use Rattle.crush_table.specs.Columns.{is_under, is_part, table_without, part, as_root, without_row}
-use Rattle.crush_table.specs.Rows.{ForestData, rows, rows_of, StoresSums, Stands, device_row, bucket_row}
+use Rattle.crush_table.specs.Forest.{ForestData, rows_of}
+use Rattle.crush_table.specs.ItemRows.{rows, device_row, bucket_row}
+use Rattle.crush_table.specs.Stands.{Stands}
+use Rattle.crush_table.specs.Stored.{StoresSums}
 use Rattle.crush_table.specs.Setting.{SettingData, Fits, HasKind}
-use Rattle.crush_table.proofs.Reorder.{hit, reordered-sym, reordered-All, reordered-count}
+use Rattle.crush_table.proofs.Reorder.{reordered-sym, reordered-All, reordered-count}
+use Rattle.crush_table.specs.Count.{one_if}
 use Rattle.crush_table.proofs.Found.{times, times-cons, Distinct, Distinct-same, is_there-times, times-is_there}
 use Rattle.crush_table.proofs.Same.{Same-sym, Same-trans, Lawful-same, is_too_heavy-same}
 use Rattle.crush_table.proofs.Stands.{same_stands}
@@ -26,33 +30,33 @@ use Rattle.crush_table.proofs.Removed.{row_of-only, Lawful-only}
 use Rattle.crush_table.proofs.Appended.{row_of-append}
 use Rattle.crush_table.proofs.Moved.{at_parent, place, placed_last, row_id, Lawful-moved}
 use Rattle.crush_table.proofs.Relocated.{under_parent, relocate, relocate_device}
-use Rattle.crush_tree.specs.Ops.{StoresUpTo}
-use Rattle.crush_tree.proofs.RowLaws.{StoresUpTo-lawful}
-use Rattle.crush_tree.specs.Seen.{items_of}
-use Rattle.crush_tree.specs.declared.node.Node.{Node}
-use Rattle.crush_tree.specs.declared.node.Node.TheVariants.{Device as DeviceNode, Bucket as BucketNode}
-use Rattle.crush_map.specs.Parts.{with_first_weight}
+use Rattle.crush_nodes.specs.Ops.{StoresUpTo}
+use Rattle.crush_nodes.proofs.RowLaws.{StoresUpTo-lawful}
+use Rattle.crush_nodes.specs.Seen.{items_of}
+use Rattle.crush_nodes.specs.declared.node.Node.{Node}
+use Rattle.crush_nodes.specs.declared.node.Node.TheVariants.{Device as DeviceNode, Bucket as BucketNode}
+use Rattle.crush_map.specs.Pending.{with_first_weight}
 use Rattle.crush_map.specs.Built.{Pending, filling, Draft, with_item, placed_row, put_below, table_with_item}
 use Rattle.crush_map.specs.Building.{BuilderData, IsRoot, IsPending, IsDraft}
 use Rattle.crush_map.proofs.TableLaws.{Fits-rows}
 
 -- THE ROW of an item that is there
-found : (o : Option Row) → is_some o ≡ true → (r : Row) × o ≡ Some r
-found None h = absurd (let no : false ≡ true = h in cc)
-found (Some r) h = (r, refl)
+row_there : (o : Option Row) → is_some o ≡ true → (r : Row) × o ≡ Some r
+row_there None h = absurd (let no : false ≡ true = h in cc)
+row_there (Some r) h = (r, refl)
 
 -- what holds of each row holds of the one that is found
-of_found : (P : Row → Type 0) (t : List Row) (i : ItemId) (r : Row) → All P t → row_of t i ≡ Some r → P r
-of_found P [] i r a e = absurd (let no : ◌≡◌ {A = Option Row} None (Some r) = e in cc)
-of_found P (x ∷ t) i r a e = by_id (same_id x.id i) e (of_found P t i r (All-tail P x t a)) where
+holds_of_row : (P : Row → Type 0) (t : List Row) (i : ItemId) (r : Row) → All P t → row_of t i ≡ Some r → P r
+holds_of_row P [] i r a e = absurd (let no : ◌≡◌ {A = Option Row} None (Some r) = e in cc)
+holds_of_row P (x ∷ t) i r a e = by_id (same_id x.id i) e (holds_of_row P t i r (All-tail P x t a)) where
   by_id : (b : Bool) → (if b then Some x else row_of t i) ≡ Some r → (row_of t i ≡ Some r → P r) → P r
   by_id true h ih = let same : x ≡ r = cc in subst P same (All-head P x t a)
   by_id false h ih = ih h
 
-none_there : (t : List Row) (i : ItemId) → times i t ≡ 0 → filter (λ (x : Row). same_id x.id i) t ≡ []
-none_there [] i h = refl
-none_there (x ∷ t) i h = by_id (same_id x.id i) (sym (times-cons i x t) ∙ h) (none_there t i) where
-  by_id : (b : Bool) → hit b + times i t ≡ 0 → (times i t ≡ 0 → filter (λ (y : Row). same_id y.id i) t ≡ []) → (if b then x ∷ filter (λ (y : Row). same_id y.id i) t else filter (λ (y : Row). same_id y.id i) t) ≡ []
+no_row : (t : List Row) (i : ItemId) → times i t ≡ 0 → filter (λ (x : Row). same_id x.id i) t ≡ []
+no_row [] i h = refl
+no_row (x ∷ t) i h = by_id (same_id x.id i) (sym (times-cons i x t) ∙ h) (no_row t i) where
+  by_id : (b : Bool) → one_if b + times i t ≡ 0 → (times i t ≡ 0 → filter (λ (y : Row). same_id y.id i) t ≡ []) → (if b then x ∷ filter (λ (y : Row). same_id y.id i) t else filter (λ (y : Row). same_id y.id i) t) ≡ []
   by_id true n ih = absurd (omega (arith, n))
   by_id false n ih = ih (omega (arith, n))
 
@@ -60,14 +64,14 @@ none_there (x ∷ t) i h = by_id (same_id x.id i) (sym (times-cons i x t) ∙ h)
 only_row : (t : List Row) (i : ItemId) (r : Row) → times i t ≤ 1 → row_of t i ≡ Some r → filter (λ (x : Row). same_id x.id i) t ≡ r ∷ []
 only_row [] i r h e = absurd (let no : ◌≡◌ {A = Option Row} None (Some r) = e in cc)
 only_row (x ∷ t) i r h e = by_id (same_id x.id i) (subst (λ n. n ≤ 1) (times-cons i x t) h) e (only_row t i r) where
-  by_id : (b : Bool) → hit b + times i t ≤ 1 → (if b then Some x else row_of t i) ≡ Some r → (times i t ≤ 1 → row_of t i ≡ Some r → filter (λ (y : Row). same_id y.id i) t ≡ r ∷ [])
+  by_id : (b : Bool) → one_if b + times i t ≤ 1 → (if b then Some x else row_of t i) ≡ Some r → (times i t ≤ 1 → row_of t i ≡ Some r → filter (λ (y : Row). same_id y.id i) t ≡ r ∷ [])
       → (if b then x ∷ filter (λ (y : Row). same_id y.id i) t else filter (λ (y : Row). same_id y.id i) t) ≡ r ∷ []
-  by_id true n h ih = let same : x ≡ r = cc in λ k. same k ∷ none_there t i (omega (arith, n)) k
+  by_id true n h ih = let same : x ≡ r = cc in λ k. same k ∷ no_row t i (omega (arith, n)) k
   by_id false n h ih = ih (omega (arith, n)) h
 
 -- so the table after is the one that the laws of moves speak of
-put_last : (k : ℕ) (i : ItemId) (w : ℕ) (t : List Row) (r : Row) → times i t ≤ 1 → row_of t i ≡ Some r → put_below k i w t ≡ without_row i t ++ placed_row k w r ∷ []
-put_last k i w t r h e = ap (λ xs. without_row i t ++ map (placed_row k w) xs) (only_row t i r h e)
+put_below-last : (k : ℕ) (i : ItemId) (w : ℕ) (t : List Row) (r : Row) → times i t ≤ 1 → row_of t i ≡ Some r → put_below k i w t ≡ without_row i t ++ placed_row k w r ∷ []
+put_below-last k i w t r h e = ap (λ xs. without_row i t ++ map (placed_row k w) xs) (only_row t i r h e)
 
 -- A ROOT is below nothing, so it is no part of another item
 nothing_above : (t : List Row) → Lawful t → (k : ℕ) → parent_of t (Bucket k) ≡ None → above t (Bucket k) ≡ []
@@ -77,8 +81,8 @@ not_under : (t : List Row) (i : ItemId) (k : ℕ) → above t (Bucket k) ≡ [] 
 not_under t (Device d) k e = refl
 not_under t (Bucket b) k e = ap (member b) e
 
-pub apart : (t : List Row) → Lawful t → (i : ItemId) (k : ℕ) → IsRoot t k → same_id (Bucket k) i ≡ false → is_part t i (Bucket k) ≡ false
-apart t l i k root other = λ j. other j || not_under t i k (nothing_above t l k root.root) j
+pub is_no_part : (t : List Row) → Lawful t → (i : ItemId) (k : ℕ) → IsRoot t k → same_id (Bucket k) i ≡ false → is_part t i (Bucket k) ≡ false
+is_no_part t l i k root other = λ j. other j || not_under t i k (nothing_above t l k root.root) j
 
 -- WHICH KIND of item: the rows of a device that was taken out are devices
 part_id : (i : ItemId) (r : Row) → (as_root i r).id ≡ r.id
@@ -144,8 +148,8 @@ item_moved t i k w (bucket h v m kids (bucket g u o more rest)) r l e far one wh
 pub item_same : (t : List Row) (i : ItemId) (k w : ℕ) (n : Items) → Lawful t → is_there t i ≡ true → is_part t i (Bucket k) ≡ false → IsOne n → Same (rows None n) (part i t)
     → Same (table_without i t ++ rows (Some k) (with_first_weight w n)) (put_below k i w t)
 item_same t i k w n l there far one whole =
-    let r = found (row_of t i) there in
-    subst (Same (table_without i t ++ rows (Some k) (with_first_weight w n))) (sym (put_last k i w t r.0 (l.ids i) r.1)) (item_moved t i k w n r.0 l r.1 far one whole)
+    let r = row_there (row_of t i) there in
+    subst (Same (table_without i t ++ rows (Some k) (with_first_weight w n))) (sym (put_below-last k i w t r.0 (l.ids i) r.1)) (item_moved t i k w n r.0 l r.1 far one whole)
 
 -- the sums that the item stores are as they were
 pub weighted_sums : (w : ℕ) (n : Items) → StoresSums n → StoresSums (with_first_weight w n)
@@ -179,9 +183,9 @@ placed_form (Bucket b) k w r h e form = record {
 
 pub item_lawful : (t : List Row) (i : ItemId) (k w : ℕ) → Lawful t → is_there t i ≡ true → is_there t (Bucket k) ≡ true → is_part t i (Bucket k) ≡ false → (is_device_id i ≡ true → w ≤ 2147483647) → is_too_heavy (put_below k i w t) ≡ false → Lawful (put_below k i w t)
 item_lawful t i k w l there stands far h light =
-    let r = found (row_of t i) there in
-    let put = put_last k i w t r.0 (l.ids i) r.1 in
-    let row : IsRow r.0 = of_found IsRow t i r.0 l.rows r.1 in
+    let r = row_there (row_of t i) there in
+    let put = put_below-last k i w t r.0 (l.ids i) r.1 in
+    let row : IsRow r.0 = holds_of_row IsRow t i r.0 l.rows r.1 in
     subst Lawful (sym put) (Lawful-moved t i k (if is_device r.0 then w else r.0.weight) r.0 l r.1 stands far (record { name = row.name; form = placed_form r.0.id k w r.0 (λ d. h (sym (ap is_device_id (row_id i t r.0 r.1)) ∙ d)) refl row.form }) (ap is_too_heavy (sym put) ∙ light))
 
 -- its ids are distinct also where it is
@@ -193,9 +197,9 @@ placed_id i p w r = by_id (same_id r.id i) where
 
 pub item_distinct : (t : List Row) (i : ItemId) (k w : ℕ) → Lawful t → is_there t i ≡ true → Distinct (put_below k i w t)
 item_distinct t i k w l there =
-    let r = found (row_of t i) there in
+    let r = row_there (row_of t i) there in
     let v : ℕ = if is_device r.0 then w else r.0.weight in
-    subst Distinct (sym (put_last k i w t r.0 (l.ids i) r.1))
+    subst Distinct (sym (put_below-last k i w t r.0 (l.ids i) r.1))
     (Distinct-same (placed_last i (Some k) v t r.0 (l.ids i) r.1) (Distinct-map (place i (Some k) v) (placed_id i (Some k) v) t l.ids))
 
 -- and the test for sums is that of the table after
@@ -230,7 +234,7 @@ taken_draft b g d i k at e other st =
       pending = at.pending;
       stands = st;
       fits = Fits-rows d.setting d.table (table_without i d.table) at.fits (All-filter (λ (r : Row). not (is_part d.table i r.id)) (HasKind d.setting) d.table at.fits.types);
-      part = subst (IsPending d.setting (table_without i d.table)) (sym p) (root_without d.table i k root (apart d.table at.stands.lawful i k root other));
+      part = subst (IsPending d.setting (table_without i d.table)) (sym p) (root_without d.table i k root (is_no_part d.table at.stands.lawful i k root other));
     }
 
 put_fits : (s : SettingData) (t : List Row) (i : ItemId) (k w : ℕ) → Fits s t → Fits s (put_below k i w t)
@@ -259,7 +263,7 @@ pub item_step : (b : BuilderData) (h : ForestData) (d : Draft) (i : ItemId) (k w
 item_step b h d i k w n at e there other one whole st =
     let p : d.pending ≡ filling k = sym at.pending ∙ e in
     let root = open_root d.setting d.table d.pending k p at.part in
-    let far = apart d.table at.stands.lawful i k root other in
+    let far = is_no_part d.table at.stands.lawful i k root other in
     let put : Stands h (put_below k i w d.table) = same_stands h (table_without i d.table ++ rows (Some k) (with_first_weight w n)) (put_below k i w d.table) (item_same d.table i k w n at.stands.lawful there far one whole) st in
     subst (λ (x : Pending). IsDraft (record b { forest = h }) (with_item (record { setting = d.setting; table = d.table; pending = x }) i w)) (sym p)
     (step_at b h d.setting d.table i k w (subst (λ (x : Pending). IsDraft b (record { setting = d.setting; table = d.table; pending = x })) p at) other put)
@@ -268,7 +272,7 @@ item_step b h d i k w n at e there other one whole st =
 pub attached_lawful : (g : ForestData) (t : List Row) (i : ItemId) (k w : ℕ) (n : Items) → Lawful t → is_there t i ≡ true → IsRoot t k → same_id (Bucket k) i ≡ false → IsOne n → Same (rows None n) (part i t)
     → (is_device_id i ≡ true → w ≤ 2147483647) → Stands g (table_without i t) → is_too_heavy (put_below k i w t) ≡ false → Lawful (rows_of g ++ rows (Some k) (with_first_weight w n))
 attached_lawful g t i k w n l there root other one whole h st light =
-    let far = apart t l i k root other in
+    let far = is_no_part t l i k root other in
     let m : Items = with_first_weight w n in
     let near : Same (rows_of g ++ rows (Some k) m) (put_below k i w t) =
     Same-trans (rows_of g ++ rows (Some k) m) (table_without i t ++ rows (Some k) m) (put_below k i w t) (Same-with (rows (Some k) m) (rows_of g) (table_without i t) st.same) (item_same t i k w n l there far one whole) in
@@ -309,10 +313,10 @@ weighted_small w none s = s
 weighted_small w (device d rest) s = s
 weighted_small w (bucket h v m kids rest) s = s
 
-unplaced : (o : Option ℕ) → is_some o ≡ false → o ≡ None
-unplaced None h = refl
-unplaced (Some p) h = absurd (let no : true ≡ false = h in cc)
+has_no_parent : (o : Option ℕ) → is_some o ≡ false → o ≡ None
+has_no_parent None h = refl
+has_no_parent (Some p) h = absurd (let no : true ≡ false = h in cc)
 
 pub item_small : (t : List Row) (i : ItemId) (w : ℕ) (n : Items) → Lawful t → is_placed t i ≡ false → Same (rows None n) (part i t) → StoresSums n → StoresUpTo 4294967295 (with_first_weight w n)
 item_small t i w n l free whole sums =
-    weighted_small w n (StoresUpTo-lawful n sums (Lawful-same (part i t) (rows None n) (Same-sym (rows None n) (part i t) whole) (part_lawful t i l (unplaced (parent_of t i) free))))
+    weighted_small w n (StoresUpTo-lawful n sums (Lawful-same (part i t) (rows None n) (Same-sym (rows None n) (part i t) whole) (part_lawful t i l (has_no_parent (parent_of t i) free))))

@@ -12,7 +12,7 @@ use Rattle.std.specs.Option.{option_map, option_copied}
 use denote.Ref.{Bor}
 use Rattle.crush_table.specs.Table.{Row}
 use Rattle.crush_table.specs.Setting.{KindData, SettingData, IsKind, Fits, HasKind, kind_number, kind_name}
-use Rattle.crush_table.proofs.Reorder.{hit}
+use Rattle.crush_table.specs.Count.{one_if}
 use Rattle.crush_table.proofs.Weighs.{true_or_false}
 use Rattle.crush_map.specs.Built.{Draft, nothing, with_kind}
 use Rattle.crush_map.specs.Building.{BuilderData, IsDraft, IsPending, has_kind_number, has_kind_name, is_full_of_kinds}
@@ -23,14 +23,14 @@ none_passes p [] h = refl
 none_passes p (x ∷ xs) h = ⊎_elim
     (λ e. absurd (let no : true ≡ false = sym (ap (λ b. b || list_any p xs) e) ∙ h in cc))
     (λ e. let rest : list_any p xs ≡ false = sym (ap (λ b. b || list_any p xs) e) ∙ h in
-    let no : hit (p x) ≡ 0 = ap hit e in omega (arith, no, none_passes p xs rest, sum_by-cons (λ z. hit (p z)) x xs))
+    let no : one_if (p x) ≡ 0 = ap one_if e in omega (arith, no, none_passes p xs rest, sum_by-cons (λ z. one_if (p z)) x xs))
     (true_or_false (p x))
 
 -- one more leaves each at most once, where it is new
 count_one_more : {X : Type 0} (q : X → Bool) (x : X) (xs : List X) → count_by q xs ≤ 1 → (q x ≡ true → list_any q xs ≡ false) → count_by q (xs ++ x ∷ []) ≤ 1
 count_one_more q x xs once free = ⊎_elim
-    (λ e. let one : hit (q x) ≡ 1 = ap hit e in omega (arith, one, none_passes q xs (free e), sum_by_push (λ z. hit (q z)) xs x))
-    (λ e. let no : hit (q x) ≡ 0 = ap hit e in omega (arith, no, once, sum_by_push (λ z. hit (q z)) xs x))
+    (λ e. let one : one_if (q x) ≡ 1 = ap one_if e in omega (arith, one, none_passes q xs (free e), sum_by_push (λ z. one_if (q z)) xs x))
+    (λ e. let no : one_if (q x) ≡ 0 = ap one_if e in omega (arith, no, once, sum_by_push (λ z. one_if (q z)) xs x))
     (true_or_false (q x))
 
 pub less : (m n : ℕ) → nat_le m n ≡ false → n < m

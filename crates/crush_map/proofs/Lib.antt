@@ -1,10 +1,12 @@
+pub mod Ascending
 pub mod Changes
 pub mod Drafts
+pub mod Edits
 pub mod ItemSteps
 pub mod ItemTaken
 pub mod KindLaws
 pub mod KindSteps
-pub mod ReweightLaws
+pub mod Refused
 pub mod RowSteps
 pub mod TableLaws
 pub mod Worked

@@ -12,10 +12,12 @@ use Rattle.crush_units.specs.Id.{same_id}
 use Rattle.crush_units.specs.Name.{IsName}
 use Rattle.crush_units.proofs.Ids.{same_id_refl}
 use Rattle.crush_table.specs.Table.{Row, is_device, is_bucket, is_there, is_named, row_of, row_named, id_named, device_count, bucket_count}
-use Rattle.crush_table.specs.Lawful.{Lawful, IsClassId, has_too_many}
-use Rattle.crush_table.specs.Rows.{ForestData, rows_of, device_row, bucket_row, Stands}
+use Rattle.crush_table.specs.Lawful.{Lawful, IsShadowId, has_too_many}
+use Rattle.crush_table.specs.Forest.{ForestData, rows_of}
+use Rattle.crush_table.specs.ItemRows.{device_row, bucket_row}
+use Rattle.crush_table.specs.Stands.{Stands}
 use Rattle.crush_table.specs.Setting.{SettingData}
-use Rattle.crush_table.proofs.Reorder.{hit}
+use Rattle.crush_table.specs.Count.{one_if}
 use Rattle.crush_table.proofs.Weighs.{or_left}
 use Rattle.crush_table.proofs.Appended.{row_of-append, unused_fresh, Lawful-push_device, Lawful-push_bucket}
 use Rattle.crush_map.proofs.KindSteps.{less}
@@ -34,8 +36,8 @@ and_right : (a b : Bool) → (a && b) ≡ true → b ≡ true
 and_right true b h = h
 and_right false b h = absurd (let no : false ≡ true = h in cc)
 
-positive : (k : ℕ) → nat_lt 0 k ≡ true → 0 < k
-positive k h = grind (arith, nat_tests)
+is_positive : (k : ℕ) → nat_lt 0 k ≡ true → 0 < k
+is_positive k h = grind (arith, nat_tests)
 
 -- THE ROW of a device without parent
 abbrev pub new_device : ℕ → List ℕ → Row
@@ -43,11 +45,11 @@ new_device id name = device_row None (record { id = id; name = name; weight = 0;
 
 device_room : (t : List Row) (r : Row) → Lawful t → is_device r ≡ true → is_bucket r ≡ false → nat_le 65536 (device_count t) ≡ false → has_too_many (t ++ r ∷ []) ≡ false
 device_room t r l dev buck few =
-    let one : hit (is_device r) ≡ 1 = ap hit dev in
-    let no : hit (is_bucket r) ≡ 0 = ap hit buck in
+    let one : one_if (is_device r) ≡ 1 = ap one_if dev in
+    let no : one_if (is_bucket r) ≡ 0 = ap one_if buck in
     let small : device_count t < 65536 = less 65536 (device_count t) few in
-    let devices : nat_lt 65536 (device_count (t ++ r ∷ [])) ≡ false = not_less 65536 (device_count (t ++ r ∷ [])) (omega (arith, one, small, sum_by_push (λ (x : Row). hit (is_device x)) t r)) in
-    let buckets : nat_lt 4096 (bucket_count (t ++ r ∷ [])) ≡ false = not_less 4096 (bucket_count (t ++ r ∷ [])) (omega (arith, no, l.buckets, sum_by_push (λ (x : Row). hit (is_bucket x)) t r)) in
+    let devices : nat_lt 65536 (device_count (t ++ r ∷ [])) ≡ false = not_less 65536 (device_count (t ++ r ∷ [])) (omega (arith, one, small, sum_by_push (λ (x : Row). one_if (is_device x)) t r)) in
+    let buckets : nat_lt 4096 (bucket_count (t ++ r ∷ [])) ≡ false = not_less 4096 (bucket_count (t ++ r ∷ [])) (omega (arith, no, l.buckets, sum_by_push (λ (x : Row). one_if (is_bucket x)) t r)) in
     λ i. devices i || buckets i
 
 -- the table is lawful with it
@@ -86,10 +88,10 @@ new_bucket k n id alg = bucket_row None (record { id = id; kind = k; name = n; a
 
 bucket_room : (t : List Row) (r : Row) → Lawful t → is_device r ≡ false → is_bucket r ≡ true → bucket_count t < 4096 → has_too_many (t ++ r ∷ []) ≡ false
 bucket_room t r l dev buck few =
-    let no : hit (is_device r) ≡ 0 = ap hit dev in
-    let one : hit (is_bucket r) ≡ 1 = ap hit buck in
-    let devices : nat_lt 65536 (device_count (t ++ r ∷ [])) ≡ false = not_less 65536 (device_count (t ++ r ∷ [])) (omega (arith, no, l.devices, sum_by_push (λ (x : Row). hit (is_device x)) t r)) in
-    let buckets : nat_lt 4096 (bucket_count (t ++ r ∷ [])) ≡ false = not_less 4096 (bucket_count (t ++ r ∷ [])) (omega (arith, one, few, sum_by_push (λ (x : Row). hit (is_bucket x)) t r)) in
+    let no : one_if (is_device r) ≡ 0 = ap one_if dev in
+    let one : one_if (is_bucket r) ≡ 1 = ap one_if buck in
+    let devices : nat_lt 65536 (device_count (t ++ r ∷ [])) ≡ false = not_less 65536 (device_count (t ++ r ∷ [])) (omega (arith, no, l.devices, sum_by_push (λ (x : Row). one_if (is_device x)) t r)) in
+    let buckets : nat_lt 4096 (bucket_count (t ++ r ∷ [])) ≡ false = not_less 4096 (bucket_count (t ++ r ∷ [])) (omega (arith, one, few, sum_by_push (λ (x : Row). one_if (is_bucket x)) t r)) in
     λ i. devices i || buckets i
 
 some_alg : (alg : Alg) → Some alg ≡ None → ⊥
@@ -104,12 +106,12 @@ bucket_lawful s t k n id alg l can num =
       form = record {
         some = num.some;
         most = num.most;
-        kind_some = positive k (and_left _ _ can.known);
+        kind_some = is_positive k (and_left _ _ can.known);
         kind_most = can.most;
         weight = refl;
         class = refl;
         alg = some_alg alg;
-        class_ids = All-nil IsClassId;
+        class_ids = All-nil IsShadowId;
         few = omega arith;
         classes = λ c. omega arith;
       };

@@ -6,12 +6,14 @@ use Rattle.crush_units.specs.declared.id.ItemId.{ItemId}
 use Rattle.crush_units.specs.declared.id.ItemId.TheVariants.{Bucket}
 use Rattle.crush_units.specs.Id.{same_id}
 use Rattle.crush_units.specs.Name.{IsName}
-use Rattle.crush_table.specs.Items.{ClassData}
+use Rattle.crush_table.specs.Items.{ShadowData}
 use Rattle.crush_table.specs.Table.{Row, is_there, is_named, parent_of, id_named, used_ids, member, device_count, bucket_count}
-use Rattle.crush_table.specs.Rows.{ForestData, coded_forest, rows_of, Stands}
+use Rattle.crush_table.specs.Forest.{ForestData, coded_forest, rows_of}
+use Rattle.crush_table.specs.Stands.{Stands}
 use Rattle.crush_table.specs.Setting.{KindData, SettingData, coded_setting, Fits}
 use Rattle.crush_map.specs.Built.{Pending, nothing, begun, numbered, filling, Draft}
 use Rattle.crush_map.specs.Stored.{coded_pending}
+use Rattle.crush_units.specs.declared.limits.TheConstants.{FARTHEST_BUCKET_ID, LAST_TYPE, MOST_BUCKETS, MOST_DEVICES, MOST_TYPES}
 
 -- what contracts see of a builder
 pub record BuilderData : Type 0 where
@@ -30,14 +32,14 @@ is_bucket_kind s k = nat_lt 0 k && list_any (λ (x : KindData). x.number == k) s
 -- what of a bucket that is not yet in the table can be put there
 pub record CanBegin (s : SettingData) (t : List Row) (kind : ℕ) (name : List ℕ) : Type 0 where
   pub known : is_bucket_kind s kind ≡ true
-  pub most : kind ≤ 65535
+  pub most : kind ≤ LAST_TYPE
   pub form : IsName name
   pub free : is_named t name ≡ false
-  pub few : bucket_count t < 4096
+  pub few : bucket_count t < MOST_BUCKETS
 
-pub record CanNumber (t : List Row) (b : ℕ) (class_ids : List ClassData) : Type 0 where
+pub record CanNumber (t : List Row) (b : ℕ) (class_ids : List ShadowData) : Type 0 where
   pub some : 0 < b
-  pub most : b ≤ 2147483648
+  pub most : b ≤ FARTHEST_BUCKET_ID
   pub free : member b (used_ids t) ≡ false
   pub classes : class_ids ≡ []
 
@@ -122,10 +124,10 @@ has_kind_name s n = list_any (λ (x : KindData). bytes_eq x.name n) s.kinds
 
 -- one more would pass a limit
 abbrev pub is_full_of_devices : Draft → Bool
-is_full_of_devices d = nat_le 65536 (device_count d.table)
+is_full_of_devices d = nat_le MOST_DEVICES (device_count d.table)
 
 abbrev pub is_full_of_buckets : Draft → Bool
-is_full_of_buckets d = nat_le 4096 (bucket_count d.table)
+is_full_of_buckets d = nat_le MOST_BUCKETS (bucket_count d.table)
 
 abbrev pub is_full_of_kinds : Draft → Bool
-is_full_of_kinds d = nat_le 256 (length d.setting.kinds)
+is_full_of_kinds d = nat_le MOST_TYPES (length d.setting.kinds)

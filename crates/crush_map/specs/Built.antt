@@ -3,17 +3,17 @@ use Rattle.std.specs.Prelude.{ℕ, List, [], ◌∷◌, ◌++◌, Some, None, if
 use Rattle.crush_units.specs.declared.id.ItemId.{ItemId}
 use Rattle.crush_units.specs.declared.alg.Alg.{Alg}
 use Rattle.crush_units.specs.Id.{same_id}
-use Rattle.crush_table.specs.Items.{ClassData}
+use Rattle.crush_table.specs.Items.{ShadowData}
 use Rattle.crush_table.specs.Table.{Row, is_device}
 use Rattle.crush_table.specs.Columns.{without_row}
-use Rattle.crush_table.specs.Rows.{device_row, bucket_row}
+use Rattle.crush_table.specs.ItemRows.{device_row, bucket_row}
 use Rattle.crush_table.specs.Setting.{SettingData}
 
 -- what of a bucket was read before it is in the table, and then the bucket that is being filled
 pub data Pending : Type 0 where
   nothing : Pending
   begun : ℕ → List ℕ → Pending
-  numbered : ℕ → List ℕ → ℕ → List ClassData → Pending
+  numbered : ℕ → List ℕ → ℕ → List ShadowData → Pending
   filling : ℕ → Pending
 
 -- what was built so far: setting, table, and the statement in the middle of which the text is
@@ -54,14 +54,14 @@ pending_row (begun kind name) alg = []
 pending_row (numbered kind name b class_ids) alg = bucket_row None (record { id = b; kind = kind; name = name; alg = alg; class_ids = class_ids }) ∷ []
 pending_row (filling b) alg = []
 
-abbrev pub filled : Pending → Pending
-filled nothing = nothing
-filled (begun kind name) = begun kind name
-filled (numbered kind name b class_ids) = filling b
-filled (filling b) = filling b
+abbrev pub pending_with_alg : Pending → Pending
+pending_with_alg nothing = nothing
+pending_with_alg (begun kind name) = begun kind name
+pending_with_alg (numbered kind name b class_ids) = filling b
+pending_with_alg (filling b) = filling b
 
 abbrev pub with_alg : Draft → Alg → Draft
-with_alg d alg = record d { table = d.table ++ pending_row d.pending alg; pending = filled d.pending }
+with_alg d alg = record d { table = d.table ++ pending_row d.pending alg; pending = pending_with_alg d.pending }
 
 -- an item of the bucket that is being filled: its row is taken out and put last with its new parent, a device's with its weight
 abbrev pub placed_row : ℕ → ℕ → Row → Row
@@ -80,5 +80,5 @@ abbrev pub with_item : Draft → ItemId → ℕ → Draft
 with_item d i w = record d { table = table_with_item d.pending i w d.table }
 
 -- the bucket's closing brace
-abbrev pub ended : Draft → Draft
-ended d = record d { pending = nothing }
+abbrev pub with_end : Draft → Draft
+with_end d = record d { pending = nothing }

@@ -2,7 +2,7 @@
 use Rattle.std.specs.Prelude.{ℕ, List, [], ◌∷◌, Option, Some, None, codes}
 use Rattle.crush_units.specs.declared.alg.Alg.TheVariants.{Straw2}
 use Rattle.crush_table.specs.Table.{Row}
-use Rattle.crush_table.specs.Rows.{device_row, bucket_row}
+use Rattle.crush_table.specs.ItemRows.{device_row, bucket_row}
 use Rattle.crush_table.specs.Setting.{KindData, SettingData}
 
 abbrev pub a_device : ℕ → List ℕ → Option ℕ → ℕ → Row

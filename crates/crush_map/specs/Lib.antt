@@ -1,12 +1,13 @@
 pub mod Building
 pub mod Built
-pub mod Can
 pub mod Changed
 pub mod Edit
+pub mod Edits
 pub mod Examples
 pub mod Kinds
+pub mod Law
 pub mod MapData
 pub mod Outcome
-pub mod Parts
+pub mod Pending
 pub mod Refusal
 pub mod Stored

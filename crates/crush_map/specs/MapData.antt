@@ -2,7 +2,8 @@
 use Rattle.std.specs.Prelude.{◌≡◌, List, refl}
 use Rattle.std.specs.Coded.{Coded, code_by, coded×}
 use Rattle.crush_table.specs.Table.{Row}
-use Rattle.crush_table.specs.Rows.{ForestData, coded_forest, rows_of, Stands}
+use Rattle.crush_table.specs.Forest.{ForestData, coded_forest, rows_of}
+use Rattle.crush_table.specs.Stands.{Stands}
 use Rattle.crush_table.specs.Setting.{SettingData, coded_setting, Fits}
 
 pub record MapData : Type 0 where

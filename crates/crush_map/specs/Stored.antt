@@ -1,12 +1,12 @@
 -- How a pending part is stored.
 use Rattle.std.specs.Prelude.{◌≡◌, ℕ, List, [], ◌==◌, if◌then◌else◌, refl}
 use Rattle.std.specs.Coded.{Coded, code_by, coded×, coded_ℕ, coded_list}
-use Rattle.crush_table.specs.Items.{ClassData, coded_class}
+use Rattle.crush_table.specs.Items.{ShadowData, coded_shadow}
 use Rattle.crush_map.specs.Built.{Pending, nothing, begun, numbered, filling}
 
 -- its kind, two numbers, a name and class ids
 abbrev pub Parts : Type 0
-Parts = ℕ × (ℕ × (ℕ × (List ℕ × List ClassData)))
+Parts = ℕ × (ℕ × (ℕ × (List ℕ × List ShadowData)))
 
 abbrev pub pending_parts : Pending → Parts
 pending_parts nothing = (0, (0, (0, ([], []))))
@@ -25,4 +25,4 @@ parts_pending-pending_parts (numbered kind name b class_ids) = refl
 parts_pending-pending_parts (filling b) = refl
 
 abbrev pub coded_pending : Coded Pending
-coded_pending = code_by Parts (coded× coded_ℕ (coded× coded_ℕ (coded× coded_ℕ (coded× (coded_list coded_ℕ) (coded_list coded_class))))) pending_parts parts_pending parts_pending-pending_parts
+coded_pending = code_by Parts (coded× coded_ℕ (coded× coded_ℕ (coded× coded_ℕ (coded× (coded_list coded_ℕ) (coded_list coded_shadow))))) pending_parts parts_pending parts_pending-pending_parts

@@ -1,10 +1,11 @@
 //! Edits of a map.
 
-ghost use Rattle.std.specs.Prelude.{◌≡◌, List, Err, OnErr, true};
+ghost use Rattle.std.specs.Prelude.{◌≡◌, List, IfOk, OnErr, true};
 ghost use Rattle.crush_table.specs.Table.{Row};
-ghost use Rattle.crush_table.specs.Rows.{Stands};
-ghost use Rattle.crush_map.specs.Edit.{edit, takes_memory};
-ghost use Rattle.crush_map.specs.Outcome.{IsAnswer};
+ghost use Rattle.crush_table.specs.Stands.{Stands};
+ghost use Rattle.crush_map.specs.declared.refusal.Refusal.{Refusal as DeclaredRefusal};
+ghost use Rattle.crush_map.specs.Edit.{edit, refused, takes_memory};
+ghost use Rattle.crush_map.specs.Outcome.{IsDone, IsChange};
 
 mod reweight;
 
@@ -21,10 +22,17 @@ impl<A: Allocator> CrushMap<A> {
     /// an edit that takes memory, where nothing speaks against it and the map would be another
     /// after it: so never of a new weight.
     pub fn apply(&mut self, asked: &Edit) -> Result<Done, EditFault>
-        ensures answer { (t : List Row) → Stands self.old.forest t → IsAnswer (Stands self.new.forest) (edit self.old.setting t asked.now) result }
-        ensures setting { self.new.setting ≡ self.old.setting }
-        ensures kept { OnErr result (self.new ≡ self.old) }
+        ensures done { IfOk result (λ d. (t : List Row) → Stands self.old.forest t
+            → IsDone (Stands self.new.forest) (edit self.old.setting t asked.now) d) }
+        ensures refused { (r : DeclaredRefusal) → result ≡ Err (EditFault.Refused r)
+            → (t : List Row) → Stands self.old.forest t
+            → edit self.old.setting t asked.now ≡ refused r }
+        ensures change { result ≡ Err EditFault.OutOfMemory
+            → (t : List Row) → Stands self.old.forest t
+            → IsChange (edit self.old.setting t asked.now) }
         ensures memory { result ≡ Err EditFault.OutOfMemory → takes_memory asked.now ≡ true }
+        ensures kept { OnErr result (self.new ≡ self.old) }
+        ensures setting { self.new.setting ≡ self.old.setting }
     {
         match asked {
             Edit::Reweight(name, weight) => Ok(reweight(&mut self.forest, name, *weight)?),

@@ -5,15 +5,14 @@
 mod apply;
 mod builder;
 mod edit;
+mod law;
 mod map;
 mod refusal;
 mod setting;
 
 pub use builder::{BuildFault, MapBuilder};
 pub use edit::Edit;
+pub use law::refusals_are_told_by_number;
 pub use map::CrushMap;
 pub use refusal::{Done, EditFault, Refusal};
 pub use setting::{Kind, Setting, is_reserved};
-
-#[cfg(test)]
-mod tests;

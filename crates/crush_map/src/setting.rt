@@ -1,10 +1,10 @@
 //! The setting of a map: what it holds beside its hierarchy.
 
 ghost use Rattle.std.specs.Prelude.{◌≡◌, ◌==◌, [], ◌∷◌, ◌++◌, map, find, bytes_eq, OnOk, OnErr};
-ghost use Rattle.crush_map.specs.Building.{has_kind_number, has_kind_name};
 ghost use Rattle.std.specs.Option.{option_copied, option_map};
 ghost use Rattle.crush_map.specs.declared.setting.Kind.{Kind as DeclaredKind};
-ghost use Rattle.crush_table.specs.Setting.{kind_number, kind_name, is_reserved as is_reserved_name};
+ghost use Rattle.crush_table.specs.Setting.{kind_number, kind_name};
+ghost use Rattle.crush_table.specs.Setting.{is_reserved as is_reserved_name};
 
 use crush_units::{Name, TypeId};
 use std::alloc::{AllocError, Global};
@@ -60,20 +60,6 @@ impl Setting {
         Ok(())
     }
 
-    /// Whether there is a type of this number.
-    pub(crate) fn has_number(&self, number: TypeId) -> bool
-        ensures { result ≡ has_kind_number self.now number }
-    {
-        self.kind_name(number).is_some()
-    }
-
-    /// Whether there is a type of this name.
-    pub(crate) fn has_name(&self, name: &[u8]) -> bool
-        ensures { result ≡ has_kind_name self.now name.now }
-    {
-        self.kind_number(name).is_some()
-    }
-
     /// The types, in the order in which they were declared.
     pub fn kinds(&self) -> &[Kind]
         ensures { map kind_data result.now ≡ self.now.kinds }
@@ -96,8 +82,8 @@ impl Setting {
     }
 }
 
-/// Whether a type of buckets may not have this name, since a statement of a map's text, or a part of
-/// one, begins with it. The name of type 0 is free.
+/// Whether a type of buckets may not have this name, since a statement of a map's text, or a part
+/// of one, begins with it. The name of type 0 is free.
 pub fn is_reserved(name: &[u8]) -> bool
     ensures { result ≡ is_reserved_name name.now }
 {
@@ -111,7 +97,8 @@ pub fn is_reserved(name: &[u8]) -> bool
 
 /// The number of the first type of this name.
 fn number_of(kinds: &[Kind], name: &[u8]) -> Option<TypeId>
-    ensures { result ≡ option_map (λ (k : DeclaredKind). k.number) (find (λ (k : DeclaredKind). bytes_eq k.name name.now) kinds.now) }
+    ensures { result ≡ option_map (λ (k : DeclaredKind). k.number)
+        (find (λ (k : DeclaredKind). bytes_eq k.name name.now) kinds.now) }
 {
     kinds
         .iter()
@@ -121,7 +108,8 @@ fn number_of(kinds: &[Kind], name: &[u8]) -> Option<TypeId>
 
 /// The name of the first type of this number.
 fn name_of(kinds: &[Kind], number: TypeId) -> Option<&Name<Global>>
-    ensures { option_copied result ≡ option_map (λ (k : DeclaredKind). k.name) (find (λ (k : DeclaredKind). k.number == number) kinds.now) }
+    ensures { option_copied result ≡ option_map (λ (k : DeclaredKind). k.name)
+        (find (λ (k : DeclaredKind). k.number == number) kinds.now) }
 {
     kinds
         .iter()

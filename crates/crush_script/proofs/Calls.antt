@@ -1,6 +1,5 @@
 -- A call that is added to the last script.
-use Rattle.std.proofs.Common.{◌≡◌, ℕ, zero, suc, ◌+◌, ◌<◌, true, false, List, [], ◌∷◌, ◌++◌, Ok, length, map, get_or, set, nat_le, refl, ap, sym, ◌∙◌, arith, rules, tests}
-use Rattle.std.proofs.lemmas.Bool.{false≢true}
+use Rattle.std.proofs.Common.{◌≡◌, ℕ, zero, suc, ◌+◌, ◌<◌, false, List, [], ◌∷◌, ◌++◌, Ok, length, map, get_or, set, nat_le, ap, sym, ◌∙◌, arith, rules, tests}
 use Rattle.crush_script.specs.declared.call.Call.{Call}
 use Rattle.crush_script.specs.declared.sections.Script.{Script}
 use Rattle.crush_script.specs.Sections.{ScriptData, SectionsData, script_data, call_in_last, with_call}
@@ -12,11 +11,6 @@ call_in_last-set c (x ∷ []) zero s n last is more = ap (λ (r : ScriptData). r
 call_in_last-set c (x ∷ []) (suc i) s n last is more = absurd (omega arith)
 call_in_last-set c (x ∷ y ∷ xs) zero s n last is more = absurd (omega arith)
 call_in_last-set c (x ∷ y ∷ xs) (suc i) s n last is more = ap (λ (r : List ScriptData). script_data x ∷ r) (call_in_last-set c (y ∷ xs) i s n (omega arith) is more)
-
--- no script is the last of none
-pub no_script : (n : ℕ) → (0 < n → false ≡ true) → n ≡ 0
-no_script zero none = refl
-no_script (suc n) none = absurd (false≢true (none (omega arith)))
 
 -- a call that isn't one too many
 pub with_call-few : (number : ℕ) (s : SectionsData) (c : Call) → s.calls < 65536 → with_call number s c ≡ Ok (record { scripts = call_in_last c s.scripts; calls = s.calls + 1 })

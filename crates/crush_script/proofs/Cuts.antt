@@ -1,8 +1,9 @@
 -- The first line of a text and its first word, and what stands behind them.
-use Rattle.std.proofs.Common.{◌≡◌, ℕ, suc, ◌+◌, ◌-◌, ◌<◌, ◌==◌, Bool, true, false, not, cond, List, [], ◌∷◌, length, take, drop, filter, refl, ap, sym, ◌∙◌, subst, arith, rules, tests, ltb, length-drop}
+use Rattle.std.proofs.Common.{◌≡◌, ℕ, suc, ◌+◌, ◌-◌, ◌<◌, ◌==◌, Bool, true, false, not, ◌&&◌, cond, List, [], ◌∷◌, length, take, drop, filter, refl, ap, sym, ◌∙◌, subst, arith, rules, tests, ltb, length-drop}
 use Rattle.std.proofs.lemmas.List.{drop-drop, take_all, nil_from_length}
 use Rattle.std.specs.List.{position_or_len, slice_split, onto_first}
-use Rattle.crush_script.specs.Lines.{lines, words_in, is_blank}
+use Rattle.crush_script.specs.Lines.{lines, words_between_blanks, is_space_or_tab, length_to_section, section_part, begins_section}
+use Rattle.std.proofs.lemmas.Bool.{false≢true}
 
 -- the place of the line feed
 abbrev pub feed : List ℕ → ℕ
@@ -33,40 +34,40 @@ lines-cut (b ∷ bs) some = cut_more b bs (b == 10) (lines-cut bs)
 
 -- the place of the first byte that is no blank, and of the first blank
 abbrev pub word_place : List ℕ → ℕ
-word_place text = position_or_len (λ b. not (is_blank b)) text
+word_place text = position_or_len (λ b. not (is_space_or_tab b)) text
 
 abbrev pub blank_place : List ℕ → ℕ
-blank_place text = position_or_len is_blank text
+blank_place text = position_or_len is_space_or_tab text
 
 -- the first byte is no blank
 abbrev pub BeginsWord : List ℕ → Type 0
 BeginsWord [] = Unit {0}
-BeginsWord (b ∷ bs) = is_blank b ≡ false
+BeginsWord (b ∷ bs) = is_space_or_tab b ≡ false
 
 abbrev is_some_word : List ℕ → Bool
 is_some_word word = ltb 0 (length word)
 
 -- a blank before a text
-skip_more : (b : ℕ) (bs : List ℕ) (blank : Bool) → is_blank b ≡ blank → (words_in bs ≡ words_in (drop (word_place bs) bs)) × BeginsWord (drop (word_place bs) bs) → (words_in (b ∷ bs) ≡ words_in (drop (cond (not (not blank)) (1 + word_place bs) 0) (b ∷ bs))) × BeginsWord (drop (cond (not (not blank)) (1 + word_place bs) 0) (b ∷ bs))
-unfolding words_in
+skip_more : (b : ℕ) (bs : List ℕ) (blank : Bool) → is_space_or_tab b ≡ blank → (words_between_blanks bs ≡ words_between_blanks (drop (word_place bs) bs)) × BeginsWord (drop (word_place bs) bs) → (words_between_blanks (b ∷ bs) ≡ words_between_blanks (drop (cond (not (not blank)) (1 + word_place bs) 0) (b ∷ bs))) × BeginsWord (drop (cond (not (not blank)) (1 + word_place bs) 0) (b ∷ bs))
+unfolding words_between_blanks
 skip_more b bs true is below = rw (one_less b bs (word_place bs)) (rw is below.0, below.1)
 skip_more b bs false is below = (refl, is)
 
 -- blanks before the first word
-pub words_in-skip : (text : List ℕ) → (words_in text ≡ words_in (drop (word_place text) text)) × BeginsWord (drop (word_place text) text)
-words_in-skip [] = (refl, tt)
-words_in-skip (b ∷ bs) = skip_more b bs (is_blank b) refl (words_in-skip bs)
+pub words-skip : (text : List ℕ) → (words_between_blanks text ≡ words_between_blanks (drop (word_place text) text)) × BeginsWord (drop (word_place text) text)
+words-skip [] = (refl, tt)
+words-skip (b ∷ bs) = skip_more b bs (is_space_or_tab b) refl (words-skip bs)
 
 -- the bytes up to the first blank, and the parts behind it
 record Split (text : List ℕ) : Type 0 where
   parts : List (List ℕ)
-  split : slice_split is_blank text ≡ take (blank_place text) text ∷ parts
-  words : filter is_some_word parts ≡ words_in (drop (blank_place text) text)
+  split : slice_split is_space_or_tab text ≡ take (blank_place text) text ∷ parts
+  words : filter is_some_word parts ≡ words_between_blanks (drop (blank_place text) text)
 
-split_more : (b : ℕ) (bs : List ℕ) (blank : Bool) → is_blank b ≡ blank → Split bs → Split (b ∷ bs)
-unfolding words_in
+split_more : (b : ℕ) (bs : List ℕ) (blank : Bool) → is_space_or_tab b ≡ blank → Split bs → Split (b ∷ bs)
+unfolding words_between_blanks
 split_more b bs true is below = record {
-  parts = slice_split is_blank bs;
+  parts = slice_split is_space_or_tab bs;
   split = rw is refl;
   words = rw (is, is) refl;
 }
@@ -77,19 +78,19 @@ split_more b bs false is below = record {
 }
 
 split_of : (text : List ℕ) → Split text
-unfolding words_in
+unfolding words_between_blanks
 split_of [] = record { parts = []; split = refl; words = refl }
-split_of (b ∷ bs) = split_more b bs (is_blank b) refl (split_of bs)
+split_of (b ∷ bs) = split_more b bs (is_space_or_tab b) refl (split_of bs)
 
 -- a word that isn't empty is kept
 kept : (word : List ℕ) (parts : List (List ℕ)) → 0 < length word → filter is_some_word (word ∷ parts) ≡ word ∷ filter is_some_word parts
 kept word parts some = let e : ltb 0 (length word) ≡ true = search (rules, tests) in rw e
 
 -- the first word, and the words behind it
-pub words_in-cut : (text : List ℕ) → 0 < length text → BeginsWord text → words_in text ≡ take (blank_place text) text ∷ words_in (drop (blank_place text) text)
-unfolding words_in
-words_in-cut [] some begins = absurd (omega arith)
-words_in-cut (b ∷ bs) some begins =
+pub words-cut : (text : List ℕ) → 0 < length text → BeginsWord text → words_between_blanks text ≡ take (blank_place text) text ∷ words_between_blanks (drop (blank_place text) text)
+unfolding words_between_blanks
+words-cut [] some begins = absurd (omega arith)
+words-cut (b ∷ bs) some begins =
     let s : Split (b ∷ bs) = split_of (b ∷ bs) in
     let word : List ℕ = take (blank_place (b ∷ bs)) (b ∷ bs) in
     let long : 0 < length word = rw (begins, one_more b bs (blank_place bs)) (omega arith) in
@@ -110,10 +111,27 @@ behind_feed text rest some is =
     lines-cut text some ∙ ap (λ (r : List ℕ). take (feed text) text ∷ lines r) (e ∙ ap (drop 1) (sym is) ∙ sym all)
 
 -- no word is left
-pub words_in-none : (text rest : List ℕ) → rest ≡ drop (word_place text) text → length rest ≡ 0 → words_in text ≡ []
-unfolding words_in
-words_in-none text rest is none = (words_in-skip text).0 ∙ ap words_in (sym is ∙ nil_from_length rest none)
+pub no_word_left : (text rest : List ℕ) → rest ≡ drop (word_place text) text → length rest ≡ 0 → words_between_blanks text ≡ []
+unfolding words_between_blanks
+no_word_left text rest is none = (words-skip text).0 ∙ ap words_between_blanks (sym is ∙ nil_from_length rest none)
 
 -- the next word
-pub words_in-next : (text rest : List ℕ) → rest ≡ drop (word_place text) text → 0 < length rest → words_in text ≡ take (blank_place rest) rest ∷ words_in (drop (blank_place rest) rest)
-words_in-next text rest is some = (words_in-skip text).0 ∙ ap words_in (sym is) ∙ words_in-cut rest some (subst BeginsWord (sym is) (words_in-skip text).1)
+pub next_word : (text rest : List ℕ) → rest ≡ drop (word_place text) text → 0 < length rest → words_between_blanks text ≡ take (blank_place rest) rest ∷ words_between_blanks (drop (blank_place rest) rest)
+next_word text rest is some = (words-skip text).0 ∙ ap words_between_blanks (sym is) ∙ words-cut rest some (subst BeginsWord (sym is) (words-skip text).1)
+
+-- what stands behind the map text begins a section, where there is anything
+both_true : (a b : Bool) → (a && b) ≡ true → b ≡ true
+both_true true b e = e
+both_true false b e = absurd (false≢true e)
+
+cut_or_go_on : (b : ℕ) (bs : List ℕ) (n : ℕ) (here : Bool) → (here ≡ true → (b == 37) ≡ true) → (0 < length (drop n bs) → begins_section (drop n bs) ≡ true)
+    → 0 < length (drop (cond here 0 (n + 1)) (b ∷ bs)) → begins_section (drop (cond here 0 (n + 1)) (b ∷ bs)) ≡ true
+cut_or_go_on b bs n true is below = λ some. is refl
+cut_or_go_on b bs n false is below = let e : n + 1 ≡ suc n = omega arith in rw e below
+
+begins-at_cut : (starts : Bool) (job : List ℕ) → 0 < length (drop (length_to_section starts job) job) → begins_section (drop (length_to_section starts job) job) ≡ true
+begins-at_cut starts [] = λ some. absurd (omega arith)
+begins-at_cut starts (b ∷ bs) = cut_or_go_on b bs (length_to_section (b == 10) bs) (starts && b == 37) (both_true starts (b == 37)) (begins-at_cut (b == 10) bs)
+
+pub section_part-begins : (job : List ℕ) → 0 < length (section_part job) → begins_section (section_part job) ≡ true
+section_part-begins job = begins-at_cut true job

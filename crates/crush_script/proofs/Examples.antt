@@ -9,19 +9,19 @@ use Rattle.crush_script.specs.declared.call.Reply.TheVariants.{Done, Refused}
 use Rattle.crush_script.specs.declared.command.Command.TheVariants.{Nothing, Edit}
 use Rattle.crush_script.specs.declared.command.LineFault.TheVariants as line
 use Rattle.crush_script.specs.declared.fault.JobFault.TheVariants as job
-use Rattle.crush_script.specs.Lines.{lines, words_in, words, map_part}
+use Rattle.crush_script.specs.Lines.{lines, words_between_blanks, line_words, map_part}
 use Rattle.crush_script.specs.Command.{name_at, weight_at, end_at, reweight_at, edit_at, command, operator}
 use Rattle.crush_script.specs.Sections.{with_line, with_lines, sections_of}
 use Rattle.crush_script.specs.HistoryText.{line_front, line_end, line_text}
 
 -- a comment inside a word, blanks of both kinds, a carriage return
-words_of_a_line : words (codes " reweight\tosd.2  1.0#c\r") ≡ codes "reweight" ∷ (codes "osd.2" ∷ (codes "1.0" ∷ []))
-unfolding words_in
+words_of_a_line : line_words (codes " reweight\tosd.2  1.0#c\r") ≡ codes "reweight" ∷ (codes "osd.2" ∷ (codes "1.0" ∷ []))
+unfolding words_between_blanks
 words_of_a_line = refl
 
 -- a second carriage return is part of the word
-return_in_a_word : words (codes "x\r\r") ≡ (codes "x\r" ∷ [])
-unfolding words_in
+return_in_a_word : line_words (codes "x\r\r") ≡ (codes "x\r" ∷ [])
+unfolding words_between_blanks
 return_in_a_word = refl
 
 one_weight : command (codes "reweight" ∷ (codes "osd.2" ∷ (codes "1.0" ∷ []))) ≡ Ok (Edit (Reweight (codes "osd.2") 65536))
@@ -45,15 +45,15 @@ flying_map : map_part flying ≡ codes "type 1 host\n"
 flying_map = refl
 
 flying_fault : sections_of flying ≡ Err (job.NoSuchCommand 3)
-unfolding lines words_in name_at weight_at end_at reweight_at edit_at command operator with_line with_lines
+unfolding lines words_between_blanks name_at weight_at end_at reweight_at edit_at command operator with_line with_lines
 flying_fault = refl
 
 second_section : sections_of (codes "%operator a\n\n%operator b") ≡ Err (job.TooManyOperators 3)
-unfolding lines words_in name_at weight_at end_at reweight_at edit_at command operator with_line with_lines
+unfolding lines words_between_blanks name_at weight_at end_at reweight_at edit_at command operator with_line with_lines
 second_section = refl
 
 one_call : sections_of (codes "%operator a # x\r\nreweight osd.0 0.015625") ≡ Ok (record { scripts = (record { name = codes "a"; calls = One (Reweight (codes "osd.0") 1024) ∷ [] }) ∷ []; calls = 1 })
-unfolding lines words_in name_at weight_at end_at reweight_at edit_at command operator with_line with_lines
+unfolding lines words_between_blanks name_at weight_at end_at reweight_at edit_at command operator with_line with_lines
 one_call = refl
 
 -- the lines of a history

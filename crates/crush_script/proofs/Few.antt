@@ -8,7 +8,7 @@ use Rattle.crush_script.specs.declared.command.Command.{Command}
 use Rattle.crush_script.specs.declared.command.Command.TheVariants.{Nothing, Edit}
 use Rattle.crush_script.specs.declared.fault.JobFault.{JobFault}
 use Rattle.crush_script.specs.Command.{◌>>=◌, command, operator}
-use Rattle.crush_script.specs.Lines.{words, begins_section}
+use Rattle.crush_script.specs.Lines.{line_words, begins_section}
 use Rattle.crush_script.specs.Sections.{ScriptData, SectionsData, no_sections, call_count, call_in_last, in_line, with_section, with_call, with_command, with_line, with_lines}
 
 -- the calls are counted, and they are few
@@ -61,8 +61,8 @@ command_few number s (Edit e) few = call_few number s (One e) few
 line_few : (number : ℕ) (s : SectionsData) (text : List ℕ) → IsFew s → IfOk (with_line number s text) IsFew
 unfolding with_line
 line_few number s text few =
-    at _ _ (begins_section text) (bind-if_ok (in_line number (operator (words text))) (λ name. with_section number s name) IsFew (λ name. section_few number s name few))
-    (bind-if_ok (in_line number (command (words text))) (λ c. with_command number s c) IsFew (λ c. command_few number s c few))
+    at _ _ (begins_section text) (bind-if_ok (in_line number (operator (line_words text))) (λ name. with_section number s name) IsFew (λ name. section_few number s name few))
+    (bind-if_ok (in_line number (command (line_words text))) (λ c. with_command number s c) IsFew (λ c. command_few number s c few))
   where
     at : (r q : Result SectionsData JobFault) (b : Bool) → IfOk r IsFew → IfOk q IsFew → IfOk (cond b r q) IsFew
     at r q true h k = h

@@ -3,4 +3,6 @@ pub mod Writing
 pub mod Calls
 pub mod Few
 pub mod Histories
+pub mod InTurn
+pub mod EntryLines
 pub mod Examples

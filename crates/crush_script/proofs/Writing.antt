@@ -2,8 +2,8 @@
 use Rattle.std.proofs.Common.{◌≡◌, ℕ, List, [], ◌++◌, Option, Result, Ok, Err, append_assoc}
 use Rattle.std.proofs.lemmas.List.{append-nil}
 use Rattle.std.specs.Io.KnownBytes.{Appends}
-use Rattle.crush_text.specs.Writes.{Writes}
-use Rattle.crush_text.proofs.Appending.{appends_both, then_front}
+use Rattle.crush_bytes.specs.Writes.{Writes}
+use Rattle.crush_bytes.proofs.Appending.{appends_both, then_front}
 
 -- a text that is written whole, and then another
 pub then_writes : {X E : Type 0} (r : Result X E) (a b c : Option (List ℕ)) (x y : List ℕ) → Appends a b x → Writes r b c y → Writes r a c (x ++ y)

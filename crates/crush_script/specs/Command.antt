@@ -1,7 +1,7 @@
 -- What the words of a line in a section say.
 use Rattle.std.specs.Prelude.{ℕ, List, [], ◌∷◌, codes, bytes_eq, Result, Ok, Err, if◌then◌else◌}
 use Rattle.crush_units.specs.Name.{is_name}
-use Rattle.crush_units.specs.Weight.{weight_of}
+use Rattle.crush_units.specs.Weight.{weight_of_text}
 use Rattle.crush_units.specs.declared.weight.WeightFault.{WeightFault}
 use Rattle.crush_map.specs.declared.edit.Edit.{Edit}
 use Rattle.crush_map.specs.declared.edit.Edit.TheVariants.{Reweight}
@@ -34,7 +34,7 @@ read_weight (Err fault) rest = Err BadLine
 -- the next word as a weight
 unfoldable pub weight_at : List (List ℕ) → Result (Read ℕ) LineFault
 weight_at [] = Err BadLine
-weight_at (word ∷ rest) = read_weight (weight_of word) rest
+weight_at (word ∷ rest) = read_weight (weight_of_text word) rest
 
 -- no word is left
 unfoldable pub end_at : {X : Type 0} → X → List (List ℕ) → Result X LineFault

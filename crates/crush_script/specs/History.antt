@@ -20,8 +20,8 @@ edit_outcome t (refused r) = record { reply = Refused r; table = t }
 edit_outcome t (done changed made u) = record { reply = Done (record { changed = changed; made = made }); table = u }
 
 -- ANSWER: the reply to a call on a table, and the table after
-abbrev pub answer : SettingData → List Row → Call → Outcome
-answer s t (One e) = edit_outcome t (edit s t e)
+abbrev pub call_outcome : SettingData → List Row → Call → Outcome
+call_outcome s t (One e) = edit_outcome t (edit s t e)
 
 -- an entry of a history: the operator's number from 0, its call and the reply
 pub record EntryData : Type 0 where
@@ -30,14 +30,14 @@ pub record EntryData : Type 0 where
   pub reply : Reply
 
 -- the table after the calls of a history
-unfoldable pub after : SettingData → List Row → List EntryData → List Row
-after s t [] = t
-after s t (e ∷ h) = after s (answer s t e.call).table h
+unfoldable pub table_after : SettingData → List Row → List EntryData → List Row
+table_after s t [] = t
+table_after s t (e ∷ h) = table_after s (call_outcome s t e.call).table h
 
 -- LEGAL: each reply is the table's at that point
 unfoldable pub IsLegal : SettingData → List Row → List EntryData → Type 0
 IsLegal s t [] = Unit {0}
-IsLegal s t (e ∷ h) = (e.reply ≡ (answer s t e.call).reply) × IsLegal s (answer s t e.call).table h
+IsLegal s t (e ∷ h) = (e.reply ≡ (call_outcome s t e.call).reply) × IsLegal s (call_outcome s t e.call).table h
 
 -- whether a reply tells of a change
 abbrev pub is_change : Reply → Bool
@@ -50,23 +50,23 @@ changes [] = 0
 changes (e ∷ h) = (if is_change e.reply then 1 else 0) + changes h
 
 -- an answered call
-pub record SlipData : Type 0 where
+pub record AnsweredData : Type 0 where
   pub call : Call
   pub reply : Reply
 
 -- the answered calls of one operator, in order
-abbrev pub of : ℕ → List EntryData → List SlipData
-of k h = map (λ (e : EntryData). record { call = e.call; reply = e.reply }) (filter (λ (e : EntryData). e.operator == k) h)
+abbrev pub of_operator : ℕ → List EntryData → List AnsweredData
+of_operator k h = map (λ (e : EntryData). record { call = e.call; reply = e.reply }) (filter (λ (e : EntryData). e.operator == k) h)
 
 -- the entries of one operator's calls, made one after the other
 unfoldable pub turn : SettingData → List Row → ℕ → List Call → List EntryData
 turn s t k [] = []
-turn s t k (c ∷ cs) = (record { operator = k; call = c; reply = (answer s t c).reply }) ∷ turn s (answer s t c).table k cs
+turn s t k (c ∷ cs) = (record { operator = k; call = c; reply = (call_outcome s t c).reply }) ∷ turn s (call_outcome s t c).table k cs
 
 -- those of scripts, made one after the other, the first of which is operator k's
 unfoldable pub turns_from : SettingData → List Row → ℕ → List ScriptData → List EntryData
 turns_from s t k [] = []
-turns_from s t k (x ∷ xs) = turn s t k x.calls ++ turns_from s (after s t (turn s t k x.calls)) (k + 1) xs
+turns_from s t k (x ∷ xs) = turn s t k x.calls ++ turns_from s (table_after s t (turn s t k x.calls)) (k + 1) xs
 
 -- TURNS: the history of scripts that run one after the other
 abbrev pub turns : SettingData → List Row → List ScriptData → List EntryData

@@ -1,5 +1,5 @@
 -- The lines of a history, and the text of a job that has run.
-use Rattle.std.specs.Prelude.{ℕ, ◌+◌, List, [], ◌∷◌, ◌++◌, Bool, true, false, codes, decimal, slice_index_or}
+use Rattle.std.specs.Prelude.{ℕ, ◌+◌, List, [], ◌∷◌, ◌++◌, Bool, true, false, codes, decimal, slice_index_or, map}
 use Rattle.crush_units.specs.Weight.{weight_text}
 use Rattle.crush_table.specs.Setting.{SettingData}
 use Rattle.crush_table.specs.Table.{Row}
@@ -11,7 +11,8 @@ use Rattle.crush_script.specs.declared.call.Call.{Call}
 use Rattle.crush_script.specs.declared.call.Call.TheVariants.{One}
 use Rattle.crush_script.specs.declared.call.Reply.{Reply}
 use Rattle.crush_script.specs.declared.call.Reply.TheVariants.{Done, Refused}
-use Rattle.crush_script.specs.History.{EntryData, after}
+use Rattle.crush_script.specs.Sections.{ScriptData}
+use Rattle.crush_script.specs.History.{EntryData, table_after}
 
 -- an edit as its command, with the weight in five decimals
 abbrev pub edit_text : Edit → List ℕ
@@ -46,6 +47,10 @@ unfoldable pub entries_text : List (List ℕ) → ℕ → List EntryData → Lis
 entries_text names number [] = []
 entries_text names number (e ∷ h) = entry_text number (slice_index_or names e.operator []) e ++ entries_text names (number + 1) h
 
+-- the operators' names, in the order of their sections
+abbrev pub names_of : List ScriptData → List (List ℕ)
+names_of scripts = map (λ (x : ScriptData). x.name) scripts
+
 -- JOB TEXT: the map after the history, and a line for each entry
 abbrev pub job_text : SettingData → List Row → List (List ℕ) → List EntryData → List ℕ
-job_text s t names h = map_text s (after s t h) ++ entries_text names 1 h
+job_text s t names h = map_text s (table_after s t h) ++ entries_text names 1 h

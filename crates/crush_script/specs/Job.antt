@@ -2,24 +2,44 @@
 use Rattle.std.specs.Prelude.{◌≡◌, ℕ, ◌<◌, ◌≤◌, List, length, Ok, Err}
 use Rattle.crush_table.specs.Setting.{SettingData}
 use Rattle.crush_table.specs.Table.{Row}
+use Rattle.crush_map.specs.MapData.{MapStands}
 use Rattle.crush_text.specs.Document.{IsMapText}
 use Rattle.crush_text.specs.declared.fault.TextFault.{TextFault}
 use Rattle.crush_script.specs.declared.fault.JobFault.{JobFault}
 use Rattle.crush_script.specs.declared.fault.JobFault.TheVariants.{BadLine, NoSuchCommand, TooManyOperators, Text, OutOfMemory, TooLong, TooManyCalls}
+use Rattle.crush_script.specs.declared.job.Job.{Job}
 use Rattle.crush_script.specs.Lines.{map_part}
 use Rattle.crush_script.specs.MapPart.{IsNoMap}
-use Rattle.crush_script.specs.Sections.{ScriptData, sections_of}
+use Rattle.crush_script.specs.Sections.{ScriptData, scripts_data, sections_of}
+use Rattle.crush_units.specs.declared.limits.TheConstants.{LONGEST_JOB}
 
--- JOB: the map text is that of a map with this setting and table, which replaces so many weights of items; the rest are these scripts
-pub record IsJob (bytes : List ℕ) (s : SettingData) (t : List Row) (adjusted : ℕ) (scripts : List ScriptData) : Type 0 where
-  pub short : length bytes ≤ 16777216
-  pub map : IsMapText (map_part bytes) s t adjusted
+-- what a job says: the setting and the table of its map, how many written weights of it were replaced, and the scripts
+pub record JobData : Type 0 where
+  pub setting : SettingData
+  pub table : List Row
+  pub adjusted : ℕ
+  pub scripts : List ScriptData
+
+-- JOB: the bytes are few enough, the map text is that of the job's map, and the rest are its scripts
+pub record IsJob (bytes : List ℕ) (job : JobData) : Type 0 where
+  pub short : length bytes ≤ LONGEST_JOB
+  pub map : IsMapText (map_part bytes) job.setting job.table job.adjusted
   pub calls : ℕ
-  pub sections : sections_of bytes ≡ Ok (record { scripts = scripts; calls = calls })
+  pub sections : sections_of bytes ≡ Ok (record { scripts = job.scripts; calls = calls })
+
+-- the bytes are a job
+abbrev pub HasJob : List ℕ → Type 0
+HasJob bytes = (job : JobData) × IsJob bytes job
+
+-- a job that was read is this one
+pub record JobStands (read : Job) (job : JobData) : Type 0 where
+  pub map : MapStands read.map job.setting job.table
+  pub adjusted : read.adjusted ≡ job.adjusted
+  pub scripts : scripts_data read.scripts.items ≡ job.scripts
 
 -- the map text is one, and this is the fault of the first faulty line
 pub record IsLineFault (bytes : List ℕ) (fault : JobFault) : Type 0 where
-  pub short : length bytes ≤ 16777216
+  pub short : length bytes ≤ LONGEST_JOB
   pub setting : SettingData
   pub table : List Row
   pub adjusted : ℕ
@@ -28,7 +48,7 @@ pub record IsLineFault (bytes : List ℕ) (fault : JobFault) : Type 0 where
 
 -- the map text is that of no map
 pub record HasNoMap (bytes : List ℕ) (fault : TextFault) : Type 0 where
-  pub short : length bytes ≤ 16777216
+  pub short : length bytes ≤ LONGEST_JOB
   pub map : IsNoMap (map_part bytes) fault
 
 -- when each fault is told: the length first, then the map text, then the lines in order
@@ -38,5 +58,5 @@ IsJobFault bytes (NoSuchCommand number) = IsLineFault bytes (NoSuchCommand numbe
 IsJobFault bytes (TooManyOperators number) = IsLineFault bytes (TooManyOperators number)
 IsJobFault bytes (TooManyCalls number) = IsLineFault bytes (TooManyCalls number)
 IsJobFault bytes (Text fault) = HasNoMap bytes fault
-IsJobFault bytes OutOfMemory = length bytes ≤ 16777216
-IsJobFault bytes TooLong = 16777216 < length bytes
+IsJobFault bytes OutOfMemory = length bytes ≤ LONGEST_JOB
+IsJobFault bytes TooLong = LONGEST_JOB < length bytes

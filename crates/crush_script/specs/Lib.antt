@@ -1,10 +1,11 @@
 pub mod Lines
 pub mod Command
-pub mod Gives
+pub mod AnswersAs
 pub mod Sections
 pub mod Steps
 pub mod MapPart
 pub mod Job
 pub mod History
+pub mod Entries
 pub mod HistoryText
 pub mod Turns

@@ -33,16 +33,16 @@ abbrev pub without_comment : List ℕ → List ℕ
 without_comment line = take_while (λ b. not (b == 35)) line
 
 -- spaces and tabs separate words
-abbrev pub is_blank : ℕ → Bool
-is_blank b = b == 32 || b == 9
+abbrev pub is_space_or_tab : ℕ → Bool
+is_space_or_tab b = b == 32 || b == 9
 
 -- the words of a text in one line: its longest runs of other bytes
-unfoldable pub words_in : List ℕ → List (List ℕ)
-words_in text = filter (λ (word : List ℕ). nat_lt 0 (length word)) (slice_split is_blank text)
+unfoldable pub words_between_blanks : List ℕ → List (List ℕ)
+words_between_blanks text = filter (λ (word : List ℕ). nat_lt 0 (length word)) (slice_split is_space_or_tab text)
 
 -- the words of a line
-abbrev pub words : List ℕ → List (List ℕ)
-words line = words_in (without_comment (without_return line))
+abbrev pub line_words : List ℕ → List (List ℕ)
+line_words line = words_between_blanks (without_comment (without_return line))
 
 -- whether a line begins a section
 abbrev pub begins_section : List ℕ → Bool

@@ -12,7 +12,8 @@ use Rattle.crush_script.specs.declared.fault.JobFault.TheVariants as job
 use Rattle.crush_script.specs.declared.sections.Script.{Script}
 use Rattle.crush_script.specs.declared.sections.Sections.{Sections}
 use Rattle.crush_script.specs.Command.{◌>>=◌, command, operator}
-use Rattle.crush_script.specs.Lines.{lines, section_part, section_line, words, begins_section}
+use Rattle.crush_script.specs.Lines.{lines, section_part, section_line, line_words, begins_section}
+use Rattle.crush_units.specs.declared.limits.TheConstants.{MOST_CALLS}
 
 -- the script of one operator: its name, and its calls in order
 pub record ScriptData : Type 0 where
@@ -45,7 +46,7 @@ abbrev pub most_operators : ℕ
 most_operators = 1
 
 abbrev pub most_calls : ℕ
-most_calls = 65536
+most_calls = MOST_CALLS
 
 -- a fault of a line, told with the line's number
 abbrev pub fault_at : ℕ → LineFault → JobFault
@@ -82,8 +83,8 @@ with_command number s (Edit edit) = with_call number s (One edit)
 -- one line
 unfoldable pub with_line : ℕ → SectionsData → List ℕ → Result SectionsData JobFault
 with_line number s text =
-    if begins_section text then (in_line number (operator (words text)) >>= λ name. with_section number s name)
-    else (in_line number (command (words text)) >>= λ c. with_command number s c)
+    if begins_section text then (in_line number (operator (line_words text)) >>= λ name. with_section number s name)
+    else (in_line number (command (line_words text)) >>= λ c. with_command number s c)
 
 -- the lines from a number on; the first faulty one decides
 unfoldable pub with_lines : ℕ → SectionsData → List (List ℕ) → Result SectionsData JobFault

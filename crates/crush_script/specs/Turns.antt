@@ -4,7 +4,7 @@ use Rattle.crush_table.specs.Setting.{SettingData}
 use Rattle.crush_table.specs.Table.{Row}
 use Rattle.crush_script.specs.declared.call.Call.{Call}
 use Rattle.crush_script.specs.Sections.{ScriptData, call_count}
-use Rattle.crush_script.specs.History.{EntryData, SlipData, IsLegal, of, turns}
+use Rattle.crush_script.specs.History.{EntryData, AnsweredData, IsLegal, of_operator, turns}
 
 -- the calls of the script of a number, or none where there is no such script
 abbrev pub calls_at : List ScriptData → ℕ → List Call
@@ -12,13 +12,13 @@ calls_at [] k = []
 calls_at (x ∷ xs) zero = x.calls
 calls_at (x ∷ xs) (suc k) = calls_at xs k
 
-abbrev pub calls_of : List SlipData → List Call
-calls_of slips = map (λ (s : SlipData). s.call) slips
+abbrev pub calls_of : List AnsweredData → List Call
+calls_of answered = map (λ (a : AnsweredData). a.call) answered
 
 -- each reply is the table's at that point, and the entries are the calls of each script in order, and no others
 pub record IsHistoryOf (s : SettingData) (t : List Row) (scripts : List ScriptData) (h : List EntryData) : Type 0 where
   pub legal : IsLegal s t h
-  pub calls : (k : ℕ) → calls_of (of k h) ≡ calls_at scripts k
+  pub calls : (k : ℕ) → calls_of (of_operator k h) ≡ calls_at scripts k
   pub length : length h ≡ call_count scripts
 
 -- the scripts in turn make such a history

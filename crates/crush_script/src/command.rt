@@ -1,10 +1,10 @@
 //! What the words of a line in a section say.
 
 ghost use Rattle.std.specs.Prelude.{◌≡◌};
-ghost use Rattle.crush_script.specs.Gives.{Gives, GivesRead};
+ghost use Rattle.crush_script.specs.AnswersAs.{AnswersAs, AnswersAndLeaves};
 ghost use Rattle.crush_script.specs.Command.{command, operator, name_at, weight_at, end_at, reweight_at, edit_at};
 
-use crate::line::Words;
+use crate::line::LineWords;
 use crush_map::Edit;
 use crush_units::{Name, NameFault, Weight};
 use std::alloc::Global;
@@ -31,8 +31,8 @@ pub(crate) enum Command {
 
 /// Takes the next word as a name.
 #[tactic(auto, unfolding(crate::specs::Command::name_at))]
-fn read_name(alloc: Global, words: &mut Words<'_>) -> Result<Name<Global>, LineFault>
-    ensures { GivesRead result words.new (name_at words.old) }
+fn read_name(alloc: Global, words: &mut LineWords<'_>) -> Result<Name<Global>, LineFault>
+    ensures { AnswersAndLeaves result words.new (name_at words.old) }
 {
     let Some(word) = words.next() else {
         return Err(LineFault::BadLine);
@@ -46,8 +46,8 @@ fn read_name(alloc: Global, words: &mut Words<'_>) -> Result<Name<Global>, LineF
 
 /// Takes the next word as a weight.
 #[tactic(auto, unfolding(crate::specs::Command::weight_at))]
-fn read_weight(words: &mut Words<'_>) -> Result<Weight, LineFault>
-    ensures { GivesRead result words.new (weight_at words.old) }
+fn read_weight(words: &mut LineWords<'_>) -> Result<Weight, LineFault>
+    ensures { AnswersAndLeaves result words.new (weight_at words.old) }
 {
     let Some(word) = words.next() else {
         return Err(LineFault::BadLine);
@@ -60,8 +60,8 @@ fn read_weight(words: &mut Words<'_>) -> Result<Weight, LineFault>
 
 /// The value, where no word is left.
 #[tactic(auto, unfolding(crate::specs::Command::end_at))]
-fn read_end<T: Drop>(value: T, words: &mut Words<'_>) -> Result<T, LineFault>
-    ensures { Gives result (end_at value words.old) }
+fn read_end<T: Drop>(value: T, words: &mut LineWords<'_>) -> Result<T, LineFault>
+    ensures { AnswersAs result (end_at value words.old) }
 {
     match words.next() {
         None => Ok(value),
@@ -71,8 +71,8 @@ fn read_end<T: Drop>(value: T, words: &mut Words<'_>) -> Result<T, LineFault>
 
 /// The words behind `reweight`.
 #[tactic(auto, unfolding(crate::specs::Command::reweight_at))]
-fn read_reweight(alloc: Global, words: &mut Words<'_>) -> Result<Edit, LineFault>
-    ensures { Gives result (reweight_at words.old) }
+fn read_reweight(alloc: Global, words: &mut LineWords<'_>) -> Result<Edit, LineFault>
+    ensures { AnswersAs result (reweight_at words.old) }
 {
     let name = read_name(alloc, words)?;
     let weight = read_weight(words)?;
@@ -81,8 +81,8 @@ fn read_reweight(alloc: Global, words: &mut Words<'_>) -> Result<Edit, LineFault
 
 /// The edit of a first word and the words behind it.
 #[tactic(auto, unfolding(crate::specs::Command::edit_at))]
-fn read_edit(alloc: Global, first: &[u8], words: &mut Words<'_>) -> Result<Edit, LineFault>
-    ensures { Gives result (edit_at first.now words.old) }
+fn read_edit(alloc: Global, first: &[u8], words: &mut LineWords<'_>) -> Result<Edit, LineFault>
+    ensures { AnswersAs result (edit_at first.now words.old) }
 {
     if first == b"reweight".as_slice() {
         return read_reweight(alloc, words);
@@ -92,8 +92,8 @@ fn read_edit(alloc: Global, first: &[u8], words: &mut Words<'_>) -> Result<Edit,
 
 /// What the words of a line say that begins no section.
 #[tactic(auto, unfolding(crate::specs::Command::command))]
-pub(crate) fn read_command(alloc: Global, words: &mut Words<'_>) -> Result<Command, LineFault>
-    ensures { Gives result (command words.old) }
+pub(crate) fn read_command(alloc: Global, words: &mut LineWords<'_>) -> Result<Command, LineFault>
+    ensures { AnswersAs result (command words.old) }
 {
     let Some(first) = words.next() else {
         return Ok(Command::Nothing);
@@ -104,8 +104,11 @@ pub(crate) fn read_command(alloc: Global, words: &mut Words<'_>) -> Result<Comma
 
 /// The operator's name in the words of a line that begins a section.
 #[tactic(auto, unfolding(crate::specs::Command::operator))]
-pub(crate) fn read_operator(alloc: Global, words: &mut Words<'_>) -> Result<Name<Global>, LineFault>
-    ensures { Gives result (operator words.old) }
+pub(crate) fn read_operator(
+    alloc: Global,
+    words: &mut LineWords<'_>,
+) -> Result<Name<Global>, LineFault>
+    ensures { AnswersAs result (operator words.old) }
 {
     let Some(first) = words.next() else {
         return Err(LineFault::BadLine);

@@ -1,14 +1,18 @@
 //! The lines of a history.
 
-ghost use Rattle.std.specs.Prelude.{◌≡◌, IfErr};
-ghost use Rattle.crush_text.specs.Writes.{Writes};
-ghost use Rattle.crush_script.specs.Turns.{TurnsAreHistory};
-ghost use Rattle.crush_script.specs.HistoryText.{edit_text, call_text, digit_of, line_front, line_end, line_text};
+ghost use Rattle.std.specs.Prelude.{◌≡◌, ◌<◌, ◌^◌, [], length, slice_index_or, IfErr, IfOk};
+ghost use Rattle.crush_bytes.specs.Writes.{Writes};
+ghost use Rattle.crush_script.specs.Entries.{history_data};
+ghost use Rattle.crush_script.specs.HistoryText.{edit_text, call_text, digit_of, line_front, line_end, line_text, entries_text, names_of};
+ghost use Rattle.crush_script.specs.Sections.{scripts_data};
 
 use crate::call::{Call, Reply};
+use crate::entry::Entry;
+use crate::sections::Script;
+use crush_bytes::{WriteFault, put_all};
 use crush_map::{Done, Edit, Refusal};
-use crush_text::{WriteFault, put_all};
 use itoa::Buffer;
+use std::alloc::{AllocError, Global};
 use std::io::Write;
 
 /// Writes what stands before the call.
@@ -130,7 +134,7 @@ fn write_reply<W: Write>(reply: Reply, out: &mut W) -> Result<(), WriteFault>
 /// Writes the line of an entry: `# NUMBER OPERATOR CALL = REPLY`.
 ///
 /// Entries count from 1. An edit shows as its command, its weight with five decimals. The reply is
-/// `done changed C made M`, where C is 1 or 0, or `refused NAME ERROR`; `docs/scripts.md` has the
+/// `done changed C made M`, where C is 1 or 0, or `refused NAME ERROR`; `docs/FORMATS.md` has the
 /// form. The line begins with `#`, and so is a comment by the grammar of a map's text.
 ///
 /// It takes no memory, so the one fault is [`WriteFault::Write`], after which the writer holds a
@@ -151,9 +155,38 @@ pub fn write_entry<W: Write>(
     write_reply(reply, out)
 }
 
-/// The history of scripts that run one after the other: each reply is the table's at that point,
-/// and the entries are the calls of each script in order, and no others. There is nothing to run:
-/// the contract is the law.
-pub fn turns_are_history()
-    ensures { TurnsAreHistory }
-{}
+/// The name of an operator, by its number.
+fn operator_name(scripts: &[Script], operator: usize) -> &[u8]
+    ensures { result.now ≡ slice_index_or (names_of (scripts_data scripts.now)) operator [] }
+{
+    match scripts.get(operator) {
+        Some(script) => script.name.as_bytes(),
+        None => b"".as_slice(),
+    }
+}
+
+/// The lines of a history, one for each entry, as [`write_entry`] writes it; they count from 1, and
+/// each entry has the name of the script of its operator's number.
+///
+/// They are laid out in memory, so that a whole history is one write, and so that want of memory
+/// shows before anything is written. There are fewer than 2^32 entries, so that each has a number;
+/// a job's are at most 65,536.
+pub fn history_text(
+    alloc: Global,
+    scripts: &[Script],
+    entries: &[Entry<'_>],
+) -> Result<Vec<u8>, AllocError>
+    requires { length entries.now < 2 ^ 32 }
+    ensures { IfOk result (λ text. text.items
+        ≡ entries_text (names_of (scripts_data scripts.now)) 1 (history_data entries.now)) }
+{
+    let mut text = Vec::new(alloc);
+    for (place, entry) in entries.iter().enumerate() {
+        let number = place as u32 + 1;
+        let name = operator_name(scripts, entry.operator);
+        let Ok(()) = write_entry(number, name, entry.call, entry.reply, &mut text) else {
+            return Err(AllocError);
+        };
+    }
+    Ok(text)
+}

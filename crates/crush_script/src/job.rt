@@ -3,16 +3,17 @@
 ghost use Rattle.std.specs.Prelude.{◌≡◌, ◌≤◌, ℕ, List, IfOk, IfErr, MatchResult};
 ghost use Rattle.crush_table.specs.Setting.{SettingData};
 ghost use Rattle.crush_table.specs.Table.{Row};
-ghost use Rattle.crush_table.specs.Rows.{Stands};
+ghost use Rattle.crush_table.specs.Stands.{Stands};
 ghost use Rattle.crush_map.specs.MapData.{MapStands};
 ghost use Rattle.crush_text.specs.Document.{IsMapText};
 ghost use Rattle.crush_script.specs.Lines.{map_part};
-ghost use Rattle.crush_script.specs.Sections.{ScriptData, scripts_data, call_count};
-ghost use Rattle.crush_script.specs.Job.{IsJob, IsJobFault};
+ghost use Rattle.crush_script.specs.Sections.{scripts_data, call_count};
+ghost use Rattle.crush_script.specs.Job.{IsJob, IsJobFault, JobData, JobStands};
 ghost use Rattle.crush_script.specs.MapPart.{IsMapFault};
+ghost use Rattle.crush_units.specs.declared.limits.TheConstants.{MOST_CALLS};
 
 use crate::fault::JobFault;
-use crate::line::{length_to_section, line_feeds};
+use crate::line::{cut_job, line_feeds};
 use crate::sections::{Script, Sections, read_sections};
 use crush_map::CrushMap;
 use crush_text::{TextFaultKind, read_map};
@@ -55,7 +56,7 @@ fn read_map_text(alloc: Global, text: &[u8]) -> Result<(CrushMap<Global>, u32), 
 ///
 /// The map's text is all that stands before the first line whose first byte is `%`. From there on
 /// each line that begins with `%` is `%operator NAME` and begins the section of that operator;
-/// the other lines are its calls, one a line. `docs/scripts.md` has the commands.
+/// the other lines are its calls, one a line. `docs/FORMATS.md` has the commands.
 ///
 /// Of several faults the first of these is told:
 /// - [`JobFault::TooLong`]: there are more than 16,777,216 bytes.
@@ -67,27 +68,20 @@ fn read_map_text(alloc: Global, text: &[u8]) -> Result<(CrushMap<Global>, u32), 
 /// [`JobFault::OutOfMemory`] may come in place of any but the first.
 pub fn read_job(alloc: Global, bytes: &[u8]) -> Result<Job, JobFault>
     // What is read is a job of the bytes.
-    ensures job { IfOk result (λ job. (t : List Row)
-        × IsJob bytes.now job.map.setting t job.adjusted (scripts_data job.scripts.items)
-        × Stands job.map.forest t) }
+    ensures job { IfOk result (λ read. (job : JobData) × IsJob bytes.now job × JobStands read job) }
 
     // Each job of the bytes is the one that is read.
-    ensures only { (s : SettingData) (t : List Row) (n : ℕ) (scripts : List ScriptData)
-        → IsJob bytes.now s t n scripts
-        → MatchResult result
-        (λ job. MapStands job.map s t × (job.adjusted ≡ n)
-        × (scripts_data job.scripts.items ≡ scripts))
-        (λ fault. fault ≡ JobFault.OutOfMemory) }
-
+    ensures only { (job : JobData) → IsJob bytes.now job → MatchResult result
+        (λ read. JobStands read job) (λ fault. fault ≡ JobFault.OutOfMemory) }
     ensures fault { IfErr result (IsJobFault bytes.now) }
 
     // A job has at most 65,536 calls.
-    ensures few { IfOk result (λ job. call_count (scripts_data job.scripts.items) ≤ 65536) }
+    ensures few { IfOk result (λ read. call_count (scripts_data read.scripts.items) ≤ MOST_CALLS) }
 {
     if bytes.len() > LONGEST_JOB {
         return Err(JobFault::TooLong);
     }
-    let (text, rest) = bytes.split_at(length_to_section(bytes));
+    let (text, rest) = cut_job(bytes);
     let (map, adjusted) = read_map_text(alloc, text)?;
     let sections = read_sections(alloc, line_feeds(text) + 1, rest)?;
     let Sections { scripts, calls: _ } = sections;

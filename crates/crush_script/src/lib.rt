@@ -1,19 +1,20 @@
-//! Scripts of edits: calls and replies, jobs and the lines of a history.
+//! Scripts of edits: calls and replies, jobs, their runs in turn, and the lines of a history.
 #![tactic(auto)]
 
 mod call;
 mod command;
+mod entry;
 mod fault;
 mod history;
 mod job;
 mod line;
 mod sections;
+mod turns;
 
 pub use call::{Call, Reply};
+pub use entry::{Entry, count_changes};
 pub use fault::JobFault;
-pub use history::{turns_are_history, write_entry};
+pub use history::{history_text, write_entry};
 pub use job::{Job, read_job};
 pub use sections::Script;
-
-#[cfg(test)]
-mod tests;
+pub use turns::{run_in_turn, turns_are_history};

@@ -1,13 +1,13 @@
 //! The lines of a job, and the words of a line in a section.
 
-ghost use Rattle.std.specs.Prelude.{◌≡◌, ◌≤◌, ◌<◌, ◌==◌, ◌∷◌, [], true, count_by, length, not, MatchOption};
+ghost use Rattle.std.specs.Prelude.{◌≡◌, ◌+◌, ◌≤◌, ◌<◌, ◌==◌, ◌∷◌, [], true, count_by, length, not, MatchOption};
 ghost use Rattle.std.specs.List.{position_or_len};
-ghost use Rattle.crush_script.specs.Lines.{lines, length_to_section, without_return, words, words_in, is_blank, begins_section};
+ghost use Rattle.crush_script.specs.Lines.{lines, length_to_section, map_part, section_part, without_return, line_words, words_between_blanks, is_space_or_tab, begins_section};
 
 use std::marker::Model;
 
 /// How many bytes stand before the first line that begins with `%`.
-pub(crate) fn length_to_section(job: &[u8]) -> usize
+fn length_to_section(job: &[u8]) -> usize
     ensures length { result ≡ length_to_section true job.now }
     ensures within { result ≤ length job.now }
 {
@@ -19,6 +19,16 @@ pub(crate) fn length_to_section(job: &[u8]) -> usize
         starts = *byte == b'\n';
     }
     job.len()
+}
+
+/// The two parts of a job: the map's text, and the sections.
+pub(crate) fn cut_job(job: &[u8]) -> (&[u8], &[u8])
+    ensures map { result.0.now ≡ map_part job.now }
+    ensures sections { result.1.now ≡ section_part job.now }
+    ensures begins { 0 < length result.1.now → begins_section result.1.now ≡ true }
+    ensures whole { length result.0.now + length result.1.now ≡ length job.now }
+{
+    job.split_at(length_to_section(job))
 }
 
 /// How many line feeds a text has.
@@ -46,6 +56,7 @@ fn place_of(byte: u8, text: &[u8]) -> usize
 pub(crate) fn cut_line(text: &[u8]) -> (&[u8], &[u8])
     requires { 0 < length text.now }
     ensures cut { lines text.now ≡ result.0.now ∷ lines result.1.now }
+    ensures begins { begins_section result.0.now ≡ begins_section text.now }
     ensures shorter { length result.1.now < length text.now }
 {
     let (line, rest) = text.split_at(place_of(b'\n', text));
@@ -72,19 +83,19 @@ fn without_return(line: &[u8]) -> &[u8]
     }
 }
 
-fn is_blank(byte: u8) -> bool
-    ensures { result ≡ is_blank byte }
+fn is_space_or_tab(byte: u8) -> bool
+    ensures { result ≡ is_space_or_tab byte }
 {
     byte == b' ' || byte == b'\t'
 }
 
 /// The place of the first blank, or the length where there is none.
 fn blank_at(text: &[u8]) -> usize
-    ensures place { result ≡ position_or_len is_blank text.now }
+    ensures place { result ≡ position_or_len is_space_or_tab text.now }
     ensures within { result ≤ length text.now }
 {
     for (place, byte) in text.iter().enumerate() {
-        if is_blank(*byte) {
+        if is_space_or_tab(*byte) {
             return place;
         }
     }
@@ -93,11 +104,11 @@ fn blank_at(text: &[u8]) -> usize
 
 /// The place of the first byte that is no blank, or the length where there is none.
 fn word_at(text: &[u8]) -> usize
-    ensures place { result ≡ position_or_len (λ b. not (is_blank b)) text.now }
+    ensures place { result ≡ position_or_len (λ b. not (is_space_or_tab b)) text.now }
     ensures within { result ≤ length text.now }
 {
     for (place, byte) in text.iter().enumerate() {
-        if !is_blank(*byte) {
+        if !is_space_or_tab(*byte) {
             return place;
         }
     }
@@ -106,28 +117,28 @@ fn word_at(text: &[u8]) -> usize
 
 /// The words of a line that are left to read. Contracts see them as a list.
 #[derive(Drop)]
-pub(crate) struct Words<'a> {
+pub(crate) struct LineWords<'a> {
     text: &'a [u8],
 }
 
-impl<'a> Model for Words<'a> {
+impl<'a> Model for LineWords<'a> {
     ghost use Rattle.std.specs.Prelude.{List, ℕ};
 
     ghost Value = { List (List ℕ) };
 
-    ghost use Rattle.crush_script.specs.Lines.{words_in};
+    ghost use Rattle.crush_script.specs.Lines.{words_between_blanks};
 
-    ghost view = { λ w. words_in w.text.now };
+    ghost view = { λ w. words_between_blanks w.text.now };
 }
 
-impl<'a> Words<'a> {
+impl<'a> LineWords<'a> {
     /// All words of a line. `#` begins a comment, wherever it stands.
-    pub(crate) fn of_line(line: &'a [u8]) -> Words<'a>
-        ensures { result ≡ words line.now }
+    pub(crate) fn of_line(line: &'a [u8]) -> LineWords<'a>
+        ensures { result ≡ line_words line.now }
     {
         let line = without_return(line);
         let (text, _) = line.split_at(place_of(b'#', line));
-        Words { text }
+        LineWords { text }
     }
 
     /// Takes the next word.

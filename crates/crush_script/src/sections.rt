@@ -1,14 +1,14 @@
 //! The sections of a job, each of which is the script of one operator.
 
-ghost use Rattle.std.specs.Prelude.{◌≡◌, ◌+◌, ◌<◌, ◌^◌, length};
-ghost use Rattle.crush_script.specs.Lines.{lines};
+ghost use Rattle.std.specs.Prelude.{◌≡◌, ◌+◌, ◌<◌, ◌^◌, false, true, length, OnOk};
+ghost use Rattle.crush_script.specs.Lines.{lines, begins_section};
 ghost use Rattle.crush_script.specs.Sections.{with_lines, no_sections};
 ghost use Rattle.crush_script.specs.Steps.{GivesSections};
 
 use crate::call::Call;
 use crate::command::{Command, read_command, read_operator};
 use crate::fault::JobFault;
-use crate::line::{Words, begins_section, cut_line};
+use crate::line::{LineWords, begins_section, cut_line};
 use crush_units::Name;
 use std::alloc::Global;
 
@@ -42,8 +42,9 @@ impl Sections {
 
     /// Begins the section of an operator.
     fn begin(&mut self, alloc: Global, number: usize, name: Name<Global>) -> Result<(), JobFault>
-        ensures { Steps result (sections_data self.new)
+        ensures steps { Steps result (sections_data self.new)
             (with_section number (sections_data self.old) name) }
+        ensures begun { OnOk result (0 < length self.new.scripts.items) }
     {
         if self.scripts.len() >= MOST_OPERATORS {
             return Err(JobFault::TooManyOperators(number));
@@ -53,43 +54,47 @@ impl Sections {
         Ok(())
     }
 
-    /// Adds a call to the last script.
-    fn add(&mut self, number: usize, call: Call) -> Result<(), JobFault>
-        ensures { Steps result (sections_data self.new)
+    /// Adds a call to the last script. There is one.
+    fn add_call(&mut self, number: usize, call: Call) -> Result<(), JobFault>
+        requires begun { 0 < length self.old.scripts.items }
+        ensures steps { Steps result (sections_data self.new)
             (with_call number (sections_data self.old) call) }
+        ensures begun { OnOk result (0 < length self.new.scripts.items) }
     {
         if self.calls >= MOST_CALLS {
             return Err(JobFault::TooManyCalls(number));
         }
-        if let Some(script) = self.scripts.last_mut() {
-            script.calls.push(call)?;
-        }
+        let last = self.scripts.len() - 1;
+        self.scripts[last].calls.push(call)?;
         self.calls += 1;
         Ok(())
     }
 
-    /// Reads a line.
+    /// Reads a line. Where it begins no section, one is open.
     #[tactic(auto, unfolding(crate::specs::Sections::with_line))]
     fn read_line(&mut self, alloc: Global, number: usize, line: &[u8]) -> Result<(), JobFault>
-        ensures { Steps result (sections_data self.new)
+        requires begun { begins_section line.now ≡ false → 0 < length self.old.scripts.items }
+        ensures steps { Steps result (sections_data self.new)
             (with_line number (sections_data self.old) line.now) }
+        ensures begun { OnOk result (0 < length self.new.scripts.items) }
     {
-        let mut words = Words::of_line(line);
+        let mut words = LineWords::of_line(line);
         if begins_section(line) {
             let name = read_operator(alloc, &mut words).map_err(|fault| fault.at(number))?;
             return self.begin(alloc, number, name);
         }
         match read_command(alloc, &mut words).map_err(|fault| fault.at(number))? {
             Command::Nothing => Ok(()),
-            Command::Edit(edit) => self.add(number, Call::One(edit)),
+            Command::Edit(edit) => self.add_call(number, Call::One(edit)),
         }
     }
 }
 
-/// Reads the lines of the sections, the first of which has this number.
+/// Reads the lines of the sections, the first of which has this number and begins a section.
 #[tactic(auto, unfolding(crate::specs::Sections::with_lines))]
 pub(crate) fn read_sections(alloc: Global, first: usize, text: &[u8]) -> Result<Sections, JobFault>
-    requires { first + length text.now < 2 ^ 64 }
+    requires begins { 0 < length text.now → begins_section text.now ≡ true }
+    requires numbered { first + length text.now < 2 ^ 64 }
     ensures { GivesSections result (with_lines first no_sections (lines text.now)) }
 {
     let mut sections = Sections {

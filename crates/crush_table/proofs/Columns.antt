@@ -10,16 +10,18 @@ use Rattle.crush_units.proofs.Ids.{same_id_tells}
 use Rattle.crush_table.specs.Table.{Row, is_device, is_device_id, is_bucket, row_of, is_there, is_placed, parent_of, then_up, climb, member, is_below}
 use Rattle.crush_table.specs.Lawful.{IsRow, IsRowOf, HasParent, Lawful, is_too_heavy}
 use Rattle.crush_table.specs.Columns.{set_weights, set_weight, set_subtree}
-use Rattle.crush_table.proofs.Reorder.{hit, sum_by-map}
+use Rattle.crush_table.proofs.Forms.{device_form}
+use Rattle.crush_table.proofs.Reorder.{one_if, sum_by-map}
 use Rattle.crush_table.proofs.Same.{uses, times_used, times_used-rows}
 use Rattle.crush_table.proofs.Kept.{is_there-map, Distinct-map, is_below-map}
 use Rattle.crush_table.proofs.Changes.{with_weight, with_weight-id, with_weight-parent}
 use Rattle.crush_table.proofs.Weighs.{light_sums, light_total, All-found, All-both}
+use Rattle.crush_units.specs.declared.limits.TheConstants.{HEAVIEST_DEVICE, MOST_BUCKETS, MOST_DEVICES}
 
 -- counts and used ids of changed rows
 module _ (f : Row → Row) where
   pub count-map : (p : Row → Bool) → ((r : Row) → p (f r) ≡ p r) → (t : List Row) → count_by p (map f t) ≡ count_by p t
-  count-map p h t = let same : (λ (r : Row). p (f r)) ≡ p = λ k r. h r k in sum_by-map (λ (r : Row). hit (p r)) f t ∙ ap (λ q. count_by q t) same
+  count-map p h t = let same : (λ (r : Row). p (f r)) ≡ p = λ k r. h r k in sum_by-map (λ (r : Row). one_if (p r)) f t ∙ ap (λ q. count_by q t) same
 
   pub times_used-map : ((r : Row) → uses (f r) ≡ uses r) → (k : ℕ) (t : List Row) → times_used k (map f t) ≡ times_used k t
   times_used-map h k t =
@@ -41,8 +43,8 @@ Lawful-columns f ids parents used t l names rows light =
       loops = λ b. is_below-map f ids parents t b (Bucket b) ∙ l.loops b;
       sums = light_sums (map f t) all_there light;
       total = light_total (map f t) light;
-      devices = subst (λ n. n ≤ 65536) (sym (count-map f is_device (λ r. ap is_device_id (ids r)) t)) l.devices;
-      buckets = subst (λ n. n ≤ 4096) (sym (count-map f is_bucket (λ r. ap (λ i. not (is_device_id i)) (ids r)) t)) l.buckets;
+      devices = subst (λ n. n ≤ MOST_DEVICES) (sym (count-map f is_device (λ r. ap is_device_id (ids r)) t)) l.devices;
+      buckets = subst (λ n. n ≤ MOST_BUCKETS) (sym (count-map f is_bucket (λ r. ap (λ i. not (is_device_id i)) (ids r)) t)) l.buckets;
     } where
       still : (o : Option ℕ) → IfSome o (λ p. is_there t (Bucket p) ≡ true) → IfSome o (λ p. is_there (map f t) (Bucket p) ≡ true)
       still None h = h
@@ -60,24 +62,16 @@ weight_uses false w r = refl
 abbrev pub CanWeigh : Row → Type 0
 CanWeigh r = (is_device r ≡ true) × (is_some r.parent ≡ true)
 
-weighed_form : (i : ItemId) (w : ℕ) (r : Row) → is_device_id i ≡ true → is_some r.parent ≡ true → w ≤ 2147483647 → IsRowOf i r → IsRowOf i (record r { weight = w })
+weighed_form : (i : ItemId) (w : ℕ) (r : Row) → is_device_id i ≡ true → is_some r.parent ≡ true → w ≤ HEAVIEST_DEVICE → IsRowOf i r → IsRowOf i (record r { weight = w })
 weighed_form (Bucket b) w r dev placed h form = absurd cc
-weighed_form (Device d) w r dev placed h form = record {
-  id = form.id;
-  kind = form.kind;
-  light = h;
-  unplaced = λ e. absurd (let some : is_some r.parent ≡ false = ap is_some e in cc);
-  alg = form.alg;
-  class_ids = form.class_ids;
-  class = form.class;
-}
+weighed_form (Device d) w r dev placed h form = device_form d r.name r.parent w r h (λ e. absurd (let some : is_some r.parent ≡ false = ap is_some e in cc)) form
 
-weighed_row : (b : Bool) (w : ℕ) (r : Row) → (b ≡ true → CanWeigh r) → w ≤ 2147483647 → IsRow r → IsRow (if b then record r { weight = w } else r)
+weighed_row : (b : Bool) (w : ℕ) (r : Row) → (b ≡ true → CanWeigh r) → w ≤ HEAVIEST_DEVICE → IsRow r → IsRow (if b then record r { weight = w } else r)
 weighed_row true w r can h row = record { name = row.name; form = weighed_form r.id w r (can refl).0 (can refl).1 h row.form }
 weighed_row false w r can h row = row
 
 -- new weights of placed devices
-pub Lawful-set_weights : (which : Row → Bool) (w : ℕ) (t : List Row) → Lawful t → All (λ (r : Row). which r ≡ true → CanWeigh r) t → w ≤ 2147483647 → is_too_heavy (set_weights which w t) ≡ false → Lawful (set_weights which w t)
+pub Lawful-set_weights : (which : Row → Bool) (w : ℕ) (t : List Row) → Lawful t → All (λ (r : Row). which r ≡ true → CanWeigh r) t → w ≤ HEAVIEST_DEVICE → is_too_heavy (set_weights which w t) ≡ false → Lawful (set_weights which w t)
 Lawful-set_weights which w t l can h light =
     Lawful-columns (with_weight which w) (with_weight-id which w) (with_weight-parent which w) (λ r. weight_uses (which r) w r) t l
     (λ n. subst (λ c. c ≤ 1) (sym (count-map (with_weight which w) (λ (r : Row). bytes_eq r.name n) (λ r. ap (λ m. bytes_eq m n) (weight_name (which r) w r)) t)) (l.names n))
@@ -85,7 +79,7 @@ Lawful-set_weights which w t l can h light =
     light
 
 -- a new weight of one placed device
-pub Lawful-set_weight : (t : List Row) (d w : ℕ) → Lawful t → is_placed t (Device d) ≡ true → w ≤ 2147483647 → is_too_heavy (set_weight (Device d) w t) ≡ false → Lawful (set_weight (Device d) w t)
+pub Lawful-set_weight : (t : List Row) (d w : ℕ) → Lawful t → is_placed t (Device d) ≡ true → w ≤ HEAVIEST_DEVICE → is_too_heavy (set_weight (Device d) w t) ≡ false → Lawful (set_weight (Device d) w t)
 Lawful-set_weight t d w l placed h light =
     Lawful-set_weights (λ (r : Row). same_id r.id (Device d)) w t l
     (All-weaker (λ (r : Row). row_of t r.id ≡ Some r) (λ (r : Row). same_id r.id (Device d) ≡ true → CanWeigh r) can t (All-found t l.ids)) h light where
@@ -107,7 +101,7 @@ below_placed t b r found h = climbed (length t) h where
   climbed (suc n) h = sym (ap (λ o. is_some (option_and_then (λ (x : Row). x.parent) o)) found) ∙ by_parent n (parent_of t r.id) h
 
 -- a new weight of each device below a bucket
-pub Lawful-set_subtree : (t : List Row) (b w : ℕ) → Lawful t → w ≤ 2147483647 → is_too_heavy (set_subtree b w t) ≡ false → Lawful (set_subtree b w t)
+pub Lawful-set_subtree : (t : List Row) (b w : ℕ) → Lawful t → w ≤ HEAVIEST_DEVICE → is_too_heavy (set_subtree b w t) ≡ false → Lawful (set_subtree b w t)
 Lawful-set_subtree t b w l h light =
     Lawful-set_weights (λ (r : Row). is_device r && is_below t b r.id) w t l
     (All-weaker (λ (r : Row). row_of t r.id ≡ Some r) (λ (r : Row). (is_device r && is_below t b r.id) ≡ true → CanWeigh r) (λ r found both. (left_true (is_device r) (is_below t b r.id) both, below_placed t b r found (right_true (is_device r) (is_below t b r.id) both))) t (All-found t l.ids)) h light where

@@ -9,7 +9,7 @@ use Rattle.crush_units.specs.Id.{same_id}
 use Rattle.crush_units.proofs.Ids.{same_id_refl, same_id_tells}
 use Rattle.crush_table.specs.Reordered.{IsReordered}
 use Rattle.crush_table.specs.Table.{Row, row_of, row_named, id_named, is_named, is_there, kind_of, name_of, own_weight_of, class_of, alg_of, parent_of, is_placed}
-use Rattle.crush_table.proofs.Reorder.{hit, reordered-count, reordered-find}
+use Rattle.crush_table.proofs.Reorder.{one_if, reordered-count, reordered-find}
 
 -- at most one row of each id, of each name
 abbrev pub Distinct : List Row → Type 0
@@ -22,11 +22,11 @@ DistinctNames t = (n : List ℕ) → count_by (λ (r : Row). bytes_eq r.name n) 
 abbrev pub times : ItemId → List Row → ℕ
 times i t = count_by (λ (r : Row). same_id r.id i) t
 
-pub times-cons : (i : ItemId) (r : Row) (t : List Row) → times i (r ∷ t) ≡ hit (same_id r.id i) + times i t
-times-cons i r t = sum_by-cons (λ (x : Row). hit (same_id x.id i)) r t
+pub times-cons : (i : ItemId) (r : Row) (t : List Row) → times i (r ∷ t) ≡ one_if (same_id r.id i) + times i t
+times-cons i r t = sum_by-cons (λ (x : Row). one_if (same_id x.id i)) r t
 
 pub times-append : (i : ItemId) (t u : List Row) → times i (t ++ u) ≡ times i t + times i u
-times-append i t u = sum_by-append (λ (x : Row). hit (same_id x.id i)) t u
+times-append i t u = sum_by-append (λ (x : Row). one_if (same_id x.id i)) t u
 
 pub Distinct-tail : (r : Row) (t : List Row) → Distinct (r ∷ t) → Distinct t
 Distinct-tail r t d i = omega (arith, d i, times-cons i r t)
@@ -43,7 +43,7 @@ row_named-find (r ∷ t) n = ap (λ z. if bytes_eq r.name n then Some r else z) 
 pub row_at : (front : List Row) (r : Row) (back : List Row) → times r.id (front ++ r ∷ back) ≤ 1 → row_of (front ++ r ∷ back) r.id ≡ Some r
 row_at [] r back h = ap (λ b. if b then Some r else row_of back r.id) (same_id_refl r.id)
 row_at (x ∷ front) r back h = ⊎_elim
-    (λ p. absurd (let one : hit (same_id x.id r.id) ≡ 1 = ap hit p.0 in let own : hit (same_id r.id r.id) ≡ 1 = ap hit (same_id_refl r.id) in
+    (λ p. absurd (let one : one_if (same_id x.id r.id) ≡ 1 = ap one_if p.0 in let own : one_if (same_id r.id r.id) ≡ 1 = ap one_if (same_id_refl r.id) in
     omega (arith, one, own, h, times-cons r.id x (front ++ r ∷ back), times-append r.id front (r ∷ back), times-cons r.id r back)))
     (λ p. ap (λ b. if b then Some x else row_of (front ++ r ∷ back) r.id) p.0 ∙ row_at front r back (omega (arith, h, times-cons r.id x (front ++ r ∷ back))))
     (same_id_tells x.id r.id)
@@ -55,14 +55,14 @@ parent_at front r back h = ap (option_and_then (λ (x : Row). x.parent)) (row_at
 pub row_of-absent : (t : List Row) (i : ItemId) → times i t ≡ 0 → row_of t i ≡ None
 row_of-absent [] i h = refl
 row_of-absent (r ∷ t) i h = ⊎_elim
-    (λ p. absurd (let one : hit (same_id r.id i) ≡ 1 = ap hit p.0 in omega (arith, one, h, times-cons i r t)))
+    (λ p. absurd (let one : one_if (same_id r.id i) ≡ 1 = ap one_if p.0 in omega (arith, one, h, times-cons i r t)))
     (λ p. ap (λ b. if b then Some r else row_of t i) p.0 ∙ row_of-absent t i (omega (arith, h, times-cons i r t)))
     (same_id_tells r.id i)
 
 pub is_there-times : (t : List Row) (i : ItemId) → is_there t i ≡ true → 1 ≤ times i t
 is_there-times [] i h = absurd cc
 is_there-times (r ∷ t) i h = ⊎_elim
-    (λ p. let one : hit (same_id r.id i) ≡ 1 = ap hit p.0 in omega (arith, one, times-cons i r t))
+    (λ p. let one : one_if (same_id r.id i) ≡ 1 = ap one_if p.0 in omega (arith, one, times-cons i r t))
     (λ p. let rest : is_there t i ≡ true = sym (ap (λ b. is_some (if b then Some r else row_of t i)) p.0) ∙ h in omega (arith, is_there-times t i rest, times-cons i r t))
     (same_id_tells r.id i)
 
@@ -70,7 +70,7 @@ pub times-is_there : (t : List Row) (i : ItemId) → 1 ≤ times i t → is_ther
 times-is_there [] i h = absurd (omega arith)
 times-is_there (r ∷ t) i h = ⊎_elim
     (λ p. ap (λ b. is_some (if b then Some r else row_of t i)) p.0)
-    (λ p. let no : hit (same_id r.id i) ≡ 0 = ap hit p.0 in ap (λ b. is_some (if b then Some r else row_of t i)) p.0 ∙ times-is_there t i (omega (arith, no, h, times-cons i r t)))
+    (λ p. let no : one_if (same_id r.id i) ≡ 0 = ap one_if p.0 in ap (λ b. is_some (if b then Some r else row_of t i)) p.0 ∙ times-is_there t i (omega (arith, no, h, times-cons i r t)))
     (same_id_tells r.id i)
 
 pub times-absent : (t : List Row) (i : ItemId) → is_there t i ≡ false → times i t ≡ 0

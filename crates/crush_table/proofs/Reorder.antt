@@ -4,11 +4,9 @@ use Rattle.std.specs.Prelude.{map, filter, find, if◌then◌else◌, All, flat_
 use Rattle.std.specs.List.{sum_by, count_by}
 use Rattle.std.proofs.lemmas.List.Sums.{sum_by-append, sum_by-cons}
 use Rattle.std.proofs.lemmas.List.Elements.{All-cons, All-head, All-tail}
+use Rattle.crush_table.specs.Count.{one_if}
+pub use Rattle.crush_table.specs.Count.{one_if}
 use Rattle.crush_table.specs.Reordered.{IsReordered, nothing, keep, exchange, through}
-
--- 1 where the test holds, else 0
-abbrev pub hit : Bool → ℕ
-hit b = if b then 1 else 0
 
 module _ {X : Type 0} where
   pub reordered-refl : (xs : List X) → IsReordered xs xs
@@ -31,7 +29,7 @@ module _ {X : Type 0} where
   reordered-sum f (through h g) = reordered-sum f h ∙ reordered-sum f g
 
   pub reordered-count : (p : X → Bool) {xs ys : List X} → IsReordered xs ys → count_by p xs ≡ count_by p ys
-  reordered-count p h = reordered-sum (λ x. hit (p x)) h
+  reordered-count p h = reordered-sum (λ x. one_if (p x)) h
 
   pub reordered-length : {xs ys : List X} → IsReordered xs ys → length xs ≡ length ys
   reordered-length nothing = refl
@@ -102,7 +100,7 @@ module _ {X : Type 0} where
   find_if : (a : Bool) (x : X) (o q : Option X) → o ≡ q → (if a then Some x else o) ≡ (if a then Some x else q)
   find_if a x o q e = ap (λ z. if a then Some x else z) e
 
-  find_exchange : (a b : Bool) (x y : X) (o : Option X) → hit a + hit b ≤ 1 → (if a then Some x else (if b then Some y else o)) ≡ (if b then Some y else (if a then Some x else o))
+  find_exchange : (a b : Bool) (x y : X) (o : Option X) → one_if a + one_if b ≤ 1 → (if a then Some x else (if b then Some y else o)) ≡ (if b then Some y else (if a then Some x else o))
   find_exchange true true x y o h = absurd (omega arith)
   find_exchange true false x y o h = refl
   find_exchange false true x y o h = refl
@@ -111,8 +109,8 @@ module _ {X : Type 0} where
   -- where at most one element passes, it is found in either order
   pub reordered-find : (p : X → Bool) {xs ys : List X} → IsReordered xs ys → count_by p xs ≤ 1 → find p xs ≡ find p ys
   reordered-find p nothing h = refl
-  reordered-find p (keep {x} {xs} {ys} r) h = find_if (p x) x (find p xs) (find p ys) (reordered-find p r (omega (arith, sum_by-cons (λ z. hit (p z)) x xs)))
-  reordered-find p (exchange {x} {y} {xs}) h = find_exchange (p x) (p y) x y (find p xs) (omega (arith, sum_by-cons (λ z. hit (p z)) x (y ∷ xs), sum_by-cons (λ z. hit (p z)) y xs))
+  reordered-find p (keep {x} {xs} {ys} r) h = find_if (p x) x (find p xs) (find p ys) (reordered-find p r (omega (arith, sum_by-cons (λ z. one_if (p z)) x xs)))
+  reordered-find p (exchange {x} {y} {xs}) h = find_exchange (p x) (p y) x y (find p xs) (omega (arith, sum_by-cons (λ z. one_if (p z)) x (y ∷ xs), sum_by-cons (λ z. one_if (p z)) y xs))
   reordered-find p (through r s) h = reordered-find p r h ∙ reordered-find p s (omega (arith, reordered-count p r))
 
 module _ {X Y : Type 0} where

@@ -9,15 +9,16 @@ use Rattle.std.proofs.lemmas.List.Concat.{length-flat_map}
 use Rattle.std.proofs.lemmas.Bool.Decides.{eqb_tells}
 use Rattle.crush_units.specs.declared.id.ItemId.{ItemId}
 use Rattle.crush_units.specs.declared.id.ItemId.TheVariants.{Device, Bucket}
-use Rattle.crush_table.specs.Items.{ClassData}
+use Rattle.crush_table.specs.Items.{ShadowData}
 use Rattle.crush_table.specs.Reordered.{IsReordered, through}
-use Rattle.crush_table.specs.Table.{Row, is_device, is_bucket, is_there, parent_of, then_up, climb, above, member, is_below, sum_below, total, item_weight, weight_of, device_count, bucket_count, bucket_number, used_ids, free_ids}
+use Rattle.crush_table.specs.Table.{Row, is_device, is_bucket, is_there, parent_of, then_up, climb, above, member, is_below, sum_below, summed_weight, total, item_weight, weight_of, device_count, bucket_count, bucket_ids, used_ids, free_ids}
 use Rattle.crush_table.specs.Same.{Same}
 use Rattle.crush_table.specs.Lawful.{IsRow, HasParent, Lawful, is_over, is_too_heavy, has_too_many}
 use Rattle.crush_table.specs.Setting.{SettingData, HasKind, Fits}
-use Rattle.crush_table.proofs.Reorder.{hit, reordered-refl, reordered-sym, reordered-sum, reordered-count, reordered-length, reordered-All, sum_by-flat_map}
+use Rattle.crush_table.proofs.Reorder.{one_if, reordered-refl, reordered-sym, reordered-sum, reordered-count, reordered-length, reordered-All, sum_by-flat_map}
 use Rattle.crush_table.proofs.Found.{Distinct, Distinct-same, is_there-same, parent_of-same, own_weight_of-same}
-use Rattle.crush_table.proofs.Sums.{weighed}
+use Rattle.crush_table.proofs.Sums.{added_weight}
+use Rattle.crush_units.specs.declared.limits.TheConstants.{HEAVIEST_BUCKET, HEAVIEST_MAP, MOST_BUCKETS, MOST_DEVICES}
 
 pub Same-refl : (t : List Row) → Same t t
 Same-refl t = record { rows = reordered-refl t; kids = λ b. refl }
@@ -45,8 +46,8 @@ is_below-same t u p d b i = ap (member b) (above-same t u p d i)
 pub sum_below-same : (t u : List Row) → IsReordered t u → Distinct t → (b : ℕ) → sum_below t b ≡ sum_below u b
 sum_below-same t u p d b =
     let up = is_below-same t u p d b in
-    let same_weighed : weighed t b ≡ weighed u b = λ k r. if up r.id k then r.weight else 0 in
-    reordered-sum (weighed t b) p ∙ ap (λ f. sum_by f u) same_weighed
+    let same_weighed : added_weight t b ≡ added_weight u b = λ k r. if up r.id k then summed_weight r else 0 in
+    reordered-sum (added_weight t b) p ∙ ap (λ f. sum_by f u) same_weighed
 
 pub item_weight-same : (t u : List Row) → IsReordered t u → Distinct t → (i : ItemId) (w : ℕ) → item_weight t i w ≡ item_weight u i w
 item_weight-same t u p d (Device n) w = refl
@@ -56,7 +57,7 @@ pub weight_of-same : (t u : List Row) → IsReordered t u → Distinct t → (i 
 weight_of-same t u p d i = λ k. option_map (λ w. item_weight-same t u p d i w k) (own_weight_of-same t u p d i k)
 
 pub total-same : (t u : List Row) → IsReordered t u → total t ≡ total u
-total-same t u p = reordered-sum (λ (r : Row). if is_some r.parent then r.weight else 0) p
+total-same t u p = reordered-sum (λ (r : Row). if is_some r.parent then summed_weight r else 0) p
 
 pub device_count-same : (t u : List Row) → IsReordered t u → device_count t ≡ device_count u
 device_count-same t u p = reordered-count is_device p
@@ -66,14 +67,14 @@ bucket_count-same t u p = reordered-count is_bucket p
 
 -- the ids that one row uses
 abbrev pub uses : Row → List ℕ
-uses r = bucket_number r.id ++ map (λ (c : ClassData). c.id) r.class_ids
+uses r = bucket_ids r.id ++ map (λ (c : ShadowData). c.id) r.class_ids
 
 -- how often a number is used
 abbrev pub times_used : ℕ → List Row → ℕ
 times_used k t = count_by (λ u. u == k) (used_ids t)
 
 pub times_used-rows : (k : ℕ) (t : List Row) → times_used k t ≡ sum_by (λ (r : Row). count_by (λ u. u == k) (uses r)) t
-times_used-rows k t = sum_by-flat_map (λ u. hit (u == k)) uses t
+times_used-rows k t = sum_by-flat_map (λ u. one_if (u == k)) uses t
 
 pub times_used-same : (t u : List Row) → IsReordered t u → (k : ℕ) → times_used k t ≡ times_used k u
 times_used-same t u p k = times_used-rows k t ∙ reordered-sum (λ (r : Row). count_by (λ x. x == k) (uses r)) p ∙ sym (times_used-rows k u)
@@ -85,11 +86,11 @@ used_ids-length t u p = length-flat_map uses t ∙ reordered-sum (λ (r : Row). 
 pub member-count : (k : ℕ) (xs : List ℕ) → member k xs ≡ nat_lt 0 (count_by (λ u. u == k) xs)
 member-count k [] = refl
 member-count k (x ∷ xs) = ⊎_elim
-    (λ p. let one : hit (x == k) ≡ 1 = ap hit p.0 in
-    let more : count_by (λ u. u == k) (x ∷ xs) ≡ 1 + count_by (λ u. u == k) xs = omega (arith, one, sum_by-cons (λ u. hit (u == k)) x xs) in
+    (λ p. let one : one_if (x == k) ≡ 1 = ap one_if p.0 in
+    let more : count_by (λ u. u == k) (x ∷ xs) ≡ 1 + count_by (λ u. u == k) xs = omega (arith, one, sum_by-cons (λ u. one_if (u == k)) x xs) in
     ap (λ b. b || member k xs) p.0 ∙ sym (ap (nat_lt 0) more ∙ positive (count_by (λ u. u == k) xs)))
-    (λ p. let no : hit (x == k) ≡ 0 = ap hit p.0 in
-    let same : count_by (λ u. u == k) (x ∷ xs) ≡ count_by (λ u. u == k) xs = omega (arith, no, sum_by-cons (λ u. hit (u == k)) x xs) in
+    (λ p. let no : one_if (x == k) ≡ 0 = ap one_if p.0 in
+    let same : count_by (λ u. u == k) (x ∷ xs) ≡ count_by (λ u. u == k) xs = omega (arith, no, sum_by-cons (λ u. one_if (u == k)) x xs) in
     ap (λ b. b || member k xs) p.0 ∙ member-count k xs ∙ sym (ap (nat_lt 0) same))
     (eqb_tells x k) where
       positive : (n : ℕ) → nat_lt 0 (1 + n) ≡ true
@@ -130,10 +131,10 @@ Lawful-reordered t u p l = record {
   rows = reordered-All IsRow p l.rows;
   parents = All-weaker (HasParent t) (HasParent u) (HasParent-same t u p l.ids) u (reordered-All (HasParent t) p l.parents);
   loops = λ b. sym (is_below-same t u p l.ids b (Bucket b)) ∙ l.loops b;
-  sums = λ b. subst (λ n. n ≤ 4294967295) (sum_below-same t u p l.ids b) (l.sums b);
-  total = subst (λ n. n ≤ 8796093022207) (total-same t u p) l.total;
-  devices = subst (λ n. n ≤ 65536) (device_count-same t u p) l.devices;
-  buckets = subst (λ n. n ≤ 4096) (bucket_count-same t u p) l.buckets;
+  sums = λ b. subst (λ n. n ≤ HEAVIEST_BUCKET) (sum_below-same t u p l.ids b) (l.sums b);
+  total = subst (λ n. n ≤ HEAVIEST_MAP) (total-same t u p) l.total;
+  devices = subst (λ n. n ≤ MOST_DEVICES) (device_count-same t u p) l.devices;
+  buckets = subst (λ n. n ≤ MOST_BUCKETS) (bucket_count-same t u p) l.buckets;
 }
 
 pub Lawful-same : (t u : List Row) → Same t u → Lawful t → Lawful u
@@ -142,12 +143,12 @@ Lawful-same t u s = Lawful-reordered t u s.rows
 -- the tests for sums and counts
 is_over-same : (t u : List Row) → IsReordered t u → Distinct t → (i : ItemId) → is_over t i ≡ is_over u i
 is_over-same t u p d (Device n) = refl
-is_over-same t u p d (Bucket b) = ap (nat_lt 4294967295) (sum_below-same t u p d b)
+is_over-same t u p d (Bucket b) = ap (nat_lt HEAVIEST_BUCKET) (sum_below-same t u p d b)
 
 any_count : {X : Type 0} (p : X → Bool) (xs : List X) → list_any p xs ≡ nat_lt 0 (count_by p xs)
 any_count p [] = refl
-any_count p (x ∷ xs) = by_test (p x) (sum_by-cons (λ z. hit (p z)) x xs) (any_count p xs) where
-  by_test : (b : Bool) → count_by p (x ∷ xs) ≡ hit b + count_by p xs → list_any p xs ≡ nat_lt 0 (count_by p xs) → (b || list_any p xs) ≡ nat_lt 0 (count_by p (x ∷ xs))
+any_count p (x ∷ xs) = by_test (p x) (sum_by-cons (λ z. one_if (p z)) x xs) (any_count p xs) where
+  by_test : (b : Bool) → count_by p (x ∷ xs) ≡ one_if b + count_by p xs → list_any p xs ≡ nat_lt 0 (count_by p xs) → (b || list_any p xs) ≡ nat_lt 0 (count_by p (x ∷ xs))
   by_test true e ih = sym (ap (nat_lt 0) e ∙ grind arith)
   by_test false e ih = let same : count_by p xs ≡ count_by p (x ∷ xs) = omega (arith, e) in ih ∙ ap (nat_lt 0) same
 
@@ -156,7 +157,7 @@ is_too_heavy-same t u p d =
     let tests : (λ (r : Row). is_over t r.id) ≡ (λ (r : Row). is_over u r.id) = λ k r. is_over-same t u p d r.id k in
     let over : list_any (λ (r : Row). is_over t r.id) t ≡ list_any (λ (r : Row). is_over u r.id) u =
     any_count (λ (r : Row). is_over t r.id) t ∙ ap (nat_lt 0) (reordered-count (λ (r : Row). is_over t r.id) p ∙ ap (λ f. count_by f u) tests) ∙ sym (any_count (λ (r : Row). is_over u r.id) u) in
-    λ k. over k || nat_lt 8796093022207 (total-same t u p k)
+    λ k. over k || nat_lt HEAVIEST_MAP (total-same t u p k)
 
 pub has_too_many-same : (t u : List Row) → IsReordered t u → has_too_many t ≡ has_too_many u
-has_too_many-same t u p = λ k. nat_lt 65536 (device_count-same t u p k) || nat_lt 4096 (bucket_count-same t u p k)
+has_too_many-same t u p = λ k. nat_lt MOST_DEVICES (device_count-same t u p k) || nat_lt MOST_BUCKETS (bucket_count-same t u p k)

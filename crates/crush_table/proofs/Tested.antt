@@ -1,7 +1,7 @@
 -- What passes the test is lawful.
 use Rattle.std.proofs.Common.{◌≡◌, ℕ, ◌≤◌, Bool, true, false, List, [], ◌∷◌, length, ap, sym, subst, ◌∙◌, refl, arith, eq-eqb, ⊎_elim}
 use Rattle.std.specs.Prelude.{◌==◌, ◌||◌, ◌&&◌, not, if◌then◌else◌, Option, Some, None, IfSome, All, map, is_some, is_none, bytes_eq, nat_lt, nat_le}
-use Rattle.std.specs.List.{count_by, list_any, list_all}
+use Rattle.std.specs.List.{count_by, list_any}
 use Rattle.std.proofs.lemmas.Bool.{ltb-true, ltb-false, leb-true, eqb-true}
 use Rattle.std.proofs.lemmas.Slice.Eq.{bytes_eq-Decides}
 use Rattle.std.proofs.lemmas.List.Sums.{sum_by-cons, AllPass-from_list_all}
@@ -12,13 +12,14 @@ use Rattle.crush_units.specs.Id.{same_id}
 use Rattle.crush_units.specs.Name.{IsName, is_name}
 use Rattle.crush_units.proofs.Ids.{same_id_equal, same_id_refl, same_id_tells}
 use Rattle.crush_units.proofs.Names.{is_name_holds}
-use Rattle.crush_table.specs.Items.{ClassData}
+use Rattle.crush_table.specs.Items.{ShadowData}
 use Rattle.crush_table.specs.Table.{Row, row_of, is_there, is_below, used_ids, device_count, bucket_count}
-use Rattle.crush_table.specs.Lawful.{IsClassId, IsRow, IsRowOf, HasParent, Lawful, is_too_heavy, has_too_many}
-use Rattle.crush_table.specs.Tested.{all_hold, are_apart, name_or_none, is_class_id, is_row_of, is_row, parent_is_there, is_loop, is_lawful}
-use Rattle.crush_table.proofs.Reorder.{hit, sum_by-map}
+use Rattle.crush_table.specs.Lawful.{IsShadowId, IsRow, IsRowOf, HasParent, Lawful, is_too_heavy, has_too_many}
+use Rattle.crush_table.specs.Tested.{all_hold, are_apart, name_or_none, is_shadow_id, device_tests, bucket_tests, is_row_of, is_row, parent_is_there, is_loop, table_tests, is_lawful}
+use Rattle.crush_table.proofs.Reorder.{one_if, sum_by-map}
 use Rattle.crush_table.proofs.Climbs.{is_below-absent}
 use Rattle.crush_table.proofs.Weighs.{true_or_false, or_left, or_right, light_sums, light_total}
+use Rattle.crush_units.specs.declared.limits.TheConstants.{DEVICE_IDS, FARTHEST_BUCKET_ID, HEAVIEST_DEVICE, LAST_TYPE, MOST_BUCKETS, MOST_CLASS_IDS, MOST_DEVICES}
 
 and_left : (a b : Bool) → (a && b) ≡ true → a ≡ true
 and_left true b h = refl
@@ -33,7 +34,7 @@ not_so true h = absurd cc
 not_so false h = refl
 
 -- each of several tests
-abbrev HoldEach : List Bool → Type 0
+abbrev pub HoldEach : List Bool → Type 0
 HoldEach [] = Unit {0}
 HoldEach (b ∷ bs) = (b ≡ true) × HoldEach bs
 
@@ -47,7 +48,7 @@ module _ {X : Type 0} (same : X → X → Bool) (equal : (x y : X) → same x y 
   no_more x [] h = refl
   no_more x (y ∷ ys) h = ⊎_elim
       (λ e. absurd (let is : y ≡ x = equal y x e in let again : same x y ≡ true = ap (same x) is ∙ itself x in let not_it : same x y ≡ false = or_left (same x y) (list_any (same x) ys) h in cc))
-      (λ e. let none_here : hit (same y x) ≡ 0 = ap hit e in omega (arith, none_here, sum_by-cons (λ z. hit (same z x)) y ys, no_more x ys (or_right (same x y) (list_any (same x) ys) h)))
+      (λ e. let none_here : one_if (same y x) ≡ 0 = ap one_if e in omega (arith, none_here, sum_by-cons (λ z. one_if (same z x)) y ys, no_more x ys (or_right (same x y) (list_any (same x) ys) h)))
       (true_or_false (same y x))
 
   pub apart_once : (xs : List X) → are_apart same xs ≡ true → (x : X) → count_by (λ y. same y x) xs ≤ 1
@@ -56,14 +57,14 @@ module _ {X : Type 0} (same : X → X → Bool) (equal : (x y : X) → same x y 
       (λ e. let is : y ≡ x = equal y x e in
       let alone : count_by (λ z. same z y) ys ≡ 0 = no_more y ys (not_so (list_any (same y) ys) (and_left (not (list_any (same y) ys)) (are_apart same ys) h)) in
       let others : count_by (λ z. same z x) ys ≡ 0 = ap (λ v. count_by (λ z. same z v) ys) (sym is) ∙ alone in
-      let here : hit (same y x) ≡ 1 = ap hit e in omega (arith, here, others, sum_by-cons (λ z. hit (same z x)) y ys))
-      (λ e. let none_here : hit (same y x) ≡ 0 = ap hit e in omega (arith, none_here, sum_by-cons (λ z. hit (same z x)) y ys, apart_once ys (and_right (not (list_any (same y) ys)) (are_apart same ys) h) x))
+      let here : one_if (same y x) ≡ 1 = ap one_if e in omega (arith, here, others, sum_by-cons (λ z. one_if (same z x)) y ys))
+      (λ e. let none_here : one_if (same y x) ≡ 0 = ap one_if e in omega (arith, none_here, sum_by-cons (λ z. one_if (same z x)) y ys, apart_once ys (and_right (not (list_any (same y) ys)) (are_apart same ys) h) x))
       (true_or_false (same y x))
 
-bytes_itself : (n : List ℕ) → bytes_eq n n ≡ true
+pub bytes_itself : (n : List ℕ) → bytes_eq n n ≡ true
 bytes_itself n = (bytes_eq-Decides n n).1 refl
 
-bytes_equal : (m n : List ℕ) → bytes_eq m n ≡ true → m ≡ n
+pub bytes_equal : (m n : List ℕ) → bytes_eq m n ≡ true → m ≡ n
 bytes_equal m n = (bytes_eq-Decides m n).0
 
 -- rows
@@ -87,37 +88,36 @@ some_holds : {X : Type 0} (o : Option X) → is_some o ≡ true → o ≡ None �
 some_holds None h e = cc
 some_holds (Some x) h e = cc
 
-class_holds : (c : ClassData) → is_class_id c ≡ true → IsClassId c
+class_holds : (c : ShadowData) → is_shadow_id c ≡ true → IsShadowId c
 class_holds c h =
-    let parts = holds_each (nat_lt 0 c.id ∷ (nat_le c.id 2147483648 ∷ (is_name c.class ∷ []))) h in
-    record { some = ltb-true 0 c.id parts.0; most = leb-true c.id 2147483648 parts.1.0; class = is_name_holds c.class parts.1.1.0 }
+    let parts = holds_each (nat_lt 0 c.id ∷ (nat_le c.id FARTHEST_BUCKET_ID ∷ (is_name c.class ∷ []))) h in
+    record { some = ltb-true 0 c.id parts.0; most = leb-true c.id FARTHEST_BUCKET_ID parts.1.0; class = is_name_holds c.class parts.1.1.0 }
 
 row_of_holds : (i : ItemId) (r : Row) → is_row_of i r ≡ true → IsRowOf i r
 row_of_holds (Device d) r h =
-    let parts = holds_each (nat_lt d 2147483648 ∷ ((r.kind == 0) ∷ (nat_le r.weight 2147483647 ∷ ((is_some r.parent || (r.weight == 0)) ∷ (is_none r.alg ∷ ((length r.class_ids == 0) ∷ (name_or_none r.class ∷ []))))))) h in
+    let parts = holds_each (device_tests d r) h in
     record {
-      id = ltb-true d 2147483648 parts.0;
+      id = ltb-true d DEVICE_IDS parts.0;
       kind = eqb-true r.kind 0 parts.1.0;
-      light = leb-true r.weight 2147483647 parts.1.1.0;
+      light = leb-true r.weight HEAVIEST_DEVICE parts.1.1.0;
       unplaced = unplaced_holds r.parent r.weight parts.1.1.1.0;
       alg = none_holds r.alg parts.1.1.1.1.0;
       class_ids = empty_holds r.class_ids parts.1.1.1.1.1.0;
       class = name_holds r.class parts.1.1.1.1.1.1.0;
     }
 row_of_holds (Bucket b) r h =
-    let parts = holds_each (nat_lt 0 b ∷ (nat_le b 2147483648 ∷ (nat_lt 0 r.kind ∷ (nat_le r.kind 65535 ∷ ((r.weight == 0) ∷ (is_none r.class ∷ (is_some r.alg ∷ (list_all is_class_id r.class_ids
-    ∷ (nat_le (length r.class_ids) 16 ∷ (are_apart bytes_eq (map (λ (c : ClassData). c.class) r.class_ids) ∷ [])))))))))) h in
+    let parts = holds_each (bucket_tests b r) h in
     record {
       some = ltb-true 0 b parts.0;
-      most = leb-true b 2147483648 parts.1.0;
+      most = leb-true b FARTHEST_BUCKET_ID parts.1.0;
       kind_some = ltb-true 0 r.kind parts.1.1.0;
-      kind_most = leb-true r.kind 65535 parts.1.1.1.0;
+      kind_most = leb-true r.kind LAST_TYPE parts.1.1.1.0;
       weight = eqb-true r.weight 0 parts.1.1.1.1.0;
       class = none_holds r.class parts.1.1.1.1.1.0;
       alg = some_holds r.alg parts.1.1.1.1.1.1.0;
-      class_ids = All-weaker (λ (c : ClassData). is_class_id c ≡ true) IsClassId class_holds r.class_ids (AllPass-from_list_all is_class_id r.class_ids parts.1.1.1.1.1.1.1.0);
-      few = leb-true (length r.class_ids) 16 parts.1.1.1.1.1.1.1.1.0;
-      classes = λ c. subst (λ n. n ≤ 1) (sum_by-map (λ m. hit (bytes_eq m c)) (λ (x : ClassData). x.class) r.class_ids) (apart_once bytes_eq bytes_equal bytes_itself (map (λ (x : ClassData). x.class) r.class_ids) parts.1.1.1.1.1.1.1.1.1.0 c);
+      class_ids = All-weaker (λ (c : ShadowData). is_shadow_id c ≡ true) IsShadowId class_holds r.class_ids (AllPass-from_list_all is_shadow_id r.class_ids parts.1.1.1.1.1.1.1.0);
+      few = leb-true (length r.class_ids) MOST_CLASS_IDS parts.1.1.1.1.1.1.1.1.0;
+      classes = λ c. subst (λ n. n ≤ 1) (sum_by-map (λ m. one_if (bytes_eq m c)) (λ (x : ShadowData). x.class) r.class_ids) (apart_once bytes_eq bytes_equal bytes_itself (map (λ (x : ShadowData). x.class) r.class_ids) parts.1.1.1.1.1.1.1.1.1.0 c);
     }
 
 row_holds : (r : Row) → is_row r ≡ true → IsRow r
@@ -138,20 +138,19 @@ no_loop t (r ∷ u) h b there = ⊎_elim
 -- THE TEST holds only of lawful tables
 pub Lawful-tested : (t : List Row) → is_lawful t ≡ true → Lawful t
 Lawful-tested t h =
-    let parts = holds_each (are_apart same_id (map (λ (r : Row). r.id) t) ∷ (are_apart bytes_eq (map (λ (r : Row). r.name) t) ∷ (are_apart (λ a b. a == b) (used_ids t) ∷ (list_all is_row t
-    ∷ (list_all (λ (r : Row). parent_is_there t r.parent) t ∷ (not (list_any (λ (r : Row). is_loop t r.id) t) ∷ (not (is_too_heavy t) ∷ (not (has_too_many t) ∷ [])))))))) h in
+    let parts = holds_each (table_tests t) h in
     let parents : All (HasParent t) t = All-weaker (λ (r : Row). parent_is_there t r.parent ≡ true) (HasParent t) (λ r. parent_holds t r.parent) t (AllPass-from_list_all (λ (r : Row). parent_is_there t r.parent) t parts.1.1.1.1.0) in
     let light : is_too_heavy t ≡ false = not_so (is_too_heavy t) parts.1.1.1.1.1.1.0 in
     let room : has_too_many t ≡ false = not_so (has_too_many t) parts.1.1.1.1.1.1.1.0 in
     record {
-      ids = λ i. subst (λ n. n ≤ 1) (sum_by-map (λ j. hit (same_id j i)) (λ (r : Row). r.id) t) (apart_once same_id same_id_equal same_id_refl (map (λ (r : Row). r.id) t) parts.0 i);
-      names = λ n. subst (λ c. c ≤ 1) (sum_by-map (λ m. hit (bytes_eq m n)) (λ (r : Row). r.name) t) (apart_once bytes_eq bytes_equal bytes_itself (map (λ (r : Row). r.name) t) parts.1.0 n);
+      ids = λ i. subst (λ n. n ≤ 1) (sum_by-map (λ j. one_if (same_id j i)) (λ (r : Row). r.id) t) (apart_once same_id same_id_equal same_id_refl (map (λ (r : Row). r.id) t) parts.0 i);
+      names = λ n. subst (λ c. c ≤ 1) (sum_by-map (λ m. one_if (bytes_eq m n)) (λ (r : Row). r.name) t) (apart_once bytes_eq bytes_equal bytes_itself (map (λ (r : Row). r.name) t) parts.1.0 n);
       used = apart_once (λ a b. a == b) eqb-true (λ a. eq-eqb a a refl) (used_ids t) parts.1.1.0;
       rows = All-weaker (λ (r : Row). is_row r ≡ true) IsRow row_holds t (AllPass-from_list_all is_row t parts.1.1.1.0);
       parents = parents;
       loops = λ b. ⊎_elim (no_loop t t (not_so (list_any (λ (r : Row). is_loop t r.id) t) parts.1.1.1.1.1.0) b) (λ gone. is_below-absent t parents b gone (Bucket b)) (true_or_false (is_there t (Bucket b)));
       sums = light_sums t parents light;
       total = light_total t light;
-      devices = ltb-false 65536 (device_count t) (or_left (nat_lt 65536 (device_count t)) (nat_lt 4096 (bucket_count t)) room);
-      buckets = ltb-false 4096 (bucket_count t) (or_right (nat_lt 65536 (device_count t)) (nat_lt 4096 (bucket_count t)) room);
+      devices = ltb-false MOST_DEVICES (device_count t) (or_left (nat_lt MOST_DEVICES (device_count t)) (nat_lt MOST_BUCKETS (bucket_count t)) room);
+      buckets = ltb-false MOST_BUCKETS (bucket_count t) (or_right (nat_lt MOST_DEVICES (device_count t)) (nat_lt MOST_BUCKETS (bucket_count t)) room);
     }

@@ -11,6 +11,7 @@ use Rattle.crush_table.specs.Table.{Row, row_of, is_there, sum_below, total}
 use Rattle.crush_table.specs.Lawful.{HasParent, Lawful, is_over, is_too_heavy}
 use Rattle.crush_table.proofs.Found.{Distinct, row_at}
 use Rattle.crush_table.proofs.Climbs.{sum_below-absent}
+use Rattle.crush_units.specs.declared.limits.TheConstants.{HEAVIEST_BUCKET, HEAVIEST_MAP}
 
 pub true_or_false : (b : Bool) → (b ≡ true) ⊎ (b ≡ false)
 true_or_false true = inl refl
@@ -33,25 +34,25 @@ over_found t (r ∷ u) h b there = ⊎_elim
     (same_id_tells r.id (Bucket b))
 
 -- the test for sums, passed: no sum and no total is too large
-pub light_sums : (t : List Row) → All (HasParent t) t → is_too_heavy t ≡ false → (b : ℕ) → sum_below t b ≤ 4294967295
+pub light_sums : (t : List Row) → All (HasParent t) t → is_too_heavy t ≡ false → (b : ℕ) → sum_below t b ≤ HEAVIEST_BUCKET
 light_sums t a h b = ⊎_elim
-    (λ there. ltb-false 4294967295 (sum_below t b) (over_found t t (or_left (list_any (λ (r : Row). is_over t r.id) t) (nat_lt 8796093022207 (total t)) h) b there))
+    (λ there. ltb-false HEAVIEST_BUCKET (sum_below t b) (over_found t t (or_left (list_any (λ (r : Row). is_over t r.id) t) (nat_lt HEAVIEST_MAP (total t)) h) b there))
     (λ gone. omega (arith, sum_below-absent t a b gone))
     (true_or_false (is_there t (Bucket b)))
 
-pub light_total : (t : List Row) → is_too_heavy t ≡ false → total t ≤ 8796093022207
-light_total t h = ltb-false 8796093022207 (total t) (or_right (list_any (λ (r : Row). is_over t r.id) t) (nat_lt 8796093022207 (total t)) h)
+pub light_total : (t : List Row) → is_too_heavy t ≡ false → total t ≤ HEAVIEST_MAP
+light_total t h = ltb-false HEAVIEST_MAP (total t) (or_right (list_any (λ (r : Row). is_over t r.id) t) (nat_lt HEAVIEST_MAP (total t)) h)
 
-none_over : (t : List Row) → ((b : ℕ) → sum_below t b ≤ 4294967295) → (u : List Row) → list_any (λ (r : Row). is_over t r.id) u ≡ false
+none_over : (t : List Row) → ((b : ℕ) → sum_below t b ≤ HEAVIEST_BUCKET) → (u : List Row) → list_any (λ (r : Row). is_over t r.id) u ≡ false
 none_over t h [] = refl
 none_over t h (r ∷ u) = ap (λ z. z || list_any (λ (x : Row). is_over t x.id) u) (not_over r.id) ∙ none_over t h u where
   not_over : (i : ItemId) → is_over t i ≡ false
   not_over (Device d) = refl
-  not_over (Bucket b) = le-ltb 4294967295 (sum_below t b) (h b)
+  not_over (Bucket b) = le-ltb HEAVIEST_BUCKET (sum_below t b) (h b)
 
 -- and a lawful table passes it
-pub sums_light : (t : List Row) → ((b : ℕ) → sum_below t b ≤ 4294967295) → total t ≤ 8796093022207 → is_too_heavy t ≡ false
-sums_light t h k = ap (λ z. z || nat_lt 8796093022207 (total t)) (none_over t h t) ∙ le-ltb 8796093022207 (total t) k
+pub sums_light : (t : List Row) → ((b : ℕ) → sum_below t b ≤ HEAVIEST_BUCKET) → total t ≤ HEAVIEST_MAP → is_too_heavy t ≡ false
+sums_light t h k = ap (λ z. z || nat_lt HEAVIEST_MAP (total t)) (none_over t h t) ∙ le-ltb HEAVIEST_MAP (total t) k
 
 pub lawful_light : (t : List Row) → Lawful t → is_too_heavy t ≡ false
 lawful_light t l = sums_light t l.sums l.total

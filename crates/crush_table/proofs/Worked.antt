@@ -7,7 +7,9 @@ use Rattle.crush_table.specs.Table.{Row, id_named, is_named, parent_of, kind_of,
 use Rattle.crush_table.specs.Lawful.{Lawful, is_too_heavy, has_too_many}
 use Rattle.crush_table.specs.Tested.{is_lawful}
 use Rattle.crush_table.proofs.Tested.{Lawful-tested}
-use Rattle.crush_table.specs.Rows.{ForestData, rows, rows_of, stored_weight, all_items, IsSound}
+use Rattle.crush_table.specs.Forest.{ForestData, rows_of, all_items, IsSound}
+use Rattle.crush_table.specs.ItemRows.{rows}
+use Rattle.crush_table.specs.Stored.{stored_weight}
 use Rattle.crush_table.specs.Columns.{set_weight, set_subtree, table_without, part, without_row, exchange_parents, swap_buckets}
 
 abbrev leaf : ℕ → List ℕ → ℕ → LeafData

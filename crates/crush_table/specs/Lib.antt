@@ -1,10 +1,17 @@
 pub mod Columns
+pub mod Count
+pub mod Forest
+pub mod ItemRows
 pub mod Items
+pub mod KeepsLaw
 pub mod Law
 pub mod Lawful
+pub mod MoveLaw
 pub mod Reordered
 pub mod Rows
 pub mod Same
 pub mod Setting
+pub mod Stands
+pub mod Stored
 pub mod Table
 pub mod Tested

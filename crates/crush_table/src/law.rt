@@ -1,11 +1,13 @@
 //! Laws of the table, as contracts of functions that do nothing.
 
-ghost use Rattle.std.specs.Prelude.{◌≡◌, ℕ, List, ◌++◌, true};
+ghost use Rattle.std.specs.Prelude.{◌≡◌, ◌↔◌, ℕ, List, ◌++◌, true};
 ghost use Rattle.crush_units.specs.declared.id.ItemId.{ItemId};
 ghost use Rattle.crush_table.specs.Columns.{set_weight, set_subtree, set_name, table_without, part, without_row, exchange_parents, swap_buckets};
-ghost use Rattle.crush_table.specs.Law.{SumsItems, ClimbEnds, SameIsAlike, KeepsSame, KeepsLawful, WeightKeepsLawful, SubtreeKeepsLawful, NameKeepsLawful, MoveKeepsLawful, SwapKeepsLawful, DeviceKeepsLawful, BucketKeepsLawful, RowsKeepLawful, StandsForOne, Relocates};
+ghost use Rattle.crush_table.specs.KeepsLaw.{KeepsLawful, WeightKeepsLawful, SubtreeKeepsLawful, NameKeepsLawful, MoveKeepsLawful, SwapKeepsLawful, DeviceKeepsLawful, BucketKeepsLawful, RowsKeepLawful, PartKeepsLawful, PlacedRowKeepsForm, PlacedDeviceKeepsForm};
+ghost use Rattle.crush_table.specs.Law.{SumsItems, ClimbEnds, SameIsAlike, KeepsSame, StandsForOne, FreeIdsAreFree, FewIdsAreUsed, HeavyIsAlike, RoomIsAlike, AddsRows};
+ghost use Rattle.crush_table.specs.MoveLaw.{Relocates, RelocatesDevice, EmptyIsRow, DeviceIsRow, EmptyKeepsSums};
 ghost use Rattle.crush_table.specs.Lawful.{Lawful};
-ghost use Rattle.crush_table.specs.Rows.{ForestData};
+ghost use Rattle.crush_table.specs.Forest.{ForestData};
 ghost use Rattle.crush_table.specs.Table.{Row};
 ghost use Rattle.crush_table.specs.Tested.{is_lawful};
 
@@ -55,6 +57,13 @@ pub fn changes_keep_lawful()
     ensures device { DeviceKeepsLawful }
     ensures bucket { BucketKeepsLawful }
     ensures rows { RowsKeepLawful }
+    ensures part { PartKeepsLawful }
+{}
+
+/// A row keeps its form in another bucket, and a device's row also with another weight.
+pub fn placed_rows_keep_their_form()
+    ensures row { PlacedRowKeepsForm }
+    ensures device { PlacedDeviceKeepsForm }
 {}
 
 /// An item that is taken out and put elsewhere is one row that gets another parent and comes last.
@@ -62,7 +71,39 @@ pub fn moves_are_of_one_row()
     ensures { (t : List Row) → Lawful t → Relocates t }
 {}
 
-/// A table that passes the test is lawful.
-pub fn what_passes_is_lawful()
-    ensures { (t : List Row) → is_lawful t ≡ true → Lawful t }
+/// A device that is taken out and put elsewhere with another weight is one row that gets another
+/// parent and weight and comes last.
+pub fn moves_of_devices_are_of_one_row()
+    ensures { (t : List Row) → Lawful t → RelocatesDevice t }
+{}
+
+/// The first free ids are so many as are asked for, in the range of bucket ids, none in use, each
+/// once, as long as there are so many beside those that are used. A lawful table uses few.
+pub fn free_ids_are_free()
+    ensures free { FreeIdsAreFree }
+    ensures few { FewIdsAreUsed }
+{}
+
+/// Whether sums are out of range, and whether rows are too many, is equal on tables that are the
+/// same, lawful or not. Of the sums each id must be there once.
+pub fn tests_are_alike()
+    ensures sums { HeavyIsAlike }
+    ensures room { RoomIsAlike }
+{}
+
+/// A bucket without items is its one row, as a device is, and weighs nothing.
+pub fn empty_bucket_is_one_row()
+    ensures bucket { EmptyIsRow }
+    ensures device { DeviceIsRow }
+    ensures sums { EmptyKeepsSums }
+{}
+
+/// Rows that come last add their own counts, weights and used ids.
+pub fn counts_add()
+    ensures { (t u : List Row) → AddsRows t u }
+{}
+
+/// A table is lawful exactly where it passes the test, which computes.
+pub fn lawful_is_what_passes()
+    ensures { (t : List Row) → (is_lawful t ≡ true) ↔ Lawful t }
 {}

@@ -1,38 +1,37 @@
--- What the judges test of a draft before a line, told by the table and the setting with that line.
+-- What a draft has before a line, told by the table and the setting with that line.
 use Rattle.std.proofs.Common.{◌≡◌, ℕ, ◌+◌, ◌<◌, ◌≤◌, Bool, true, false, List, [], ◌∷◌, ◌++◌, Some, None, length, refl, sym, ap, subst, ◌∙◌, arith}
 use Rattle.std.proofs.lemmas.Bool.{le-ltb, lt-leb, eq-eqb}
 use Rattle.std.proofs.lemmas.List.{length-append}
 use Rattle.std.proofs.lemmas.List.Elements.{All-head, All-tail}
 use Rattle.std.proofs.lemmas.List.Sums.{sum_by-append, sum_by-cons}
-use Rattle.std.proofs.lemmas.List.Concat.{flat_map-append}
 use Rattle.std.proofs.lemmas.Slice.Eq.{bytes_eq-Decides}
-use Rattle.std.specs.Prelude.{bytes_eq, ◌==◌, ◌||◌, nat_lt, is_some, unwrap_or, find, All, if◌then◌else◌}
+use Rattle.std.specs.Prelude.{bytes_eq, ◌==◌, ◌||◌, is_some, unwrap_or, find, map, filter, All, if◌then◌else◌}
 use Rattle.std.specs.Option.{option_map}
 use Rattle.std.specs.List.{count_by, list_any}
 use Rattle.crush_units.specs.declared.id.ItemId.{ItemId}
 use Rattle.crush_units.specs.declared.id.ItemId.TheVariants.{Device, Bucket}
-use Rattle.crush_units.specs.Id.{same_id}
-use Rattle.crush_units.proofs.Ids.{same_id_refl}
-use Rattle.crush_table.specs.Table.{Row, is_device, is_bucket, is_there, is_named, member, used_ids, sum_below, total, device_count, bucket_count}
-use Rattle.crush_table.specs.Lawful.{Lawful, is_over, is_too_heavy}
+use Rattle.crush_units.specs.Id.{same_id, is_device_id}
+use Rattle.crush_units.proofs.Ids.{same_id_refl, same_id_equal}
+use Rattle.crush_units.specs.Name.{IsName}
+use Rattle.crush_units.specs.declared.limits.TheConstants.{DEVICE_IDS, HEAVIEST_DEVICE}
+use Rattle.crush_table.specs.Table.{Row, is_device, row_of, row_named, is_there, is_named, sum_below, total, device_count}
+use Rattle.crush_table.specs.Columns.{without_row}
+use Rattle.crush_table.specs.Lawful.{Lawful, IsRow, IsRowOf, IsDeviceRow, is_over, is_too_heavy}
 use Rattle.crush_table.specs.Setting.{KindData, IsKind, is_reserved}
 use Rattle.crush_table.proofs.Found.{times, row_of-absent}
-use Rattle.crush_table.proofs.Same.{member-count}
-use Rattle.crush_map.specs.Built.{Draft, Pending, nothing, with_kind, with_device, begun_bucket}
-use Rattle.crush_map.specs.Building.{has_name, has_pending_name, has_bucket_id, has_kind_number, has_kind_name, is_full_of_devices, is_full_of_buckets, is_full_of_kinds}
-use Rattle.crush_text.specs.Statements.{Head}
-use Rattle.crush_text.specs.Flow.{number_of}
-use Rattle.crush_text.specs.Meaning.{IsMap, after_head}
+use Rattle.crush_map.specs.Built.{Draft, Pending, nothing, filling, with_kind, with_device, placed_row, put_below, table_with_item, with_item}
+use Rattle.crush_map.specs.Building.{has_name, has_pending_name, has_kind_number, has_kind_name, is_full_of_devices, is_full_of_kinds}
+use Rattle.crush_text.specs.Document.{IsMap}
 
 -- one or none
-abbrev hit : Bool → ℕ
-hit b = if b then 1 else 0
+abbrev one_if : Bool → ℕ
+one_if b = if b then 1 else 0
 
 -- one more that passes a test
 count_last : {X : Type 0} (p : X → Bool) (xs : List X) (y : X) → p y ≡ true → count_by p (xs ++ y ∷ []) ≡ count_by p xs + 1
 count_last p xs y h =
-    let one : hit (p y) ≡ 1 = ap hit h in
-    omega (arith, one, sum_by-append (λ x. hit (p x)) xs (y ∷ []), sum_by-cons (λ x. hit (p x)) y [])
+    let one : one_if (p y) ≡ 1 = ap one_if h in
+    omega (arith, one, sum_by-append (λ x. one_if (p x)) xs (y ∷ []), sum_by-cons (λ x. one_if (p x)) y [])
 
 -- none passes a test
 any_none : {X : Type 0} (p : X → Bool) (xs : List X) → count_by p xs ≡ 0 → list_any p xs ≡ false
@@ -40,15 +39,15 @@ any_none p [] h = refl
 any_none p (x ∷ xs) h = by_test (p x) refl (any_none p xs)
   where
     by_test : (b : Bool) → p x ≡ b → (count_by p xs ≡ 0 → list_any p xs ≡ false) → (p x || list_any p xs) ≡ false
-    by_test true e ih = let one : hit (p x) ≡ 1 = ap hit e in absurd (omega (arith, h, one, sum_by-cons (λ y. hit (p y)) x xs))
-    by_test false e ih = rw e (ih (omega (arith, h, sum_by-cons (λ y. hit (p y)) x xs)))
+    by_test true e ih = let one : one_if (p x) ≡ 1 = ap one_if e in absurd (omega (arith, h, one, sum_by-cons (λ y. one_if (p y)) x xs))
+    by_test false e ih = rw e (ih (omega (arith, h, sum_by-cons (λ y. one_if (p y)) x xs)))
 
 -- so it is where at most one does with one more that does
 none_before : {X : Type 0} (p : X → Bool) (xs : List X) (y : X) → p y ≡ true → count_by p (xs ++ y ∷ []) ≤ 1 → count_by p xs ≡ 0
 none_before p xs y h one = omega (arith, one, count_last p xs y h)
 
 -- bytes are those that they are
-same_bytes : (x : List ℕ) → bytes_eq x x ≡ true
+pub same_bytes : (x : List ℕ) → bytes_eq x x ≡ true
 same_bytes x = (bytes_eq-Decides x x).1 refl
 
 -- a name that no row has
@@ -57,15 +56,15 @@ unnamed [] n h = refl
 unnamed (r ∷ t) n h = by_test (bytes_eq r.name n) refl (unnamed t n)
   where
     by_test : (b : Bool) → bytes_eq r.name n ≡ b → (count_by (λ (x : Row). bytes_eq x.name n) t ≡ 0 → is_named t n ≡ false) → is_named (r ∷ t) n ≡ false
-    by_test true e ih = let one : hit (bytes_eq r.name n) ≡ 1 = ap hit e in absurd (omega (arith, h, one, sum_by-cons (λ (x : Row). hit (bytes_eq x.name n)) r t))
-    by_test false e ih = rw e (ih (omega (arith, h, sum_by-cons (λ (x : Row). hit (bytes_eq x.name n)) r t)))
+    by_test true e ih = let one : one_if (bytes_eq r.name n) ≡ 1 = ap one_if e in absurd (omega (arith, h, one, sum_by-cons (λ (x : Row). one_if (bytes_eq x.name n)) r t))
+    by_test false e ih = rw e (ih (omega (arith, h, sum_by-cons (λ (x : Row). one_if (bytes_eq x.name n)) r t)))
 
 -- before a type
 pub record KindFree (d : Draft) (n : ℕ) (x : List ℕ) : Type 0 where
   pub number : has_kind_number d.setting n ≡ false
   pub name : has_kind_name d.setting x ≡ false
   pub few : is_full_of_kinds d ≡ false
-  pub reserved : 0 < n → is_reserved x ≡ false
+  pub kind : IsKind (record { number = n; name = x })
 
 -- the last of all
 last_of : {X : Type 0} (P : X → Type 0) (xs : List X) (y : X) → All P (xs ++ y ∷ []) → P y
@@ -80,22 +79,35 @@ kind_free d n x m =
       number = any_none (λ (k : KindData). k.number == n) d.setting.kinds (none_before (λ (k : KindData). k.number == n) d.setting.kinds kind (eq-eqb n n refl) (m.fits.numbers n));
       name = any_none (λ (k : KindData). bytes_eq k.name x) d.setting.kinds (none_before (λ (k : KindData). bytes_eq k.name x) d.setting.kinds kind (same_bytes x) (m.fits.names x));
       few = lt-leb 256 (length d.setting.kinds) (omega (arith, m.fits.few, length-append d.setting.kinds (kind ∷ [])));
-      reserved = (last_of IsKind d.setting.kinds kind m.fits.kinds).free;
+      kind = last_of IsKind d.setting.kinds kind m.fits.kinds;
     }
 
--- the name of a type of buckets is none of the grammar's words
-kind_reserved : (kinds : List KindData) (k : List ℕ) → All IsKind kinds → 0 < unwrap_or (option_map (λ (x : KindData). x.number) (find (λ (x : KindData). bytes_eq x.name k) kinds)) 0 → is_reserved k ≡ false
-kind_reserved [] k all some = absurd (omega arith)
-kind_reserved (x ∷ kinds) k all some = by_test (bytes_eq x.name k) refl some (kind_reserved kinds k (All-tail IsKind x kinds all))
+-- what the name of a type of buckets is: a name, and none of the grammar's words
+pub record NamesType (k : List ℕ) : Type 0 where
+  pub form : IsName k
+  pub free : is_reserved k ≡ false
+
+-- a name that has a number other than 0 is one
+pub type_named : (kinds : List KindData) (k : List ℕ) → All IsKind kinds → 0 < unwrap_or (option_map (λ (x : KindData). x.number) (find (λ (x : KindData). bytes_eq x.name k) kinds)) 0 → NamesType k
+type_named [] k all some = absurd (omega arith)
+type_named (x ∷ kinds) k all some = by_test (bytes_eq x.name k) refl some (type_named kinds k (All-tail IsKind x kinds all))
   where
     by_test : (b : Bool) → bytes_eq x.name k ≡ b → 0 < unwrap_or (option_map (λ (y : KindData). y.number) (if b then Some x else find (λ (y : KindData). bytes_eq y.name k) kinds)) 0
-        → (0 < unwrap_or (option_map (λ (y : KindData). y.number) (find (λ (y : KindData). bytes_eq y.name k) kinds)) 0 → is_reserved k ≡ false) → is_reserved k ≡ false
-    by_test true e some ih = ap is_reserved (sym ((bytes_eq-Decides x.name k).0 e)) ∙ (All-head IsKind x kinds all).free some
+        → (0 < unwrap_or (option_map (λ (y : KindData). y.number) (find (λ (y : KindData). bytes_eq y.name k) kinds)) 0 → NamesType k) → NamesType k
+    by_test true e some ih =
+        let kind = All-head IsKind x kinds all in
+        let same = (bytes_eq-Decides x.name k).0 e in
+        record { form = subst IsName same kind.name; free = ap is_reserved (sym same) ∙ kind.free some }
     by_test false e some ih = ih some
 
--- so is the name of a type of buckets in a draft
-pub known_reserved : (d : Draft) (k : List ℕ) → All IsKind d.setting.kinds → 0 < number_of d k → is_reserved k ≡ false
-known_reserved d k all some = kind_reserved d.setting.kinds k all some
+-- what the rows of a lawful table are called are names
+pub item_form : (t : List Row) (n : List ℕ) → All IsRow t → is_named t n ≡ true → IsName n
+item_form [] n all e = absurd cc
+item_form (r ∷ t) n all e = by_test (bytes_eq r.name n) refl e (item_form t n (All-tail IsRow r t all))
+  where
+    by_test : (b : Bool) → bytes_eq r.name n ≡ b → is_some (option_map (λ (x : Row). x.id) (if b then Some r else row_named t n)) ≡ true → (is_named t n ≡ true → IsName n) → IsName n
+    by_test true h e ih = subst IsName ((bytes_eq-Decides r.name n).0 h) (All-head IsRow r t all).name
+    by_test false h e ih = ih e
 
 -- a name of an item is free
 name_free : (d : Draft) (r : Row) → d.pending ≡ nothing → Lawful (d.table ++ r ∷ []) → has_name d r.name ≡ false
@@ -108,46 +120,27 @@ pub record DeviceFree (d : Draft) (n : ℕ) (x : List ℕ) : Type 0 where
   pub number : is_there d.table (Device n) ≡ false
   pub name : has_name d x ≡ false
   pub few : is_full_of_devices d ≡ false
+  pub most : n < DEVICE_IDS
+  pub form : IsName x
 
 -- the row that comes last is a free device before its line
 device_free_by : (d : Draft) (n : ℕ) (r : Row) → r.id ≡ Device n → d.pending ≡ nothing → Lawful (d.table ++ r ∷ []) → DeviceFree d n r.name
 device_free_by d n r is idle l =
     let none : times (Device n) d.table ≡ 0 = none_before (λ (x : Row). same_id x.id (Device n)) d.table r (ap (λ (i : ItemId). same_id i (Device n)) is ∙ same_id_refl (Device n)) (l.ids (Device n)) in
     let device : is_device r ≡ true = rw is refl in
+    let row = last_of IsRow d.table r l.rows in
+    let own : IsDeviceRow n r = subst (λ (i : ItemId). IsRowOf i r) is row.form in
     record {
       number = ap is_some (row_of-absent d.table (Device n) none);
       name = name_free d r idle l;
       few = lt-leb 65536 (device_count d.table) (omega (arith, l.devices, count_last is_device d.table r device));
+      most = own.id;
+      form = row.name;
     }
 
 -- and so is a device's
 pub device_free : (d : Draft) (n : ℕ) (x : List ℕ) → d.pending ≡ nothing → IsMap (with_device d n x) → DeviceFree d n x
 device_free d n x idle m = device_free_by d n (record { id = Device n; kind = 0; name = x; parent = None; weight = 0; class = None; alg = None; class_ids = [] }) refl idle m.lawful
-
--- before a bucket
-pub record HeadFree (d : Draft) (h : Head) : Type 0 where
-  pub name : has_name d h.name ≡ false
-  pub id : has_bucket_id (begun_bucket d (number_of d h.kind) h.name) h.id ≡ false
-  pub few : is_full_of_buckets d ≡ false
-
--- the row that comes last is a free bucket before its line
-head_free_by : (d : Draft) (h : Head) (r : Row) → r.id ≡ Bucket h.id → r.class_ids ≡ [] → r.name ≡ h.name → d.pending ≡ nothing → Lawful (d.table ++ r ∷ []) → HeadFree d h
-head_free_by d h r is no_classes named idle l =
-    let bucket : is_bucket r ≡ true = rw is refl in
-    let own : used_ids (r ∷ []) ≡ h.id ∷ [] = rw (is, no_classes) refl in
-    let all : used_ids (d.table ++ r ∷ []) ≡ used_ids d.table ++ h.id ∷ [] = flat_map-append _ d.table (r ∷ []) ∙ ap (λ (l : List ℕ). used_ids d.table ++ l) own in
-    let once : count_by (λ u. u == h.id) (used_ids d.table ++ h.id ∷ []) ≤ 1 = subst (λ (l : List ℕ). count_by (λ u. u == h.id) l ≤ 1) all (l.used h.id) in
-    let none : count_by (λ u. u == h.id) (used_ids d.table) ≡ 0 = none_before (λ u. u == h.id) (used_ids d.table) h.id (eq-eqb h.id h.id refl) once in
-    let free : member h.id (used_ids d.table) ≡ false = member-count h.id (used_ids d.table) ∙ ap (nat_lt 0) none in
-    record {
-      name = ap (has_name d) (sym named) ∙ name_free d r idle l;
-      id = rw free refl;
-      few = lt-leb 4096 (bucket_count d.table) (omega (arith, l.buckets, count_last is_bucket d.table r bucket));
-    }
-
--- and so is a bucket's
-pub head_free : (d : Draft) (h : Head) → d.pending ≡ nothing → IsMap (after_head d h) → HeadFree d h
-head_free d h idle m = head_free_by d h (record { id = Bucket h.id; kind = number_of d h.kind; name = h.name; parent = None; weight = 0; class = None; alg = Some h.alg; class_ids = [] }) refl refl refl idle m.lawful
 
 -- a lawful table isn't too heavy
 light_item : (t : List Row) → Lawful t → (i : ItemId) → is_over t i ≡ false
@@ -162,3 +155,30 @@ light_rows t (r ∷ us) l = rw (light_item t l r.id) (light_rows t us l)
 -- nor is the total
 pub is_light : (t : List Row) → Lawful t → is_too_heavy t ≡ false
 is_light t l = rw (light_rows t t l) (le-ltb 8796093022207 (total t) l.total)
+
+-- what holds of all holds of the last ones
+all_last : {X : Type 0} (P : X → Type 0) (xs ys : List X) → All P (xs ++ ys) → All P ys
+all_last P [] ys h = h
+all_last P (x ∷ xs) ys h = all_last P xs ys (All-tail P x (xs ++ ys) h)
+
+-- a device whose row is lawful with a weight may weigh that
+row_light : (n b w : ℕ) (t : List Row) → All IsRow (map (placed_row b w) (filter (λ (r : Row). same_id r.id (Device n)) t)) → is_there t (Device n) ≡ true → w ≤ HEAVIEST_DEVICE
+row_light n b w [] all there = absurd cc
+row_light n b w (r ∷ t) all there = by_id (same_id r.id (Device n)) refl all there (row_light n b w t)
+  where
+    of_row : r.id ≡ Device n → IsRow (placed_row b w r) → w ≤ HEAVIEST_DEVICE
+    of_row e row =
+        let own : IsDeviceRow n (placed_row b w r) = subst (λ (i : ItemId). IsRowOf i (placed_row b w r)) e row.form in
+        let is : (placed_row b w r).weight ≡ w = ap (λ (c : Bool). if c then w else r.weight) (ap is_device_id e) in
+        subst (λ (x : ℕ). x ≤ HEAVIEST_DEVICE) is own.light
+
+    by_id : (c : Bool) → same_id r.id (Device n) ≡ c → All IsRow (map (placed_row b w) (if c then r ∷ filter (λ (x : Row). same_id x.id (Device n)) t else filter (λ (x : Row). same_id x.id (Device n)) t))
+        → is_some (if c then Some r else row_of t (Device n)) ≡ true → (All IsRow (map (placed_row b w) (filter (λ (x : Row). same_id x.id (Device n)) t)) → is_there t (Device n) ≡ true → w ≤ HEAVIEST_DEVICE) → w ≤ HEAVIEST_DEVICE
+    by_id true e all there ih = of_row (same_id_equal r.id (Device n) e) (All-head IsRow (placed_row b w r) (map (placed_row b w) (filter (λ (x : Row). same_id x.id (Device n)) t)) all)
+    by_id false e all there ih = ih all there
+
+-- so the table with a device in the bucket that is being filled tells that it may weigh that
+pub light_device : (d : Draft) (b n w : ℕ) → d.pending ≡ filling b → is_there d.table (Device n) ≡ true → IsMap (with_item d (Device n) w) → w ≤ HEAVIEST_DEVICE
+light_device d b n w p there m =
+    let l : Lawful (put_below b (Device n) w d.table) = subst (λ (q : Pending). Lawful (table_with_item q (Device n) w d.table)) p m.lawful in
+    row_light n b w d.table (all_last IsRow (without_row (Device n) d.table) (map (placed_row b w) (filter (λ (r : Row). same_id r.id (Device n)) d.table)) l.rows) there

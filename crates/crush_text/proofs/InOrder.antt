@@ -2,20 +2,23 @@
 use Rattle.std.proofs.Common.{◌≡◌, ℕ, ◌≤◌, List, [], ◌∷◌, ◌++◌, length, map, refl, ap, sym, ◌∙◌, arith, append-nil, append_assoc, subst}
 use Rattle.std.specs.Prelude.{flat_map, All, None, Result, Ok, Err, OnOk, is_ok, if◌then◌else◌}
 use Rattle.std.specs.List.Sorted.{IsPermutation, IsNonDecreasingBy}
+use Rattle.std.proofs.lemmas.List.Folds.{flat_map-map}
 use Rattle.std.proofs.lemmas.List.Elements.{All-nil, All-cons, All-head, All-tail}
 use Rattle.crush_units.specs.declared.id.ItemId.TheVariants.{Device as DeviceItem, Bucket as BucketItem}
 use Rattle.crush_table.specs.Items.{LeafData, Items, none, bucket, size_of}
-use Rattle.crush_table.specs.Rows.{ForestData, rows_of, all_items, device_row, OnlyBuckets, Stands, IsSound}
+use Rattle.crush_table.specs.Forest.{ForestData, rows_of, all_items, OnlyBuckets, IsSound}
+use Rattle.crush_table.specs.ItemRows.{device_row}
+use Rattle.crush_table.specs.Stands.{Stands}
 use Rattle.crush_table.specs.Setting.{SettingData}
 use Rattle.crush_table.specs.Table.{Row}
 use Rattle.crush_table.proofs.Reorder.{reordered-length}
-use Rattle.crush_tree.specs.Seen.{items_of, node_id}
-use Rattle.crush_tree.specs.declared.node.Node.{Node}
-use Rattle.crush_tree.specs.declared.node.Node.TheVariants.{Device, Bucket}
+use Rattle.crush_nodes.specs.Seen.{items_of, node_id}
+use Rattle.crush_nodes.specs.declared.node.Node.{Node}
+use Rattle.crush_nodes.specs.declared.node.Node.TheVariants.{Device, Bucket}
 use Rattle.crush_text.specs.Lines.{device_line}
 use Rattle.crush_text.specs.ItemsText.{id_number, leaves, texts}
 use Rattle.crush_text.specs.MapText.{ascending, device_number, root_number, device_numbers, root_numbers, of_row, bucket_texts, device_lines, root_texts}
-use Rattle.crush_text.proofs.Sorting.{lines_in_order, ascending-reordered}
+use Rattle.crush_text.proofs.Sorting.{lines_in_order, lines_of_rising, ascending-reordered}
 use Rattle.crush_text.proofs.ItemLines.{leaves-join}
 use Rattle.crush_text.proofs.Told.{Told, leaves_print, leaf_numbers, root_ids, root_numbers_are, root_ids-join, size_le_rows, size_of-join, told_join, texts_print, stands_told}
 
@@ -35,6 +38,12 @@ pub refs_in_order : {X Y : Type 0} (see : X → Y) (number : Y → ℕ) (line : 
 refs_in_order see number line text ys found sorted are same up each =
     lines_in_order (λ x. number (see x)) (λ x. line (see x)) text found sorted same up (All-unmap (λ y. text (number y) ≡ line y) see found (subst (All (λ y. text (number y) ≡ line y)) (sym are) each))
     ∙ ap (λ (l : List ℕ). flat_map text (ascending l)) (map-map number see found ∙ ap (map number) are)
+
+-- what is read through references, with numbers that rise, prints the lines of the numbers in ascending order
+pub refs_that_rise : {X Y : Type 0} (see : X → Y) (number : Y → ℕ) (line : Y → List ℕ) (text : ℕ → List ℕ) (ys : List Y) (refs : List X) → IsPermutation ys (map see refs) → map (λ x. number (see x)) refs ≡ ascending (map number ys)
+    → All (λ y. text (number y) ≡ line y) ys → flat_map (λ x. line (see x)) refs ≡ flat_map text (ascending (map number ys))
+refs_that_rise see number line text ys refs same rising each =
+    sym (flat_map-map line see refs) ∙ lines_of_rising number line text ys (map see refs) same (sym (map-map number see refs) ∙ rising) each
 
 -- the numbers of a list that is seen as another
 pub numbers_seen : {X Y : Type 0} (number : Y → ℕ) (see : X → Y) (xs : List X) (ys : List Y) → map see xs ≡ ys → map (λ x. number (see x)) xs ≡ map number ys

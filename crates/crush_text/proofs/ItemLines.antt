@@ -4,12 +4,12 @@ use Rattle.std.specs.Prelude.{OnOk, codes, decimal, is_ok, if◌then◌else◌}
 use Rattle.std.proofs.lemmas.List.{append-nil}
 use Rattle.crush_units.specs.declared.id.ItemId.TheVariants.{Bucket as BucketItem}
 use Rattle.crush_table.specs.Items.{LeafData, BucketData, Items, none, device, bucket, size_of}
-use Rattle.crush_table.specs.Rows.{join}
+use Rattle.crush_table.specs.Forest.{join}
 use Rattle.crush_table.specs.Setting.{SettingData}
-use Rattle.crush_tree.specs.Seen.{items_of, leaf_data}
-use Rattle.crush_tree.specs.declared.node.Node.{Node}
-use Rattle.crush_tree.specs.declared.node.Node.TheVariants.{Device, Bucket}
-use Rattle.crush_tree.proofs.Steps.{items_of-taken, kids_smaller}
+use Rattle.crush_nodes.specs.Seen.{items_of, leaf_data}
+use Rattle.crush_nodes.specs.declared.node.Node.{Node}
+use Rattle.crush_nodes.specs.declared.node.Node.TheVariants.{Device, Bucket}
+use Rattle.crush_nodes.proofs.Steps.{items_of-taken, kids_smaller}
 use Rattle.crush_text.specs.Lines.{item_line, bucket_head}
 use Rattle.crush_text.specs.ItemsText.{item_lines, own_text, texts, leaves}
 

@@ -1,6 +1,6 @@
--- With a line that the judges take, table and setting are lawful.
+-- With a line that has no fault, table and setting are lawful.
 use Rattle.std.proofs.Common.{◌≡◌, ℕ, ◌<◌, ◌≤◌, Bool, true, false, List, [], ◌∷◌, ◌++◌, Option, Some, None, refl, sym, ap, subst, ◌∙◌, arith}
-use Rattle.std.proofs.lemmas.Bool.{lt-ltb, eq-eqb, or_parts, or_right}
+use Rattle.std.proofs.lemmas.Bool.{eq-eqb, or_parts, or_right}
 use Rattle.std.proofs.lemmas.List.Elements.{All-head, All-tail, All-filter, All-map, All-append}
 use Rattle.std.specs.Prelude.{◌==◌, not, bytes_eq, map, filter, find, is_some, unwrap_or, option_and_then, All, if◌then◌else◌}
 use Rattle.std.specs.List.{list_any}
@@ -10,21 +10,19 @@ use Rattle.crush_units.specs.declared.id.ItemId.TheVariants.{Device, Bucket}
 use Rattle.crush_units.specs.Id.{same_id}
 use Rattle.crush_units.specs.Name.{IsName}
 use Rattle.crush_units.proofs.Ids.{same_id_refl, same_id_equal}
-use Rattle.crush_table.specs.Table.{Row, is_device, is_device_id, row_of, row_named, id_named, is_there, bucket_count, member, used_ids}
+use Rattle.crush_table.specs.Table.{Row, sum_below, is_device, is_device_id, row_of, row_named, id_named, is_there, member, used_ids}
 use Rattle.crush_table.specs.Columns.{is_part, without_row}
 use Rattle.crush_table.specs.Lawful.{Lawful, is_too_heavy}
 use Rattle.crush_table.specs.Setting.{KindData, SettingData, IsKind, Fits, HasKind, is_reserved}
 use Rattle.crush_table.proofs.Appended.{row_of-append, unused_fresh}
 use Rattle.crush_table.proofs.Removed.{row_of-only}
-use Rattle.crush_map.specs.Built.{Draft, Pending, nothing, begun, numbered, filling, with_kind, with_device, begun_bucket, placed_row, put_below, table_with_item, with_item}
-use Rattle.crush_map.specs.Building.{CanBegin, CanNumber, IsRoot, is_open, has_name, has_bucket_id, closed_item, item_named, has_kind_number, has_kind_name, is_full_of_devices, is_full_of_buckets, is_full_of_kinds}
-use Rattle.crush_map.proofs.KindSteps.{less, Fits-with_kind}
-use Rattle.crush_map.proofs.RowSteps.{new_device, device_lawful, new_bucket, bucket_lawful}
+use Rattle.crush_map.specs.Built.{Draft, Pending, nothing, begun, numbered, filling, with_kind, with_device, placed_row, put_below, table_with_item, with_item}
+use Rattle.crush_map.specs.Building.{IsRoot, is_open, has_name, closed_item, item_named, has_kind_number, has_kind_name, is_full_of_devices, is_full_of_kinds}
+use Rattle.crush_map.proofs.KindSteps.{Fits-with_kind}
+use Rattle.crush_map.proofs.RowSteps.{new_device, device_lawful}
 use Rattle.crush_map.proofs.TableLaws.{Fits-push, Fits-rows}
-use Rattle.crush_map.proofs.ItemSteps.{apart, item_lawful}
-use Rattle.crush_text.specs.Statements.{Head}
-use Rattle.crush_text.specs.Flow.{number_of}
-use Rattle.crush_text.specs.Meaning.{IsMap, IsWeightOf, after_head}
+use Rattle.crush_map.proofs.ItemSteps.{is_no_part, item_lawful}
+use Rattle.crush_text.specs.Document.{IsMap}
 
 -- a type more
 pub map_with_kind : (d : Draft) (n : ℕ) (x : List ℕ) → IsMap d → n ≤ 65535 → IsName x → (0 < n → is_reserved x ≡ false) → has_kind_number d.setting n ≡ false → has_kind_name d.setting x ≡ false → is_full_of_kinds d ≡ false → IsMap (with_kind d n x)
@@ -41,12 +39,12 @@ map_with_device d n x m most form number name few = record {
 }
 
 -- a number is that of a type
-record IsTypeOf (kinds : List KindData) (n : ℕ) : Type 0 where
-  there : list_any (λ (x : KindData). x.number == n) kinds ≡ true
-  most : n ≤ 65535
+pub record IsTypeOf (kinds : List KindData) (n : ℕ) : Type 0 where
+  pub there : list_any (λ (x : KindData). x.number == n) kinds ≡ true
+  pub most : n ≤ 65535
 
 -- the number of a type's name is one
-kind_there : (kinds : List KindData) (k : List ℕ) (n : ℕ) → All IsKind kinds → unwrap_or (option_map (λ (x : KindData). x.number) (find (λ (x : KindData). bytes_eq x.name k) kinds)) 0 ≡ n → 0 < n → IsTypeOf kinds n
+pub kind_there : (kinds : List KindData) (k : List ℕ) (n : ℕ) → All IsKind kinds → unwrap_or (option_map (λ (x : KindData). x.number) (find (λ (x : KindData). bytes_eq x.name k) kinds)) 0 ≡ n → 0 < n → IsTypeOf kinds n
 kind_there [] k n all e some = absurd (omega arith)
 kind_there (x ∷ kinds) k n all e some = by_test (bytes_eq x.name k) e (λ r. kind_there kinds k n (All-tail IsKind x kinds all) r some)
   where
@@ -56,31 +54,11 @@ kind_there (x ∷ kinds) k n all e some = by_test (bytes_eq x.name k) e (λ r. k
     by_test false e ih = let r = ih e in record { there = or_right (x.number == n) _ r.there; most = r.most }
 
 -- a row that is put last without parent is a root
-made_root : (t : List Row) (r : Row) (b : ℕ) → r.id ≡ Bucket b → r.parent ≡ None → member b (used_ids t) ≡ false → IsRoot (t ++ r ∷ []) b
+pub made_root : (t : List Row) (r : Row) (b : ℕ) → r.id ≡ Bucket b → r.parent ≡ None → member b (used_ids t) ≡ false → IsRoot (t ++ r ∷ []) b
 made_root t r b is none free =
     let last : row_of (r ∷ []) (Bucket b) ≡ Some r = rw (ap (λ (i : ItemId). same_id i (Bucket b)) is ∙ same_id_refl (Bucket b)) refl in
     let found : row_of (t ++ r ∷ []) (Bucket b) ≡ Some r = row_of-append t (r ∷ []) (Bucket b) ∙ rw (unused_fresh t b free) last in
     record { there = ap is_some found; root = ap (option_and_then (λ (x : Row). x.parent)) found ∙ none }
-
--- a bucket more, and it is a root
-pub record HeadMade (d : Draft) (h : Head) : Type 0 where
-  pub map : IsMap (after_head d h)
-  pub root : IsRoot (after_head d h).table h.id
-
--- a bucket's first lines make it
-pub map_with_head : (d : Draft) (h : Head) → IsMap d → 0 < number_of d h.kind → IsName h.name → has_name d h.name ≡ false → 0 < h.id → h.id ≤ 2147483648 → has_bucket_id (begun_bucket d (number_of d h.kind) h.name) h.id ≡ false → is_full_of_buckets d ≡ false → HeadMade d h
-map_with_head d h m known form name some most id few =
-    let k = number_of d h.kind in
-    let t = kind_there d.setting.kinds h.kind k m.fits.kinds refl known in
-    let can : CanBegin d.setting d.table k h.name = record { known = rw (lt-ltb 0 k known) t.there; most = t.most; form = form; free = (or_parts _ _ name).0; few = less 4096 (bucket_count d.table) few } in
-    let num : CanNumber d.table h.id [] = record { some = some; most = most; free = (or_parts _ _ id).0; classes = refl } in
-    record {
-      map = record {
-        lawful = bucket_lawful d.setting d.table k h.name h.id h.alg m.lawful can num;
-        fits = Fits-push d.setting d.table (new_bucket k h.name h.id h.alg) m.fits (λ _. t.there);
-      };
-      root = made_root d.table (new_bucket k h.name h.id h.alg) h.id refl refl num.free;
-    }
 
 -- an item of a name is there, and it isn't the bucket that is being filled
 named_there : (t : List Row) (n : List ℕ) (i : ItemId) → id_named t n ≡ Some i → is_there t i ≡ true
@@ -145,6 +123,11 @@ abbrev IsLight : ItemId → ℕ → Type 0
 IsLight (Device n) w = w ≤ 2147483647
 IsLight (Bucket x) w = Unit {0}
 
+-- the weight that may stand behind an item: of a bucket its sum
+abbrev pub IsWeightOf : Draft → ItemId → ℕ → Type 0
+IsWeightOf d (Device n) w = w ≤ 2147483647
+IsWeightOf d (Bucket b) w = w ≡ sum_below d.table b
+
 -- a weight that may stand behind an item is in its range
 light_weight : (d : Draft) (i : ItemId) (w : ℕ) → IsWeightOf d i w → IsLight i w
 light_weight d (Device n) w h = h
@@ -176,7 +159,7 @@ map_with_item d x i w b m p root named weight light =
     let l = listable d x i named in
     let is : (with_item d i w).table ≡ put_below b i w d.table = ap (λ (q : Pending). table_with_item q i w d.table) p in
     let other : same_id (Bucket b) i ≡ false = ap (λ (q : Pending). is_open q i) (sym p) ∙ l.closed in
-    let far = apart d.table m.lawful i b root other in
+    let far = is_no_part d.table m.lawful i b root other in
     let h : is_too_heavy (put_below b i w d.table) ≡ false = ap is_too_heavy (sym is) ∙ light in
     record {
       map = record {

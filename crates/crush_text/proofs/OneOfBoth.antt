@@ -1,76 +1,60 @@
 -- Bytes are the text of one map or have one flaw, and never both.
-use Rattle.std.proofs.Common.{◌≡◌, ℕ, false, List, [], ◌∷◌, ◌++◌, Result, Ok, Err, refl, sym, ap, subst, ◌∙◌, inl, inr}
-use Rattle.std.specs.Prelude.{◌⊎◌}
-use Rattle.crush_map.specs.Built.{Draft, empty_draft}
-use Rattle.crush_text.specs.declared.fault.TextFaultKind.{TextFaultKind}
+use Rattle.std.proofs.Common.{◌≡◌, ℕ, cond, List, [], ◌∷◌, ◌++◌, Result, Ok, Err, refl, sym, ap, subst, ◌∙◌, inl, inr}
+use Rattle.std.specs.Prelude.{◌⊎◌, bytes_eq}
+use Rattle.crush_map.specs.Built.{Draft}
+use Rattle.crush_bytes.specs.Words.{Word, Stop, words}
 use Rattle.crush_text.specs.declared.fault.TextFault.{TextFault}
-use Rattle.crush_text.specs.Words.{Word, Stop, Text, words}
-use Rattle.crush_text.specs.Judges.{◌>>=◌, new_name, algorithm}
-use Rattle.crush_text.specs.Flow.{Part, State, between, device_name, bucket_alg, step, run, outcome, placed}
-use Rattle.crush_text.specs.Meaning.{after}
-use Rattle.crush_text.specs.Flaw.{Reaches, IsFaulty, start, IsFlaw}
-use Rattle.crush_text.specs.MapOrFlaw.{AFlawExcludesTheMap, AtMostOneFlaw, SameWordsSameFlaw, AtMostOneMap, HasMap, HasFlaw, AMapOrAFlaw}
-use Rattle.crush_text.proofs.Forms.{words_are_formed}
-use Rattle.crush_text.proofs.Reached.{built_is}
-use Rattle.crush_text.proofs.Whole.{document_of, outcome_of, flaw_of}
+use Rattle.crush_text.specs.Role.{value}
+use Rattle.crush_text.specs.Form.{Form, done, word, optional}
+use Rattle.crush_text.specs.Grammar.{next as next_line}
+use Rattle.crush_text.specs.Flow.{State, between, amid, arrive, outcome}
+use Rattle.crush_text.specs.Document.{SpellsForm, SpellsNext, Spell, start}
+use Rattle.crush_text.specs.Flaw.{IsFaulty}
+use Rattle.crush_text.specs.MapOrFlaw.{WordsAreJudgedByTheTable, AFlawExcludesTheMap, AtMostOneFlaw, SameWordsSameFlaw, AtMostOneMap, HasMap, HasFlaw, AMapOrAFlaw}
+use Rattle.crush_text.proofs.Laws.{word_fault, fault_word, document_of, outcome_of, flaw_of, fault_of}
+use Rattle.crush_text.proofs.Whole.{one_draft}
 
--- what comes of the words behind those that were reached is what comes of all
-reached_run : (s : State) (ws next : List Word) (u : State) (stop : Stop) → Reaches s ws next u → run s.draft s.part (ws ++ next) stop ≡ run u.draft u.part next stop
-unfolding run
-reached_run s [] next u stop r = ap (λ (x : State). run x.draft x.part next stop) r
-reached_run s (w ∷ ws) next u stop r =
-    ap (λ (q : Result State TextFaultKind). placed w.place q >>= λ (m : State). run m.draft m.part (ws ++ next) stop) r.1
-    ∙ reached_run r.0 ws next u stop r.2
-
--- and where what comes next is at fault, that is what comes of it
-faulty_run : (s : State) (next : List Word) (stop : Stop) (f : TextFault) → IsFaulty s next stop f → run s.draft s.part next stop ≡ Err f
-unfolding run
-faulty_run s [] stop f h = h
-faulty_run s (w ∷ ws) stop f h =
-    let e : run s.draft s.part (w ∷ ws) stop ≡ Err (record { kind = f.kind; place = w.place }) = ap (λ (q : Result State TextFaultKind). placed w.place q >>= λ (m : State). run m.draft m.part ws stop) h.0 in
-    e ∙ ap (λ (p : ℕ). Err (record { kind = f.kind; place = p })) (sym h.1)
-
--- a flaw is what comes of the text
-pub flaw_outcome : (t : Text) (f : TextFault) → IsFlaw t f → outcome empty_draft (between false) t ≡ Err f
-unfolding outcome
-flaw_outcome t f x =
-    ap (λ (ws : List Word). run empty_draft (between false) ws t.stop) x.all ∙ reached_run start x.before x.next x.so_far t.stop x.reached ∙ faulty_run x.so_far x.next t.stop f x.fault
+-- a word's fault is that of the table
+pub words_are_judged_by_the_table : WordsAreJudgedByTheTable
+words_are_judged_by_the_table d r w f = (λ e. word_fault d r w f e, λ h. fault_word d r w f h)
 
 -- what is spelled is read without a fault
 pub a_flaw_excludes_the_map : AFlawExcludesTheMap
 a_flaw_excludes_the_map bytes f s t n x m =
-    let k = sym (outcome_of (words 0 bytes) m.doc m.document) ∙ flaw_outcome (words 0 bytes) f x in
+    let k = sym (outcome_of (words 0 bytes) m.draft m.document) ∙ fault_of (words 0 bytes) f x in
     absurd cc
 
 -- a flaw is the one fault of the text
 pub at_most_one_flaw : AtMostOneFlaw
 at_most_one_flaw bytes f g x y =
-    let k = sym (flaw_outcome (words 0 bytes) f x) ∙ flaw_outcome (words 0 bytes) g y in
+    let k = sym (fault_of (words 0 bytes) f x) ∙ fault_of (words 0 bytes) g y in
     cc
 
--- where a word leads depends on no more than the next one
-next_alone : (d : Draft) (part : Part) (text : List ℕ) (w : Word) (ws us : List Word) → step d part text (w ∷ ws) ≡ step d part text (w ∷ us)
-unfolding step
-next_alone d (between b) text w ws us = refl
-next_alone d part text w ws us = refl
+-- what is due depends on no more than the next word
+next_alone : (d : Draft) (f : Form) (w : Word) (ws us : List Word) → arrive d (w ∷ ws) f ≡ arrive d (w ∷ us) f
+next_alone d (done p) w ws us = refl
+next_alone d (word r more) w ws us = refl
+next_alone d (optional k f g) w ws us = λ i. cond (bytes_eq w.text k) (next_alone d f w ws us i) (next_alone d g w ws us i)
 
--- a fault stays one, whatever else would be done
-still_err : {A : Type 0} (r : Result A TextFaultKind) (g h : A → State) (k : TextFaultKind) → (r >>= λ a. Ok (g a)) ≡ Err k → (r >>= λ a. Ok (h a)) ≡ Err k
-still_err (Ok a) g h k e = absurd cc
-still_err (Err j) g h k e = e
+-- so where a word leads does, too
+form_alone : (d : Draft) (f : Form) (text : List ℕ) (w : Word) (ws us : List Word) (u : State) → SpellsForm d f text (w ∷ ws) u → SpellsForm d f text (w ∷ us) u
+form_alone d (word r more) text w ws us u h = (h.0, h.1 ∙ next_alone d (more (value d r text)) w ws us)
+form_alone d (done p) text w ws us u h = absurd h
+form_alone d (optional k f g) text w ws us u h = absurd h
 
--- and whatever follows
-fault_alone : (d : Draft) (part : Part) (text : List ℕ) (ws us : List Word) (k : TextFaultKind) → step d part text ws ≡ Err k → step d part text us ≡ Err k
-unfolding step
-fault_alone d (device_name n) text ws us k e = still_err (new_name d text) _ _ k e
-fault_alone d (bucket_alg c x b) text ws us k e = still_err (algorithm text) _ _ k e
-fault_alone d part text ws us k e = e
+step_alone : (s : State) (text : List ℕ) (w : Word) (ws us : List Word) (u : State) → SpellsNext s text (w ∷ ws) u → SpellsNext s text (w ∷ us) u
+step_alone (between p) text w ws us u h = form_alone p.draft (next_line p) text w ws us u h
+step_alone (amid d f) text w ws us u h = form_alone d f text w ws us u h
 
--- words lead to the same where the same word follows them
-reached_so : (s : State) (ws : List Word) (w : Word) (next more : List Word) (u : State) → Reaches s ws (w ∷ next) u → Reaches s ws (w ∷ more) u
-reached_so s [] w next more u r = r
-reached_so s (v ∷ []) w next more u r = (r.0, next_alone s.draft s.part v.text w more next ∙ r.1, r.2)
-reached_so s (v ∷ x ∷ ws) w next more u r = (r.0, next_alone s.draft s.part v.text x (ws ++ w ∷ more) (ws ++ w ∷ next) ∙ r.1, reached_so r.0 (x ∷ ws) w next more u r.2)
+-- words spell the same way where the same word follows them
+spelled_so : (s : State) (ws : List Word) (w : Word) (next more : List Word) (u : State) → Spell s ws (w ∷ next) u → Spell s ws (w ∷ more) u
+spelled_so s [] w next more u h = h
+spelled_so s (v ∷ []) w next more u h = (h.0, step_alone s v.text w next more h.0 h.1, h.2)
+spelled_so s (v ∷ x ∷ ws) w next more u h = (h.0, step_alone s v.text x (ws ++ w ∷ next) (ws ++ w ∷ more) h.0 h.1, spelled_so h.0 (x ∷ ws) w next more u h.2)
+
+-- a fault at a word is one whatever follows
+fault_alone : (s : State) (w : Word) (next more : List Word) (stop end : Stop) (f : TextFault) → IsFaulty s (w ∷ next) stop f → IsFaulty s (w ∷ more) end f
+fault_alone s w next more stop end f h = h
 
 -- so the words up to a fault's word have the flaw, whatever follows them
 pub same_words_same_flaw : SameWordsSameFlaw
@@ -81,23 +65,20 @@ same_words_same_flaw bytes others f x w next more is begins =
       next = w ∷ more;
       all = begins;
       so_far = x.so_far;
-      reached = reached_so start x.before w next more x.so_far (subst (λ (ws : List Word). Reaches start x.before ws x.so_far) is x.reached);
-      doc = x.doc;
-      spelled = x.spelled;
-      fault = (fault_alone x.so_far.draft x.so_far.part w.text next more f.kind fault.0, fault.1);
+      spelled = spelled_so start x.before w next more x.so_far (subst (λ (ws : List Word). Spell start x.before ws x.so_far) is x.spelled);
+      fault = fault_alone x.so_far w next more (words 0 bytes).stop (words 0 others).stop f fault;
     }
 
 -- what is spelled is the one map that is read
 pub at_most_one_map : AtMostOneMap
 at_most_one_map bytes s r t u n m x y =
-    let k : after empty_draft x.doc ≡ after empty_draft y.doc = built_is _ _ (sym (outcome_of (words 0 bytes) x.doc x.document) ∙ outcome_of (words 0 bytes) y.doc y.document) in
+    let k : x.draft ≡ y.draft = one_draft x.draft y.draft (words 0 bytes) (outcome_of (words 0 bytes) x.draft x.document) (outcome_of (words 0 bytes) y.draft y.document) in
     (sym x.setting ∙ ap (λ (d : Draft). d.setting) k ∙ y.setting, sym x.table ∙ ap (λ (d : Draft). d.table) k ∙ y.table, x.none ∙ sym y.none)
 
 -- what comes of the text is a draft or a fault
 pub a_map_or_a_flaw : AMapOrAFlaw
-a_map_or_a_flaw bytes = by_outcome (outcome empty_draft (between false) (words 0 bytes)) refl
+a_map_or_a_flaw bytes = by_outcome (outcome start (words 0 bytes)) refl
   where
-    by_outcome : (r : Result Draft TextFault) → outcome empty_draft (between false) (words 0 bytes) ≡ r → HasMap bytes ⊎ HasFlaw bytes
-    by_outcome (Ok d) e = let r = document_of (words 0 bytes) d (words_are_formed 0 bytes) e in
-        inl (record { setting = d.setting; table = d.table; adjusted = 0; text = record { doc = r.0; document = r.1; setting = ap (λ (x : Draft). x.setting) r.2; table = ap (λ (x : Draft). x.table) r.2; none = refl } })
-    by_outcome (Err f) e = inr (record { fault = f; flaw = flaw_of (words 0 bytes) f (words_are_formed 0 bytes) e })
+    by_outcome : (r : Result Draft TextFault) → outcome start (words 0 bytes) ≡ r → HasMap bytes ⊎ HasFlaw bytes
+    by_outcome (Ok d) e = inl (record { setting = d.setting; table = d.table; adjusted = 0; text = record { draft = d; document = document_of (words 0 bytes) d e; setting = refl; table = refl; none = refl } })
+    by_outcome (Err f) e = inr (record { fault = f; flaw = flaw_of (words 0 bytes) f e })

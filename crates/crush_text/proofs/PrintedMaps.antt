@@ -4,7 +4,7 @@ use Rattle.std.specs.Prelude.{ℕ, List, [], ◌∷◌, Some, None, codes}
 use Rattle.std.specs.Fmt.{digits}
 use Rattle.crush_units.specs.declared.alg.Alg.TheVariants.{Straw, Straw2}
 use Rattle.crush_table.specs.Items.{LeafData, HeaderData, none, device, bucket}
-use Rattle.crush_table.specs.Rows.{rows_of}
+use Rattle.crush_table.specs.Forest.{rows_of}
 use Rattle.crush_table.specs.Setting.{KindData, SettingData}
 use Rattle.crush_table.specs.Table.{Row}
 use Rattle.crush_text.specs.Lines.{device_line, kind_line, item_line, class_id_line, bucket_head, bucket_choice, bucket_lines}

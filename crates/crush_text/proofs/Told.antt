@@ -9,16 +9,19 @@ use Rattle.std.proofs.lemmas.List.{map-append}
 use Rattle.crush_units.specs.declared.id.ItemId.{ItemId}
 use Rattle.crush_units.specs.declared.id.ItemId.TheVariants.{Device, Bucket}
 use Rattle.crush_table.specs.Items.{LeafData, HeaderData, Items, none, device, bucket, size_of}
-use Rattle.crush_table.specs.Rows.{ForestData, rows, rows_of, all_items, join, device_row, bucket_row, stored_weight, OnlyDevices, Stands}
+use Rattle.crush_table.specs.Forest.{ForestData, rows_of, all_items, join, OnlyDevices}
+use Rattle.crush_table.specs.ItemRows.{rows, device_row, bucket_row}
+use Rattle.crush_table.specs.Stands.{Stands}
+use Rattle.crush_table.specs.Stored.{stored_weight}
 use Rattle.crush_table.specs.Setting.{SettingData}
 use Rattle.crush_table.specs.Table.{Row, row_of, kids, sum_below, item_weight}
-use Rattle.crush_table.proofs.Reorder.{hit}
+use Rattle.crush_table.specs.Count.{one_if}
 use Rattle.crush_table.proofs.Sums.{buckets, buckets-rows, stored_weight-absent}
 use Rattle.crush_table.proofs.Found.{row_of-same}
 use Rattle.crush_table.proofs.Stands.{stands_lawful}
 use Rattle.crush_table.proofs.Weighs.{All-found}
-use Rattle.crush_tree.specs.Search.{kids_in}
-use Rattle.crush_tree.proofs.KidLaws.{ids_of, kids_in-kids}
+use Rattle.crush_nodes.specs.Search.{kids_in}
+use Rattle.crush_tree.proofs.ReadLemmas.Items.{ids_of, kids_in-kids}
 use Rattle.crush_text.specs.Lines.{device_line, item_line, bucket_choice, bucket_lines}
 use Rattle.crush_text.specs.ItemsText.{item_lines, own_text, texts, leaves}
 use Rattle.crush_text.specs.MapText.{of_row, kids_lines, bucket_text, bucket_texts, device_number, root_number, kind_text}
@@ -132,8 +135,8 @@ told_join t p (device d a) b told = told_join t p a b told.1
 told_join t p (bucket h w m k a) b told = told_join t p a b told.4
 
 -- A FOREST THAT STANDS FOR A TABLE
-not_this : (x b : ℕ) → hit (x == b) ≡ 0 → (x == b) ≡ false
-not_this x b zero_hits = ⊎_elim (λ q. absurd (let one : hit (x == b) ≡ 1 = ap hit q.0 in omega arith)) (λ q. q.0) (eqb_tells x b)
+not_this : (x b : ℕ) → one_if (x == b) ≡ 0 → (x == b) ≡ false
+not_this x b zero_hits = ⊎_elim (λ q. absurd (let one : one_if (x == b) ≡ 1 = ap one_if q.0 in omega arith)) (λ q. q.0) (eqb_tells x b)
 
 -- a bucket that isn't among items has none there
 kids_in_none : (b : ℕ) (n : Items) → buckets b n ≡ 0 → kids_in b n ≡ None
@@ -171,7 +174,7 @@ told_from t p (device d rest) found once stored are = (All-head (IsFound t) (dev
 told_from t p (bucket h w m k rest) found once stored are =
     let items : List Row = rows (Some h.id) k ++ rows p rest in
     let others : All (IsFound t) items = All-tail (IsFound t) (bucket_row p h) items found in
-    let one : hit (h.id == h.id) ≡ 1 = ap hit (eq-eqb h.id h.id refl) in
+    let one : one_if (h.id == h.id) ≡ 1 = ap one_if (eq-eqb h.id h.id refl) in
     let own : (if h.id == h.id then w else 0) ≡ w = ap (λ z. if z then w else 0) (eq-eqb h.id h.id refl) in
     let all : (if h.id == h.id then w else 0) + (stored_weight h.id k + stored_weight h.id rest) ≡ sum_below t h.id = stored h.id (omega (arith, one)) in
     let none_below : stored_weight h.id k ≡ 0 = stored_weight-absent h.id k (omega (arith, one, once h.id)) in

@@ -5,7 +5,7 @@ use Rattle.crush_units.specs.declared.id.ItemId.{ItemId}
 use Rattle.crush_units.specs.declared.id.ItemId.TheVariants.{Device, Bucket}
 use Rattle.crush_units.specs.Alg.{alg_text}
 use Rattle.crush_units.specs.Weight.{weight_text}
-use Rattle.crush_table.specs.Items.{ClassData}
+use Rattle.crush_table.specs.Items.{ShadowData}
 use Rattle.crush_table.specs.Table.{Row}
 
 -- an item's id: that of a bucket is below 0
@@ -31,7 +31,7 @@ unfoldable pub item_line : List ℕ → ℕ → List ℕ
 item_line name weight = codes "\titem " ++ name ++ codes " weight " ++ weight_text weight ++ codes "\n"
 
 -- `id -M class C`, with the remark that stands behind each id of a bucket
-unfoldable pub class_id_line : ClassData → List ℕ
+unfoldable pub class_id_line : ShadowData → List ℕ
 class_id_line c = codes "\tid " ++ id_text (Bucket c.id) ++ codes " class " ++ c.class ++ codes "\t\t# do not change unnecessarily\n"
 
 -- how a bucket begins: its type's name, its name and its id

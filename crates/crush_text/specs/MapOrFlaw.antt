@@ -1,10 +1,17 @@
 -- What bytes can be: the text of one map, or bytes with one flaw.
-use Rattle.std.specs.Prelude.{◌≡◌, ◌⊎◌, ℕ, List, ◌∷◌, ◌++◌}
+use Rattle.std.specs.Prelude.{◌≡◌, ◌⊎◌, ◌↔◌, ℕ, List, ◌∷◌, ◌++◌, Err}
 use Rattle.crush_table.specs.Table.{Row}
-use Rattle.crush_table.specs.Setting.{SettingData}
+use Rattle.crush_table.specs.Setting.{SettingData, Fits}
+use Rattle.crush_table.specs.Lawful.{Lawful}
+use Rattle.crush_map.specs.Built.{Draft}
+use Rattle.crush_text.specs.declared.fault.TextFaultKind.{TextFaultKind}
 use Rattle.crush_text.specs.declared.fault.TextFault.{TextFault}
-use Rattle.crush_text.specs.Words.{Word, words}
+use Rattle.crush_bytes.specs.Words.{Word, words}
 use Rattle.crush_text.specs.Document.{IsMapText}
+use Rattle.crush_text.specs.Admitted.{IsLawfulText}
+use Rattle.crush_text.specs.Role.{Role}
+use Rattle.crush_text.specs.Rows.{IsFault}
+use Rattle.crush_text.specs.Tests.{word_for}
 use Rattle.crush_text.specs.Flaw.{IsMapFlaw}
 
 -- bytes with a flaw are the text of no map
@@ -22,6 +29,18 @@ SameWordsSameFlaw = (bytes others : List ℕ) (f : TextFault) (x : IsMapFlaw byt
 -- the text of a map is that of no other one
 abbrev pub AtMostOneMap : Type 0
 AtMostOneMap = (bytes : List ℕ) (s r : SettingData) (t u : List Row) (n m : ℕ) → IsMapText bytes s t n → IsMapText bytes r u m → (s ≡ r) × (t ≡ u) × (n ≡ m)
+
+-- and it is a map: its table is lawful, and the setting fits it
+abbrev pub EachMapIsLawful : Type 0
+EachMapIsLawful = (bytes : List ℕ) (s : SettingData) (t : List Row) (n : ℕ) → IsMapText bytes s t n → Lawful t × Fits s t
+
+-- the texts of maps are those whose words build a map line by line: what is lawful has no fault, and what has none is lawful
+abbrev pub MapsAreTheLawfulTexts : Type 0
+MapsAreTheLawfulTexts = (bytes : List ℕ) (s : SettingData) (t : List Row) (n : ℕ) → IsMapText bytes s t n ↔ IsLawfulText bytes s t n
+
+-- a word is told to have a fault exactly where its row of the table holds and no lesser one does
+abbrev pub WordsAreJudgedByTheTable : Type 0
+WordsAreJudgedByTheTable = (d : Draft) (r : Role) (w : List ℕ) (f : TextFaultKind) → (word_for d r w ≡ Err f) ↔ IsFault f d r w
 
 -- some map whose text the bytes are
 pub record HasMap (bytes : List ℕ) : Type 0 where

@@ -6,7 +6,7 @@ use Rattle.crush_units.specs.declared.id.ItemId.TheVariants.{Device, Bucket}
 use Rattle.crush_table.specs.Lawful.{Lawful}
 use Rattle.crush_table.specs.Same.{Same}
 use Rattle.crush_table.specs.Setting.{KindData, SettingData, kind_name}
-use Rattle.crush_table.specs.Table.{Row, row_of, kids, sum_below, item_weight, bucket_number}
+use Rattle.crush_table.specs.Table.{Row, row_of, kids, sum_below, item_weight, bucket_ids}
 use Rattle.crush_text.specs.Lines.{device_line, kind_line, item_line, bucket_lines}
 
 -- a number among numbers that stand from the least to the greatest
@@ -26,7 +26,7 @@ device_number (Bucket b) = []
 
 -- the number of a root, which is a bucket that no bucket holds
 abbrev pub root_number : Row → List ℕ
-root_number r = if is_some r.parent then [] else bucket_number r.id
+root_number r = if is_some r.parent then [] else bucket_ids r.id
 
 -- the devices by ascending number
 unfoldable pub device_numbers : List Row → List ℕ

@@ -1,15 +1,20 @@
 -- What the functions of the reader promise.
-use Rattle.std.specs.Prelude.{◌≡◌, ◌⊎◌, ℕ, ◌<◌, List, [], ◌∷◌, Bool, true, false, Option, Some, None, Result, Ok, Err, length}
+use Rattle.std.specs.Prelude.{◌≡◌, ◌⊎◌, ℕ, ◌<◌, List, [], ◌∷◌, Bool, true, false, Option, Some, None, Result, Ok, Err, length, if◌then◌else◌}
 use Rattle.crush_units.specs.declared.id.ItemId.{ItemId}
 use Rattle.crush_map.specs.Built.{Draft, Pending, nothing, with_item}
-use Rattle.crush_map.specs.Building.{BuilderData, IsDraft, is_full_of_devices, is_full_of_buckets, is_full_of_kinds, is_bucket_kind}
+use Rattle.crush_map.specs.Building.{BuilderData, IsDraft, is_filling, is_full_of_devices, is_full_of_buckets, is_full_of_kinds, is_bucket_kind}
+use Rattle.crush_text.specs.declared.fault.TextFaultKind.{TextFaultKind}
 use Rattle.crush_text.specs.declared.fault.TextFaultKind.TheVariants.{BadWord, Ended, OutOfMemory}
 use Rattle.crush_text.specs.declared.fault.TextFault.{TextFault}
-use Rattle.crush_text.specs.Words.{Word, Stop, ended, bad, Text}
-use Rattle.crush_text.specs.declared.reader.word.Found.{Found}
-use Rattle.crush_text.specs.declared.reader.opening.Opening.{Opening}
-use Rattle.crush_text.specs.declared.reader.opening.Opening.TheVariants as openings
-use Rattle.crush_text.specs.Flow.{Part, between, type_number, device_number, bucket_name, number_of, outcome}
+use Rattle.crush_bytes.specs.Words.{Word, Stop, ended, bad, Text, begins}
+use Rattle.crush_text.specs.declared.reader.word.PlacedWord.{PlacedWord}
+use Rattle.crush_text.specs.declared.reader.statement.Opening.{Opening}
+use Rattle.crush_text.specs.declared.reader.statement.Opening.TheVariants as openings
+use Rattle.crush_text.specs.Role.{Role, El, units}
+use Rattle.crush_text.specs.Form.{Mode, first, second, filling, Progress, at, Form, done, word, optional}
+use Rattle.crush_text.specs.Tests.{unless, weight_tests, word_for}
+use Rattle.crush_text.specs.Grammar.{statement}
+use Rattle.crush_text.specs.Flow.{◌>>=◌, placed, between, outcome}
 
 -- a value, and the rest of the text
 abbrev pub and_rest : {A : Type 0} → Text → A → Result (A × Text) TextFault
@@ -25,6 +30,24 @@ next_of (w ∷ ws) stop = and_rest (record { words = ws; stop = stop }) w
 unfoldable pub next_at : Text → Result (Word × Text) TextFault
 next_at t = next_of t.words t.stop
 
+-- the next word's value, as a word of this role, and the rest
+unfoldable pub word_at : Draft → (r : Role) → Text → Result (El r × Text) TextFault
+word_at d r t = next_at t >>= λ x. placed x.0.place (word_for d r x.0.text) >>= and_rest x.1
+
+-- what a line builds, and the rest
+unfoldable pub line_at : Draft → Form → Text → Result (Progress × Text) TextFault
+line_at d (done p) t = Ok (p, t)
+line_at d (word r more) t = word_at d r t >>= λ x. line_at d (more x.0) x.1
+line_at d (optional k f g) t = if begins k t then line_at d f t else line_at d g t
+
+-- what comes of the text behind a line
+abbrev pub then_on : Result (Progress × Text) TextFault → Result Draft TextFault
+then_on r = r >>= λ x. outcome (between x.0) x.1
+
+-- what a weight is for an item, before it is put into the bucket
+abbrev pub own_weight : Draft → ItemId → List ℕ → Result ℕ TextFaultKind
+own_weight d i w = unless (weight_tests d i w) (units w)
+
 -- a fault is that of reading, unless memory was refused
 abbrev pub Fails : {Y : Type 0} → TextFault → Result Y TextFault → Type 0
 Fails f read = (f.kind ≡ OutOfMemory) ⊎ (read ≡ Err f)
@@ -35,13 +58,8 @@ Gives view (Ok x) read = read ≡ Ok (view x)
 Gives view (Err f) read = Fails f read
 
 -- a word that was read
-abbrev pub word_of : Found → Word
+abbrev pub word_of : PlacedWord → Word
 word_of w = record { place = w.place; text = w.text.now }
-
--- a value that contracts see otherwise
-abbrev pub seen_as : {X Y : Type 0} → (X → Y) → Result X TextFault → Result Y TextFault
-seen_as view (Ok x) = Ok (view x)
-seen_as view (Err f) = Err f
 
 -- the builder is at some draft, between two statements
 pub record IsIdle (b : BuilderData) : Type 0 where
@@ -53,60 +71,58 @@ pub record IsAmid (test : Pending → Bool) (b : BuilderData) : Type 0 where
   pub part : test b.pending ≡ true
   pub some : (d : Draft) × IsDraft b d
 
--- what comes of the rest, from the builder's draft and one of the parts on, is what came of all
-abbrev pub Reads : {I : Type 0} → (I → Part) → Result (Unit {0}) TextFault → BuilderData → Text → Result Draft TextFault → Type 0
-Reads {I} part (Ok x) builder rest all = (e : Draft) × (i : I) × IsDraft builder e × (all ≡ outcome e (part i) rest)
-Reads {I} part (Err f) builder rest all = Fails f all
+-- a line was read, behind which lines of this kind may come
+abbrev pub Reads : Mode → Result (Unit {0}) TextFault → BuilderData → Text → Result (Progress × Text) TextFault → Type 0
+Reads m (Ok x) builder rest line = (e : Draft) × IsDraft builder e × (line ≡ Ok (at m e, rest))
+Reads m (Err f) builder rest line = Fails f line
 
--- the same where nothing is built
-abbrev pub ReadsOn : Draft → Part → Result (Unit {0}) TextFault → Text → Result Draft TextFault → Type 0
-ReadsOn d part (Ok x) rest all = all ≡ outcome d part rest
-ReadsOn d part (Err f) rest all = Fails f all
+-- an item was read, or the bucket's end
+abbrev pub behind_item : Bool → Mode
+behind_item more = if more then filling true else second
 
--- the same to the end of a statement
-abbrev pub ReadsTo : Result Bool TextFault → BuilderData → Text → Result Draft TextFault → Type 0
-ReadsTo (Ok behind) builder rest all = (e : Draft) × IsDraft builder e × (all ≡ outcome e (between behind) rest)
-ReadsTo (Err f) builder rest all = Fails f all
+abbrev pub ReadsItem : Result Bool TextFault → BuilderData → Text → Result (Progress × Text) TextFault → Type 0
+ReadsItem (Ok more) builder rest line = (e : Draft) × IsDraft builder e × (line ≡ Ok (at (behind_item more) e, rest))
+ReadsItem (Err f) builder rest line = Fails f line
+
+-- and the builder fills the bucket still, or is between two statements
+abbrev pub IsBehindItem : Bool → BuilderData → Type 0
+IsBehindItem true b = IsAmid is_filling b
+IsBehindItem false b = IsIdle b
 
 -- an item is added with the weight that its word says
 abbrev pub Adds : Result (Unit {0}) TextFault → BuilderData → Draft → ItemId → Result ℕ TextFault → Type 0
 Adds (Ok x) builder d i weight = (w : ℕ) × IsDraft builder (with_item d i w) × (weight ≡ Ok w)
 Adds (Err f) builder d i weight = Fails f weight
 
+-- lines were read: what comes of the rest is what came of all
+abbrev pub ReadsOn : Mode → Result (Unit {0}) TextFault → BuilderData → Text → Result Draft TextFault → Type 0
+ReadsOn m (Ok x) builder rest all = (e : Draft) × IsDraft builder e × (all ≡ outcome (between (at m e)) rest)
+ReadsOn m (Err f) builder rest all = Fails f all
+
+-- a statement was read, behind which only buckets may come, or all may
+abbrev pub behind : Bool → Mode
+behind late = if late then second else first
+
+abbrev pub ReadsTo : Result Bool TextFault → BuilderData → Text → Result Draft TextFault → Type 0
+ReadsTo (Ok late) builder rest all = (e : Draft) × IsDraft builder e × (all ≡ outcome (between (at (behind late) e)) rest)
+ReadsTo (Err f) builder rest all = Fails f all
+
 -- and to the end of the text
 abbrev pub ReadsAll : Result (Unit {0}) TextFault → BuilderData → Result Draft TextFault → Type 0
 ReadsAll (Ok x) builder all = (e : Draft) × IsDraft builder e × (all ≡ Ok e)
 ReadsAll (Err f) builder all = Fails f all
 
--- the part of a statement that its first word opens
-abbrev pub opened_part : List ℕ → Opening → Part
-opened_part text openings.Type = type_number
-opened_part text openings.Device = device_number
-opened_part text (openings.Bucket kind) = bucket_name text
-
--- and the number of a bucket's type
-abbrev pub IsKindOf : Draft → List ℕ → Opening → Type 0
-IsKindOf d text openings.Type = Unit {0}
-IsKindOf d text openings.Device = Unit {0}
-IsKindOf d text (openings.Bucket kind) = number_of d text ≡ kind
-
--- a statement is opened for which there is room
-abbrev pub IsOpened : Opening → Draft → Bool → Text → Result Draft TextFault → Type 0
-IsOpened openings.Type d behind rest all = (all ≡ outcome d type_number rest) × (behind ≡ false) × (is_full_of_kinds d ≡ false)
-IsOpened openings.Device d behind rest all = (all ≡ outcome d device_number rest) × (behind ≡ false) × (is_full_of_devices d ≡ false)
-IsOpened (openings.Bucket kind) d behind rest all = (k : List ℕ) × (all ≡ outcome d (bucket_name k) rest) × (number_of d k ≡ kind) × (0 < kind) × (is_full_of_buckets d ≡ false)
-
 -- what a builder asks of a draft at which a statement is opened
 abbrev pub HasRoom : Opening → Draft → Type 0
 HasRoom openings.Type d = is_full_of_kinds d ≡ false
 HasRoom openings.Device d = is_full_of_devices d ≡ false
-HasRoom (openings.Bucket kind) d = (is_bucket_kind d.setting kind ≡ true) × (is_full_of_buckets d ≡ false)
+HasRoom (openings.Bucket k) d = (is_bucket_kind d.setting k ≡ true) × (is_full_of_buckets d ≡ false)
 
--- or the text is whole
+-- the first word of a statement was read, for which there is room, or the text is whole
 abbrev pub Opens : Result (Option Opening) TextFault → Draft → Bool → Text → Text → Type 0
-Opens (Ok None) d behind old new = outcome d (between behind) old ≡ Ok d
-Opens (Ok (Some o)) d behind old new = IsOpened o d behind new (outcome d (between behind) old)
-Opens (Err f) d behind old new = Fails f (outcome d (between behind) old)
+Opens (Ok None) d late old new = outcome (between (at (behind late) d)) old ≡ Ok d
+Opens (Ok (Some o)) d late old new = (outcome (between (at (behind late) d)) old ≡ then_on (line_at d (statement d o) new)) × HasRoom o d
+Opens (Err f) d late old new = Fails f (outcome (between (at (behind late) d)) old)
 
 -- words are used up where a statement is opened
 abbrev pub Shortens : Result (Option Opening) TextFault → Text → Text → Type 0

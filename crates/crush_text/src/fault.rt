@@ -1,60 +1,45 @@
 //! What is wrong with the text of a map, and where.
 
-ghost use Rattle.std.specs.Prelude.{◌≡◌};
+ghost use Rattle.std.specs.Prelude.{◌≡◌, Some};
 ghost use Rattle.crush_text.specs.Fault.{fault_name, fault_number};
 
+use std::fmt::{self, Display, Formatter};
 use thiserror::Error;
 
 /// What is wrong at a place of a text. Where several hold, the one of least number is told.
-#[derive(Clone, Copy, Debug, PartialEq, Eq, Error)]
+#[derive(Clone, Copy, Debug, PartialEq, Eq)]
 pub enum TextFaultKind {
     /// A byte that no text may have, or the first byte of a word of more than 255.
-    #[error("BadWord")]
     BadWord,
     /// The text ends inside a statement.
-    #[error("Ended")]
     Ended,
     /// A word or a brace that the grammar doesn't have there.
-    #[error("Unexpected")]
     Unexpected,
     /// No number of the form or the range that is due there.
-    #[error("BadNumber")]
     BadNumber,
     /// No weight, one above 4294967295 units, or above 2147483647 units for a device.
-    #[error("BadWeight")]
     BadWeight,
     /// A number or an id that an earlier line has.
-    #[error("DuplicateId")]
     DuplicateId,
     /// A name or a class that an earlier line has.
-    #[error("DuplicateName")]
     DuplicateName,
     /// The name of no type, or of type 0 as that of a bucket's type.
-    #[error("UnknownType")]
     UnknownType,
     /// The name of no device and of no bucket that was closed before.
-    #[error("UnknownItem")]
     UnknownItem,
     /// An item that a bucket holds already.
-    #[error("SecondParent")]
     SecondParent,
     /// Another algorithm than `straw`, `straw2` and `list`.
-    #[error("OtherAlgorithm")]
     OtherAlgorithm,
     /// A part of Ceph's grammar that isn't read here.
-    #[error("LeftOut")]
     LeftOut,
     /// A rule that takes what is no bucket.
-    #[error("UnknownBucketInRule")]
     UnknownBucketInRule,
     /// One more than a limit allows.
-    #[error("TooMany")]
     TooMany,
     /// An item with which a bucket's sum or the total is out of range.
-    #[error("SumTooLarge")]
     SumTooLarge,
     /// A growth was refused.
-    #[error("OutOfMemory")]
     OutOfMemory,
 }
 
@@ -118,21 +103,12 @@ impl TextFaultKind {
     }
 }
 
-#[cfg(test)]
-mod tests {
-    use super::*;
-    use std::test::Fail;
+impl Display for TextFaultKind {
+    ghost output = { λ kind. Some (fault_name kind) };
 
-    #[test]
-    fn faults_are_told(rt: HostRuntime) -> Result<(), Fail> {
-        let fault = TextFault {
-            kind: TextFaultKind::LeftOut,
-            place: 7,
-        };
-        let told = format!(in rt.alloc(); "{fault}")?;
-        assert!(rt; told.as_str() == "byte 7: LeftOut");
-        assert!(rt; fault.kind.name() == "LeftOut");
-        assert!(rt; fault.kind.number() == 12);
-        Ok(())
+    fn fmt<W: fmt::Write>(&self, f: &mut Formatter<W>) -> fmt::Result {
+        f.write_str(self.name())
     }
 }
+
+impl std::error::Error for TextFaultKind {}

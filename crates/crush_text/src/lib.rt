@@ -5,14 +5,8 @@ mod fault;
 mod lines;
 mod printer;
 mod reader;
-mod words;
-mod write;
 
+pub use crush_bytes::{Reader, Token, WriteFault, put, put_all};
 pub use fault::{TextFault, TextFaultKind};
 pub use printer::{same_tables_print_alike, write_map};
 pub use reader::{a_text_has_one_map_or_one_flaw, read_map, read_map_in};
-pub use words::{Reader, Token};
-pub use write::{WriteFault, put, put_all};
-
-#[cfg(test)]
-mod tests;

@@ -1,12 +1,13 @@
 //! The lines of a printed map, each pushed behind what a `Vec` holds.
 
 ghost use Rattle.std.specs.Prelude.{◌≡◌, [], ◌∷◌, ◌++◌, None, OnOk, flat_map, map};
-ghost use Rattle.crush_table.specs.Rows.{device_row, bucket_row};
-ghost use Rattle.crush_tree.specs.Seen.{leaf_data, header_data, items_of, class_data};
+ghost use Rattle.crush_table.specs.ItemRows.{device_row, bucket_row};
+ghost use Rattle.crush_nodes.specs.Seen.{leaf_data, header_data, items_of, shadow_data};
 ghost use Rattle.crush_text.specs.Lines.{device_line, kind_line, item_line, class_id_line, bucket_head, bucket_choice, bucket_lines};
 ghost use Rattle.crush_text.specs.ItemsText.{item_lines};
 
-use crush_tree::{Bucket, ClassId, Header, Leaf, Node};
+use crush_bytes::put_all;
+use crush_tree::{Bucket, Header, Leaf, Node, ShadowId};
 use crush_units::{ItemId, Weight};
 use itoa::Buffer;
 use std::alloc::{AllocError, Allocator};
@@ -15,10 +16,7 @@ use std::alloc::{AllocError, Allocator};
 pub(crate) fn push_all(parts: &[&[u8]], out: &mut Vec<u8>) -> Result<(), AllocError>
     ensures { OnOk result (out.new.items ≡ out.old.items ++ flat_map (λ part. part.now) parts.now) }
 {
-    for part in parts {
-        out.extend_from_slice(*part)?;
-    }
-    Ok(())
+    put_all(out, parts).map_err(|_| AllocError)
 }
 
 /// The line of a device.
@@ -113,8 +111,8 @@ fn push_items<A: Allocator>(items: &[Node<A>], out: &mut Vec<u8>) -> Result<(), 
 
 /// The line of a class id.
 #[tactic(auto, unfolding(crate::specs::Lines::class_id_line))]
-fn push_class_id<A: Allocator>(id: &ClassId<A>, out: &mut Vec<u8>) -> Result<(), AllocError>
-    ensures { OnOk result (out.new.items ≡ out.old.items ++ class_id_line (class_data id.now)) }
+fn push_class_id<A: Allocator>(id: &ShadowId<A>, out: &mut Vec<u8>) -> Result<(), AllocError>
+    ensures { OnOk result (out.new.items ≡ out.old.items ++ class_id_line (shadow_data id.now)) }
 {
     let mut buffer = Buffer::new();
     let number = buffer.format(id.id.distance()).as_bytes();
@@ -131,9 +129,9 @@ fn push_class_id<A: Allocator>(id: &ClassId<A>, out: &mut Vec<u8>) -> Result<(),
 }
 
 /// The lines of a bucket's class ids.
-fn push_class_ids<A: Allocator>(ids: &[ClassId<A>], out: &mut Vec<u8>) -> Result<(), AllocError>
+fn push_class_ids<A: Allocator>(ids: &[ShadowId<A>], out: &mut Vec<u8>) -> Result<(), AllocError>
     ensures { OnOk result (out.new.items ≡ out.old.items
-        ++ flat_map class_id_line (map class_data ids.now)) }
+        ++ flat_map class_id_line (map shadow_data ids.now)) }
 {
     for id in ids {
         push_class_id(id, out)?;

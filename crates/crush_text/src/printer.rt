@@ -1,17 +1,19 @@
 //! The printer: a map as its text.
 
-ghost use Rattle.std.specs.Prelude.{◌≡◌, ℕ, List, [], ◌∷◌, ◌++◌, None, OnOk, IfOk, All, map, flat_map};
+ghost use Rattle.std.specs.Prelude.{◌≡◌, List, [], ◌∷◌, ◌++◌, None, OnOk, IfOk, map, flat_map};
+ghost use Rattle.std.specs.List.Sorted.{IsPermutation};
 ghost use Rattle.std.specs.Io.KnownBytes.{Keeps};
-ghost use Rattle.crush_table.specs.Rows.{Stands, device_row};
+ghost use Rattle.crush_table.specs.ItemRows.{device_row};
+ghost use Rattle.crush_table.specs.Stands.{Stands};
 ghost use Rattle.crush_table.specs.Table.{Row};
-ghost use Rattle.crush_tree.specs.Seen.{leaf_data, items_of, node_id};
+ghost use Rattle.crush_nodes.specs.Seen.{leaf_data, items_of, node_id};
 ghost use Rattle.crush_text.specs.ItemsText.{id_number, leaves, texts};
 ghost use Rattle.crush_text.specs.Lines.{device_line};
 ghost use Rattle.crush_text.specs.MapText.{ascending, kind_text, kind_numbers, device_lines, device_section, kind_section, bucket_section, map_text, SameTablesPrintAlike};
-ghost use Rattle.crush_text.specs.Writes.{Writes};
+ghost use Rattle.crush_bytes.specs.Writes.{Writes};
 
 use crate::lines;
-use crate::write::{WriteFault, put};
+use crush_bytes::{WriteFault, put};
 use crush_map::{CrushMap, Kind, Setting};
 use crush_tree::{Bucket, Forest, Leaf, Node};
 use crush_units::{ItemId, TypeId};
@@ -106,7 +108,7 @@ fn push_roots<A: Allocator>(
     ensures { (t : List Row) → Stands forest.now t
         → OnOk result (out.new.items ≡ out.old.items ++ bucket_section setting.now t) }
 {
-    forest.sound();
+    forest.recall_invariant();
     let roots = roots_in_order(alloc, forest.roots())?;
     out.extend_from_slice(b"\n# buckets\n")?;
     for root in &roots {
@@ -121,7 +123,8 @@ fn devices_in_order<A: Allocator>(
     forest: &Forest<A>,
 ) -> Result<Vec<&Leaf<A>>, AllocError>
     ensures { IfOk result (λ devices. (t : List Row) → Stands forest.now t
-        → flat_map (λ d. device_line (device_row None (leaf_data d.now))) devices.items ≡ device_lines t) }
+        → flat_map (λ d. device_line (device_row None (leaf_data d.now))) devices.items
+        ≡ device_lines t) }
 {
     let mut devices = Vec::new(alloc);
     find_devices(forest.unplaced(), &mut devices)?;
@@ -146,14 +149,14 @@ fn numbers_of(alloc: Global, kinds: &[Kind]) -> Result<Vec<u16>, AllocError>
     kinds.iter().map(|kind| kind.number.number()).collect(alloc)
 }
 
-/// The nodes, by the numbers of their ids.
+/// The nodes, by the numbers of their ids from the least.
 fn roots_in_order<A: Allocator>(
     alloc: Global,
     nodes: &[Node<A>],
 ) -> Result<Vec<&Node<A>>, AllocError>
-    ensures { IfOk result (λ roots. (text : ℕ → List ℕ) (line : Node A → List ℕ)
-        → All (λ node. text (id_number (node_id node)) ≡ line node) nodes.now
-        → flat_map (λ node. line node.now) roots.items ≡ flat_map text (ascending (map (λ node. id_number (node_id node)) nodes.now))) }
+    ensures same { IfOk result (λ roots. IsPermutation nodes.now (map (λ r. r.now) roots.items)) }
+    ensures rising { IfOk result (λ roots. map (λ r. id_number (node_id r.now)) roots.items
+        ≡ ascending (map (λ node. id_number (node_id node)) nodes.now)) }
 {
     let mut roots = Vec::new(alloc);
     for node in nodes {

@@ -3,24 +3,24 @@
 ghost use Rattle.std.specs.Prelude.{◌≡◌, ℕ, List, IfOk, IfErr, MatchResult};
 ghost use Rattle.crush_table.specs.Setting.{SettingData};
 ghost use Rattle.crush_table.specs.Table.{Row};
-ghost use Rattle.crush_table.specs.Rows.{Stands};
+ghost use Rattle.crush_table.specs.Stands.{Stands};
 ghost use Rattle.crush_map.specs.MapData.{MapStands};
 ghost use Rattle.crush_map.specs.Built.{Draft};
 ghost use Rattle.crush_map.specs.Building.{IsDraft};
 ghost use Rattle.crush_text.specs.Document.{IsMapText};
 ghost use Rattle.crush_text.specs.Flaw.{IsWant, IsFlawOrWant};
-ghost use Rattle.crush_text.specs.MapOrFlaw.{AFlawExcludesTheMap, AtMostOneFlaw, SameWordsSameFlaw, AtMostOneMap, AMapOrAFlaw};
+ghost use Rattle.crush_text.specs.MapOrFlaw.{WordsAreJudgedByTheTable, AFlawExcludesTheMap, AtMostOneFlaw, SameWordsSameFlaw, AtMostOneMap, EachMapIsLawful, MapsAreTheLawfulTexts, AMapOrAFlaw};
 
 mod bucket;
-mod first;
-mod judge;
-mod open;
-mod opening;
+mod device;
+mod roles;
+mod statement;
+mod type_line;
 mod word;
 
 use crate::fault::{TextFault, TextFaultKind};
-use crate::reader::open::read_statements;
-use crate::words::Reader;
+use crate::reader::statement::read_statements;
+use crush_bytes::Reader;
 use crush_map::{CrushMap, MapBuilder};
 use std::alloc::{Allocator, Global};
 
@@ -32,7 +32,8 @@ use std::alloc::{Allocator, Global};
 /// positions of items. docs/FORMATS.md has the grammar, and each fault with its place.
 pub fn read_map(alloc: Global, text: &[u8]) -> Result<(CrushMap<Global>, u32), TextFault>
     // What is read is a map that the text spells.
-    ensures map { IfOk result (λ m. (t : List Row) × IsMapText text.now m.0.setting t m.1 × Stands m.0.forest t) }
+    ensures map { IfOk result (λ m. (t : List Row)
+        × IsMapText text.now m.0.setting t m.1 × Stands m.0.forest t) }
 
     // Each map that the text spells is the one that is read.
     ensures only { (s : SettingData) (t : List Row) (n : ℕ) → IsMapText text.now s t n
@@ -52,7 +53,8 @@ pub fn read_map_in<A: Allocator + Clone>(
     text: &[u8],
 ) -> Result<(CrushMap<A>, u32), TextFault>
     // What is read is a map that the text spells.
-    ensures map { IfOk result (λ m. (t : List Row) × IsMapText text.now m.0.setting t m.1 × Stands m.0.forest t) }
+    ensures map { IfOk result (λ m. (t : List Row)
+        × IsMapText text.now m.0.setting t m.1 × Stands m.0.forest t) }
 
     // Each map that the text spells is the one that is read.
     ensures only { (s : SettingData) (t : List Row) (n : ℕ) → IsMapText text.now s t n
@@ -73,12 +75,17 @@ pub fn read_map_in<A: Allocator + Clone>(
 }
 
 /// Bytes are the text of one map or have one flaw, and never both: where there is a flaw no map is
-/// spelled, nor is one whatever else follows the fault's word. There is nothing to run: the contract
-/// is the law.
+/// spelled, nor is one whatever else follows the fault's word. Each map of a text is lawful, and
+/// the texts of maps are those whose words build a lawful map line by line: no row of the table of
+/// faults refuses more. A word has the fault whose row holds and that has the least number. There
+/// is nothing to run: the contract is the law.
 pub fn a_text_has_one_map_or_one_flaw()
+    ensures table { WordsAreJudgedByTheTable }
     ensures excludes { AFlawExcludesTheMap }
     ensures flaw { AtMostOneFlaw }
     ensures same { SameWordsSameFlaw }
     ensures map { AtMostOneMap }
+    ensures lawful { EachMapIsLawful }
+    ensures admitted { MapsAreTheLawfulTexts }
     ensures either { AMapOrAFlaw }
 {}

@@ -4,7 +4,7 @@ use Rattle.std.proofs.lemmas.Bool.{eqb-true, eq-eqb}
 use Rattle.std.specs.Prelude.{Some}
 use Rattle.crush_units.specs.declared.alg.Alg.{Alg}
 use Rattle.crush_units.specs.declared.alg.Alg.TheVariants.{Straw, Straw2, List as Linked}
-use Rattle.crush_units.specs.Alg.{alg_number, alg_text, alg_of, same_alg}
+use Rattle.crush_units.specs.Alg.{alg_number, alg_text, alg_of_text, same_alg}
 
 -- an algorithm has its number alone
 pub alg_number_injective : (a b : Alg) → alg_number a ≡ alg_number b → a ≡ b
@@ -27,7 +27,7 @@ pub equal_same_alg : (a b : Alg) → a ≡ b → same_alg a b ≡ true
 equal_same_alg a b e = eq-eqb (alg_number a) (alg_number b) (ap alg_number e)
 
 -- the word for an algorithm names it
-pub alg_of_text : (a : Alg) → alg_of (alg_text a) ≡ Some a
-alg_of_text Straw = refl
-alg_of_text Straw2 = refl
-alg_of_text Linked = refl
+pub alg_of_text-alg_text : (a : Alg) → alg_of_text (alg_text a) ≡ Some a
+alg_of_text-alg_text Straw = refl
+alg_of_text-alg_text Straw2 = refl
+alg_of_text-alg_text Linked = refl

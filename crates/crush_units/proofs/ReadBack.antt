@@ -11,7 +11,7 @@ use Rattle.std.specs.Prelude.{decimal, ◌&&◌, ◌||◌, ◌==◌, Ok, Err, co
 use Rattle.std.specs.Char.{is_ascii_digit, digit_value}
 use Rattle.std.specs.List.{list_all, position_or_len}
 use Rattle.std.specs.Str.Parse.{AllDigits, digits_value, digits_value_after}
-use Rattle.crush_units.specs.Weight.{parts_of, units_of, digit, is_point, are_digits, weight_of, weight_text, fitting, whole_of, tail_of}
+use Rattle.crush_units.specs.Weight.{parts_of, units_of, digit, is_point, are_digits, weight_of_text, weight_text, weight_of_units, whole_of, tail_of}
 use Rattle.crush_units.specs.declared.weight.WeightFault.TheVariants.{Syntax, TooLarge}
 use Rattle.crush_units.proofs.Parts.{parts_read_back, six_parts, whole_part_short}
 
@@ -63,17 +63,17 @@ module _ (ds : List ℕ) (a b c d e : ℕ) (all : AllDigits 10 ds) where
   behind = ap (λ (n : ℕ). drop n (ds ++ 46 ∷ a ∷ b ∷ c ∷ d ∷ e ∷ [])) place ∙ drop_at ds _ (length ds) refl
 
   -- the units that they say
-  weight_is : (n u : ℕ) → are_digits 10 ds ≡ true → are_digits 18 (a ∷ b ∷ c ∷ d ∷ e ∷ []) ≡ true → digits_value_after 10 (digits_value 10 ds) (a ∷ b ∷ c ∷ d ∷ e ∷ []) ≡ n → units_of n 5 ≡ u → u ≤ 4294967295 → weight_of (ds ++ 46 ∷ a ∷ b ∷ c ∷ d ∷ e ∷ []) ≡ Ok u
+  weight_is : (n u : ℕ) → are_digits 10 ds ≡ true → are_digits 18 (a ∷ b ∷ c ∷ d ∷ e ∷ []) ≡ true → digits_value_after 10 (digits_value 10 ds) (a ∷ b ∷ c ∷ d ∷ e ∷ []) ≡ n → units_of n 5 ≡ u → u ≤ 4294967295 → weight_of_text (ds ++ 46 ∷ a ∷ b ∷ c ∷ d ∷ e ∷ []) ≡ Ok u
   weight_is n u whole part value units fits =
-      let P : List ℕ → List ℕ → Type 0 = λ w t. cond (are_digits 10 w && ((length t == 0) || are_digits 18 (drop 1 t))) (fitting (units_of (digits_value_after 10 (digits_value 10 w) (drop 1 t)) (length (drop 1 t)))) (Err Syntax) ≡ Ok u in
+      let P : List ℕ → List ℕ → Type 0 = λ w t. cond (are_digits 10 w && ((length t == 0) || are_digits 18 (drop 1 t))) (weight_of_units (units_of (digits_value_after 10 (digits_value 10 w) (drop 1 t)) (length (drop 1 t)))) (Err Syntax) ≡ Ok u in
       let small : leb u 4294967295 ≡ true = grind (arith, nat_tests) in
       let plain : P ds (46 ∷ a ∷ b ∷ c ∷ d ∷ e ∷ []) =
-      ap (λ (v : Bool). cond v (fitting (units_of (digits_value_after 10 (digits_value 10 ds) (a ∷ b ∷ c ∷ d ∷ e ∷ [])) 5)) (Err Syntax)) (ap (λ (v : Bool). v && are_digits 18 (a ∷ b ∷ c ∷ d ∷ e ∷ [])) whole ∙ part)
-      ∙ ap (λ (v : ℕ). fitting (units_of v 5)) value ∙ ap fitting units ∙ ap (λ (v : Bool). cond v (Ok u) (Err TooLarge)) small in
+      ap (λ (v : Bool). cond v (weight_of_units (units_of (digits_value_after 10 (digits_value 10 ds) (a ∷ b ∷ c ∷ d ∷ e ∷ [])) 5)) (Err Syntax)) (ap (λ (v : Bool). v && are_digits 18 (a ∷ b ∷ c ∷ d ∷ e ∷ [])) whole ∙ part)
+      ∙ ap (λ (v : ℕ). weight_of_units (units_of v 5)) value ∙ ap weight_of_units units ∙ ap (λ (v : Bool). cond v (Ok u) (Err TooLarge)) small in
       subst (λ (w : List ℕ). P w (tail_of (ds ++ 46 ∷ a ∷ b ∷ c ∷ d ∷ e ∷ []))) (sym front) (subst (P ds) (sym behind) plain)
 
 -- the law
-pub read_again : (w : ℕ) → w < 2 ^ 32 → weight_of (weight_text w) ≡ Ok w
+pub read_again : (w : ℕ) → w < 2 ^ 32 → weight_of_text (weight_text w) ≡ Ok w
 read_again w h =
     let d = decimal_is_IsNumeral (parts_of w / 100000) (omega arith) in
     let few : length (decimal (parts_of w / 100000)) ≤ 5 = whole_part_short w h in

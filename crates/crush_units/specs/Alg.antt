@@ -10,8 +10,8 @@ alg_text Straw2 = codes "straw2"
 alg_text Linked = codes "list"
 
 -- the algorithm that a word names
-abbrev pub alg_of : List ℕ → Option Alg
-alg_of word =
+abbrev pub alg_of_text : List ℕ → Option Alg
+alg_of_text word =
     if bytes_eq word (codes "straw") then Some Straw
     else (if bytes_eq word (codes "straw2") then Some Straw2
     else (if bytes_eq word (codes "list") then Some Linked

@@ -2,6 +2,7 @@
 use Rattle.std.specs.Prelude.{ℕ, suc, ◌-◌, ℤ, pos, negsuc, Bool, true, false, ◌&&◌, ◌==◌, ◌<◌, ◌≤◌, ◌^◌, nat_lt, nat_le, Option, Some, None, if◌then◌else◌}
 use Rattle.crush_units.specs.declared.id.ItemId.{ItemId}
 use Rattle.crush_units.specs.declared.id.ItemId.TheVariants.{Device, Bucket}
+use Rattle.crush_units.specs.declared.limits.TheConstants.{DEVICE_IDS, FARTHEST_BUCKET_ID, LAST_DEVICE_ID}
 
 -- a signed number that isn't below 0 is a device's id
 abbrev pub device_of : ℤ → Option ℕ
@@ -10,7 +11,7 @@ device_of (negsuc n) = None
 
 -- a number up to 2147483647 is a device's id
 abbrev pub device_from : ℕ → Option ℕ
-device_from n = if nat_le n 2147483647 then Some n else None
+device_from n = if nat_le n LAST_DEVICE_ID then Some n else None
 
 -- a signed number below 0 is a bucket's id: -1 is bucket 1
 abbrev pub bucket_of : ℤ → Option ℕ
@@ -19,7 +20,7 @@ bucket_of (negsuc n) = Some (suc n)
 
 -- a distance below 0 from 1 to 2147483648 is a bucket's id
 abbrev pub bucket_below : ℕ → Option ℕ
-bucket_below n = if nat_lt 0 n && nat_le n 2147483648 then Some n else None
+bucket_below n = if nat_lt 0 n && nat_le n FARTHEST_BUCKET_ID then Some n else None
 
 -- the signed number of a bucket: bucket 1 is -1
 abbrev pub bucket_number : ℕ → ℤ
@@ -31,9 +32,9 @@ item_number (Device d) = pos d
 item_number (Bucket b) = bucket_number b
 
 -- whether an item is a device
-abbrev pub is_device : ItemId → Bool
-is_device (Device d) = true
-is_device (Bucket b) = false
+abbrev pub is_device_id : ItemId → Bool
+is_device_id (Device d) = true
+is_device_id (Bucket b) = false
 
 -- whether two ids are those of one item
 abbrev pub same_id : ItemId → ItemId → Bool
@@ -44,5 +45,5 @@ same_id (Bucket a) (Device b) = false
 
 -- the numbers that an item's id can have
 abbrev pub IsItemId : ItemId → Type 0
-IsItemId (Device d) = d < 2 ^ 31
-IsItemId (Bucket b) = (0 < b) × (b ≤ 2 ^ 31)
+IsItemId (Device d) = d < DEVICE_IDS
+IsItemId (Bucket b) = (0 < b) × (b ≤ FARTHEST_BUCKET_ID)

@@ -3,10 +3,13 @@ use Rattle.std.specs.Prelude.{◌≡◌, ℕ, ◌<◌, ◌≤◌, Bool, true, fa
 use Rattle.std.specs.List.{list_all}
 use Rattle.crush_units.specs.declared.name.NameFault.{NameFault}
 use Rattle.crush_units.specs.declared.name.NameFault.TheVariants.{Empty, BadByte, TooLong, OutOfMemory}
+use Rattle.crush_units.specs.declared.limits.TheConstants.{LONGEST_NAME}
 
 -- ASCII letters, digits, `-`, `_` and `.`
 abbrev pub is_name_byte : ℕ → Bool
-is_name_byte b = (nat_le 48 b && nat_le b 57) || (nat_le 65 b && nat_le b 90) || (nat_le 97 b && nat_le b 122) || b == 45 || b == 95 || b == 46
+is_name_byte b =
+    (nat_le 48 b && nat_le b 57) || (nat_le 65 b && nat_le b 90) || (nat_le 97 b && nat_le b 122)
+    || b == 45 || b == 95 || b == 46
 
 -- each byte is one that a name may have
 abbrev pub are_name_bytes : List ℕ → Bool
@@ -15,12 +18,13 @@ are_name_bytes bytes = list_all is_name_byte bytes
 -- 1 to 255 bytes that a name may have
 pub record IsName (bytes : List ℕ) : Type 0 where
   pub some : 0 < length bytes
-  pub few : length bytes ≤ 255
+  pub few : length bytes ≤ LONGEST_NAME
   pub allowed : are_name_bytes bytes ≡ true
 
 -- the same as a test
 abbrev pub is_name : List ℕ → Bool
-is_name bytes = nat_lt 0 (length bytes) && nat_le (length bytes) 255 && are_name_bytes bytes
+is_name bytes =
+    nat_lt 0 (length bytes) && nat_le (length bytes) LONGEST_NAME && are_name_bytes bytes
 
 -- the place of the first byte that no name may have
 pub record IsFirstBad (bytes : List ℕ) (place : ℕ) : Type 0 where
@@ -32,7 +36,7 @@ pub record IsFirstBad (bytes : List ℕ) (place : ℕ) : Type 0 where
 abbrev pub IsNameFault : List ℕ → NameFault → Type 0
 IsNameFault bytes Empty = bytes ≡ []
 IsNameFault bytes (BadByte place) = IsFirstBad bytes place
-IsNameFault bytes TooLong = (255 < length bytes) × (are_name_bytes bytes ≡ true)
+IsNameFault bytes TooLong = (LONGEST_NAME < length bytes) × (are_name_bytes bytes ≡ true)
 IsNameFault bytes OutOfMemory = IsName bytes
 
 -- the number of a fault

@@ -1,7 +1,7 @@
 //! Bucket algorithms.
 
 ghost use Rattle.std.specs.Prelude.{◌≡◌, IsTrue, ◌↔◌, IfSome, Some};
-ghost use Rattle.crush_units.specs.Alg.{alg_text, alg_of, same_alg};
+ghost use Rattle.crush_units.specs.Alg.{alg_text, alg_of_text, same_alg};
 
 /// The algorithm by which a bucket chooses among its items, of those that Ceph knows the three
 /// that are kept here.
@@ -29,7 +29,7 @@ impl Alg {
 
     /// The algorithm that the word names, or `None` for any other word.
     pub fn read(word: &[u8]) -> Option<Alg>
-        ensures value { result ≡ alg_of word.now }
+        ensures value { result ≡ alg_of_text word.now }
         ensures found { IfSome result (λ alg. word.now ≡ alg_text alg) }
         ensures all { (alg : Alg) → word.now ≡ alg_text alg → result ≡ Some alg }
     {

@@ -1,8 +1,10 @@
 //! Ids of devices, buckets and types.
 
 ghost use Rattle.std.specs.Prelude.{◌≡◌, ◌≤◌, ◌<◌, ◌^◌, IsTrue, ◌↔◌};
-ghost use Rattle.crush_units.specs.Id.{device_of, device_from, bucket_of, bucket_below, bucket_number, item_number, is_device, same_id, IsItemId};
+ghost use Rattle.crush_units.specs.Id.{device_of, device_from, bucket_of, bucket_below, bucket_number, item_number, is_device_id, same_id, IsItemId};
+ghost use Rattle.crush_units.specs.declared.limits.TheConstants.{DEVICE_IDS, FARTHEST_BUCKET_ID};
 
+use crate::limits::{FARTHEST_BUCKET_ID, LAST_DEVICE_ID};
 use std::marker::Model;
 
 /// A device's id: a number from 0 to 2147483647. Contracts see that number.
@@ -14,13 +16,14 @@ pub struct DeviceId {
 }
 
 impl Model for DeviceId {
-    ghost use Rattle.std.specs.Prelude.{ℕ, ◌<◌, ◌^◌};
+    ghost use Rattle.std.specs.Prelude.{ℕ, ◌<◌};
+    ghost use Rattle.crush_units.specs.declared.limits.TheConstants.{DEVICE_IDS};
 
     ghost Value = { ℕ };
 
     ghost view = { λ d. d.raw };
 
-    ghost invariant = { λ d. d.raw < 2 ^ 31 };
+    ghost invariant = { λ d. d.raw < DEVICE_IDS };
 
     ghost inverse = { λ n. record { raw = n } };
 }
@@ -33,13 +36,14 @@ pub struct BucketId {
 }
 
 impl Model for BucketId {
-    ghost use Rattle.std.specs.Prelude.{ℕ, ◌<◌, ◌≤◌, ◌^◌};
+    ghost use Rattle.std.specs.Prelude.{ℕ, ◌<◌, ◌≤◌};
+    ghost use Rattle.crush_units.specs.declared.limits.TheConstants.{FARTHEST_BUCKET_ID};
 
     ghost Value = { ℕ };
 
     ghost view = { λ b. b.below };
 
-    ghost invariant = { λ b. (0 < b.below) × (b.below ≤ 2 ^ 31) };
+    ghost invariant = { λ b. (0 < b.below) × (b.below ≤ FARTHEST_BUCKET_ID) };
 
     ghost inverse = { λ n. record { below = n } };
 }
@@ -85,7 +89,7 @@ impl DeviceId {
     pub fn from_number(number: u32) -> Option<DeviceId>
         ensures { result ≡ device_from number }
     {
-        if number <= 2147483647 {
+        if number <= LAST_DEVICE_ID {
             Some(DeviceId { raw: number })
         } else {
             None
@@ -95,7 +99,7 @@ impl DeviceId {
     /// The id as a number.
     pub fn number(self) -> u32
         ensures value { result ≡ self }
-        ensures range { self < 2 ^ 31 }
+        ensures range { self < DEVICE_IDS }
     {
         self.raw
     }
@@ -119,7 +123,7 @@ impl BucketId {
     pub fn below_zero(distance: u32) -> Option<BucketId>
         ensures { result ≡ bucket_below distance }
     {
-        if 0 < distance && distance <= 2147483648 {
+        if 0 < distance && distance <= FARTHEST_BUCKET_ID {
             Some(BucketId { below: distance })
         } else {
             None
@@ -130,7 +134,7 @@ impl BucketId {
     pub fn distance(self) -> u32
         ensures value { result ≡ self }
         ensures some { 0 < self }
-        ensures range { self ≤ 2 ^ 31 }
+        ensures range { self ≤ FARTHEST_BUCKET_ID }
     {
         self.below
     }
@@ -157,7 +161,7 @@ impl ItemId {
 
     /// Whether it is the id of a device.
     pub fn is_device_id(self) -> bool
-        ensures { result ≡ is_device self }
+        ensures { result ≡ is_device_id self }
     {
         match self {
             ItemId::Device(_) => true,

@@ -5,6 +5,7 @@ ghost use Rattle.std.specs.Cmp.Rules.{comparing};
 ghost use Rattle.std.proofs.Common.{rules};
 ghost use Rattle.crush_units.specs.Name.{IsName, is_name_byte, are_name_bytes, is_name, IsFirstBad, IsNameFault, name_fault_number};
 
+use crate::limits::LONGEST_NAME;
 use std::alloc::{AllocError, Allocator};
 use std::marker::Model;
 use std::str;
@@ -76,7 +77,7 @@ impl<A: Allocator> Name<A> {
         if let Some(place) = first_bad(bytes) {
             return Err(NameFault::BadByte(place));
         }
-        if bytes.len() > 255 {
+        if bytes.len() > LONGEST_NAME {
             return Err(NameFault::TooLong);
         }
         let Ok(text) = str::from_utf8(bytes) else {
@@ -141,7 +142,7 @@ pub fn is_name(bytes: &[u8]) -> bool
     ensures value { result ≡ is_name bytes.now }
     ensures exact { IsTrue result ↔ IsName bytes.now }
 {
-    !bytes.is_empty() && bytes.len() <= 255 && first_bad(bytes).is_none()
+    !bytes.is_empty() && bytes.len() <= LONGEST_NAME && first_bad(bytes).is_none()
 }
 
 /// Whether a name may have the byte.

@@ -4,8 +4,10 @@ ghost use Rattle.std.specs.Prelude.{◌≡◌, ◌+◌, ◌*◌, ◌^◌, ◌<�
 ghost use Rattle.std.specs.Char.{is_ascii_digit};
 ghost use Rattle.std.specs.List.{list_all, position_or_len};
 ghost use Rattle.std.specs.Str.Parse.{digits_value_after};
-ghost use Rattle.crush_units.specs.Weight.{weight_of, weight_text, units_of, fitting, are_digits, is_point, PrintedIsReadBack, weight_fault_number};
+ghost use Rattle.crush_units.specs.Weight.{weight_of_text, weight_text, units_of, weight_of_units, are_digits, is_point, PrintedIsReadBack, weight_fault_number};
+ghost use Rattle.crush_units.specs.declared.limits.TheConstants.{HEAVIEST_DEVICE};
 
+use crate::limits::{HEAVIEST_BUCKET, HEAVIEST_DEVICE};
 use itoa::Buffer;
 use std::marker::Model;
 use thiserror::Error;
@@ -68,9 +70,9 @@ impl Weight {
 
     /// Whether a device can have this weight: at most 2147483647 units.
     pub fn is_device_weight(self) -> bool
-        ensures { IsTrue result ↔ (self ≤ 2147483647) }
+        ensures { IsTrue result ↔ (self ≤ HEAVIEST_DEVICE) }
     {
-        self.units <= 2147483647
+        self.units <= HEAVIEST_DEVICE
     }
 
     /// The weight that a text says, rounded to the nearest unit, a half going up: `1.0` and
@@ -80,7 +82,7 @@ impl Weight {
     /// as [`WeightFault::Syntax`]. More than 4294967295 units after rounding are
     /// [`WeightFault::TooLarge`].
     pub fn read(text: &str) -> Result<Weight, WeightFault>
-        ensures { result ≡ weight_of text.now }
+        ensures { result ≡ weight_of_text text.now }
     {
         Weight::read_bytes(text.as_bytes())
     }
@@ -88,7 +90,7 @@ impl Weight {
     /// The weight that the bytes of a text say, by the rule and with the faults of
     /// [`Weight::read`].
     pub fn read_bytes(text: &[u8]) -> Result<Weight, WeightFault>
-        ensures { result ≡ weight_of text.now }
+        ensures { result ≡ weight_of_text text.now }
     {
         let (whole, tail) = text.split_at(point_at(text));
         if !are_digits(10, whole) {
@@ -204,11 +206,11 @@ fn ten_to(places: usize) -> u128
 fn rounded(number: u128, places: usize) -> Result<Weight, WeightFault>
     requires number { number < 10 ^ 28 }
     requires places { places ≤ 18 }
-    ensures { result ≡ fitting (units_of number places) }
+    ensures { result ≡ weight_of_units (units_of number places) }
 {
     let scale = ten_to(places);
     let units = (number * 131072 + scale) / (2 * scale);
-    if units <= 4294967295 {
+    if units <= u128::from(HEAVIEST_BUCKET) {
         Ok(Weight {
             units: units as u32,
         })

@@ -1,4 +1,2 @@
 pub mod Consuming
-pub mod EntryLines
-pub mod InTurn
 pub mod Told

@@ -1,6 +1,6 @@
 -- The faults of the layers below, as those of a run.
-use Rattle.crush_text.specs.declared.write.WriteFault.{WriteFault}
-use Rattle.crush_text.specs.declared.write.WriteFault.TheVariants as write
+use Rattle.crush_bytes.specs.declared.write.WriteFault.{WriteFault}
+use Rattle.crush_bytes.specs.declared.write.WriteFault.TheVariants as write
 use Rattle.crush_script.specs.declared.fault.JobFault.{JobFault}
 use Rattle.crush_script.specs.declared.fault.JobFault.TheVariants.{BadLine, NoSuchCommand, TooManyOperators, Text, OutOfMemory, TooLong, TooManyCalls}
 use Rattle.crushedit.specs.declared.fault.RunFault.{RunFault}

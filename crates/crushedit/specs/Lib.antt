@@ -1,4 +1,5 @@
-pub mod Entries
 pub mod Faults
 pub mod Report
 pub mod Run
+pub mod Stages
+pub mod Options

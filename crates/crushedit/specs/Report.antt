@@ -8,6 +8,14 @@ use Rattle.crushedit.specs.declared.fault.RunFault.{RunFault}
 use Rattle.crushedit.specs.declared.fault.RunFault.TheVariants as run
 use Rattle.crushedit.specs.declared.run.Summary.{Summary}
 
+-- want of memory, wherever it comes
+abbrev pub out_of_memory : List ℕ
+out_of_memory = codes "crushedit: out of memory\n"
+
+-- how many written weights were replaced
+abbrev pub adjusted_line : ℕ → List ℕ
+adjusted_line adjusted = codes "crushedit: adjusted " ++ decimal adjusted ++ codes "\n"
+
 -- a fault of a line: its number and the fault's name
 abbrev pub line_fault : ℕ → List ℕ → List ℕ
 line_fault number name = codes "crushedit: line " ++ decimal number ++ codes ": " ++ name ++ codes "\n"
@@ -16,6 +24,7 @@ line_fault number name = codes "crushedit: line " ++ decimal number ++ codes ": 
 abbrev pub text_fault : TextFault → List ℕ
 text_fault f = codes "crushedit: byte " ++ decimal f.place ++ codes ": " ++ fault_name f.kind ++ codes "\n"
 
+-- a fault of the job
 abbrev pub job_fault : JobFault → List ℕ
 job_fault (BadLine number) = line_fault number (codes "BadLine")
 job_fault (NoSuchCommand number) = line_fault number (codes "NoSuchCommand")
@@ -23,21 +32,31 @@ job_fault (TooManyOperators number) = line_fault number (codes "TooManyOperators
 job_fault (TooManyCalls number) = line_fault number (codes "TooManyCalls")
 job_fault (Text f) = text_fault f
 job_fault TooLong = codes "crushedit: TooLong\n"
-job_fault OutOfMemory = codes "crushedit: out of memory\n"
+job_fault OutOfMemory = out_of_memory
 
+-- a run that was not done
 abbrev pub run_fault : RunFault → List ℕ
 run_fault (run.Job f) = job_fault f
 run_fault run.Read = codes "crushedit: read fault\n"
 run_fault run.Write = codes "crushedit: write fault\n"
-run_fault run.Memory = codes "crushedit: out of memory\n"
+run_fault run.Memory = out_of_memory
 
 -- one line, or nothing where all is well and no weight was replaced
 abbrev pub report_line : Result Summary RunFault → List ℕ
-report_line (Ok s) = if s.adjusted == 0 then [] else codes "crushedit: adjusted " ++ decimal s.adjusted ++ codes "\n"
+report_line (Ok s) = if s.adjusted == 0 then [] else adjusted_line s.adjusted
 report_line (Err f) = run_fault f
 
+abbrev pub job_status : JobFault → ℕ
+job_status (BadLine number) = 1
+job_status (NoSuchCommand number) = 1
+job_status (TooManyOperators number) = 1
+job_status (TooManyCalls number) = 1
+job_status (Text f) = 1
+job_status TooLong = 1
+job_status OutOfMemory = 4
+
 abbrev pub fault_status : RunFault → ℕ
-fault_status (run.Job f) = 1
+fault_status (run.Job f) = job_status f
 fault_status run.Read = 3
 fault_status run.Write = 3
 fault_status run.Memory = 4

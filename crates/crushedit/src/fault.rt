@@ -2,8 +2,8 @@
 
 ghost use Rattle.std.specs.Prelude.{◌≡◌};
 
+use crush_bytes::WriteFault;
 use crush_script::JobFault;
-use crush_text::WriteFault;
 use std::alloc::{AllocError, AllocFailed};
 use thiserror::Error;
 

@@ -1,13 +1,14 @@
 //! The bytes of a job.
 
 ghost use Rattle.std.specs.Prelude.{◌≡◌, ◌≤◌, ◌<◌, IfOk, IfErr, IfSome, length, take};
-ghost use Rattle.crushedit.specs.Run.{IsOfInput};
+ghost use Rattle.crushedit.specs.Stages.{IsInputFault};
 
 use crate::fault::RunFault;
 use std::alloc::Global;
 use std::io::Read;
 
-/// The most bytes that are asked of a reader: one more than a job may have, so that a longer one shows.
+/// The most bytes that are asked of a reader: one more than a job may have, so that a longer one
+/// shows.
 pub(crate) const MOST_BYTES: usize = 16_777_217;
 
 /// How many bytes one read asks for at the most.
@@ -18,8 +19,9 @@ const PIECE: usize = 65_536;
 /// fault, also where it could be tried again.
 pub(crate) fn read_bytes<R: Read>(alloc: Global, reader: &mut R) -> Result<Vec<u8>, RunFault>
     ensures few { IfOk result (λ bytes. length bytes.items ≤ MOST_BYTES) }
-    ensures fault { IfErr result IsOfInput }
-    ensures bytes { IfOk result (λ bytes. IfSome (R.remaining reader.old) (λ all. bytes.items ≡ take MOST_BYTES all)) }
+    ensures fault { IfErr result IsInputFault }
+    ensures bytes { IfOk result (λ bytes. IfSome (R.remaining reader.old)
+        (λ all. bytes.items ≡ take MOST_BYTES all)) }
 {
     let mut bytes = Vec::new(alloc);
     let mut piece = [0u8; PIECE];

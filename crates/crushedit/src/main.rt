@@ -1,25 +1,62 @@
 //! Edits the hierarchy of a CRUSH map by the scripts of its operators.
 #![tactic(auto)]
 
-mod entry;
+mod command_line;
 mod fault;
-mod history;
 mod input;
+mod options;
 mod report;
 mod run;
-mod turns;
 
-use report::report;
-use run::{Mode, run_job};
+use command_line::options;
+use fault::RunFault;
+use options::{Options, OptionsFault};
+use report::{report, tell};
+use run::{Summary, run_job};
+use std::fs::File;
+use std::io::ErrorKind;
 use std::process::ExitCode;
 
 fn main(rt: HostRuntime) -> ExitCode {
-    let mode = Mode {
-        in_turn: true,
-        history: true,
+    let status = match read_options(&rt) {
+        Ok(options) => report(&run_options(&rt, &options), &mut rt.stderr()),
+        Err(fault) => tell(&fault, &mut rt.stdout(), &mut rt.stderr()),
     };
-    let outcome = run_job(&rt, mode, &mut rt.stdin(), &mut rt.stdout());
-    ExitCode::from(report(&outcome, &mut rt.stderr()))
+    ExitCode::from(status)
+}
+
+/// The options in the words behind the program's name.
+fn read_options(rt: &HostRuntime) -> Result<Options, OptionsFault> {
+    let words = words_behind_name(rt)?;
+    options(rt.alloc(), words.as_slice())
+}
+
+/// The words that the program was started with, behind its name.
+fn words_behind_name(rt: &HostRuntime) -> Result<Vec<String>, OptionsFault> {
+    let alloc = rt.alloc();
+    match std::env::args(rt) {
+        Ok(mut words) => {
+            let _ = words.next();
+            Ok(words.collect(alloc)?)
+        }
+        Err(error) if error.kind() == ErrorKind::InvalidData => {
+            let text = "error: a word of the command line is not UTF-8\n";
+            Err(OptionsFault::Refused(String::from_str(alloc, text)?))
+        }
+        Err(_) => Err(OptionsFault::Memory),
+    }
+}
+
+/// Runs the job of the file that is named, or else of standard input. A file that can't be opened
+/// is one that can't be read.
+fn run_options(rt: &HostRuntime, options: &Options) -> Result<Summary, RunFault> {
+    let Some(name) = &options.file else {
+        return run_job(rt, options.mode, &mut rt.stdin(), &mut rt.stdout());
+    };
+    let Ok(mut file) = File::open(rt, name.as_str()) else {
+        return Err(RunFault::Read);
+    };
+    run_job(rt, options.mode, &mut file, &mut rt.stdout())
 }
 
 #[cfg(test)]

@@ -1,27 +1,26 @@
 //! A job, from the bytes read to the bytes written.
 
-ghost use Rattle.std.specs.Prelude.{◌≡◌, ◌≢◌, ◌≤◌, ℕ, List, Err, IfOk, IfErr, IfSome, length};
+ghost use Rattle.std.specs.Prelude.{◌≡◌, ◌≢◌, ◌≤◌, ◌++◌, ℕ, List, Some, IfOk, IfErr, IfSome, length};
 ghost use Rattle.std.specs.Io.KnownBytes.{Keeps};
-ghost use Rattle.crush_table.specs.Rows.{Stands};
-ghost use Rattle.crush_table.specs.Setting.{SettingData};
+ghost use Rattle.crush_table.specs.Stands.{Stands};
 ghost use Rattle.crush_table.specs.Table.{Row};
-ghost use Rattle.crush_map.specs.MapData.{MapStands};
-ghost use Rattle.crush_text.specs.Writes.{Writes};
-ghost use Rattle.crush_script.specs.Sections.{ScriptData, scripts_data, call_count};
-ghost use Rattle.crush_script.specs.History.{turns};
-ghost use Rattle.crush_script.specs.Job.{IsJob};
-ghost use Rattle.crushedit.specs.Entries.{history_data};
-ghost use Rattle.crushedit.specs.Run.{HasJob, IsOfRun, IsRefused, names_of, outcome_text, output, summary_of};
+ghost use Rattle.crush_text.specs.MapText.{map_text};
+ghost use Rattle.crush_bytes.specs.Writes.{Writes};
+ghost use Rattle.crush_script.specs.Entries.{history_data};
+ghost use Rattle.crush_script.specs.HistoryText.{names_of};
+ghost use Rattle.crush_script.specs.Job.{HasJob, IsJob, JobData, JobStands};
+ghost use Rattle.crush_script.specs.Sections.{scripts_data, call_count};
+ghost use Rattle.crushedit.specs.Run.{IsRunFault, output, summary_of};
+ghost use Rattle.crushedit.specs.Stages.{IsOutcomeFault, lines_asked};
+ghost use Rattle.crush_units.specs.declared.limits.TheConstants.{MOST_CALLS, MOST_ENTRIES};
 
-use crate::entry::Entry;
 use crate::fault::RunFault;
-use crate::history::{count_changes, write_history};
 use crate::input::read_bytes;
-use crate::turns::run_in_turn;
+use crush_bytes::put;
 use crush_map::CrushMap;
-use crush_script::{Job, Script, read_job};
-use crush_text::{WriteFault, write_map};
-use std::alloc::Global;
+use crush_script::{Entry, Job, Script, count_changes, history_text, read_job, run_in_turn};
+use crush_text::write_map;
+use std::alloc::{AllocError, Global};
 use std::io::{Read, Write};
 
 /// How a job is to be run.
@@ -44,7 +43,25 @@ pub struct Summary {
     pub changes: u32,
 }
 
-/// Writes the map, and the history where it is asked for.
+/// The lines of the history, where they are asked for.
+fn lines_asked(
+    alloc: Global,
+    history: bool,
+    scripts: &[Script],
+    entries: &[Entry<'_>],
+) -> Result<Vec<u8>, AllocError>
+    requires { length entries.now ≤ MOST_ENTRIES }
+    ensures { IfOk result (λ lines. lines.items
+        ≡ lines_asked history (names_of (scripts_data scripts.now)) (history_data entries.now)) }
+{
+    if history {
+        return history_text(alloc, scripts, entries);
+    }
+    Ok(Vec::new(alloc))
+}
+
+/// Writes the map, and behind it the history where it is asked for. Both are laid out before
+/// anything is written.
 fn write_outcome<W: Write>(
     alloc: Global,
     history: bool,
@@ -52,16 +69,19 @@ fn write_outcome<W: Write>(
     scripts: &[Script],
     entries: &[Entry<'_>],
     writer: &mut W,
-) -> Result<(), WriteFault>
-    requires { length entries.now ≤ 65536 }
+) -> Result<(), RunFault>
+    requires { length entries.now ≤ MOST_ENTRIES }
     ensures writes { (t : List Row) → Stands map.now.forest t
-        → Writes result (W.contents writer.old) (W.contents writer.new) (outcome_text history map.now.setting t (names_of (scripts_data scripts.now)) (history_data entries.now)) }
-    ensures none { result ≡ Err WriteFault.OutOfMemory → Keeps (W.contents writer.old) (W.contents writer.new) }
+        → Writes result (W.contents writer.old) (W.contents writer.new)
+        (map_text map.now.setting t
+        ++ lines_asked history (names_of (scripts_data scripts.now)) (history_data entries.now)) }
+    ensures nothing { IfErr result (λ fault. fault ≢ RunFault.Write
+        → Keeps (W.contents writer.old) (W.contents writer.new)) }
+    ensures fault { IfErr result IsOutcomeFault }
 {
+    let lines = lines_asked(alloc, history, scripts, entries)?;
     write_map(alloc, map, writer)?;
-    if history {
-        write_history(scripts, entries, writer)?;
-    }
+    put(writer, lines.as_slice())?;
     Ok(())
 }
 
@@ -72,12 +92,15 @@ fn run_scripts<W: Write>(
     job: Job,
     writer: &mut W,
 ) -> Result<Summary, RunFault>
-    requires { call_count (scripts_data job.scripts.items) ≤ 65536 }
-    ensures writes { (s : SettingData) (t : List Row) → MapStands job.map s t
-        → Writes result (W.contents writer.old) (W.contents writer.new) (output mode.history s t (scripts_data job.scripts.items)) }
-    ensures summary { IfOk result (λ summary. (s : SettingData) (t : List Row) → MapStands job.map s t → summary ≡ summary_of job.adjusted (turns s t (scripts_data job.scripts.items))) }
-    ensures nothing { IfErr result (λ fault. fault ≢ RunFault.Write → Keeps (W.contents writer.old) (W.contents writer.new)) }
-    ensures fault { IfErr result IsOfRun }
+    requires { call_count (scripts_data job.scripts.items) ≤ MOST_CALLS }
+    ensures writes { (read : JobData) → JobStands job read
+        → Writes result (W.contents writer.old) (W.contents writer.new)
+        (output mode.history read) }
+    ensures summary { IfOk result (λ summary. (read : JobData) → JobStands job read
+        → summary ≡ summary_of read) }
+    ensures nothing { IfErr result (λ fault. fault ≢ RunFault.Write
+        → Keeps (W.contents writer.old) (W.contents writer.new)) }
+    ensures fault { IfErr result IsOutcomeFault }
 {
     let Job {
         mut map,
@@ -105,7 +128,8 @@ fn run_scripts<W: Write>(
 ///
 /// After [`RunFault::Write`] a front of the output was written, after any other fault nothing.
 /// [`RunFault::Job`] says what is wrong with the bytes, and never that memory lacked, which is
-/// [`RunFault::Memory`]. The reader is asked for at most 16,777,217 bytes, at most that many times.
+/// [`RunFault::Memory`]; of bytes that are no job it is never told that a write failed. The reader
+/// is asked for at most 16,777,217 bytes, at most that many times.
 pub fn run_job<H: AllocGlobal, R: Read, W: Write>(
     rt: &H,
     mode: Mode,
@@ -115,15 +139,22 @@ pub fn run_job<H: AllocGlobal, R: Read, W: Write>(
     // Where the run is done, what was read is a job.
     ensures job { IfOk result (λ _. IfSome (R.remaining reader.old) HasJob) }
 
-    // For whatever job the bytes are, what is written is its text, or after a fault a front of it; and the summary is that of its history.
-    ensures output { IfSome (R.remaining reader.old) (λ bytes. (s : SettingData) (t : List Row) (adjusted : ℕ) (scripts : List ScriptData) → IsJob bytes s t adjusted scripts
-        → Writes result (W.contents writer.old) (W.contents writer.new) (output mode.history s t scripts)) }
-    ensures summary { IfOk result (λ summary. IfSome (R.remaining reader.old) (λ bytes. (s : SettingData) (t : List Row) (adjusted : ℕ) (scripts : List ScriptData) → IsJob bytes s t adjusted scripts
-        → summary ≡ summary_of adjusted (turns s t scripts))) }
+    // For whatever job the bytes are, what is written is its output, or after a fault a front of
+    // it. So the output is a function of the bytes.
+    ensures output { (bytes : List ℕ) (job : JobData) → R.remaining reader.old ≡ Some bytes
+        → IsJob bytes job → Writes result (W.contents writer.old) (W.contents writer.new)
+        (output mode.history job) }
 
-    // Only a failed write leaves anything, and bytes are refused for what is wrong with them.
-    ensures nothing { IfErr result (λ fault. fault ≢ RunFault.Write → Keeps (W.contents writer.old) (W.contents writer.new)) }
-    ensures refused { IfErr result (IsRefused (R.remaining reader.old)) }
+    // And the summary is that of its history.
+    ensures summary { (bytes : List ℕ) (job : JobData) → R.remaining reader.old ≡ Some bytes
+        → IsJob bytes job → IfOk result (λ summary. summary ≡ summary_of job) }
+
+    // Only a failed write leaves anything.
+    ensures nothing { IfErr result (λ fault. fault ≢ RunFault.Write
+        → Keeps (W.contents writer.old) (W.contents writer.new)) }
+
+    // Bytes are refused for what is wrong with them, and only a job's are written of.
+    ensures fault { IfErr result (IsRunFault (R.remaining reader.old)) }
 {
     let alloc = rt.alloc();
     let bytes = read_bytes(alloc, reader)?;

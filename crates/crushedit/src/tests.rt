@@ -5,6 +5,7 @@ use crate::report::report;
 use crate::run::{Mode, Summary};
 use std::test::Fail;
 
+mod command_line;
 mod failing;
 mod limits;
 mod refusals;

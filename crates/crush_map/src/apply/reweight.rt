@@ -1,13 +1,14 @@
 //! A new weight for one device.
 
-ghost use Rattle.std.specs.Prelude.{◌≡◌, List, Some, OnErr, MatchResult};
+ghost use Rattle.std.specs.Prelude.{◌≡◌, List, IfOk, IfErr, OnErr};
 ghost use Rattle.crush_table.specs.Table.{Row};
-ghost use Rattle.crush_table.specs.Rows.{Stands, rows_of};
+ghost use Rattle.crush_table.specs.Forest.{rows_of};
+ghost use Rattle.crush_table.specs.Stands.{Stands};
 ghost use Rattle.crush_table.specs.Setting.{SettingData, Fits};
 ghost use Rattle.crush_map.specs.declared.edit.Edit.TheVariants.{Reweight};
-ghost use Rattle.crush_map.specs.Edit.{edit, refusal};
-ghost use Rattle.crush_map.specs.Can.{CanReweight};
-ghost use Rattle.crush_map.specs.Outcome.{IsReply};
+ghost use Rattle.crush_map.specs.Edit.{edit, refusal, refused};
+ghost use Rattle.crush_map.specs.Edits.Reweight.{CanReweight};
+ghost use Rattle.crush_map.specs.Outcome.{IsDone};
 
 use crate::refusal::{Done, Refusal};
 use crush_tree::Forest;
@@ -20,13 +21,16 @@ fn reweighted<A: Allocator>(
     name: &Name<Global>,
     weight: Weight,
 ) -> Result<DeviceId, Refusal>
-    ensures { (s : SettingData) → (t : List Row) → Stands forest.now t → MatchResult result (λ d. CanReweight t name.now weight d) (λ r. refusal s t (Reweight name.now weight) ≡ Some r) }
+    ensures can { IfOk result (λ d. (t : List Row) → Stands forest.now t
+        → CanReweight t name.now weight d) }
+    ensures refused { IfErr result (λ r. (s : SettingData) (t : List Row) → Stands forest.now t
+        → refusal s t (Reweight name.now weight) ≡ Some r) }
 {
-    forest.sound();
+    forest.recall_invariant();
     if !weight.is_device_weight() {
         return Err(Refusal::WeightTooLarge);
     }
-    let Some(id) = forest.id_of(name.as_bytes()) else {
+    let Some(id) = forest.id_of(name.as_str()) else {
         return Err(Refusal::NoSuchItem);
     };
     let ItemId::Device(device) = id else {
@@ -47,11 +51,14 @@ pub(super) fn reweight<A: Allocator>(
     name: &Name<Global>,
     weight: Weight,
 ) -> Result<Done, Refusal>
-    ensures answer { (s : SettingData) → (t : List Row) → Stands forest.old t → IsReply (Stands forest.new) (edit s t (Reweight name.now weight)) result }
+    ensures done { IfOk result (λ d. (s : SettingData) (t : List Row) → Stands forest.old t
+        → IsDone (Stands forest.new) (edit s t (Reweight name.now weight)) d) }
+    ensures refused { IfErr result (λ r. (s : SettingData) (t : List Row) → Stands forest.old t
+        → edit s t (Reweight name.now weight) ≡ refused r) }
     ensures fits { (s : SettingData) → Fits s (rows_of forest.old) → Fits s (rows_of forest.new) }
     ensures kept { OnErr result (forest.new ≡ forest.old) }
 {
-    forest.sound();
+    forest.recall_invariant();
     let device = reweighted(forest, name, weight)?;
     let changed = forest.weight(ItemId::Device(device)) != Some(weight);
     forest.set_weight(device, weight);

@@ -1,22 +1,42 @@
-//! One word of a map's text, and what it is where a word of its kind is due.
+//! One word of a map's text.
 
-ghost use Rattle.std.specs.Prelude.{◌≡◌, ◌<◌, ◌≤◌, ◌||◌, ◌&&◌, ◌^◌, if◌then◌else◌, length, true, IfOk, OnOk, Some, None};
+ghost use Rattle.std.specs.Prelude.{◌≡◌, ◌<◌, ◌≤◌, ◌||◌, if◌then◌else◌, length, true, IfOk, OnOk, Some, None};
 ghost use Rattle.std.specs.List.{list_all};
 ghost use Rattle.std.specs.Char.{is_ascii_digit};
 ghost use Rattle.std.specs.Str.Parse.{digits_value};
 ghost use Rattle.crush_units.specs.Name.{is_name};
-ghost use Rattle.crush_units.specs.Weight.{are_digits};
-ghost use Rattle.crush_text.specs.Words.{is_brace_word};
-ghost use Rattle.crush_text.specs.Statements.{is_number};
+ghost use Rattle.crush_bytes.specs.Words.{is_brace_word};
+ghost use Rattle.crush_text.specs.Forms.{is_number};
+ghost use Rattle.crush_text.specs.Reads.{Gives, word_of, next_at};
 
 use crate::fault::{TextFault, TextFaultKind};
-use crush_units::{Alg, BucketId};
+use crush_bytes::{Reader, Token};
 
 /// A word of a text, and the place of its first byte.
 #[derive(Clone, Copy)]
-pub(crate) struct Found<'a> {
+pub(crate) struct PlacedWord<'a> {
     pub(crate) place: usize,
     pub(crate) text: &'a [u8],
+}
+
+/// The next word of a text, or the fault where there is none.
+#[tactic(auto, unfolding(crate::specs::Reads::next_at))]
+pub(crate) fn next_word<'a>(reader: &mut Reader<'a>) -> Result<PlacedWord<'a>, TextFault>
+    ensures gives { Gives (λ w. (word_of w, reader.new)) result (next_at reader.old) }
+    ensures formed { IfOk result (λ w. (is_brace_word w.text.now || is_name w.text.now) ≡ true) }
+    ensures shorter { OnOk result (length reader.new.words < length reader.old.words) }
+{
+    match reader.next() {
+        Token::Word { place, text } => Ok(PlacedWord { place, text }),
+        Token::End { place } => Err(TextFault {
+            kind: TextFaultKind::Ended,
+            place,
+        }),
+        Token::Bad { place } => Err(TextFault {
+            kind: TextFaultKind::BadWord,
+            place,
+        }),
+    }
 }
 
 fn all_digits(text: &[u8]) -> bool
@@ -44,7 +64,7 @@ fn value_of(digits: &[u8]) -> u64
 }
 
 /// The number that 1 to 10 digits write, where it is at most `most`.
-fn number_up_to(most: u32, text: &[u8]) -> Option<u32>
+pub(crate) fn number_up_to(most: u32, text: &[u8]) -> Option<u32>
     ensures { result ≡ (if is_number most text.now then Some (digits_value 10 text.now) else None) }
 {
     if text.is_empty() || text.len() > 10 || !all_digits(text) {
@@ -57,10 +77,7 @@ fn number_up_to(most: u32, text: &[u8]) -> Option<u32>
     Some(value as u32)
 }
 
-impl<'a> Found<'a> {
-    ghost use Rattle.crush_text.specs.Judges.{key, left_out, number, plain, below_zero, alg_word, algorithm, item_or_end, weight_word};
-    ghost use Rattle.crush_text.specs.Flow.{placed};
-
+impl<'a> PlacedWord<'a> {
     /// A fault at the word.
     pub(crate) fn fault(self, kind: TextFaultKind) -> TextFault
         ensures { result ≡ record { kind = kind; place = self.entry.place } }
@@ -76,97 +93,5 @@ impl<'a> Found<'a> {
         ensures { result ≡ is_brace_word self.entry.text.now }
     {
         self.text == b"{".as_slice() || self.text == b"}".as_slice()
-    }
-
-    /// Takes the word where it is the expected one.
-    pub(crate) fn must_be(self, expected: &[u8]) -> Result<(), TextFault>
-        ensures { result ≡ placed self.entry.place (key expected.now self.entry.text.now) }
-    {
-        if self.text == expected {
-            Ok(())
-        } else {
-            Err(self.fault(TextFaultKind::Unexpected))
-        }
-    }
-
-    /// A number from 0 to `most`, of 1 to 10 digits.
-    pub(crate) fn number(self, most: u32) -> Result<u32, TextFault>
-        ensures { result ≡ placed self.entry.place (number most self.entry.text.now) }
-    {
-        if self.is_brace() {
-            return Err(self.fault(TextFaultKind::Unexpected));
-        }
-        match number_up_to(most, self.text) {
-            Some(number) => Ok(number),
-            None => Err(self.fault(TextFaultKind::BadNumber)),
-        }
-    }
-
-    /// The id of a bucket: `-` and a number from 1 to 2147483648.
-    pub(crate) fn bucket_id(self) -> Result<BucketId, TextFault>
-        ensures { result ≡ placed self.entry.place (below_zero self.entry.text.now) }
-    {
-        if self.is_brace() {
-            return Err(self.fault(TextFaultKind::Unexpected));
-        }
-        let [b'-', digits @ ..] = self.text else {
-            return Err(self.fault(TextFaultKind::BadNumber));
-        };
-        match number_up_to(2147483648, digits).and_then(BucketId::below_zero) {
-            Some(id) => Ok(id),
-            None => Err(self.fault(TextFaultKind::BadNumber)),
-        }
-    }
-
-    /// `alg`, or `id` of a class id line, which isn't read.
-    pub(crate) fn alg_word(self) -> Result<(), TextFault>
-        ensures { result ≡ placed self.entry.place (alg_word self.entry.text.now) }
-    {
-        if self.text == b"alg".as_slice() {
-            Ok(())
-        } else if self.text == b"id".as_slice() {
-            Err(self.fault(TextFaultKind::LeftOut))
-        } else {
-            Err(self.fault(TextFaultKind::Unexpected))
-        }
-    }
-
-    /// An algorithm.
-    pub(crate) fn algorithm(self) -> Result<Alg, TextFault>
-        ensures { result ≡ placed self.entry.place (algorithm self.entry.text.now) }
-    {
-        if self.is_brace() {
-            return Err(self.fault(TextFaultKind::Unexpected));
-        }
-        match Alg::read(self.text) {
-            Some(alg) => Ok(alg),
-            None => Err(self.fault(TextFaultKind::OtherAlgorithm)),
-        }
-    }
-
-    /// Whether one more item follows, or the bucket ends. `pos` behind an item isn't read.
-    pub(crate) fn item_or_end(self, any: bool) -> Result<bool, TextFault>
-        ensures { result ≡ placed self.entry.place (item_or_end any self.entry.text.now) }
-    {
-        if self.text == b"item".as_slice() {
-            Ok(true)
-        } else if self.text == b"}".as_slice() {
-            Ok(false)
-        } else if any && self.text == b"pos".as_slice() {
-            Err(self.fault(TextFaultKind::LeftOut))
-        } else {
-            Err(self.fault(TextFaultKind::Unexpected))
-        }
-    }
-
-    /// `weight`; an item without a weight isn't read.
-    pub(crate) fn weight_word(self) -> Result<(), TextFault>
-        ensures { result ≡ placed self.entry.place (weight_word self.entry.text.now) }
-    {
-        if self.text == b"weight".as_slice() {
-            Ok(())
-        } else {
-            Err(self.fault(TextFaultKind::LeftOut))
-        }
     }
 }

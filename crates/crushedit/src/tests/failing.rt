@@ -1,6 +1,6 @@
 //! Readers and writers that fail, and a reader that never ends.
 
-use super::{MODE, PLAIN, is_told, joined};
+use super::{MODE, PLAIN, REWEIGHED, is_told, joined};
 use crate::fault::RunFault;
 use crate::run::run_job;
 use crush_script::JobFault;
@@ -28,47 +28,24 @@ impl Read for FailingReader<'_> {
     }
 }
 
-/// Takes at most 7 bytes a write, and at one of the writes answers an error or takes none.
+/// Takes at most 7 bytes a write, as long as it has room, and then answers an error or takes none.
 #[derive(Drop)]
 pub(super) struct FailingWriter {
     pub(super) taken: Vec<u8>,
-    pub(super) writes_left: usize,
+    pub(super) room: usize,
     pub(super) answers_error: bool,
 }
 
 impl Write for FailingWriter {
     fn write(&mut self, bytes: &[u8]) -> io::Result<usize> {
-        if self.writes_left == 0 {
-            return if self.answers_error {
-                Err(ErrorKind::Other.into())
-            } else {
-                Ok(0)
-            };
+        let most = bytes.len().min(self.room).min(7);
+        if most == 0 && self.answers_error {
+            return Err(ErrorKind::Other.into());
         }
-        self.writes_left -= 1;
-        let (now, _) = bytes.split_at(bytes.len().min(7));
+        self.room -= most;
+        let (now, _) = bytes.split_at(most);
         self.taken.extend_from_slice(now)?;
-        Ok(now.len())
-    }
-
-    fn flush(&mut self) -> io::Result<()> {
-        Ok(())
-    }
-}
-
-/// Takes at most 7 bytes a write, and keeps how many it had before each.
-#[derive(Drop)]
-struct CountingWriter {
-    taken: usize,
-    before: Vec<usize>,
-}
-
-impl Write for CountingWriter {
-    fn write(&mut self, bytes: &[u8]) -> io::Result<usize> {
-        self.before.push(self.taken)?;
-        let count = bytes.len().min(7);
-        self.taken = self.taken.saturating_add(count);
-        Ok(count)
+        Ok(most)
     }
 
     fn flush(&mut self) -> io::Result<()> {
@@ -113,23 +90,19 @@ fn stops_at_a_failed_read(rt: HostRuntime) -> Result<(), Fail> {
 #[test]
 fn leaves_a_front_at_a_failed_write(rt: HostRuntime) -> Result<(), Fail> {
     let job = joined(&rt, PLAIN, b"%operator a\nreweight osd.2 1.0\n")?;
-    let mut whole = Vec::new(rt.alloc());
-    assert!(rt; run_job(&rt, MODE, &mut job.as_slice(), &mut whole).is_ok());
-    let before = Vec::new(rt.alloc());
-    let mut counting = CountingWriter { taken: 0, before };
-    assert!(rt; run_job(&rt, MODE, &mut job.as_slice(), &mut counting).is_ok());
-    assert_eq!(rt; counting.taken, whole.len());
+    let line = b"# 1 a reweight osd.2 1.00000 = done changed 1 made 0\n";
+    let whole = joined(&rt, REWEIGHED, line.as_slice())?;
     for answers_error in [true, false] {
-        for (writes_left, length) in counting.before.iter().enumerate() {
+        for room in 0..whole.len() {
             let taken = Vec::new(rt.alloc());
             let mut writer = FailingWriter {
                 taken,
-                writes_left,
+                room,
                 answers_error,
             };
             let outcome = run_job(&rt, MODE, &mut job.as_slice(), &mut writer);
             assert!(rt; outcome == Err(RunFault::Write));
-            assert_eq!(rt; writer.taken.len(), *length);
+            assert_eq!(rt; writer.taken.len(), room);
             assert!(rt; whole.starts_with(writer.taken.as_slice()));
             assert!(rt; is_told(&rt, &outcome, b"crushedit: write fault\n", 3));
         }

@@ -1,4 +1,4 @@
-//! Bytes that are no job, each with its fault, the line that standard error is told, and the status.
+//! Bytes that are no job, each with its fault, the line of standard error, and the status.
 
 use super::{MODE, PLAIN, is_told, joined};
 use crate::fault::RunFault;

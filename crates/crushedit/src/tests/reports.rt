@@ -5,8 +5,9 @@ use super::is_told;
 use crate::fault::RunFault;
 use crate::report::report;
 use crate::run::Summary;
+use crush_bytes::WriteFault;
 use crush_script::JobFault;
-use crush_text::{TextFault, TextFaultKind, WriteFault};
+use crush_text::{TextFault, TextFaultKind};
 use std::alloc::AllocError;
 
 #[test]
@@ -52,6 +53,8 @@ fn reports_each_outcome(rt: HostRuntime) {
 
 #[test]
 fn want_of_memory_is_one_fault(rt: HostRuntime) {
+    let of_job = Err(RunFault::Job(JobFault::OutOfMemory));
+    assert!(rt; is_told(&rt, &of_job, b"crushedit: out of memory\n", 4));
     assert!(rt; RunFault::from(JobFault::OutOfMemory) == RunFault::Memory);
     assert!(rt; RunFault::from(WriteFault::OutOfMemory) == RunFault::Memory);
     assert!(rt; RunFault::from(AllocError) == RunFault::Memory);
@@ -62,7 +65,7 @@ fn keeps_the_status_where_standard_error_fails(rt: HostRuntime) {
     let taken = Vec::new(rt.alloc());
     let mut err = FailingWriter {
         taken,
-        writes_left: 0,
+        room: 0,
         answers_error: true,
     };
     assert_eq!(rt; report(&Err(RunFault::Memory), &mut err), 4);
@@ -74,7 +77,7 @@ fn leaves_a_front_of_the_line_where_standard_error_fails(rt: HostRuntime) {
     let taken = Vec::new(rt.alloc());
     let mut err = FailingWriter {
         taken,
-        writes_left: 2,
+        room: 14,
         answers_error: false,
     };
     assert_eq!(rt; report(&Err(RunFault::Read), &mut err), 3);

@@ -1,5 +1,5 @@
 use Rattle.std.proofs.lemmas.Result.{err_from_is_err_and}
-use Rattle.crush_text.proofs.Appending.{front_of_both, then_front}
+use Rattle.crush_bytes.proofs.Appending.{front_of_both, then_front}
 use Rattle.crush_script.proofs.Writing.{then_writes}
 use Rattle.crush_script.proofs.history.write_entry.Goals as goal
 

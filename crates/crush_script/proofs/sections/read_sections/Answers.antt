@@ -8,4 +8,4 @@ pub returns : goal.returns
 unfolding with_lines lines
 returns c =
     let none : c.loop-rest.rest.now ≡ [] = nil_from_length c.loop-rest.rest.now (search rules) in
-    c.loop-rest.invariant.0 ∙ rw none refl
+    c.loop-rest.invariant.steps ∙ rw none refl

@@ -2,6 +2,7 @@ use Rattle.crush_table.proofs.Appended.{Lawful-push_device, Lawful-push_bucket}
 use Rattle.crush_table.proofs.Attached.{Lawful-attach}
 use Rattle.crush_table.proofs.Columns.{Lawful-set_weight, Lawful-set_subtree}
 use Rattle.crush_table.proofs.Moved.{Lawful-moved}
+use Rattle.crush_table.proofs.Parted.{Lawful-part_placed}
 use Rattle.crush_table.proofs.Removed.{Lawful-without}
 use Rattle.crush_table.proofs.Renamed.{Lawful-set_name}
 use Rattle.crush_table.proofs.Swapped.{Lawful-swap}
@@ -18,4 +19,5 @@ returns c = record {
   device = Lawful-push_device;
   bucket = Lawful-push_bucket;
   rows = Lawful-attach;
+  part = Lawful-part_placed;
 }

@@ -1,5 +1,5 @@
 use Rattle.std.proofs.Common.{◌≡◌, ◌++◌, take}
-use Rattle.crush_tree.specs.Seen.{items_of}
+use Rattle.crush_nodes.specs.Seen.{items_of}
 use Rattle.crush_text.specs.ItemsText.{item_lines}
 use Rattle.crush_text.proofs.lines.push_items.Given as goal
 

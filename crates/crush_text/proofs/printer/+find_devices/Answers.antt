@@ -1,8 +1,8 @@
 use Rattle.std.proofs.Common.{◌≡◌, arith, ap, ◌∙◌, map}
 use Rattle.std.proofs.lemmas.List.{map_push}
 use Rattle.crush_table.specs.Items.{BucketData, size_of}
-use Rattle.crush_tree.specs.Seen.{items_of, leaf_data}
-use Rattle.crush_tree.proofs.Steps.{kids_smaller}
+use Rattle.crush_nodes.specs.Seen.{items_of, leaf_data}
+use Rattle.crush_nodes.proofs.Steps.{kids_smaller}
 use Rattle.crush_text.proofs.ItemLines.{found_device, found_below}
 use Rattle.crush_text.proofs.printer.+find_devices.Goals as goal
 use Rattle.crush_text.proofs.printer.+find_devices.Goals.{in-Device+in_ok-push-in-Device, in-Bucket+in_ok-find_devices-in-Bucket}

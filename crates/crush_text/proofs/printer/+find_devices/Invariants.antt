@@ -1,6 +1,6 @@
 use Rattle.std.proofs.Common.{◌≡◌, ◌++◌, take, map}
 use Rattle.crush_table.specs.Items.{size_of}
-use Rattle.crush_tree.specs.Seen.{leaf_data, items_of}
+use Rattle.crush_nodes.specs.Seen.{leaf_data, items_of}
 use Rattle.crush_text.specs.ItemsText.{leaves}
 use Rattle.crush_text.proofs.printer.+find_devices.Given as goal
 

@@ -1,6 +1,6 @@
 use Rattle.std.proofs.Common.{◌≡◌, [], ◌∷◌, arith, ap, ◌∙◌}
 use Rattle.crush_table.specs.Items.{BucketData, size_of}
-use Rattle.crush_tree.specs.Seen.{items_of}
+use Rattle.crush_nodes.specs.Seen.{items_of}
 use Rattle.crush_text.proofs.ItemLines.{item_no_larger, texts-more, one_more}
 use Rattle.crush_text.proofs.printer.+push_node.Goals as goal
 

@@ -1,8 +1,8 @@
 use Rattle.std.proofs.Common.{ap, ◌∙◌, take}
 use Rattle.std.specs.Prelude.{None, codes, flat_map}
 use Rattle.std.proofs.lemmas.List.{take_all}
-use Rattle.crush_table.specs.Rows.{device_row}
-use Rattle.crush_tree.specs.Seen.{leaf_data}
+use Rattle.crush_table.specs.ItemRows.{device_row}
+use Rattle.crush_nodes.specs.Seen.{leaf_data}
 use Rattle.crush_text.specs.Lines.{device_line}
 use Rattle.crush_text.specs.MapText.{device_lines, device_section}
 use Rattle.crush_text.proofs.InOrder.{section_done}

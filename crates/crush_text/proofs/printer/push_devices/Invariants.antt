@@ -1,7 +1,7 @@
 use Rattle.std.proofs.Common.{◌≡◌, ◌++◌, take}
 use Rattle.std.specs.Prelude.{None, flat_map}
-use Rattle.crush_table.specs.Rows.{device_row}
-use Rattle.crush_tree.specs.Seen.{leaf_data}
+use Rattle.crush_table.specs.ItemRows.{device_row}
+use Rattle.crush_nodes.specs.Seen.{leaf_data}
 use Rattle.crush_text.specs.Lines.{device_line}
 use Rattle.crush_text.proofs.printer.push_devices.Given as goal
 

@@ -1,6 +1,6 @@
 use Rattle.std.proofs.Common.{◌≡◌, [], ◌∷◌, ◌++◌, take}
 use Rattle.std.specs.Prelude.{flat_map}
-use Rattle.crush_tree.specs.Seen.{items_of}
+use Rattle.crush_nodes.specs.Seen.{items_of}
 use Rattle.crush_text.specs.ItemsText.{texts}
 use Rattle.crush_text.proofs.printer.push_roots.Given as goal
 

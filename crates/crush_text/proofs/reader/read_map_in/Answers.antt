@@ -1,7 +1,7 @@
 -- What comes of all statements is what the text says.
 use Rattle.std.proofs.Common.{◌∙◌, sym, subst}
 use Rattle.std.proofs.lemmas.Result.{err_from_is_err_and}
-use Rattle.crush_table.specs.Rows.{Stands}
+use Rattle.crush_table.specs.Stands.{Stands}
 use Rattle.crush_table.specs.Setting.{SettingData}
 use Rattle.crush_map.specs.Built.{empty_draft}
 use Rattle.crush_text.specs.Document.{IsMapText}

@@ -1,32 +1,39 @@
-use Rattle.std.proofs.Common.{List, [], ap, ◌∙◌}
+use Rattle.std.proofs.Common.{◌≡◌, List, ap, ◌∙◌}
 use Rattle.crush_units.specs.declared.id.ItemId.TheVariants.{Device}
 use Rattle.crush_table.specs.Table.{Row}
 use Rattle.crush_table.specs.Columns.{set_weight}
-use Rattle.crush_table.specs.Rows.{rows_of, Stands}
+use Rattle.crush_table.specs.Forest.{rows_of}
+use Rattle.crush_table.specs.Stands.{Stands}
 use Rattle.crush_table.proofs.Stands.{stands_for_rows}
 use Rattle.crush_table.proofs.Same.{Same-sym, Fits-same}
 use Rattle.crush_map.specs.declared.edit.Edit.TheVariants.{Reweight}
-use Rattle.crush_map.specs.Edit.{done}
-use Rattle.crush_map.proofs.ReweightLaws.{reweight_done, refused_reply, refused_edit, weight_changes, light_bound}
+use Rattle.crush_map.specs.declared.edit.Edit.{Edit}
+use Rattle.crush_table.specs.Setting.{SettingData}
+use Rattle.crush_map.specs.Edit.{edit, refused, done}
+use Rattle.crush_map.proofs.Refused.{passed_on}
+use Rattle.crush_map.proofs.Edits.Reweight.{reweight_done, refused_edit, weight_changes, light_bound}
 use Rattle.crush_table.proofs.Columns.{Lawful-set_weight}
 use Rattle.crush_map.proofs.TableLaws.{Fits-set_weight}
 use Rattle.crush_map.proofs.apply.reweight.reweight.Goals as goal
 
-pub returns-in_err-device-clause-answer : goal.returns-in_err-device-clause-answer
-returns-in_err-device-clause-answer g c = λ s t st. refused_reply (Stands c.args.forest.now) _ _ _ (c.from_residual.ensures.1) (refused_edit s t (Reweight c.args.name.now c.args.weight) _ (c.in_err-device.ensures s t st))
+pub returns-in_err-device-clause-refused : goal.returns-in_err-device-clause-refused
+returns-in_err-device-clause-refused g c =
+    let e : Edit = Reweight c.args.name.now c.args.weight in
+    passed_on (λ r. (s : SettingData) (t : List Row) → Stands c.args.forest.now t → edit s t e ≡ refused r) _ _ c.from_residual.ensures.1
+    (λ s t st. refused_edit s t e _ (c.in_err-device.ensures.refused s t st))
 
 pub set_weight-requires-clause-placed : goal.set_weight-requires-clause-placed
 set_weight-requires-clause-placed g c =
-    (c.in_ok-device.ensures (record { kinds = [] }) (rows_of c.args.forest.now) (stands_for_rows c.args.forest.now c.sound.ensures)).placed
+    (c.in_ok-device.ensures.can (rows_of c.args.forest.now) (stands_for_rows c.args.forest.now c.recall_invariant.ensures)).placed
 
 pub set_weight-requires-clause-fits : goal.set_weight-requires-clause-fits
 set_weight-requires-clause-fits g c =
-    let can = c.in_ok-device.ensures (record { kinds = [] }) (rows_of c.args.forest.now) (stands_for_rows c.args.forest.now c.sound.ensures) in
-    Lawful-set_weight (rows_of c.args.forest.now) c.in_ok-device.device c.args.weight c.sound.ensures.lawful can.placed (light_bound c.args.weight can.light) can.fits
+    let can = c.in_ok-device.ensures.can (rows_of c.args.forest.now) (stands_for_rows c.args.forest.now c.recall_invariant.ensures) in
+    Lawful-set_weight (rows_of c.args.forest.now) c.in_ok-device.device c.args.weight c.recall_invariant.ensures.lawful can.placed (light_bound c.args.weight can.light) can.fits
 
-pub returns-clause-answer : goal.returns-clause-answer
-returns-clause-answer g c = λ s t st.
-    let can = c.in_ok-device.ensures s t st in
+pub returns-clause-done : goal.returns-clause-done
+returns-clause-done g c = λ s t st.
+    let can = c.in_ok-device.ensures.can t st in
     let d = c.in_ok-device.device in
     let w = c.args.weight in
     let u : List Row = set_weight (Device d) w t in
@@ -37,5 +44,5 @@ pub returns-clause-fits : goal.returns-clause-fits
 returns-clause-fits g c = λ s f.
     let t : List Row = rows_of c.args.forest.now in
     let u : List Row = set_weight (Device c.in_ok-device.device) c.args.weight t in
-    let after : Stands c.set_weight.new.self u = c.set_weight.ensures.stands t (stands_for_rows c.args.forest.now c.sound.ensures) in
+    let after : Stands c.set_weight.new.self u = c.set_weight.ensures.stands t (stands_for_rows c.args.forest.now c.recall_invariant.ensures) in
     Fits-same s u (rows_of c.set_weight.new.self) (Same-sym (rows_of c.set_weight.new.self) u after.same) (Fits-set_weight s (Device c.in_ok-device.device) c.args.weight t f)

@@ -2,21 +2,23 @@ use Rattle.std.proofs.Common.{◌≡◌, [], ◌∷◌, ◌++◌, subst, sym, ap
 use Rattle.std.specs.Prelude.{None}
 use Rattle.crush_table.specs.Items.{Items, device, none}
 use Rattle.crush_table.specs.Lawful.{Lawful}
-use Rattle.crush_table.specs.Rows.{rows, rows_of, Stands}
+use Rattle.crush_table.specs.Forest.{rows_of}
+use Rattle.crush_table.specs.ItemRows.{rows}
+use Rattle.crush_table.specs.Stands.{Stands}
 use Rattle.crush_table.proofs.Weighs.{or_left}
-use Rattle.crush_tree.specs.Seen.{items_of}
-use Rattle.crush_map.specs.Parts.{part_data}
+use Rattle.crush_nodes.specs.Seen.{items_of}
+use Rattle.crush_map.specs.Pending.{pending_data}
 use Rattle.crush_map.specs.Built.{Draft, with_device}
 use Rattle.crush_map.specs.Building.{BuilderData, IsDraft, own_draft}
-use Rattle.crush_map.proofs.Drafts.{own_is_draft, reserved, draft_fits}
+use Rattle.crush_map.proofs.Drafts.{own_is_draft, room_is_draft, draft_fits}
 use Rattle.crush_map.proofs.RowSteps.{device_lawful, device_step}
 use Rattle.crush_map.proofs.builder.MapBuilder.device.Goals as goal
 
 pub attach-requires-clause-fits : goal.attach-requires-clause-fits
 attach-requires-clause-fits g c =
-    let b : BuilderData = record { setting = c.self.inside.setting; forest = c.self.inside.forest; pending = part_data c.self.inside.part } in
+    let b : BuilderData = record { setting = c.self.inside.setting; forest = c.self.inside.forest; pending = pending_data c.self.inside.pending } in
     let d : Draft = record { setting = b.setting; table = rows_of c.reserve.new.self; pending = b.pending } in
-    let at : IsDraft c.args.self.now d = subst (λ (x : BuilderData). IsDraft x d) c.self.view_is (reserved b c.reserve.new.self c.sound.ensures c.self.invariant c.reserve.ensures.stands) in
+    let at : IsDraft c.args.self.now d = subst (λ (x : BuilderData). IsDraft x d) c.self.view_is (room_is_draft b c.reserve.new.self c.recall_invariant.ensures c.self.invariant c.reserve.ensures.stands) in
     let node : ◌≡◌ {A = Items} (device (record { id = c.args.id; name = c.args.name.now; weight = 0; class = None }) none) (items_of (c.device-node.result ∷ [])) =
     sym (c.device-node.ensures ∙ (λ i. device (record { id = c.args.id; name = c.in_ok-name.ensures i; weight = c.from_units.ensures i; class = None }) none)) in
     subst (λ (n : Items). Lawful (d.table ++ rows None n)) node
@@ -24,9 +26,9 @@ attach-requires-clause-fits g c =
 
 pub invariant_of-self-2 : goal.invariant_of-self-2
 invariant_of-self-2 g c =
-    let b : BuilderData = record { setting = c.self.inside.setting; forest = c.self.inside.forest; pending = part_data c.self.inside.part } in
+    let b : BuilderData = record { setting = c.self.inside.setting; forest = c.self.inside.forest; pending = pending_data c.self.inside.pending } in
     let d : Draft = own_draft b in
-    let own : IsDraft b d = own_is_draft b c.sound.ensures c.self.invariant in
+    let own : IsDraft b d = own_is_draft b c.recall_invariant.ensures c.self.invariant in
     let node : ◌≡◌ {A = Items} (items_of (c.device-node.result ∷ [])) (device (record { id = c.args.id; name = c.args.name.now; weight = 0; class = None }) none) =
     c.device-node.ensures ∙ (λ i. device (record { id = c.args.id; name = c.in_ok-name.ensures i; weight = c.from_units.ensures i; class = None }) none) in
     draft_fits (record b { forest = c.attach.new.self }) (with_device d c.args.id c.args.name.now)
@@ -35,7 +37,7 @@ invariant_of-self-2 g c =
 
 pub returns : goal.returns
 returns g c = λ d i.
-    let b : BuilderData = record { setting = c.self.inside.setting; forest = c.self.inside.forest; pending = part_data c.self.inside.part } in
+    let b : BuilderData = record { setting = c.self.inside.setting; forest = c.self.inside.forest; pending = pending_data c.self.inside.pending } in
     let at : IsDraft b d = subst (λ (x : BuilderData). IsDraft x d) (sym c.self.view_is) i in
     let node : ◌≡◌ {A = Items} (items_of (c.device-node.result ∷ [])) (device (record { id = c.args.id; name = c.args.name.now; weight = 0; class = None }) none) =
     c.device-node.ensures ∙ (λ i. device (record { id = c.args.id; name = c.in_ok-name.ensures i; weight = c.from_units.ensures i; class = None }) none) in

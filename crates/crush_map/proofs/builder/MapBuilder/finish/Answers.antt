@@ -1,5 +1,6 @@
 use Rattle.std.proofs.Common.{ap, sym, subst, ◌∙◌}
-use Rattle.crush_table.specs.Rows.{ForestData, Stands}
+use Rattle.crush_table.specs.Forest.{ForestData}
+use Rattle.crush_table.specs.Stands.{Stands}
 use Rattle.crush_map.specs.Building.{BuilderData}
 use Rattle.crush_map.proofs.builder.MapBuilder.finish.Goals as goal
 

@@ -1,5 +1,5 @@
 use Rattle.std.proofs.Common.{subst, sym, ap, ◌∙◌, arith}
-use Rattle.crush_map.specs.Parts.{part_data}
+use Rattle.crush_map.specs.Pending.{pending_data}
 use Rattle.crush_map.specs.Building.{BuilderData, IsDraft, own_draft}
 use Rattle.crush_map.proofs.Drafts.{own_is_draft}
 use Rattle.crush_map.proofs.RowSteps.{id_fits}
@@ -7,6 +7,6 @@ use Rattle.crush_map.proofs.builder.MapBuilder.id.Goals as goal
 
 pub invariant_of-self : goal.invariant_of-self
 invariant_of-self g c =
-    let b : BuilderData = record { setting = c.self.inside.setting; forest = c.self.inside.forest; pending = part_data c.self.inside.part } in
-    let at : IsDraft c.args.self.now (own_draft b) = subst (λ (x : BuilderData). IsDraft x (own_draft b)) c.self.view_is (own_is_draft b c.sound.ensures c.self.invariant) in
-    id_fits b c.in-Begun.kind c.in-Begun.name c.args.id c.self.invariant (ap part_data (sym c.replace.ensures.value ∙ c.in-Begun.is)) (omega arith) (omega arith) (c.requires.fresh (own_draft b) at)
+    let b : BuilderData = record { setting = c.self.inside.setting; forest = c.self.inside.forest; pending = pending_data c.self.inside.pending } in
+    let at : IsDraft c.args.self.now (own_draft b) = subst (λ (x : BuilderData). IsDraft x (own_draft b)) c.self.view_is (own_is_draft b c.recall_invariant.ensures c.self.invariant) in
+    id_fits b c.in-Begun.kind c.in-Begun.name c.args.id c.self.invariant (ap pending_data (sym c.replace.ensures.value ∙ c.in-Begun.is)) (omega arith) (omega arith) (c.requires.fresh (own_draft b) at)

@@ -1,11 +1,14 @@
 -- A fault of the weight is the fault of the item.
-use Rattle.std.proofs.Common.{sym, inr}
+use Rattle.std.proofs.Common.{inr}
 use Rattle.std.proofs.lemmas.Result.{err_from_is_err_and}
-use Rattle.crush_text.specs.Judges.{own_weight, fitting}
-use Rattle.crush_text.proofs.Passed.{passed_err}
+use Rattle.crush_text.proofs.Weighed.{own_err, own_ok, light_of}
 use Rattle.crush_text.proofs.reader.bucket.add_item.Goals as goal
 
 pub returns-in_err-weight-clause-adds : goal.returns-in_err-weight-clause-adds
 returns-in_err-weight-clause-adds g c = λ d h.
     let p = err_from_is_err_and c.from_residual.result c.from_residual.ensures.1 in
-    rw (p.1, p.2) (inr (passed_err c.args.word.place (own_weight d c.args.item c.args.word.text.now) (fitting d c.args.item) _ (sym (c.in_err-weight.ensures d h))))
+    rw (p.1, p.2) (inr (own_err c.args.word.place d c.args.item c.args.word.text.now _ (c.in_err-weight.ensures d h)))
+
+pub returns-in-Ok-clause-adds : goal.returns-in-Ok-clause-adds
+returns-in-Ok-clause-adds g c = λ d h.
+    (c.in_ok-weight.weight, c.in-Ok.ensures.ok d h, own_ok c.args.word.place d c.args.item c.args.word.text.now c.in_ok-weight.weight (c.in_ok-weight.ensures d h) (light_of c.item.result c.in-Ok.field-0 _ c.in-Ok.is (c.item.ensures.heavy d h).1))

@@ -1,25 +1,32 @@
--- The parts of a bucket one after the other.
-use Rattle.std.proofs.Common.{◌∙◌}
+-- The lines of a bucket, one behind the other.
+use Rattle.std.proofs.Common.{◌∙◌, ap, refl}
 use Rattle.std.proofs.lemmas.Result.{err_from_is_err_and}
-use Rattle.crush_text.proofs.Exits.{fails_all, reads_from}
+use Rattle.crush_text.specs.Form.{second, begun, numbered}
+use Rattle.crush_text.specs.Reads.{then_on}
+use Rattle.crush_text.proofs.LineByLine.{fails_all, next_goes, goes_on}
 use Rattle.crush_text.proofs.reader.bucket.read_bucket.Goals as goal
 
+pub returns-in_err-read_name-clause-reads : goal.returns-in_err-read_name-clause-reads
+returns-in_err-read_name-clause-reads g c = λ d h.
+    let p = err_from_is_err_and c.from_residual.result c.from_residual.ensures.1 in
+    rw (p.1, p.2) (fails_all _ _ _ _ refl (c.in_err-read_name.ensures.reads d h))
+
 pub returns-in_err-read_id-clause-reads : goal.returns-in_err-read_id-clause-reads
-returns-in_err-read_id-clause-reads g c = λ d k h q.
-    let a = c.in_ok-read_name.ensures.reads d k h q in
+returns-in_err-read_id-clause-reads g c = λ d h.
+    let named = c.in_ok-read_name.ensures.reads d h in
     let p = err_from_is_err_and c.from_residual-in_err-read_id.result c.from_residual-in_err-read_id.ensures.1 in
-    rw (p.1, p.2) (fails_all _ a.3 (c.in_err-read_id.ensures.reads a.0 k a.1 a.2))
+    rw (p.1, p.2) (fails_all _ _ _ _ (ap then_on named.2 ∙ next_goes begun named.0 _ refl) (c.in_err-read_id.ensures.reads named.0 named.1))
 
 pub returns-in_err-read_alg-clause-reads : goal.returns-in_err-read_alg-clause-reads
-returns-in_err-read_alg-clause-reads g c = λ d k h q.
-    let a = c.in_ok-read_name.ensures.reads d k h q in
-    let b = c.in_ok-read_id.ensures.reads a.0 k a.1 a.2 in
+returns-in_err-read_alg-clause-reads g c = λ d h.
+    let named = c.in_ok-read_name.ensures.reads d h in
+    let known = c.in_ok-read_id.ensures.reads named.0 named.1 in
     let p = err_from_is_err_and c.from_residual-in_err-read_alg.result c.from_residual-in_err-read_alg.ensures.1 in
-    rw (p.1, p.2) (fails_all _ (a.3 ∙ b.3) (c.in_err-read_alg.ensures.reads b.0 k a.1 b.1 b.2))
+    rw (p.1, p.2) (fails_all _ _ _ _ (ap then_on named.2 ∙ next_goes begun named.0 _ refl ∙ ap then_on known.2 ∙ next_goes numbered known.0 _ refl) (c.in_err-read_alg.ensures.reads known.0 known.1))
 
 pub returns-clause-reads : goal.returns-clause-reads
-returns-clause-reads g c = λ d k h q.
-    let a = c.in_ok-read_name.ensures.reads d k h q in
-    let b = c.in_ok-read_id.ensures.reads a.0 k a.1 a.2 in
-    let e = c.in_ok-read_alg.ensures.reads b.0 k a.1 b.1 b.2 in
-    reads_from _ _ _ _ _ _ (a.3 ∙ b.3 ∙ e.3) (c.read_items.ensures.reads e.0 e.1 e.2)
+returns-clause-reads g c = λ d h.
+    let named = c.in_ok-read_name.ensures.reads d h in
+    let known = c.in_ok-read_id.ensures.reads named.0 named.1 in
+    let made = c.in_ok-read_alg.ensures.reads known.0 known.1 in
+    goes_on second _ _ _ _ _ (ap then_on named.2 ∙ next_goes begun named.0 _ refl ∙ ap then_on known.2 ∙ next_goes numbered known.0 _ refl ∙ ap then_on made.2) (c.read_items.ensures.reads made.0 made.1)

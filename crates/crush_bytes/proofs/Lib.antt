@@ -1,0 +1,4 @@
+pub mod Appending
+pub mod Forms
+pub mod Printed
+pub mod Split

@@ -1,0 +1,3 @@
+pub mod Lexer
+pub mod Words
+pub mod Writes

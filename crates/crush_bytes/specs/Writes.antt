@@ -1,0 +1,19 @@
+-- What a writer holds after a text was written to it, or a front of it.
+use Rattle.std.specs.Prelude.{◌≡◌, ℕ, List, ◌++◌, Option, Result, Ok, Err}
+use Rattle.std.specs.Io.KnownBytes.{Appends}
+use Rattle.crush_bytes.specs.declared.write.WriteFault.{WriteFault}
+use Rattle.crush_bytes.specs.declared.write.WriteFault.TheVariants.{Write, OutOfMemory}
+
+-- known bytes grow by some front of the text
+abbrev pub AppendsFront : Option (List ℕ) → Option (List ℕ) → List ℕ → Type 0
+AppendsFront old new text = (front : List ℕ) × (rest : List ℕ) × (text ≡ front ++ rest) × Appends old new front
+
+-- known bytes grow by the whole text, or after an error by a front of it
+abbrev pub Writes : {X E : Type 0} → Result X E → Option (List ℕ) → Option (List ℕ) → List ℕ → Type 0
+Writes (Ok x) old new text = Appends old new text
+Writes (Err e) old new text = AppendsFront old new text
+
+-- the number of a fault
+abbrev pub write_fault_number : WriteFault → ℕ
+write_fault_number Write = 1
+write_fault_number OutOfMemory = 2

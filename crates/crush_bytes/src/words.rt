@@ -1,0 +1,179 @@
+//! The words of a map's text.
+//!
+//! Spaces, tabs, line feeds and carriage returns separate words, `#` begins a comment up to the
+//! end of its line, a brace is a word by itself, and any other word is a longest run of ASCII
+//! letters, digits, `-`, `_` and `.`, of at most 255 bytes.
+
+ghost use Rattle.std.specs.Prelude.{◌≡◌, if◌then◌else◌, ◌+◌, ◌<◌, ◌≤◌, length, drop, IsTrue};
+ghost use Rattle.crush_bytes.specs.Words.{Text, words, begins, past, is_blank, is_brace, run_length, IsClear};
+
+use crush_units::is_name_byte;
+use std::marker::Model;
+
+/// The most bytes that a word may have.
+const LONGEST_WORD: usize = 255;
+
+/// What comes next in a text. Places count bytes from 0.
+#[derive(Clone, Copy)]
+pub enum Token<'a> {
+    /// A word, and the place of its first byte.
+    Word { place: usize, text: &'a [u8] },
+    /// The end of the text, and the text's length.
+    End { place: usize },
+    /// The place of a byte that no text may have, or of the first byte of a word that is too long.
+    Bad { place: usize },
+}
+
+/// A text, and the place up to which it was read.
+#[derive(Clone, Copy)]
+struct Lexer<'a> {
+    text: &'a [u8],
+    place: usize,
+    ghost within: { place ≤ length text.now },
+}
+
+fn is_blank(byte: u8) -> bool
+    ensures { result ≡ is_blank byte }
+{
+    byte == b' ' || byte == b'\t' || byte == b'\n' || byte == b'\r'
+}
+
+fn is_brace(byte: u8) -> bool
+    ensures { result ≡ is_brace byte }
+{
+    byte == b'{' || byte == b'}'
+}
+
+/// How many name bytes stand at the front.
+fn run_length(bytes: &[u8]) -> usize
+    ensures count { result ≡ run_length bytes.now }
+    ensures within { result ≤ length bytes.now }
+{
+    let mut len = 0;
+    while len < bytes.len() && is_name_byte(bytes[len]) {
+        len += 1;
+    }
+    len
+}
+
+/// The place of the first byte from `from` on that is neither blank nor in a comment.
+fn skip_blanks(text: &[u8], from: usize) -> usize
+    requires { from ≤ length text.now }
+    ensures within { result ≤ length text.now }
+    ensures same { words result (drop result text.now) ≡ words from (drop from text.now) }
+    ensures clear { IsClear (drop result text.now) }
+{
+    let mut place = from;
+    let mut inside = false;
+    while place < text.len() {
+        let byte = text[place];
+        if inside {
+            inside = byte != b'\n';
+        } else if byte == b'#' {
+            inside = true;
+        } else if !is_blank(byte) {
+            break;
+        }
+        place += 1;
+    }
+    place
+}
+
+impl<'a> Lexer<'a> {
+    ghost use Rattle.crush_bytes.specs.Lexer.{left, Nexts, IsFormed};
+
+    fn new(text: &'a [u8]) -> Lexer<'a>
+        ensures { left result ≡ words 0 text.now }
+    {
+        Lexer { text, place: 0 }
+    }
+
+    fn next(&mut self) -> Token<'a>
+        ensures nexts { Nexts result (left self.old) (left self.new) }
+        ensures formed { IsFormed result }
+    {
+        let place = skip_blanks(self.text, self.place);
+        self.place = place;
+        let (_, rest) = self.text.split_at(place);
+        match rest {
+            [] => Token::End { place },
+            [byte, ..] => {
+                if is_brace(*byte) {
+                    self.place = place + 1;
+                    let (text, _) = rest.split_at(1);
+                    return Token::Word { place, text };
+                }
+                let len = run_length(rest);
+                if len == 0 || len > LONGEST_WORD {
+                    return Token::Bad { place };
+                }
+                self.place = place + len;
+                let (text, _) = rest.split_at(len);
+                Token::Word { place, text }
+            }
+        }
+    }
+}
+
+/// Reads the words of a text one after the other. In a contract it is the words that are left,
+/// and what ends them.
+#[derive(Drop)]
+pub struct Reader<'a> {
+    lexer: Lexer<'a>,
+}
+
+impl<'a> Model for Reader<'a> {
+    ghost use Rattle.crush_bytes.specs.Words.{Text};
+
+    ghost Value = { Text };
+
+    ghost use Rattle.crush_bytes.specs.Lexer.{left};
+
+    ghost view = { λ r. left r.lexer };
+}
+
+impl<'a> Reader<'a> {
+    ghost use Rattle.crush_bytes.specs.Lexer.{Nexts, IsFormed};
+
+    /// A reader of all words of the text.
+    pub fn new(text: &'a [u8]) -> Reader<'a>
+        ensures { result ≡ words 0 text.now }
+    {
+        Reader {
+            lexer: Lexer::new(text),
+        }
+    }
+
+    /// Takes what comes next. The end of the text and what no text may have stay where they are.
+    pub fn next(&mut self) -> Token<'a>
+        ensures nexts { Nexts result self.old self.new }
+        ensures formed { IsFormed result }
+        ensures shorter { length self.new.words ≤ length self.old.words }
+    {
+        self.lexer.next()
+    }
+
+    /// Whether the next word is the key.
+    pub fn is_next(&self, key: &[u8]) -> bool
+        ensures { result ≡ begins key.now self.now }
+    {
+        let mut ahead = self.lexer;
+        matches!(ahead.next(), Token::Word { text, .. } if text == key)
+    }
+
+    /// Takes the next word where it is the key, and says whether it was.
+    pub fn take_key(&mut self, key: &[u8]) -> bool
+        ensures answer { result ≡ begins key.now self.old }
+        ensures rest { self.new ≡ (if result then past self.old else self.old) }
+        ensures shorter { IsTrue result → length self.new.words < length self.old.words }
+    {
+        let saved = self.lexer;
+        if let Token::Word { text, .. } = self.lexer.next() {
+            if text == key {
+                return true;
+            }
+        }
+        self.lexer = saved;
+        false
+    }
+}

@@ -1,0 +1,27 @@
+use Rattle.std.proofs.Common.{sym, subst, ◌∙◌}
+use Rattle.crush_nodes.specs.Ops.{StoresUpTo}
+use Rattle.crush_nodes.specs.Seen.{items_of}
+use Rattle.crush_changes.proofs.NewNameLaws.{named, name_taken, StoresUpTo-with_name}
+use Rattle.crush_changes.proofs.rename.rename_in.Goals as goal
+
+pub change_at-requires : goal.change_at-requires
+change_at-requires g c =
+    let i = c.args.id.now in
+    let t = items_of c.args.items.now in
+    record {
+      known = c.requires.known;
+      one = c.requires.one;
+      sums = c.requires.sums;
+      can = tt;
+      fits = λ y out does. subst (StoresUpTo 4294967295) (sym (named i c.args.name t y c.requires.one c.requires.sums does.0)) (StoresUpTo-with_name 4294967295 i c.args.name t c.requires.stored);
+    }
+
+pub returns : goal.returns
+returns g c =
+    let i = c.args.id.now in
+    let t = items_of c.args.items.now in
+    let change = c.change_at.ensures in
+    record {
+      old = change.comes.1 ∙ sym (name_taken i t);
+      after = change.is ∙ named i c.args.name t change.item c.requires.one c.requires.sums change.comes.0;
+    }

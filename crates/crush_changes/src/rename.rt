@@ -1,0 +1,31 @@
+//! New names.
+
+ghost use Rattle.std.specs.Prelude.{◌≡◌, Some};
+ghost use Rattle.crush_table.specs.Stored.{StoresSums};
+ghost use Rattle.crush_changes.specs.Named.{name_in, with_name};
+ghost use Rattle.crush_nodes.specs.Ops.{count_of_id, StoresUpTo};
+ghost use Rattle.crush_nodes.specs.Seen.{items_of};
+ghost use Rattle.crush_units.specs.declared.limits.TheConstants.{HEAVIEST_BUCKET};
+
+use crate::change::{Rename, change_at};
+use crush_nodes::node::Node;
+use crush_nodes::way::Way;
+use crush_units::{ItemId, Name};
+use std::alloc::Allocator;
+
+/// Gives one of the items, or of those below them, another name, and hands out the old one.
+pub fn rename_in<A: Allocator, W: Way>(
+    items: &mut [Node<A>],
+    way: W,
+    id: &ItemId,
+    name: Name<A>,
+) -> Name<A>
+    requires known { W.knows way id.now (items_of items.old) }
+    requires one { count_of_id id.now (items_of items.old) ≡ 1 }
+    requires sums { StoresSums (items_of items.old) }
+    requires stored { StoresUpTo HEAVIEST_BUCKET (items_of items.old) }
+    ensures old { Some result ≡ name_in id.now (items_of items.old) }
+    ensures after { items_of items.new ≡ with_name id.now name (items_of items.old) }
+{
+    change_at(items, way, id, Rename { name })
+}

@@ -1,0 +1,16 @@
+pub mod Batches
+pub mod Boxes
+pub mod Chains
+pub mod Changes
+pub mod Differ
+pub mod Edits
+pub mod Lawfuls
+pub mod Made
+pub mod Order
+pub mod Others
+pub mod PutLaws
+pub mod Puts
+pub mod Routes
+pub mod Stops
+pub mod Tails
+pub mod Worked

@@ -1,0 +1,11 @@
+use Rattle.std.proofs.Common.{◌≡◌, [], ◌∷◌, ◌++◌, sym, ◌∙◌}
+use Rattle.std.proofs.lemmas.List.{take_more}
+use Rattle.crush_edits.proofs.location.Location.try_copy.Goals as goal
+
+pub loop-pair-preserved : goal.loop-pair-preserved
+loop-pair-preserved c =
+    let pairs = c.deref-pair-items.result.now in
+    let one : c.in_ok-pair.pair ≡ c.pair-item.result = c.in_ok-pair.ensures in
+    c.in_ok-push.ensures.items
+    ∙ (λ k. c.loop-pair.invariant k ++ (one ∙ c.pair-item.is) k ∷ [])
+    ∙ sym (take_more pairs c.loop-pair.pair-index c.pair-item.result c.loop-pair-test.true)

@@ -1,0 +1,16 @@
+-- New buckets as nested boxes.
+use Rattle.std.specs.Prelude.{ℕ, List, [], ◌∷◌, ◌++◌}
+use Rattle.crush_table.specs.Items.{Items, none, bucket}
+use Rattle.crush_table.specs.Stored.{weight_sum}
+use Rattle.crush_table.specs.Table.{Row}
+use Rattle.crush_edits.specs.Put.{NewData, new_header}
+
+-- items in new buckets, each in the next, each with memory for m items
+abbrev pub boxes : ℕ → Items → List NewData → Items
+boxes m items [] = items
+boxes m items (n ∷ ns) = boxes m (bucket (new_header n) (weight_sum items) m items none) ns
+
+-- rows from the last to the first
+abbrev pub turned : List Row → List Row
+turned [] = []
+turned (r ∷ rs) = turned rs ++ r ∷ []

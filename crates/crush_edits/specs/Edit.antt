@@ -1,0 +1,59 @@
+-- What an edit does to the table: the edits of `ceph osd crush`, with this editor's refusals.
+use Rattle.std.specs.Prelude.{List, Option, Bool, true, false}
+use Rattle.crush_table.specs.Table.{Row}
+use Rattle.crush_edits.specs.declared.refusal.Refusal.{Refusal}
+use Rattle.crush_edits.specs.declared.edit.Edit.{Edit}
+use Rattle.crush_edits.specs.declared.edit.Edit.TheVariants.{Insert, CreateOrMove, Update, Move, Swap, Reweight, ReweightSubtree, Remove, AddBucket, Rename}
+use Rattle.crush_edits.specs.Setting.{SettingData}
+use Rattle.crush_edits.specs.Answer.{After, first_refusal, Answer, answer}
+use Rattle.crush_edits.specs.Placing.{after_insert, insert_tests, after_create_or_move, after_update, device_put_tests, after_move, move_tests}
+use Rattle.crush_edits.specs.Weighing.{after_reweight, reweight_tests, after_subtree, subtree_tests}
+use Rattle.crush_edits.specs.Naming.{after_swap, swap_tests, after_rename, rename_tests}
+use Rattle.crush_edits.specs.Making.{after_remove, remove_tests, after_add_bucket, add_bucket_tests}
+
+-- THE TABLE AFTER, where nothing refuses the edit
+abbrev pub after : SettingData → List Row → Edit → After
+after s t (Insert d n w l) = after_insert s t d n w l
+after s t (CreateOrMove d n w l) = after_create_or_move s t d n w l
+after s t (Update d n w l) = after_update s t d n w l
+after s t (Move n l) = after_move s t n l
+after s t (Swap m n) = after_swap t m n
+after s t (Reweight n w) = after_reweight t n w
+after s t (ReweightSubtree n w) = after_subtree t n w
+after s t (Remove n) = after_remove t n
+after s t (AddBucket n kind) = after_add_bucket s t n kind
+after s t (Rename from to) = after_rename t from to
+
+-- THE REFUSALS, each with its test, in the order in which they are told; the last speak of the table after
+abbrev pub tests : SettingData → List Row → Edit → After → List (Refusal × Bool)
+tests s t (Insert d n w l) a = insert_tests s t d n w l a
+tests s t (CreateOrMove d n w l) a = device_put_tests s t d n w l a
+tests s t (Update d n w l) a = device_put_tests s t d n w l a
+tests s t (Move n l) a = move_tests s t n l a
+tests s t (Swap m n) a = swap_tests t m n a
+tests s t (Reweight n w) a = reweight_tests t n w a
+tests s t (ReweightSubtree n w) a = subtree_tests t n w a
+tests s t (Remove n) a = remove_tests s t n
+tests s t (AddBucket n kind) a = add_bucket_tests s t n kind a
+tests s t (Rename from to) a = rename_tests t from to
+
+-- the refusal of an edit, if there is one
+abbrev pub refusal : SettingData → List Row → Edit → Option Refusal
+refusal s t e = first_refusal (tests s t e (after s t e))
+
+-- THE EDIT
+abbrev pub edit : SettingData → List Row → Edit → Answer
+edit s t e = answer (refusal s t e) t (after s t e)
+
+-- whether the edit is made with memory that is taken for it: a weight is set in its place
+abbrev pub takes_memory : Edit → Bool
+takes_memory (Reweight n w) = false
+takes_memory (ReweightSubtree n w) = false
+takes_memory (Insert d n w l) = true
+takes_memory (CreateOrMove d n w l) = true
+takes_memory (Update d n w l) = true
+takes_memory (Move n l) = true
+takes_memory (Swap m n) = true
+takes_memory (Remove n) = true
+takes_memory (AddBucket n kind) = true
+takes_memory (Rename from to) = true

@@ -1,0 +1,84 @@
+-- Which settings fit a table.
+use Rattle.std.specs.Prelude.{◌≡◌, ℕ, ℤ, pos, negsuc, ◌<◌, ◌≤◌, List, [], ◌∷◌, Bool, true, false, ◌==◌, length, All, IfSome, bytes_eq, codes, is_some, nat_eq}
+use Rattle.std.specs.List.{count_by, list_any, starts_with}
+use Rattle.crush_units.specs.declared.id.ItemId.TheVariants.{Bucket}
+use Rattle.crush_units.specs.Name.{IsName}
+use Rattle.crush_table.specs.Table.{Row, is_there}
+use Rattle.crush_edits.specs.Setting.{KindData, TunableData, StepData, take, choose, set, emit, RuleData, SettingData, kind_number, taken_buckets}
+use Rattle.crush_units.specs.declared.limits.TheConstants.{LAST_TYPE, MOST_RULES, MOST_STEPS, MOST_TUNABLES, MOST_TYPES}
+
+-- the words of a map's text that begin a statement or a part of one: no type of buckets has such a name
+abbrev pub is_reserved : List ℕ → Bool
+is_reserved n = list_any (λ word. bytes_eq word n) (codes "tunable" ∷ (codes "device" ∷ (codes "type" ∷ (codes "rule" ∷ (codes "class" ∷ (codes "choose_args" ∷ []))))))
+
+-- a type by itself
+pub record IsKind (k : KindData) : Type 0 where
+  pub number : k.number ≤ LAST_TYPE
+  pub name : IsName k.name
+  pub free : 0 < k.number → is_reserved k.name ≡ false
+
+-- a tunable by itself
+pub record IsTunable (k : TunableData) : Type 0 where
+  pub name : IsName k.name
+  pub value : k.value ≤ 4294967295
+
+-- a number of 32 bits with a sign
+abbrev pub IsCount : ℤ → Type 0
+IsCount (pos n) = n ≤ 2147483647
+IsCount (negsuc n) = n ≤ 2147483647
+
+-- a step that chooses names a type of the setting, also type 0
+pub record IsChoice (s : SettingData) (count : ℤ) (kind : List ℕ) : Type 0 where
+  pub range : IsCount count
+  pub known : is_some (kind_number s kind) ≡ true
+
+-- the word of a step that sets something begins with `set_`
+pub record IsSet (word : List ℕ) (value : ℕ) : Type 0 where
+  pub name : IsName word
+  pub sets : starts_with nat_eq word (codes "set_") ≡ true
+  pub range : value ≤ 2147483647
+
+-- a step by itself
+abbrev pub IsStep : SettingData → StepData → Type 0
+IsStep s (take b class) = IfSome class IsName
+IsStep s (choose leaf firstn count kind) = IsChoice s count kind
+IsStep s (set word value) = IsSet word value
+IsStep s emit = Unit {0}
+
+-- a rule by itself
+pub record IsRule (s : SettingData) (r : RuleData) : Type 0 where
+  pub name : IsName r.name
+  pub id : r.id ≤ 2147483647
+  pub kind : IsName r.kind
+  pub min_size : IfSome r.min_size (λ n. n ≤ 2147483647)
+  pub max_size : IfSome r.max_size (λ n. n ≤ 2147483647)
+  pub few : length r.steps ≤ MOST_STEPS
+  pub steps : All (IsStep s) r.steps
+
+-- a setting by itself: numbers, names and ids are distinct, all is of its form, and nothing is above its limit
+pub record IsSetting (s : SettingData) : Type 0 where
+  pub numbers : (n : ℕ) → count_by (λ (k : KindData). k.number == n) s.kinds ≤ 1
+  pub names : (n : List ℕ) → count_by (λ (k : KindData). bytes_eq k.name n) s.kinds ≤ 1
+  pub tunable_names : (n : List ℕ) → count_by (λ (k : TunableData). bytes_eq k.name n) s.tunables ≤ 1
+  pub rule_names : (n : List ℕ) → count_by (λ (r : RuleData). bytes_eq r.name n) s.rules ≤ 1
+  pub rule_ids : (n : ℕ) → count_by (λ (r : RuleData). r.id == n) s.rules ≤ 1
+  pub kinds : All IsKind s.kinds
+  pub tunables : All IsTunable s.tunables
+  pub rules : All (IsRule s) s.rules
+  pub few_kinds : length s.kinds ≤ MOST_TYPES
+  pub few_tunables : length s.tunables ≤ MOST_TUNABLES
+  pub few_rules : length s.rules ≤ MOST_RULES
+
+-- the type of the row is one of the setting's, but that a device's type 0 need not be declared
+abbrev pub HasKind : SettingData → Row → Type 0
+HasKind s r = (0 < r.kind) → list_any (λ (k : KindData). k.number == r.kind) s.kinds ≡ true
+
+-- the bucket is there
+abbrev pub IsThere : List Row → ℕ → Type 0
+IsThere t b = is_there t (Bucket b) ≡ true
+
+-- FITS: the types of the table's buckets are among the setting's, and the buckets that rules take are in the table
+pub record Fits (s : SettingData) (t : List Row) : Type 0 where
+  pub setting : IsSetting s
+  pub types : All (HasKind s) t
+  pub taken : All (IsThere t) (taken_buckets s)

@@ -1,0 +1,54 @@
+-- The law of all edits: what isn't refused leaves a lawful table that the setting fits, and so does a batch.
+use Rattle.std.specs.Prelude.{◌≡◌, ℕ, ◌<◌, List, None, All, ◌+◌, Bool, true, false}
+use Rattle.crush_units.specs.Name.{IsName}
+use Rattle.crush_table.specs.Table.{Row, bucket_count}
+use Rattle.crush_table.specs.Lawful.{Lawful}
+use Rattle.crush_edits.specs.declared.location.Pair.{Pair}
+use Rattle.crush_edits.specs.declared.edit.Edit.{Edit}
+use Rattle.crush_edits.specs.declared.edit.Edit.TheVariants.{Insert, CreateOrMove, Update, Move, Swap, Reweight, ReweightSubtree, Remove, AddBucket, Rename}
+use Rattle.crush_edits.specs.declared.refusal.Dones.{Dones}
+use Rattle.crush_edits.specs.Setting.{SettingData}
+use Rattle.crush_edits.specs.Fits.{Fits}
+use Rattle.crush_edits.specs.Pushed.{IsLocation}
+use Rattle.crush_edits.specs.Edit.{after, refusal}
+use Rattle.crush_edits.specs.Batch.{batch_done, batch}
+use Rattle.crush_units.specs.declared.limits.TheConstants.{DEVICE_IDS}
+
+-- the forms of an edit, which the types of its parts keep: a device's id is in range, and names are names
+pub record IsPlacing (d : ℕ) (n : List ℕ) (l : List Pair) : Type 0 where
+  pub id : d < DEVICE_IDS
+  pub name : IsName n
+  pub at : IsLocation l
+
+abbrev pub IsEdit : Edit → Type 0
+IsEdit (Insert d n w l) = IsPlacing d n l
+IsEdit (CreateOrMove d n w l) = IsPlacing d n l
+IsEdit (Update d n w l) = IsPlacing d n l
+IsEdit (Move n l) = IsLocation l
+IsEdit (Swap m n) = Unit {0}
+IsEdit (Reweight n w) = Unit {0}
+IsEdit (ReweightSubtree n w) = Unit {0}
+IsEdit (Remove n) = Unit {0}
+IsEdit (AddBucket n kind) = IsName n
+IsEdit (Rename from to) = IsName to
+
+-- a lawful table that the setting fits
+pub record Keeps (s : SettingData) (t : List Row) : Type 0 where
+  pub lawful : Lawful t
+  pub fits : Fits s t
+
+-- EDITS
+abbrev pub EditKeeps : Type 0
+EditKeeps = (s : SettingData) (t : List Row) (e : Edit) → Keeps s t → IsEdit e → refusal s t e ≡ None → Keeps s (after s t e).table
+
+-- BATCHES
+abbrev pub BatchKeeps : Type 0
+BatchKeeps = (s : SettingData) (t u : List Row) (es : List Edit) (d : Dones) → Keeps s t → All IsEdit es → batch s t es ≡ batch_done d u → Keeps s u
+
+-- MADE: so many buckets more, but for Remove
+abbrev pub is_remove : Edit → Bool
+is_remove (Remove n) = true
+is_remove _ = false
+
+abbrev pub MadeAreBuckets : Type 0
+MadeAreBuckets = (s : SettingData) (t : List Row) (e : Edit) → Keeps s t → IsEdit e → refusal s t e ≡ None → is_remove e ≡ false → bucket_count (after s t e).table ≡ bucket_count t + (after s t e).made

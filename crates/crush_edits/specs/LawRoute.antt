@@ -1,0 +1,65 @@
+-- Laws of routes and of the buckets that they make, each for every lawful table.
+use Rattle.std.specs.Prelude.{◌≡◌, ℕ, ◌≤◌, List, [], ◌∷◌, ◌++◌, Option, Some, None, IfSome, false, ◌==◌, length, All, bytes_eq}
+use Rattle.std.specs.List.{sum_by, count_by}
+use Rattle.crush_units.specs.Name.{IsName}
+use Rattle.crush_table.specs.Items.{Items}
+use Rattle.crush_table.specs.ItemRows.{rows}
+use Rattle.crush_table.specs.Table.{Row, is_device_id, sum_below, total}
+use Rattle.crush_table.specs.Lawful.{Lawful, has_too_many}
+use Rattle.crush_edits.specs.declared.location.Pair.{Pair}
+use Rattle.crush_edits.specs.Stops.{StopData, with_stop, stops, end_id, receiver}
+use Rattle.crush_edits.specs.Put.{NewData, new_buckets, next_up, chain, next_place}
+use Rattle.crush_edits.specs.Boxes.{boxes, turned}
+use Rattle.crush_edits.specs.New.{IsRoute, AreNew}
+use Rattle.crush_edits.specs.Located.{is_bad_location, has_no_kind, names_it}
+use Rattle.crush_edits.specs.Setting.{SettingData, kind_number}
+use Rattle.crush_edits.specs.Fits.{Fits}
+use Rattle.crush_units.specs.declared.limits.TheConstants.{MOST_PAIRS}
+
+-- the new buckets of a route, from the uppermost down, as a node has them
+abbrev pub rows_made : List Row → List StopData → List Row
+rows_made t ps = turned (chain (new_buckets t ps) (receiver t ps))
+
+-- STOPS: those of one pair more; by ascending type number; and each pair of a known type is a stop, as any sum over them tells
+abbrev pub StopsStep : Type 0
+StopsStep = (s : SettingData) (l : List Pair) (p : Pair) → stops s (l ++ p ∷ []) ≡ with_stop (kind_number s p.kind) p.name (stops s l)
+
+abbrev pub Rises : List StopData → Type 0
+Rises [] = Unit {0}
+Rises (p ∷ ps) = All (λ (q : StopData). p.kind ≤ q.kind) ps × Rises ps
+
+abbrev pub StopsRise : Type 0
+StopsRise = (s : SettingData) (l : List Pair) → Rises (stops s l)
+
+abbrev pub of_stop : (StopData → ℕ) → Option ℕ → List ℕ → ℕ
+of_stop f None n = 0
+of_stop f (Some k) n = f (record { kind = k; name = n })
+
+abbrev pub StopsArePairs : Type 0
+StopsArePairs = (s : SettingData) (l : List Pair) (f : StopData → ℕ) → sum_by f (stops s l) ≡ sum_by (λ (p : Pair). of_stop f (kind_number s p.kind) p.name) l
+
+-- ROUTES: a location that passes its tests is one, its new buckets can be new, and it leads into a bucket
+abbrev pub LocationIsRoute : Type 0
+LocationIsRoute = (s : SettingData) (t : List Row) (l : List Pair) → Fits s t → All (λ (p : Pair). IsName p.name) l → length l ≤ MOST_PAIRS → is_bad_location s l ≡ false → has_no_kind s l ≡ false → (length l == 0) ≡ false
+    → IfSome (end_id t (stops s l)) (λ i. is_device_id i ≡ false) → IsRoute t (stops s l)
+
+-- a name that the location doesn't have is no stop's
+abbrev pub OtherIsNoStop : Type 0
+OtherIsNoStop = (s : SettingData) (l : List Pair) (n : List ℕ) → names_it l n ≡ false → count_by (λ (p : StopData). bytes_eq p.name n) (stops s l) ≡ 0
+
+abbrev pub RouteIsFresh : Type 0
+RouteIsFresh = (t : List Row) (ps : List StopData) → Lawful t → IsRoute t ps → AreNew t (new_buckets t ps) (receiver t ps)
+
+abbrev pub RouteLeads : Type 0
+RouteLeads = (t : List Row) (ps : List StopData) → IsRoute t ps → (b : ℕ) × (next_place t ps ≡ Some b)
+
+-- NEW BUCKETS as boxes: their rows, with those of the items in the lowest
+abbrev pub BoxesAreRows : Type 0
+BoxesAreRows = (m : ℕ) (n : Items) (ns : List NewData) (top : Option ℕ) → rows top (boxes m n ns) ≡ turned (chain ns top) ++ rows (next_up ns top) n
+
+-- the table with new buckets is lawful where there is room, each sum and the total as before
+abbrev pub NewKeepsLawful : Type 0
+NewKeepsLawful = (t : List Row) (ps : List StopData) → Lawful t → IsRoute t ps → has_too_many (t ++ rows_made t ps) ≡ false → Lawful (t ++ rows_made t ps)
+
+abbrev pub NewKeepsSums : Type 0
+NewKeepsSums = (t : List Row) (ps : List StopData) → Lawful t → IsRoute t ps → ((b : ℕ) → sum_below (t ++ rows_made t ps) b ≡ sum_below t b) × (total (t ++ rows_made t ps) ≡ total t)

@@ -1,0 +1,64 @@
+-- The edits with a location: Insert, CreateOrMove, Update, Move.
+use Rattle.std.specs.Prelude.{ℕ, List, [], ◌∷◌, ◌++◌, None, Bool, not, if◌then◌else◌, length, unwrap_or}
+use Rattle.crush_units.specs.declared.id.ItemId.{ItemId}
+use Rattle.crush_units.specs.declared.id.ItemId.TheVariants.{Device}
+use Rattle.crush_table.specs.Items.{LeafData}
+use Rattle.crush_table.specs.ItemRows.{device_row}
+use Rattle.crush_table.specs.Table.{Row, row_of, id_named, is_named, is_placed, own_weight_of, class_of}
+use Rattle.crush_table.specs.Columns.{set_weight, is_part}
+use Rattle.crush_edits.specs.declared.location.Pair.{Pair}
+use Rattle.crush_edits.specs.declared.refusal.Refusal.{Refusal}
+use Rattle.crush_edits.specs.declared.refusal.Refusal.TheVariants.{NoSuchItem, AlreadyPlaced, Loop}
+use Rattle.crush_edits.specs.Setting.{SettingData}
+use Rattle.crush_edits.specs.Stops.{StopData, stops, fresh_stops, end_id}
+use Rattle.crush_edits.specs.Put.{put, held}
+use Rattle.crush_edits.specs.Answer.{After, kept, on_some, meets, room_test, sum_test}
+use Rattle.crush_edits.specs.Located.{location_tests, device_tests, end_tests}
+
+-- an item put at the end of the route
+abbrev pub put_after : List Row → Row → List StopData → After
+put_after t r ps = record { table = put t r ps; made = length (fresh_stops t ps) }
+
+-- the device of an edit: it keeps the class that it has
+abbrev pub edited_leaf : List Row → ℕ → List ℕ → ℕ → LeafData
+edited_leaf t d n w = record { id = d; name = n; weight = w; class = class_of t (Device d) }
+
+abbrev pub edited_device : List Row → ℕ → List ℕ → ℕ → Row
+edited_device t d n w = device_row None (edited_leaf t d n w)
+
+-- a placed device's own weight, else the given one
+abbrev pub kept_weight : List Row → ℕ → ℕ → ℕ
+kept_weight t d w = if is_placed t (Device d) then unwrap_or (own_weight_of t (Device d)) w else w
+
+-- INSERT: put with the given weight
+abbrev pub after_insert : SettingData → List Row → ℕ → List ℕ → ℕ → List Pair → After
+after_insert s t d n w l = put_after t (edited_device t d n w) (stops s l)
+
+abbrev pub insert_tests : SettingData → List Row → ℕ → List ℕ → ℕ → List Pair → After → List (Refusal × Bool)
+insert_tests s t d n w l a = device_tests s t d n w l ++ ((AlreadyPlaced, is_placed t (Device d)) ∷ (end_tests t (stops s l) ++ (room_test a ∷ (sum_test a ∷ []))))
+
+-- CREATE OR MOVE: nothing where it is held, else put with the weight that it keeps
+abbrev pub after_create_or_move : SettingData → List Row → ℕ → List ℕ → ℕ → List Pair → After
+after_create_or_move s t d n w l = if held t (Device d) (stops s l) then kept t else put_after t (edited_device t d n (kept_weight t d w)) (stops s l)
+
+-- UPDATE: where it is held its weight is set, else it is put with the given weight
+abbrev pub after_update : SettingData → List Row → ℕ → List ℕ → ℕ → List Pair → After
+after_update s t d n w l = if held t (Device d) (stops s l) then kept (set_weight (Device d) w t) else put_after t (edited_device t d n w) (stops s l)
+
+-- the refusals of the two
+abbrev pub device_put_tests : SettingData → List Row → ℕ → List ℕ → ℕ → List Pair → After → List (Refusal × Bool)
+device_put_tests s t d n w l a = device_tests s t d n w l ++ (end_tests t (stops s l) ++ (room_test a ∷ (sum_test a ∷ [])))
+
+-- MOVE: nothing where it is held, else put with its row as it is
+abbrev pub move_item : SettingData → List Row → List Pair → ItemId → After
+move_item s t l i = if held t i (stops s l) then kept t else on_some t (row_of t i) (λ r. put_after t r (stops s l))
+
+abbrev pub after_move : SettingData → List Row → List ℕ → List Pair → After
+after_move s t n l = on_some t (id_named t n) (move_item s t l)
+
+-- the item that ends the route is the moved one or below it
+abbrev pub is_loop : List Row → List ℕ → List StopData → Bool
+is_loop t n ps = meets (λ i. meets (is_part t i) (end_id t ps)) (id_named t n)
+
+abbrev pub move_tests : SettingData → List Row → List ℕ → List Pair → After → List (Refusal × Bool)
+move_tests s t n l a = location_tests s l ++ ((NoSuchItem, not (is_named t n)) ∷ (end_tests t (stops s l) ++ ((Loop, is_loop t n (stops s l)) ∷ (room_test a ∷ (sum_test a ∷ [])))))

@@ -1,0 +1,73 @@
+-- The refusals' names, numbers and errors.
+use Rattle.std.specs.Prelude.{ℕ, List, codes}
+use Rattle.crush_edits.specs.declared.refusal.Refusal.{Refusal}
+use Rattle.crush_edits.specs.declared.refusal.Refusal.TheVariants.{BadName, BadLocation, NoSuchType, NoPlace, WeightTooLarge, NoSuchItem, NameTaken, AlreadyPlaced, NotPlaced, NotADevice, NotABucket, WrongType, Loop, Nested, NotEmpty, InUse, NotDirectory, AlreadyRenamed, NoRoom, SumTooLarge}
+
+-- the name, as it is printed
+abbrev pub refusal_name : Refusal → List ℕ
+refusal_name BadName = codes "BadName"
+refusal_name BadLocation = codes "BadLocation"
+refusal_name NoSuchType = codes "NoSuchType"
+refusal_name NoPlace = codes "NoPlace"
+refusal_name WeightTooLarge = codes "WeightTooLarge"
+refusal_name NoSuchItem = codes "NoSuchItem"
+refusal_name NameTaken = codes "NameTaken"
+refusal_name AlreadyPlaced = codes "AlreadyPlaced"
+refusal_name NotPlaced = codes "NotPlaced"
+refusal_name NotADevice = codes "NotADevice"
+refusal_name NotABucket = codes "NotABucket"
+refusal_name WrongType = codes "WrongType"
+refusal_name Loop = codes "Loop"
+refusal_name Nested = codes "Nested"
+refusal_name NotEmpty = codes "NotEmpty"
+refusal_name InUse = codes "InUse"
+refusal_name NotDirectory = codes "NotDirectory"
+refusal_name AlreadyRenamed = codes "AlreadyRenamed"
+refusal_name NoRoom = codes "NoRoom"
+refusal_name SumTooLarge = codes "SumTooLarge"
+
+-- the place in the order in which refusals are told
+abbrev pub refusal_number : Refusal → ℕ
+refusal_number BadName = 1
+refusal_number BadLocation = 2
+refusal_number NoSuchType = 3
+refusal_number NoPlace = 4
+refusal_number WeightTooLarge = 5
+refusal_number NoSuchItem = 6
+refusal_number NameTaken = 7
+refusal_number AlreadyPlaced = 8
+refusal_number NotPlaced = 9
+refusal_number NotADevice = 10
+refusal_number NotABucket = 11
+refusal_number WrongType = 12
+refusal_number Loop = 13
+refusal_number Nested = 14
+refusal_number NotEmpty = 15
+refusal_number InUse = 16
+refusal_number NotDirectory = 17
+refusal_number AlreadyRenamed = 18
+refusal_number NoRoom = 19
+refusal_number SumTooLarge = 20
+
+-- the number of the Linux error
+abbrev pub refusal_error : Refusal → ℕ
+refusal_error BadName = 22
+refusal_error BadLocation = 22
+refusal_error NoSuchType = 22
+refusal_error NoPlace = 22
+refusal_error WeightTooLarge = 75
+refusal_error NoSuchItem = 2
+refusal_error NameTaken = 17
+refusal_error AlreadyPlaced = 17
+refusal_error NotPlaced = 2
+refusal_error NotADevice = 22
+refusal_error NotABucket = 22
+refusal_error WrongType = 22
+refusal_error Loop = 40
+refusal_error Nested = 22
+refusal_error NotEmpty = 39
+refusal_error InUse = 16
+refusal_error NotDirectory = 20
+refusal_error AlreadyRenamed = 114
+refusal_error NoRoom = 28
+refusal_error SumTooLarge = 34

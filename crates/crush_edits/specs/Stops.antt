@@ -1,0 +1,50 @@
+-- Where a location leads: its stops by ascending type number, and the one that ends its route.
+use Rattle.std.specs.Prelude.{ℕ, List, [], Option, Some, None, Bool, not, find, take_while, fold, option_and_then, nat_le, insert}
+use Rattle.std.specs.List.{position_or_len}
+use Rattle.crush_units.specs.declared.id.ItemId.{ItemId}
+use Rattle.crush_units.specs.declared.id.ItemId.TheVariants.{Device, Bucket}
+use Rattle.crush_table.specs.Table.{Row, id_named, is_named}
+use Rattle.crush_edits.specs.declared.location.Pair.{Pair}
+use Rattle.crush_edits.specs.Setting.{SettingData, kind_number}
+
+-- a pair of a location with its type's number
+pub record StopData : Type 0 where
+  pub kind : ℕ
+  pub name : List ℕ
+
+-- the stops of a location, by ascending type number; a type that the setting doesn't have gives no stop
+abbrev pub insert_stop : StopData → List StopData → List StopData
+insert_stop p ps = insert ps (position_or_len (λ (q : StopData). nat_le p.kind q.kind) ps) p
+
+abbrev pub with_stop : Option ℕ → List ℕ → List StopData → List StopData
+with_stop None n ps = ps
+with_stop (Some k) n ps = insert_stop (record { kind = k; name = n }) ps
+
+abbrev pub stops : SettingData → List Pair → List StopData
+stops s l = fold (λ ps (p : Pair). with_stop (kind_number s p.kind) p.name ps) [] l
+
+-- the stops before the first whose name is there: their buckets are made
+abbrev pub is_fresh : List Row → StopData → Bool
+is_fresh t p = not (is_named t p.name)
+
+abbrev pub fresh_stops : List Row → List StopData → List StopData
+fresh_stops t ps = take_while (is_fresh t) ps
+
+-- the first stop whose name is there ends the route, and its item
+abbrev pub end_stop : List Row → List StopData → Option StopData
+end_stop t ps = find (λ (p : StopData). is_named t p.name) ps
+
+abbrev pub end_id : List Row → List StopData → Option ItemId
+end_id t ps = option_and_then (λ (p : StopData). id_named t p.name) (end_stop t ps)
+
+-- the number of a bucket, and the bucket of a name
+abbrev pub number_of : ItemId → Option ℕ
+number_of (Device d) = None
+number_of (Bucket b) = Some b
+
+abbrev pub bucket_named : List Row → List ℕ → Option ℕ
+bucket_named t n = option_and_then number_of (id_named t n)
+
+-- the bucket that ends the route receives what comes before it
+abbrev pub receiver : List Row → List StopData → Option ℕ
+receiver t ps = option_and_then number_of (end_id t ps)

@@ -1,0 +1,14 @@
+//! The edits of a CRUSH map as values, and what the plain table of its items makes of them:
+//! definitions, and their laws.
+#![tactic(auto)]
+
+mod edit;
+pub mod law;
+mod location;
+mod refusal;
+mod rule;
+
+pub use edit::Edit;
+pub use location::{Location, LocationFault, MOST_PAIRS, Pair};
+pub use refusal::{BatchFault, Done, Dones, EditFault, Refusal};
+pub use rule::{Rule, Step};

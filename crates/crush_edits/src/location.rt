@@ -1,0 +1,156 @@
+//! Locations: where an item is to be put.
+
+ghost use Rattle.std.specs.Prelude.{◌≡◌, ◌≤◌, [], ◌∷◌, ◌++◌, length, IfOk, IfErr, OnOk, OnErr};
+ghost use Rattle.crush_units.specs.Name.{IsName};
+ghost use Rattle.crush_edits.specs.Pushed.{IsLocation, CanPush, IsLocationFault, location_fault_number};
+
+use crush_units::{Name, NameFault, is_name};
+use std::alloc::{AllocError, Global};
+use std::marker::Model;
+use thiserror::Error;
+
+/// The most pairs of a location.
+pub const MOST_PAIRS: usize = 16;
+
+/// A type name and a bucket's name, as `host=h1` says them.
+#[derive(Debug, Drop)]
+pub struct Pair {
+    /// The type's name.
+    pub kind: Name<Global>,
+    /// The bucket's name.
+    pub name: Name<Global>,
+}
+
+/// Where an item is to be put: up to 16 pairs of type name and bucket name, in any order. Contracts
+/// see the list of the pairs.
+///
+/// The pairs are taken by ascending type number. The first whose bucket is in the map receives what
+/// comes before it, and each pair before it is a bucket to be made.
+#[derive(Debug, Drop)]
+pub struct Location {
+    pairs: Vec<Pair>,
+    alloc: Global,
+}
+
+impl Model for Location {
+    ghost use Rattle.std.specs.Prelude.{List};
+    ghost use Rattle.crush_edits.specs.declared.location.Pair.{Pair};
+
+    ghost Value = { List Pair };
+
+    ghost use Rattle.crush_edits.specs.Pushed.{IsLocation};
+
+    ghost view = { λ location. location.pairs.items };
+
+    ghost invariant = { λ location. IsLocation location.pairs.items };
+}
+
+/// Why a pair isn't added to a location. Where several hold, the one of least number is told.
+#[derive(Clone, Copy, Debug, PartialEq, Eq, Error)]
+pub enum LocationFault {
+    /// The location holds 16 pairs.
+    #[error("a location has at most 16 pairs")]
+    TooMany,
+    /// The bytes of the type or of the bucket are no name.
+    #[error("not a name: expected letters, digits, `-`, `_` or `.`")]
+    BadName,
+    /// The bytes are names, and there is no memory to keep them.
+    #[error("out of memory")]
+    OutOfMemory,
+}
+
+impl LocationFault {
+    /// The fault's number, from 1.
+    pub fn number(self) -> u8
+        ensures { result ≡ location_fault_number self }
+    {
+        match self {
+            LocationFault::TooMany => 1,
+            LocationFault::BadName => 2,
+            LocationFault::OutOfMemory => 3,
+        }
+    }
+}
+
+impl From<NameFault> for LocationFault {
+    ghost use Rattle.crush_edits.specs.Pushed.{fault_of_name};
+    ghost use Rattle.std.specs.Prelude.{◌≡◌};
+
+    ghost from_gives = { λ refused fault. fault ≡ fault_of_name refused };
+
+    fn from(refused: NameFault) -> LocationFault {
+        match refused {
+            NameFault::OutOfMemory => LocationFault::OutOfMemory,
+            _ => LocationFault::BadName,
+        }
+    }
+}
+
+impl Pair {
+    /// A copy of the pair. An Err is want of memory.
+    pub fn try_copy(&self, alloc: Global) -> Result<Pair, AllocError>
+        ensures { IfOk result (λ copy. copy ≡ self.now) }
+    {
+        let kind = self.kind.try_copy(alloc)?;
+        let name = self.name.try_copy(alloc)?;
+        Ok(Pair { kind, name })
+    }
+}
+
+impl Location {
+    /// A location without pairs. Takes no memory.
+    pub fn new(alloc: Global) -> Location
+        ensures { result ≡ [] }
+    {
+        Location {
+            pairs: Vec::new(alloc),
+            alloc,
+        }
+    }
+
+    /// Adds a pair behind those that are there.
+    ///
+    /// [`LocationFault::TooMany`] where the location holds 16 pairs, [`LocationFault::BadName`]
+    /// where the bytes of either are no name, [`LocationFault::OutOfMemory`] only of names for
+    /// which there is room. The location is then as it was.
+    pub fn push(&mut self, type_name: &[u8], name: &[u8]) -> Result<(), LocationFault>
+        ensures ok { OnOk result (self.new
+            ≡ self.old ++ record { kind = type_name.now; name = name.now } ∷ []) }
+        ensures can { OnOk result (CanPush self.old type_name.now name.now) }
+        ensures err { OnErr result (self.new ≡ self.old) }
+        ensures fault { IfErr result (IsLocationFault self.old type_name.now name.now) }
+    {
+        if self.pairs.len() >= MOST_PAIRS {
+            return Err(LocationFault::TooMany);
+        }
+        if !is_name(type_name) || !is_name(name) {
+            return Err(LocationFault::BadName);
+        }
+        let kind = Name::read(self.alloc, type_name)?;
+        let name = Name::read(self.alloc, name)?;
+        match self.pairs.push(Pair { kind, name }) {
+            Ok(()) => Ok(()),
+            Err(_) => Err(LocationFault::OutOfMemory),
+        }
+    }
+
+    /// The pairs, in the order in which they were added: at most 16, and their names are names.
+    pub fn pairs(&self) -> &[Pair]
+        ensures value { result.now ≡ self.now }
+        ensures forms { IsLocation self.now }
+    {
+        self.pairs.as_slice()
+    }
+
+    /// A copy of the location. An Err is want of memory.
+    pub fn try_copy(&self, alloc: Global) -> Result<Location, AllocError>
+        ensures { IfOk result (λ copy. copy ≡ self.now) }
+    {
+        let mut copy = Location::new(alloc);
+        for pair in &self.pairs {
+            let pair = pair.try_copy(alloc)?;
+            copy.pairs.push(pair)?;
+        }
+        Ok(copy)
+    }
+}

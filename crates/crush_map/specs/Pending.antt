@@ -1,0 +1,18 @@
+-- How contracts see what a builder has of a statement.
+use Rattle.std.specs.Prelude.{ℕ, []}
+use Rattle.crush_table.specs.Items.{Items, none, device, bucket}
+use Rattle.crush_map.specs.declared.builder.Pending.{Pending as BuilderPart}
+use Rattle.crush_map.specs.declared.builder.Pending.TheVariants.{Nothing, Begun, Numbered, Filling}
+use Rattle.crush_map.specs.Built.{Pending, nothing, begun, numbered, filling}
+
+abbrev pub pending_data : {A : _} → BuilderPart A → Pending
+pending_data Nothing = nothing
+pending_data (Begun kind name) = begun kind name
+pending_data (Numbered kind name b) = numbered kind name b []
+pending_data (Filling b) = filling b
+
+-- the first item with the weight, where it is a device
+abbrev pub with_first_weight : ℕ → Items → Items
+with_first_weight w none = none
+with_first_weight w (device d rest) = device (record d { weight = w }) rest
+with_first_weight w (bucket h v m kids rest) = bucket h v m kids rest

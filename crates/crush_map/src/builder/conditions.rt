@@ -1,0 +1,167 @@
+//! The tests that tell whether a call of the builder may be made.
+
+ghost use Rattle.std.specs.Prelude.{◌≡◌, ◌↔◌, IsTrue, IfSome, true, false};
+ghost use Rattle.crush_units.specs.declared.id.ItemId.TheVariants.{Device, Bucket};
+ghost use Rattle.crush_table.specs.Table.{is_there, is_placed, weight_of};
+ghost use Rattle.crush_table.specs.Setting.{kind_number};
+ghost use Rattle.crush_map.specs.Built.{Draft, nothing};
+ghost use Rattle.crush_map.specs.Building.{IsDraft, is_begun, is_numbered, is_filling, is_open};
+ghost use Rattle.crush_map.specs.Building.{has_kind_number, has_kind_name, has_name, has_bucket_id};
+ghost use Rattle.crush_map.specs.Building.{is_bucket_kind, item_named, is_full_of_devices};
+ghost use Rattle.crush_map.specs.Building.{is_full_of_buckets, is_full_of_kinds};
+
+use super::{MapBuilder, Pending};
+use crush_units::{BucketId, DeviceId, ItemId, TypeId, Weight};
+use std::alloc::Allocator;
+
+impl<A: Allocator> MapBuilder<A> {
+    /// Whether no statement is in the middle, so that a type, a device or a bucket may come.
+    pub fn is_idle(&self) -> bool
+        ensures { IsTrue result ↔ (self.now.pending ≡ nothing) }
+    {
+        matches!(self.pending, Pending::Nothing)
+    }
+
+    /// Whether a bucket has begun and waits for its id.
+    pub fn is_begun(&self) -> bool
+        ensures { result ≡ is_begun self.now.pending }
+    {
+        matches!(self.pending, Pending::Begun(..))
+    }
+
+    /// Whether a bucket has its id and waits for its algorithm.
+    pub fn is_numbered(&self) -> bool
+        ensures { result ≡ is_numbered self.now.pending }
+    {
+        matches!(self.pending, Pending::Numbered(..))
+    }
+
+    /// Whether a bucket has its algorithm and waits for items or its end.
+    pub fn is_filling(&self) -> bool
+        ensures { result ≡ is_filling self.now.pending }
+    {
+        matches!(self.pending, Pending::Filling(_))
+    }
+
+    /// Whether a device has this id.
+    pub fn has_device(&self, id: DeviceId) -> bool
+        ensures { (d : Draft) → IsDraft self.now d → result ≡ is_there d.table (Device id) }
+    {
+        self.forest.kind(ItemId::Device(id)).is_some()
+    }
+
+    /// Whether a bucket or a class id has this id, also the bucket that isn't complete.
+    pub fn has_bucket_id(&self, id: BucketId) -> bool
+        ensures { (d : Draft) → IsDraft self.now d → result ≡ has_bucket_id d id }
+    {
+        let pending = match &self.pending {
+            Pending::Numbered(_, _, own) => *own == id,
+            _ => false,
+        };
+        self.forest.is_used(id) || pending
+    }
+
+    /// Whether an item has this name, also the bucket that isn't complete.
+    pub fn has_name(&self, name: &[u8]) -> bool
+        ensures { (d : Draft) → IsDraft self.now d → result ≡ has_name d name.now }
+    {
+        let pending = match &self.pending {
+            Pending::Begun(_, own) => own.is(name),
+            Pending::Numbered(_, own, _) => own.is(name),
+            _ => false,
+        };
+        self.forest.id_of_bytes(name).is_some() || pending
+    }
+
+    /// Whether a type has this number.
+    pub fn has_kind_number(&self, number: TypeId) -> bool
+        ensures { (d : Draft) → IsDraft self.now d → result ≡ has_kind_number d.setting number }
+    {
+        self.setting.kind_name(number).is_some()
+    }
+
+    /// Whether a type has this name.
+    pub fn has_kind_name(&self, name: &[u8]) -> bool
+        ensures { (d : Draft) → IsDraft self.now d → result ≡ has_kind_name d.setting name.now }
+    {
+        self.kind_number(name).is_some()
+    }
+
+    /// Whether buckets can have the type of this number: it isn't 0, and one of the map's types.
+    pub fn is_bucket_kind(&self, number: TypeId) -> bool
+        ensures { (d : Draft) → IsDraft self.now d → result ≡ is_bucket_kind d.setting number }
+    {
+        number.number() > 0 && self.has_kind_number(number)
+    }
+
+    /// The number of the type of this name, or `None` where the map has no such type.
+    pub fn kind_number(&self, name: &[u8]) -> Option<TypeId>
+        ensures { (d : Draft) → IsDraft self.now d → result ≡ kind_number d.setting name.now }
+    {
+        self.setting.kind_number(name)
+    }
+
+    /// The device or the complete bucket of this name, or `None` where there is none.
+    pub fn item_named(&self, name: &[u8]) -> Option<ItemId>
+        ensures value { (d : Draft) → IsDraft self.now d → result ≡ item_named d name.now }
+        ensures there { IfSome result (λ i. (d : Draft) → IsDraft self.now d
+            → is_there d.table i ≡ true) }
+        ensures closed { IfSome result (λ i. is_open self.now.pending i ≡ false) }
+    {
+        match self.forest.id_of_bytes(name)? {
+            ItemId::Device(device) => Some(ItemId::Device(device)),
+            ItemId::Bucket(bucket) => {
+                if self.fills(bucket) {
+                    None
+                } else {
+                    Some(ItemId::Bucket(bucket))
+                }
+            }
+        }
+    }
+
+    /// Whether a bucket holds the item.
+    pub fn is_placed(&self, id: ItemId) -> bool
+        ensures { (d : Draft) → IsDraft self.now d → result ≡ is_placed d.table id }
+    {
+        self.forest.parent(id).is_some()
+    }
+
+    /// The weight of an item, or `None` where it isn't there.
+    pub fn weight_of(&self, id: ItemId) -> Option<Weight>
+        ensures { (d : Draft) → IsDraft self.now d → result ≡ weight_of d.table id }
+    {
+        self.forest.weight(id)
+    }
+
+    /// Whether there are 65,536 devices.
+    pub fn is_full_of_devices(&self) -> bool
+        ensures { (d : Draft) → IsDraft self.now d → result ≡ is_full_of_devices d }
+    {
+        self.forest.counts().devices >= 65536
+    }
+
+    /// Whether there are 4,096 buckets.
+    pub fn is_full_of_buckets(&self) -> bool
+        ensures { (d : Draft) → IsDraft self.now d → result ≡ is_full_of_buckets d }
+    {
+        self.forest.counts().buckets >= 4096
+    }
+
+    /// Whether there are 256 types.
+    pub fn is_full_of_kinds(&self) -> bool
+        ensures { (d : Draft) → IsDraft self.now d → result ≡ is_full_of_kinds d }
+    {
+        self.setting.kinds().len() >= 256
+    }
+
+    /// Whether the bucket is the one that is being filled.
+    fn fills(&self, id: BucketId) -> bool
+        ensures { result ≡ is_open self.now.pending (Bucket id) }
+    {
+        match &self.pending {
+            Pending::Filling(bucket) => *bucket == id,
+            _ => false,
+        }
+    }
+}

@@ -1,0 +1,82 @@
+//! New weights for the devices of the plain example map.
+
+use crate::tests::building::{example_map, map_with_spare, types_and_devices, weighs};
+use crate::tests::statements::{add_item, begin_bucket, end_bucket, finish, open_bucket};
+use crush_map::{CrushMap, Done, Edit, EditFault, Refusal};
+use crush_units::{Name, Weight};
+use std::alloc::Global;
+use std::process::Abort;
+use std::test::Fail;
+
+/// `ceph osd crush reweight NAME WEIGHT`, with the weight in units.
+fn reweight(name: &[u8], units: u32, alloc: Global) -> Result<Edit, Fail> {
+    let name = Name::read(alloc, name)?;
+    Ok(Edit::Reweight(name, Weight::from_units(units)))
+}
+
+#[test]
+fn a_new_weight(rt: HostRuntime) -> Result<(), Fail> {
+    let mut map = example_map(&rt, rt.alloc(), rt.alloc())?;
+    let edit = reweight(b"osd.2", 65536, rt.alloc())?;
+    for changed in [true, false] {
+        assert!(rt; map.apply(&edit) == Ok(Done { changed, made: 0 }));
+        weighs(&rt, &map, "osd.2", 65536);
+        weighs(&rt, &map, "h2", 65536);
+        weighs(&rt, &map, "default", 196608);
+        assert_eq!(rt; map.total(), 196608);
+    }
+    Ok(())
+}
+
+#[test]
+fn refused_new_weights(rt: HostRuntime) -> Result<(), Fail> {
+    let mut map = map_with_spare(&rt, rt.alloc())?;
+    let refused: [(&[u8], u32, Refusal); 6] = [
+        (b"osd.0", 2147483648, Refusal::WeightTooLarge),
+        (b"x", 2147483648, Refusal::WeightTooLarge),
+        (b"x", 65536, Refusal::NoSuchItem),
+        (b"osd.9", 65536, Refusal::NotPlaced),
+        (b"h1", 65536, Refusal::NotADevice),
+        (b"default", 65536, Refusal::NotADevice),
+    ];
+    for (name, units, refusal) in refused {
+        let edit = reweight(name, units, rt.alloc())?;
+        assert!(rt;
+            map.apply(&edit) == Err(EditFault::Refused(refusal)),
+            "at {units}"
+        );
+    }
+    weighs(&rt, &map, "osd.9", 0);
+    weighs(&rt, &map, "default", 163840);
+    Ok(())
+}
+
+/// A host that holds as much as it can: osd.0 and osd.1 of the largest weight, and one unit more.
+fn full_host(rt: &impl Abort, alloc: Global) -> Result<CrushMap<Global>, Fail> {
+    let mut builder = types_and_devices(rt, alloc, alloc)?;
+    begin_bucket(rt, &mut builder, b"host", b"h1")?;
+    open_bucket(rt, &mut builder, -2)?;
+    add_item(rt, &mut builder, b"osd.0", 2147483647)?;
+    add_item(rt, &mut builder, b"osd.1", 2147483647)?;
+    add_item(rt, &mut builder, b"osd.2", 1)?;
+    end_bucket(rt, &mut builder);
+    Ok(finish(rt, builder))
+}
+
+#[test]
+fn a_full_host(rt: HostRuntime) -> Result<(), Fail> {
+    let mut map = full_host(&rt, rt.alloc())?;
+    weighs(&rt, &map, "h1", 4294967295);
+    let edit = reweight(b"osd.2", 2, rt.alloc())?;
+    let refused = EditFault::Refused(Refusal::SumTooLarge);
+    assert!(rt; map.apply(&edit) == Err(refused));
+    weighs(&rt, &map, "h1", 4294967295);
+    let edit = reweight(b"osd.2", 0, rt.alloc())?;
+    let done = Done {
+        changed: true,
+        made: 0,
+    };
+    assert!(rt; map.apply(&edit) == Ok(done));
+    weighs(&rt, &map, "h1", 4294967294);
+    Ok(())
+}

@@ -1,0 +1,28 @@
+-- Class ids by their numbers and classes.
+use Rattle.std.proofs.Common.{◌≡◌, ℕ, ◌+◌, ◌<◌, ◌≤◌, Bool, List, [], ◌∷◌, ◌++◌, length, get_or, take, ap, sym, subst, ◌∙◌, refl}
+use Rattle.std.proofs.lemmas.List.{take_all, take_more}
+use Rattle.std.proofs.lemmas.List.Elements.{All-push}
+use Rattle.std.specs.Prelude.{◌||◌, All, map}
+use Rattle.std.specs.List.{list_any}
+use Rattle.crush_table.specs.Lawful.{IsShadowId}
+use Rattle.crush_table.proofs.Reorder.{map_append}
+use Rattle.crush_nodes.specs.Seen.{shadow_data, shadow_classes, shadow_numbers}
+use Rattle.crush_nodes.specs.declared.node.ShadowId.{ShadowId}
+
+-- whether a test holds of a class id's number
+pub any_number : {A : _} (f : ℕ → Bool) (cs : List (ShadowId A)) → list_any (λ c. f c.id) cs ≡ list_any f (shadow_numbers cs)
+any_number f [] = refl
+any_number f (c ∷ cs) = ap (λ z. f c.id || z) (any_number f cs)
+
+-- and of its class
+pub any_class : {A : _} (f : List ℕ → Bool) (cs : List (ShadowId A)) → list_any (λ c. f c.class) cs ≡ list_any f (shadow_classes cs)
+any_class f [] = refl
+any_class f (c ∷ cs) = ap (λ z. f c.class || z) (any_class f cs)
+
+-- class ids up to one, and that one
+pub class_ids_more : {A : _} (cs : List (ShadowId A)) (i : ℕ) (x : ShadowId A) → i < length cs → x ≡ get_or cs i x → All IsShadowId (map shadow_data (take i cs)) → IsShadowId (shadow_data x) → All IsShadowId (map shadow_data (take (i + 1) cs))
+class_ids_more cs i x lt e a is =
+    subst (All IsShadowId) (sym (ap (map shadow_data) (take_more cs i x lt ∙ ap (λ z. take i cs ++ z ∷ []) (sym e)) ∙ map_append shadow_data (take i cs) (x ∷ []))) (All-push IsShadowId (map shadow_data (take i cs)) (shadow_data x) a is)
+
+pub class_ids_all : {A : _} (cs : List (ShadowId A)) (i : ℕ) → length cs ≤ i → All IsShadowId (map shadow_data (take i cs)) → All IsShadowId (map shadow_data cs)
+class_ids_all cs i le a = subst (λ z. All IsShadowId (map shadow_data z)) (take_all i cs le) a

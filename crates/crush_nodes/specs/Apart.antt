@@ -1,0 +1,43 @@
+-- Whether ids and names of items are new to others, and distinct among themselves.
+use Rattle.std.specs.Prelude.{ℕ, ◌≤◌, List, ◌∷◌, Bool, true, false, not, ◌==◌, ◌&&◌, ◌||◌, map, is_some, nat_lt, bytes_eq}
+use Rattle.std.specs.List.{count_by, list_any}
+use Rattle.crush_units.specs.declared.id.ItemId.{ItemId}
+use Rattle.crush_units.specs.declared.id.ItemId.TheVariants.{Device}
+use Rattle.crush_units.specs.Id.{same_id}
+use Rattle.crush_table.specs.Items.{LeafData, ShadowData, HeaderData, Items, none, device, bucket}
+use Rattle.crush_table.specs.Table.{Row, used_ids}
+use Rattle.crush_table.specs.Tested.{are_apart}
+use Rattle.crush_nodes.specs.Ops.{count_of_id}
+use Rattle.crush_nodes.specs.Search.{id_in, uses_in}
+
+-- ids are distinct in a table, names are, and the ids of buckets and class ids are, all together
+pub record AreApart (t : List Row) : Type 0 where
+  pub ids : (i : ItemId) → count_by (λ (r : Row). same_id r.id i) t ≤ 1
+  pub names : (n : List ℕ) → count_by (λ (r : Row). bytes_eq r.name n) t ≤ 1
+  pub used : (k : ℕ) → count_by (λ u. u == k) (used_ids t) ≤ 1
+
+-- the ids that a bucket uses: its own and its class ids
+abbrev pub header_ids : HeaderData → List ℕ
+header_ids h = h.id ∷ map (λ (c : ShadowData). c.id) h.class_ids
+
+-- whether a device, a bucket or one of several items has an id or a name that is among the others
+abbrev pub leaf_shares_a_key : LeafData → Items → Bool
+leaf_shares_a_key d others = nat_lt 0 (count_of_id (Device d.id) others) || is_some (id_in d.name others)
+
+abbrev pub header_shares_a_key : HeaderData → Items → Bool
+header_shares_a_key h others = list_any (λ k. uses_in k others) (header_ids h) || is_some (id_in h.name others)
+
+abbrev pub shares_a_key : Items → Items → Bool
+shares_a_key none others = false
+shares_a_key (device d rest) others = leaf_shares_a_key d others || shares_a_key rest others
+shares_a_key (bucket h w m kids rest) others = header_shares_a_key h others || (shares_a_key kids others || shares_a_key rest others)
+
+-- whether a bucket's ids are distinct, and it doesn't meet what is below it
+abbrev pub bucket_has_distinct_keys : HeaderData → Items → Bool
+bucket_has_distinct_keys h kids = are_apart (λ a b. b == a) (header_ids h) && not (header_shares_a_key h kids)
+
+-- whether ids and names are distinct among the items
+abbrev pub have_distinct_keys : Items → Bool
+have_distinct_keys none = true
+have_distinct_keys (device d rest) = not (shares_a_key (device d none) rest) && have_distinct_keys rest
+have_distinct_keys (bucket h w m kids rest) = not (shares_a_key (bucket h w m kids none) rest) && (bucket_has_distinct_keys h kids && (have_distinct_keys kids && have_distinct_keys rest))

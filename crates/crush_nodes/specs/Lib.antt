@@ -1,0 +1,10 @@
+pub mod Apart
+pub mod Attachable
+pub mod Falls
+pub mod Held
+pub mod Ops
+pub mod Room
+pub mod Search
+pub mod Seen
+pub mod SeenView
+pub mod Views

@@ -1,0 +1,103 @@
+//! Copies of a forest.
+
+ghost use Rattle.std.specs.Prelude.{◌≡◌, ◌∷◌, [], map, IfOk, vec_capacity};
+ghost use Rattle.crush_table.specs.Items.{bucket, none};
+ghost use Rattle.crush_nodes.specs.Ops.{without_capacity};
+ghost use Rattle.crush_nodes.specs.Seen.{shadow_data, header_data, items_of, leaf_data};
+
+use crate::node::{Bucket, Header, Leaf, Node, ShadowId};
+use crush_units::Weight;
+use std::alloc::{AllocError, Allocator};
+
+/// Copies items with all that is below them.
+pub fn copy_items<A: Allocator + Clone>(
+    alloc: &A,
+    items: &[Node<A>],
+) -> Result<Vec<Node<A>, A>, AllocError>
+    ensures { IfOk result (λ copy. without_capacity (items_of copy.items)
+        ≡ without_capacity (items_of items.now)) }
+{
+    let mut copies = Vec::with_capacity(alloc.clone()?, items.len())?;
+    for node in items {
+        let copy = match node {
+            Node::Device(leaf) => Node::Device(copy_leaf(alloc, leaf)?),
+            Node::Bucket(bucket) => {
+                let bucket: &Bucket<A> = bucket;
+                let header = copy_header(alloc, &bucket.header)?;
+                let below = copy_items(alloc, bucket.items.as_slice())?;
+                boxed(alloc, header, bucket.weight, below)?
+            }
+        };
+        copies.push_reserved(copy);
+    }
+    Ok(copies)
+}
+
+/// A bucket of these parts.
+fn boxed<A: Allocator + Clone>(
+    alloc: &A,
+    header: Header<A>,
+    weight: Weight,
+    items: Vec<Node<A>, A>,
+) -> Result<Node<A>, AllocError>
+    ensures { IfOk result (λ node. items_of (node ∷ [])
+        ≡ bucket (header_data header) weight (vec_capacity items) (items_of items.items) none) }
+{
+    let bucket = Bucket {
+        header,
+        weight,
+        items,
+    };
+    Ok(Node::Bucket(Box::new(alloc.clone()?, bucket)?))
+}
+
+/// Copies a device.
+fn copy_leaf<A: Allocator + Clone>(alloc: &A, leaf: &Leaf<A>) -> Result<Leaf<A>, AllocError>
+    ensures { IfOk result (λ copy. leaf_data copy ≡ leaf_data leaf.now) }
+{
+    let name = leaf.name.try_copy(alloc.clone()?)?;
+    let class = match &leaf.class {
+        Some(class) => Some(class.try_copy(alloc.clone()?)?),
+        None => None,
+    };
+    Ok(Leaf {
+        id: leaf.id,
+        name,
+        weight: leaf.weight,
+        class,
+    })
+}
+
+/// Copies what a bucket is, beside its weight and its items.
+fn copy_header<A: Allocator + Clone>(alloc: &A, header: &Header<A>) -> Result<Header<A>, AllocError>
+    ensures { IfOk result (λ copy. header_data copy ≡ header_data header.now) }
+{
+    let name = header.name.try_copy(alloc.clone()?)?;
+    let class_ids = copy_shadow_ids(alloc, header.class_ids.as_slice())?;
+    Ok(Header {
+        id: header.id,
+        kind: header.kind,
+        name,
+        alg: header.alg,
+        class_ids,
+    })
+}
+
+/// Copies class ids, in order.
+fn copy_shadow_ids<A: Allocator + Clone>(
+    alloc: &A,
+    class_ids: &[ShadowId<A>],
+) -> Result<Vec<ShadowId<A>, A>, AllocError>
+    ensures { IfOk result
+        (λ copy. map shadow_data copy.items ≡ map shadow_data class_ids.now) }
+{
+    let mut copies = Vec::with_capacity(alloc.clone()?, class_ids.len())?;
+    for class_id in class_ids {
+        let class = class_id.class.try_copy(alloc.clone()?)?;
+        copies.push_reserved(ShadowId {
+            id: class_id.id,
+            class,
+        });
+    }
+    Ok(copies)
+}

@@ -1,0 +1,126 @@
+//! Whether each item of a node is of its form.
+
+ghost use Rattle.std.specs.Prelude.{◌≡◌, ◌<◌, ◌≤◌, ◌∷◌, [], All, IfSome, map, nat_le, bytes_eq};
+ghost use Rattle.std.specs.Bool.{OnTrue};
+ghost use Rattle.std.specs.List.{list_any};
+ghost use Rattle.crush_units.specs.Name.{IsName};
+ghost use Rattle.crush_table.specs.Lawful.{IsShadowId};
+ghost use Rattle.crush_table.specs.Tested.{are_apart};
+ghost use Rattle.crush_nodes.specs.Attachable.{are_formed, is_formed, AreTyped, IsTyped};
+ghost use Rattle.crush_nodes.specs.Seen.{shadow_data, shadow_classes, header_data, items_of};
+ghost use Rattle.crush_units.specs.declared.limits.TheConstants.{DEVICE_IDS, HEAVIEST_DEVICE};
+
+use crate::node::{Bucket, Header, Leaf, Node, ShadowId};
+use crush_units::Name;
+use std::alloc::Allocator;
+
+/// Whether the item and each below it is of its form.
+pub fn is_formed_node<A: Allocator>(node: &Node<A>) -> bool
+    ensures tested { result ≡ are_formed (items_of (node.now ∷ [])) }
+    ensures typed { OnTrue result (AreTyped (items_of (node.now ∷ []))) }
+{
+    match node {
+        Node::Device(leaf) => is_formed_leaf(leaf),
+        Node::Bucket(bucket) => {
+            let bucket: &Bucket<A> = bucket;
+            let _units = bucket.weight.units();
+            if !is_formed(&bucket.header) {
+                return false;
+            }
+            let items = bucket.items.as_slice();
+            for item in items {
+                if !is_formed_node(item) {
+                    return false;
+                }
+            }
+            true
+        }
+    }
+}
+
+/// Whether the weight of a device is one that it may have.
+fn is_formed_leaf<A: Allocator>(leaf: &Leaf<A>) -> bool
+    ensures tested { result ≡ nat_le leaf.now.weight HEAVIEST_DEVICE }
+    ensures id { leaf.now.id < DEVICE_IDS }
+    ensures name { IsName leaf.now.name }
+    ensures class { IfSome leaf.now.class IsName }
+{
+    let _number = leaf.id.number();
+    let _bytes = leaf.name.as_bytes();
+    is_class(&leaf.class);
+    leaf.weight.units() <= 2147483647
+}
+
+/// A class is a name.
+fn is_class<A: Allocator>(class: &Option<Name<A>>)
+    ensures { IfSome class.now IsName }
+{
+    match class {
+        Some(class) => {
+            let _bytes = class.as_bytes();
+        }
+        None => {}
+    }
+}
+
+/// Whether a bucket has a type, and at most 16 class ids of distinct classes.
+fn is_formed<A: Allocator>(header: &Header<A>) -> bool
+    ensures tested { result ≡ is_formed (header_data header.now) }
+    ensures typed { OnTrue result (IsTyped (header_data header.now)) }
+{
+    let _distance = header.id.distance();
+    let _bytes = header.name.as_bytes();
+    if header.kind.number() == 0 {
+        return false;
+    }
+    let class_ids = header.class_ids.as_slice();
+    shadow_ids_in_form(class_ids);
+    if class_ids.len() > 16 {
+        return false;
+    }
+    have_distinct_classes(class_ids)
+}
+
+/// Whether the classes of class ids are distinct.
+fn have_distinct_classes<A: Allocator>(class_ids: &[ShadowId<A>]) -> bool
+    ensures { result ≡ are_apart (λ a b. bytes_eq b a) (shadow_classes class_ids.now) }
+{
+    for (i, class_id) in class_ids.iter().enumerate() {
+        if has_class_of(&class_ids[i + 1..], class_id) {
+            return false;
+        }
+    }
+    true
+}
+
+/// Whether one of the class ids has the class of this one.
+fn has_class_of<A: Allocator>(class_ids: &[ShadowId<A>], class_id: &ShadowId<A>) -> bool
+    ensures { result
+        ≡ list_any (λ b. bytes_eq b class_id.now.class) (shadow_classes class_ids.now) }
+{
+    has_class(class_ids, class_id.class.as_bytes())
+}
+
+/// A law of class ids: each has an id below 0 and a class that is a name.
+fn shadow_ids_in_form<A: Allocator>(class_ids: &[ShadowId<A>])
+    ensures { All IsShadowId (map shadow_data class_ids.now) }
+{
+    for class_id in class_ids {
+        shadow_id_in_form(class_id);
+    }
+}
+
+/// The law of one.
+fn shadow_id_in_form<A: Allocator>(class_id: &ShadowId<A>)
+    ensures { IsShadowId (shadow_data class_id.now) }
+{
+    let _distance = class_id.id.distance();
+    let _bytes = class_id.class.as_bytes();
+}
+
+/// Whether one of the class ids has the class.
+fn has_class<A: Allocator>(class_ids: &[ShadowId<A>], class: &[u8]) -> bool
+    ensures { result ≡ list_any (λ c. bytes_eq c.class class.now) class_ids.now }
+{
+    class_ids.iter().any(|class_id| class_id.class.is(class))
+}

@@ -1,0 +1,45 @@
+//! Buckets that are filled before they stand in a forest.
+
+ghost use Rattle.std.specs.Prelude.{◌≡◌, ℕ, ◌+◌, ◌<◌, ◌≤◌, ◌∷◌, [], ◌++◌, Option};
+ghost use Rattle.crush_table.specs.ItemRows.{rows};
+ghost use Rattle.crush_table.specs.Stored.{weight_sum, StoresSums};
+ghost use Rattle.crush_nodes.specs.Held.{first_room, first_bucket, is_own_place, bucket_with};
+ghost use Rattle.crush_nodes.specs.Room.{one_if, room_in};
+ghost use Rattle.crush_nodes.specs.Seen.{items_of};
+ghost use Rattle.crush_nodes.specs.declared.place.Place.{Place};
+ghost use Rattle.crush_units.specs.declared.limits.TheConstants.{HEAVIEST_BUCKET};
+
+use crate::node::{Bucket, Node};
+use crate::sums::with_more;
+use std::alloc::Allocator;
+
+impl<A: Allocator> Node<A> {
+    /// Puts a child last into a bucket that has room for it, which [`Node::has_room`] tests, and
+    /// adds its weight. The weights of both together are at most 4294967295 units. Where both store
+    /// their sums, the bucket still does. It has room for one item less, and the child's buckets
+    /// keep theirs. It takes no memory.
+    pub fn hold(&mut self, child: Node<A>)
+        requires room { 0 < first_room (items_of (self.old ∷ [])) }
+        requires fits { weight_sum (items_of (self.old ∷ []))
+            + weight_sum (items_of (child ∷ [])) ≤ HEAVIEST_BUCKET }
+        ensures items { items_of (self.new ∷ [])
+            ≡ bucket_with (items_of (child ∷ [])) (items_of (self.old ∷ [])) }
+        ensures rows { (p : Option ℕ) → rows p (items_of (self.new ∷ []))
+            ≡ rows p (items_of (self.old ∷ []))
+            ++ rows (first_bucket (items_of (self.old ∷ []))) (items_of (child ∷ [])) }
+        ensures sums { StoresSums (items_of (self.old ∷ [])) → StoresSums (items_of (child ∷ []))
+            → StoresSums (items_of (self.new ∷ [])) }
+        ensures rooms { (p : Place) → room_in (items_of (self.new ∷ [])) p
+            + one_if (is_own_place (items_of (self.old ∷ [])) p)
+            ≡ room_in (items_of (self.old ∷ [])) p + room_in (items_of (child ∷ [])) p }
+    {
+        match self {
+            Node::Device(_) => unreachable!(),
+            Node::Bucket(bucket) => {
+                let bucket: &mut Bucket<A> = bucket;
+                bucket.weight = with_more(bucket.weight, child.weight());
+                bucket.items.push_reserved(child);
+            }
+        }
+    }
+}

@@ -1,0 +1,62 @@
+//! What a node tells before it is put anywhere.
+
+ghost use Rattle.std.specs.Prelude.{◌≡◌, ◌==◌, ◌∷◌, [], ◌↔◌, IsTrue, nat_lt};
+ghost use Rattle.crush_table.specs.Stored.{StoresSums, weight_sum};
+ghost use Rattle.crush_nodes.specs.Held.{first_room};
+ghost use Rattle.crush_nodes.specs.Seen.{items_of};
+
+use crate::node::{Bucket, Node};
+use crush_units::Weight;
+use std::alloc::Allocator;
+
+impl<A: Allocator> Node<A> {
+    /// Whether the item is a bucket that has memory for one item more, so that [`Node::hold`] may
+    /// be called. No device has.
+    pub fn has_room(&self) -> bool
+        ensures { result ≡ nat_lt 0 (first_room (items_of (self.now ∷ []))) }
+    {
+        match self {
+            Node::Device(_) => false,
+            Node::Bucket(bucket) => {
+                let bucket: &Bucket<A> = bucket;
+                bucket.items.len() < bucket.items.capacity()
+            }
+        }
+    }
+
+    /// Whether each bucket of the item, itself or at any depth below it, stores the sum of the
+    /// weights of its items, as [`Forest::attach`](crate::Forest::attach) requires. A sum above
+    /// 4294967295 units can't be stored.
+    pub fn stores_sums(&self) -> bool
+        ensures { IsTrue result ↔ StoresSums (items_of (self.now ∷ [])) }
+    {
+        match self {
+            Node::Device(_) => true,
+            Node::Bucket(bucket) => {
+                let bucket: &Bucket<A> = bucket;
+                let items = bucket.items.as_slice();
+                for item in items {
+                    if !item.stores_sums() {
+                        return false;
+                    }
+                }
+                is_sum_of(bucket.weight, items)
+            }
+        }
+    }
+}
+
+/// Whether the items weigh so much together.
+fn is_sum_of<A: Allocator>(sum: Weight, items: &[Node<A>]) -> bool
+    ensures { result ≡ (weight_sum (items_of items.now) == sum) }
+{
+    let mut left = sum.units();
+    for node in items {
+        let units = node.weight().units();
+        if units > left {
+            return false;
+        }
+        left -= units;
+    }
+    left == 0
+}

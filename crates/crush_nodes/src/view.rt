@@ -1,0 +1,75 @@
+//! What reads of a forest tell.
+
+ghost use Rattle.std.specs.Prelude.{◌≡◌};
+
+use crate::node::{Bucket, Leaf};
+use crush_units::{Alg, BucketId, ItemId, TypeId, Weight};
+use std::alloc::Allocator;
+
+/// An item of a forest with its place, without what is below it.
+#[derive(Clone, Copy, Debug)]
+pub struct View<'a> {
+    /// The item's id.
+    pub id: ItemId,
+    /// The number of its type, which is 0 for a device.
+    pub kind: TypeId,
+    /// Its name.
+    pub name: &'a str,
+    /// Its weight: of a device its own, of a bucket the sum over all devices below it.
+    pub weight: Weight,
+    /// The bucket that holds it, or `None` for a root and an unplaced device.
+    pub parent: Option<BucketId>,
+    /// A device's class, if it has one. A bucket has none.
+    pub class: Option<&'a str>,
+    /// A bucket's algorithm. A device has none.
+    pub alg: Option<Alg>,
+}
+
+/// How many items there are.
+#[derive(Clone, Copy, Debug, PartialEq, Eq)]
+pub struct Counts {
+    /// How many devices.
+    pub devices: u32,
+    /// How many buckets.
+    pub buckets: u32,
+}
+
+impl<'a> View<'a> {
+    ghost use Rattle.crush_nodes.specs.Seen.{leaf_data};
+    ghost use Rattle.crush_nodes.specs.Views.{device_view, bucket_view};
+    ghost use Rattle.crush_nodes.specs.SeenView.{view_data};
+
+    /// A device below the parent.
+    pub fn device<A: Allocator>(leaf: &'a Leaf<A>, parent: Option<BucketId>) -> View<'a>
+        ensures { view_data result ≡ device_view parent (leaf_data leaf.now) }
+    {
+        let class = match &leaf.class {
+            Some(class) => Some(class.as_str()),
+            None => None,
+        };
+        View {
+            id: ItemId::Device(leaf.id),
+            kind: TypeId::new(0),
+            name: leaf.name.as_str(),
+            weight: leaf.weight,
+            parent,
+            class,
+            alg: None,
+        }
+    }
+
+    /// A bucket below the parent.
+    pub fn bucket<A: Allocator>(bucket: &'a Bucket<A>, parent: Option<BucketId>) -> View<'a>
+        ensures { view_data result ≡ bucket_view parent bucket.now.header bucket.now.weight }
+    {
+        View {
+            id: ItemId::Bucket(bucket.header.id),
+            kind: bucket.header.kind,
+            name: bucket.header.name.as_str(),
+            weight: bucket.weight,
+            parent,
+            class: None,
+            alg: Some(bucket.header.alg),
+        }
+    }
+}

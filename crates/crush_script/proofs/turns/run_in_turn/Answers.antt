@@ -1,0 +1,36 @@
+use Rattle.std.proofs.Common.{◌++◌, length, take, ap, subst, ◌∙◌, arith}
+use Rattle.std.proofs.lemmas.List.{take_all}
+use Rattle.crush_map.specs.MapData.{MapStands}
+use Rattle.crush_script.specs.Sections.{scripts_data, call_count}
+use Rattle.crush_script.specs.History.{table_after, turn, turns}
+use Rattle.crush_script.specs.Entries.{history_data}
+use Rattle.crush_script.proofs.InTurn.{script_run, table_run, count-take, no_script, no_script_table}
+use Rattle.crush_script.proofs.turns.run_in_turn.Goals as goal
+
+pub loop-operator-init : goal.loop-operator-init
+loop-operator-init c = record { count = ap length c.new-entries.ensures.items; entries = λ s t stands. (ap history_data c.new-entries.ensures.items ∙ no_script s t, subst (MapStands c.args.map.now s) (no_script_table s t) stands) }
+
+pub loop-operator-preserved : goal.loop-operator-preserved
+loop-operator-preserved c =
+    let i = c.loop-operator.operator in
+    let x = c.index-scripts-operator.result in
+    record {
+      count = omega (arith, c.in_ok-run_script.ensures.count, c.loop-operator.invariant.count, ap length c.as_slice.ensures.value, count-take c.args.scripts.now i x c.loop-operator-test.true c.index-scripts-operator.is);
+      entries = λ s t stands.
+          let so_far = c.loop-operator.invariant.entries s t stands in
+          let u = table_after s t (turns s t (scripts_data (take i c.args.scripts.now))) in
+          let ran = c.in_ok-run_script.ensures.entries s u so_far.1 in
+          let own = ap (λ cs. turn s u i cs) c.as_slice.ensures.value in (
+            script_run s t c.args.scripts.now i x (history_data c.loop-operator.entries.items) (history_data c.run_script.new.entries.items) c.loop-operator-test.true c.index-scripts-operator.is so_far.0 (ran.0 ∙ ap (λ z. history_data c.loop-operator.entries.items ++ z) own),
+            subst (MapStands c.run_script.new.map s) (ap (table_after s u) own ∙ table_run s t c.args.scripts.now i x c.loop-operator-test.true c.index-scripts-operator.is) ran.1,
+          );
+    }
+
+pub returns : goal.returns
+returns c =
+    let all = take_all c.loop-operator.operator c.args.scripts.now (omega arith) in
+    record {
+      count = c.loop-operator.invariant.count ∙ ap (λ xs. call_count (scripts_data xs)) all;
+      entries = λ s t stands. (c.loop-operator.invariant.entries s t stands).0 ∙ ap (λ xs. turns s t (scripts_data xs)) all;
+      map = λ s t stands. subst (λ xs. MapStands c.loop-operator.map s (table_after s t (turns s t (scripts_data xs)))) all (c.loop-operator.invariant.entries s t stands).1;
+    }

@@ -1,0 +1,106 @@
+//! The scripts of a job, run one after the other.
+
+ghost use Rattle.std.specs.Prelude.{◌≡◌, ◌+◌, ◌++◌, List, IfOk, OnOk, length};
+ghost use Rattle.crush_table.specs.Setting.{SettingData};
+ghost use Rattle.crush_table.specs.Table.{Row};
+ghost use Rattle.crush_map.specs.Edit.{edit};
+ghost use Rattle.crush_map.specs.MapData.{MapStands};
+ghost use Rattle.crush_script.specs.declared.call.Call.TheVariants.{One};
+ghost use Rattle.crush_script.specs.Sections.{scripts_data, call_count};
+ghost use Rattle.crush_script.specs.History.{table_after, turn, turns, call_outcome, edit_outcome};
+ghost use Rattle.crush_script.specs.Entries.{history_data};
+ghost use Rattle.crush_script.specs.Turns.{TurnsAreHistory};
+
+use crate::call::{Call, Reply};
+use crate::entry::Entry;
+use crate::sections::Script;
+use crush_map::{CrushMap, Edit, EditFault};
+use std::alloc::{AllocError, Global};
+
+/// Makes one edit.
+fn make_edit(map: &mut CrushMap<Global>, asked: &Edit) -> Result<Reply, AllocError>
+    ensures { IfOk result (λ reply. (s : SettingData) (t : List Row) → MapStands map.old s t
+        → (reply ≡ (edit_outcome t (edit s t asked.now)).reply)
+        × MapStands map.new s (edit_outcome t (edit s t asked.now)).table) }
+{
+    match map.apply(asked) {
+        Ok(done) => Ok(Reply::Done(done)),
+        Err(EditFault::Refused(refusal)) => Ok(Reply::Refused(refusal)),
+        Err(EditFault::OutOfMemory) => Err(AllocError),
+    }
+}
+
+/// The edit of a call.
+fn one_edit(call: &Call) -> &Edit
+    ensures { call.now ≡ One result.now }
+{
+    match call {
+        Call::One(edit) => edit,
+    }
+}
+
+/// Makes one call.
+fn make_call(map: &mut CrushMap<Global>, call: &Call) -> Result<Reply, AllocError>
+    ensures { IfOk result (λ reply. (s : SettingData) (t : List Row) → MapStands map.old s t
+        → (reply ≡ (call_outcome s t call.now).reply)
+        × MapStands map.new s (call_outcome s t call.now).table) }
+{
+    make_edit(map, one_edit(call))
+}
+
+/// Makes the calls of one operator in order.
+fn run_script<'a>(
+    operator: usize,
+    map: &mut CrushMap<Global>,
+    calls: &'a [Call],
+    entries: &mut Vec<Entry<'a>>,
+) -> Result<(), AllocError>
+    ensures count { OnOk result
+        (length entries.new.items ≡ length entries.old.items + length calls.now) }
+    ensures entries { OnOk result ((s : SettingData) (t : List Row) → MapStands map.old s t
+        → (history_data entries.new.items
+        ≡ history_data entries.old.items ++ turn s t operator calls.now)
+        × MapStands map.new s (table_after s t (turn s t operator calls.now))) }
+{
+    for call in calls {
+        let reply = make_call(map, call)?;
+        entries.push(Entry {
+            operator,
+            call,
+            reply,
+        })?;
+    }
+    Ok(())
+}
+
+/// Runs the scripts one after the other, each call by call, and lists what each call was answered.
+///
+/// Memory may lack at any call. The map is then the one after some of the calls.
+pub fn run_in_turn<'a>(
+    alloc: Global,
+    map: &mut CrushMap<Global>,
+    scripts: &'a [Script],
+) -> Result<Vec<Entry<'a>>, AllocError>
+    // Each call of each script has its entry.
+    ensures count { IfOk result (λ entries.
+        length entries.items ≡ call_count (scripts_data scripts.now)) }
+
+    // The entries are the turns of the scripts, and the map stands for the table after them.
+    ensures entries { IfOk result (λ entries. (s : SettingData) (t : List Row)
+        → MapStands map.old s t → history_data entries.items ≡ turns s t (scripts_data scripts.now)) }
+    ensures map { OnOk result ((s : SettingData) (t : List Row) → MapStands map.old s t
+        → MapStands map.new s (table_after s t (turns s t (scripts_data scripts.now)))) }
+{
+    let mut entries = Vec::new(alloc);
+    for (operator, script) in scripts.iter().enumerate() {
+        run_script(operator, map, script.calls.as_slice(), &mut entries)?;
+    }
+    Ok(entries)
+}
+
+/// The history of scripts that run one after the other: each reply is the table's at that point,
+/// and the entries are the calls of each script in order, and no others. There is nothing to run:
+/// the contract is the law.
+pub fn turns_are_history()
+    ensures { TurnsAreHistory }
+{}

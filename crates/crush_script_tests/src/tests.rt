@@ -1,0 +1,6 @@
+//! The worked examples of jobs, of runs and of history lines.
+
+mod histories;
+mod jobs;
+mod lines;
+mod writing;

@@ -1,0 +1,195 @@
+-- Tables that break one condition of a lawful table alone, and what the limits are, computed. That a parent is a device can't be
+-- written: a row's parent is the number of a bucket.
+use Rattle.std.proofs.Common.{◌≡◌, ℕ, zero, suc, ◌*◌, Bool, true, false, List, [], ◌∷◌, ◌++◌, ◌∙◌, refl, arith}
+use Rattle.std.specs.Prelude.{Option, Some, None, codes, replicate, nat_lt, ◌||◌}
+use Rattle.crush_units.specs.declared.alg.Alg.TheVariants.{Straw2}
+use Rattle.crush_units.specs.Name.{is_name}
+use Rattle.crush_table.specs.Items.{ShadowData}
+use Rattle.crush_table.specs.ItemRows.{device_row, bucket_row}
+use Rattle.crush_table.specs.Table.{Row, sum_below, total, is_device, is_bucket, device_count, bucket_count}
+use Rattle.crush_table.specs.Lawful.{is_too_heavy, has_too_many}
+use Rattle.crush_table.specs.Tested.{device_tests, bucket_tests, table_tests}
+use Rattle.crush_table.proofs.Counted.{sum_by-replicate}
+use Rattle.crush_table.proofs.Reorder.{one_if}
+
+-- of some tests the one after the first n fails, and the m after it hold
+abbrev all_but : ℕ → ℕ → List Bool
+all_but n m = replicate n true ++ false ∷ replicate m true
+
+abbrev disk : ℕ → List ℕ → Option ℕ → ℕ → Row
+disk d n p w = device_row p (record { id = d; name = n; weight = w; class = None })
+
+abbrev box : ℕ → List ℕ → Option ℕ → List ShadowData → Row
+box b n p c = bucket_row p (record { id = b; kind = 1; name = n; alg = Straw2; class_ids = c })
+
+abbrev ssd : ℕ → ShadowData
+ssd n = record { id = n; class = codes "ssd" }
+
+-- TABLES: ids, names, used ids, rows, parents, loops, sums and total, counts
+
+id_twice : table_tests (box 1 (codes "r") None [] ∷ (disk 0 (codes "a") (Some 1) 1 ∷ (disk 0 (codes "b") (Some 1) 1 ∷ []))) ≡ all_but 0 7
+id_twice = refl
+
+name_twice : table_tests (box 1 (codes "r") None [] ∷ (disk 0 (codes "r") (Some 1) 1 ∷ [])) ≡ all_but 1 6
+name_twice = refl
+
+class_id_of_a_bucket : table_tests (box 1 (codes "r") None (ssd 2 ∷ []) ∷ (box 2 (codes "s") None [] ∷ [])) ≡ all_but 2 5
+class_id_of_a_bucket = refl
+
+class_id_twice : table_tests (box 1 (codes "r") None (ssd 3 ∷ []) ∷ (box 2 (codes "s") None (ssd 3 ∷ []) ∷ [])) ≡ all_but 2 5
+class_id_twice = refl
+
+bad_row : table_tests (disk 0 (codes "a") None 1 ∷ []) ≡ all_but 3 4
+bad_row = refl
+
+bad_name : table_tests (disk 0 (codes "a b") None 0 ∷ []) ≡ all_but 3 4
+bad_name = refl
+
+absent_parent : table_tests (disk 0 (codes "a") (Some 9) 1 ∷ []) ≡ all_but 4 3
+absent_parent = refl
+
+below_itself : table_tests (box 1 (codes "r") (Some 2) [] ∷ (box 2 (codes "s") (Some 1) [] ∷ [])) ≡ all_but 5 2
+below_itself = refl
+
+-- two of the heaviest devices fill a bucket all but one unit
+abbrev heavy : List Row
+heavy = box 1 (codes "r") None [] ∷ (disk 0 (codes "a") (Some 1) 2147483647 ∷ (disk 1 (codes "b") (Some 1) 2147483647 ∷ (disk 2 (codes "c") (Some 1) 1 ∷ [])))
+
+heaviest_bucket : table_tests heavy ≡ replicate 8 true
+heaviest_bucket = refl
+
+abbrev too_heavy : List Row
+too_heavy = box 1 (codes "r") None [] ∷ (disk 0 (codes "a") (Some 1) 2147483647 ∷ (disk 1 (codes "b") (Some 1) 2147483647 ∷ (disk 2 (codes "c") (Some 1) 2 ∷ [])))
+
+heavy_sum : table_tests too_heavy ≡ all_but 6 1
+heavy_sum = refl
+
+light_total : nat_lt 8796093022207 (total too_heavy) ≡ false
+light_total = refl
+
+-- a weight in a bucket's row is added nowhere
+abbrev weighted_bucket : List Row
+weighted_bucket = box 1 (codes "r") None [] ∷ (record (box 2 (codes "s") (Some 1) []) { weight = 7 } ∷ (disk 0 (codes "a") (Some 2) 5 ∷ []))
+
+weighted_sum : sum_below weighted_bucket 1 ≡ 5
+weighted_sum = refl
+
+weighted_total : total weighted_bucket ≡ 5
+weighted_total = refl
+
+-- where an id is there twice, the order of rows tells which of their parents counts: so tables that are the same weigh alike only
+-- where each id is there once
+abbrev one_order : List Row
+one_order = box 1 (codes "r") None [] ∷ (disk 0 (codes "a") (Some 1) 4294967296 ∷ (disk 0 (codes "b") (Some 9) 0 ∷ []))
+
+abbrev other_order : List Row
+other_order = box 1 (codes "r") None [] ∷ (disk 0 (codes "b") (Some 9) 0 ∷ (disk 0 (codes "a") (Some 1) 4294967296 ∷ []))
+
+weighs_too_much : is_too_heavy one_order ≡ true
+weighs_too_much = refl
+
+weighs_nothing_there : is_too_heavy other_order ≡ false
+weighs_nothing_there = refl
+
+-- COUNTS AND TOTAL at any size: so many rows that are alike
+many_devices : (n : ℕ) → has_too_many (replicate n (disk 0 (codes "a") None 0)) ≡ nat_lt 65536 n
+many_devices n =
+    let devices : device_count (replicate n (disk 0 (codes "a") None 0)) ≡ n = sum_by-replicate (λ (r : Row). one_if (is_device r)) n (disk 0 (codes "a") None 0) ∙ omega arith in
+    let none_else : bucket_count (replicate n (disk 0 (codes "a") None 0)) ≡ 0 = sum_by-replicate (λ (r : Row). one_if (is_bucket r)) n (disk 0 (codes "a") None 0) ∙ omega arith in
+    (λ k. nat_lt 65536 (devices k) || nat_lt 4096 (none_else k)) ∙ or_false (nat_lt 65536 n) where
+      or_false : (b : Bool) → (b || false) ≡ b
+      or_false true = refl
+      or_false false = refl
+
+many_buckets : (n : ℕ) → has_too_many (replicate n (box 1 (codes "r") None [])) ≡ nat_lt 4096 n
+many_buckets n =
+    let none_else : device_count (replicate n (box 1 (codes "r") None [])) ≡ 0 = sum_by-replicate (λ (r : Row). one_if (is_device r)) n (box 1 (codes "r") None []) ∙ omega arith in
+    let buckets : bucket_count (replicate n (box 1 (codes "r") None [])) ≡ n = sum_by-replicate (λ (r : Row). one_if (is_bucket r)) n (box 1 (codes "r") None []) ∙ omega arith in
+    λ k. nat_lt 65536 (none_else k) || nat_lt 4096 (buckets k)
+
+heavy_total : (n : ℕ) → total (replicate n (disk 0 (codes "a") (Some 1) 2147483647)) ≡ n * 2147483647
+heavy_total n = sum_by-replicate _ n (disk 0 (codes "a") (Some 1) 2147483647)
+
+-- 4,096 of the heaviest devices are no total out of range, one more are
+total_in_range : nat_lt 8796093022207 (4096 * 2147483647) ≡ false
+total_in_range = refl
+
+total_out_of_range : nat_lt 8796093022207 (4097 * 2147483647) ≡ true
+total_out_of_range = refl
+
+-- A DEVICE'S ROW: id, type, weight, weightless while unplaced, algorithm, class ids, class
+
+last_device : device_tests 2147483647 (disk 0 (codes "a") (Some 1) 2147483647) ≡ replicate 7 true
+last_device = refl
+
+device_id : device_tests 2147483648 (disk 0 (codes "a") (Some 1) 1) ≡ all_but 0 6
+device_id = refl
+
+type_of_a_device : device_tests 0 (record (disk 0 (codes "a") (Some 1) 1) { kind = 1 }) ≡ all_but 1 5
+type_of_a_device = refl
+
+heavy_device : device_tests 0 (disk 0 (codes "a") (Some 1) 2147483648) ≡ all_but 2 4
+heavy_device = refl
+
+unplaced_with_weight : device_tests 0 (disk 0 (codes "a") None 1) ≡ all_but 3 3
+unplaced_with_weight = refl
+
+alg_of_a_device : device_tests 0 (record (disk 0 (codes "a") (Some 1) 1) { alg = Some Straw2 }) ≡ all_but 4 2
+alg_of_a_device = refl
+
+class_ids_of_a_device : device_tests 0 (record (disk 0 (codes "a") (Some 1) 1) { class_ids = ssd 1 ∷ [] }) ≡ all_but 5 1
+class_ids_of_a_device = refl
+
+bad_class : device_tests 0 (record (disk 0 (codes "a") (Some 1) 1) { class = Some [] }) ≡ all_but 6 0
+bad_class = refl
+
+-- A BUCKET'S ROW: id from 1, to the last, type from 1, to the last, no weight, no class, an algorithm, class ids, not too many, of
+-- distinct classes
+
+last_bucket : bucket_tests 2147483648 (record (box 1 (codes "r") None []) { kind = 65535 }) ≡ replicate 10 true
+last_bucket = refl
+
+bucket_zero : bucket_tests 0 (box 0 (codes "r") None []) ≡ all_but 0 9
+bucket_zero = refl
+
+bucket_id : bucket_tests 2147483649 (box 1 (codes "r") None []) ≡ all_but 1 8
+bucket_id = refl
+
+type_zero : bucket_tests 1 (record (box 1 (codes "r") None []) { kind = 0 }) ≡ all_but 2 7
+type_zero = refl
+
+type_past_the_last : bucket_tests 1 (record (box 1 (codes "r") None []) { kind = 65536 }) ≡ all_but 3 6
+type_past_the_last = refl
+
+weight_of_a_bucket : bucket_tests 1 (record (box 1 (codes "r") None []) { weight = 1 }) ≡ all_but 4 5
+weight_of_a_bucket = refl
+
+class_of_a_bucket : bucket_tests 1 (record (box 1 (codes "r") None []) { class = Some (codes "ssd") }) ≡ all_but 5 4
+class_of_a_bucket = refl
+
+no_alg : bucket_tests 1 (record (box 1 (codes "r") None []) { alg = None }) ≡ all_but 6 3
+no_alg = refl
+
+class_id_zero : bucket_tests 1 (box 1 (codes "r") None (ssd 0 ∷ [])) ≡ all_but 7 2
+class_id_zero = refl
+
+class_twice : bucket_tests 1 (box 1 (codes "r") None (ssd 3 ∷ (ssd 4 ∷ []))) ≡ all_but 9 0
+class_twice = refl
+
+-- classes a, aa, aaa ..
+abbrev shadows : ℕ → List ShadowData
+shadows zero = []
+shadows (suc n) = record { id = suc n; class = replicate (suc n) 97 } ∷ shadows n
+
+most_class_ids : bucket_tests 20 (box 20 (codes "r") None (shadows 16)) ≡ replicate 10 true
+most_class_ids = refl
+
+class_ids_too_many : bucket_tests 20 (box 20 (codes "r") None (shadows 17)) ≡ all_but 8 1
+class_ids_too_many = refl
+
+-- NAMES of 255 bytes and of one more
+longest_name : is_name (replicate 255 97) ≡ true
+longest_name = refl
+
+name_too_long : is_name (replicate 256 97) ≡ false
+name_too_long = refl

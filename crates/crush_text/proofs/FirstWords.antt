@@ -1,0 +1,48 @@
+-- The first word of a statement, and the end of the text in its place.
+use Rattle.std.proofs.Common.{◌≡◌, ℕ, Bool, true, false, List, Ok, Err, refl, sym, ap, ◌∙◌}
+use Rattle.crush_map.specs.Built.{Draft}
+use Rattle.crush_bytes.specs.Words.{Text, first as first_word, stopped, ended, bad}
+use Rattle.crush_text.specs.declared.fault.TextFaultKind.TheVariants.{BadWord}
+use Rattle.crush_text.specs.declared.fault.TextFault.{TextFault}
+use Rattle.crush_text.specs.declared.reader.statement.Opening.{Opening}
+use Rattle.crush_text.specs.Role.{opening}
+use Rattle.crush_text.specs.Form.{at}
+use Rattle.crush_text.specs.Grammar.{statement, lines}
+use Rattle.crush_text.specs.Tests.{word_for}
+use Rattle.crush_text.specs.Flow.{◌>>=◌, between, placed, run, outcome}
+use Rattle.crush_text.specs.Reads.{and_rest, next_at, word_at, line_at, then_on, behind}
+use Rattle.crush_text.proofs.LineByLine.{word_goes}
+
+-- a word in this place is the first one of a statement
+first_goes : (d : Draft) (late : Bool) (t rest : Text) (place : ℕ) (text : List ℕ) → t ≡ first_word place text rest
+    → outcome (between (at (behind late) d)) t ≡ then_on ((placed place (word_for d (opening late) text) >>= and_rest rest) >>= λ x. line_at d (statement d x.0) x.1)
+unfolding line_at word_at next_at
+first_goes d late t rest place text is = ap (outcome (between (at (behind late) d))) is ∙ word_goes (behind late) d (record { place = place; text = text }) rest.words rest.stop ∙ by_mode late
+  where
+    by_mode : (b : Bool) → then_on (line_at d (lines d (behind b)) (first_word place text rest)) ≡ then_on ((placed place (word_for d (opening b) text) >>= and_rest rest) >>= λ x. line_at d (statement d x.0) x.1)
+    by_mode true = refl
+    by_mode false = refl
+
+-- what comes of all after a word that opens a statement
+pub opening_ok : (d : Draft) (late : Bool) (t rest : Text) (place : ℕ) (text : List ℕ) (o : Opening) → t ≡ first_word place text rest → Ok o ≡ placed place (word_for d (opening late) text)
+    → outcome (between (at (behind late) d)) t ≡ then_on (line_at d (statement d o) rest)
+opening_ok d late t rest place text o is e = first_goes d late t rest place text is ∙ ap (λ q. then_on ((q >>= and_rest rest) >>= λ x. line_at d (statement d x.0) x.1)) (sym e)
+
+-- a fault of that word is the fault of all
+pub opening_err : (d : Draft) (late : Bool) (t rest : Text) (place : ℕ) (text : List ℕ) (f : TextFault) → t ≡ first_word place text rest → Err f ≡ placed place (word_for d (opening late) text)
+    → outcome (between (at (behind late) d)) t ≡ Err f
+opening_err d late t rest place text f is e = first_goes d late t rest place text is ∙ ap (λ q. then_on ((q >>= and_rest rest) >>= λ x. line_at d (statement d x.0) x.1)) (sym e)
+
+-- the text ends where no statement is open
+pub opening_end : (d : Draft) (late : Bool) (t : Text) (place : ℕ) → t ≡ stopped (ended place) → outcome (between (at (behind late) d)) t ≡ Ok d
+unfolding run outcome
+opening_end d late t place is = ap (outcome (between (at (behind late) d))) is ∙ by_mode late
+  where
+    by_mode : (b : Bool) → outcome (between (at (behind b) d)) (stopped (ended place)) ≡ Ok d
+    by_mode true = refl
+    by_mode false = refl
+
+-- nor is it read past what no text may have
+pub opening_bad : (d : Draft) (late : Bool) (t : Text) (place : ℕ) → t ≡ stopped (bad place) → outcome (between (at (behind late) d)) t ≡ Err (record { kind = BadWord; place = place })
+unfolding run outcome
+opening_bad d late t place is = ap (outcome (between (at (behind late) d))) is

@@ -1,0 +1,68 @@
+-- What comes of a line and of the text behind it.
+use Rattle.std.proofs.Common.{◌≡◌, Bool, true, false, cond, List, [], ◌∷◌, Result, Ok, Err, refl, sym, ap, ◌∙◌, inl, inr}
+use Rattle.crush_map.specs.Built.{Draft}
+use Rattle.crush_map.specs.Building.{BuilderData}
+use Rattle.crush_bytes.specs.Words.{Word, Stop, ended, bad, Text, begins_with_key}
+use Rattle.crush_text.specs.declared.fault.TextFaultKind.{TextFaultKind}
+use Rattle.crush_text.specs.declared.fault.TextFaultKind.TheVariants.{Ended}
+use Rattle.crush_text.specs.declared.fault.TextFault.{TextFault}
+use Rattle.crush_text.specs.Role.{El}
+use Rattle.crush_text.specs.Form.{Mode, first, at, Form, done, word, optional}
+use Rattle.crush_text.specs.Grammar.{lines}
+use Rattle.crush_text.specs.Tests.{word_for}
+use Rattle.crush_text.specs.Flow.{◌>>=◌, placed, between, amid, arrive, step, is_idle, run, outcome}
+use Rattle.crush_text.specs.Reads.{next_at, word_at, and_rest, line_at, then_on, Fails, ReadsOn}
+
+-- a line, and what is behind it
+line_goes : (d : Draft) (f : Form) (ws : List Word) (stop : Stop) → run (arrive d ws f) ws stop ≡ then_on (line_at d f (record { words = ws; stop = stop }))
+unfolding outcome run step line_at word_at next_at
+line_goes d (done p) ws stop = refl
+line_goes d (word r more) [] (ended p) = refl
+line_goes d (word r more) [] (bad p) = refl
+line_goes d (word r more) (w ∷ ws) stop = by_it (word_for d r w.text) (λ v. line_goes d (more v) ws stop)
+  where
+    by_it : (j : Result (El r) TextFaultKind) → ((v : El r) → run (arrive d ws (more v)) ws stop ≡ then_on (line_at d (more v) (record { words = ws; stop = stop })))
+        → (placed w.place (j >>= λ v. Ok (arrive d ws (more v))) >>= λ m. run m ws stop) ≡ then_on ((placed w.place j >>= and_rest (record { words = ws; stop = stop })) >>= λ x. line_at d (more x.0) x.1)
+    by_it (Ok v) go = go v
+    by_it (Err f) go = refl
+line_goes d (optional k f g) ws stop = by_it (begins_with_key k ws) (line_goes d f ws stop) (line_goes d g ws stop)
+  where
+    by_it : (b : Bool) → run (arrive d ws f) ws stop ≡ then_on (line_at d f (record { words = ws; stop = stop })) → run (arrive d ws g) ws stop ≡ then_on (line_at d g (record { words = ws; stop = stop }))
+        → run (cond b (arrive d ws f) (arrive d ws g)) ws stop ≡ then_on (cond b (line_at d f (record { words = ws; stop = stop })) (line_at d g (record { words = ws; stop = stop })))
+    by_it true x y = x
+    by_it false x y = y
+
+-- each line begins with a word
+begins_so : (d : Draft) (m : Mode) (ws : List Word) → arrive d ws (lines d m) ≡ amid d (lines d m)
+begins_so d first ws = refl
+begins_so d m ws = refl
+
+-- where the text can't end, a line comes next
+pub next_goes : (m : Mode) (d : Draft) (t : Text) → is_idle m ≡ false → outcome (between (at m d)) t ≡ then_on (line_at d (lines d m) t)
+unfolding outcome run step
+next_goes m d t amid_line = begun_so t.words t.stop ∙ ap (λ s. run s t.words t.stop) (sym (begins_so d m t.words)) ∙ line_goes d (lines d m) t.words t.stop
+  where
+    begun_so : (ws : List Word) (stop : Stop) → run (between (at m d)) ws stop ≡ run (amid d (lines d m)) ws stop
+    begun_so [] (ended p) = ap (λ b. cond b (Ok d) (Err (record { kind = Ended; place = p }))) amid_line
+    begun_so [] (bad p) = refl
+    begun_so (w ∷ ws) stop = refl
+
+-- where a word comes, a line begins with it
+pub word_goes : (m : Mode) (d : Draft) (w : Word) (ws : List Word) (stop : Stop) → outcome (between (at m d)) (record { words = w ∷ ws; stop = stop }) ≡ then_on (line_at d (lines d m) (record { words = w ∷ ws; stop = stop }))
+unfolding outcome run step
+word_goes m d w ws stop = ap (λ s. run s (w ∷ ws) stop) (sym (begins_so d m (w ∷ ws))) ∙ line_goes d (lines d m) (w ∷ ws) stop
+
+-- a fault of the line is the fault of all
+pub fails_all : {Y Z : Type 0} (f : TextFault) (all : Result Y TextFault) (line : Result Z TextFault) (on : Z → Result Y TextFault) → all ≡ (line >>= on) → Fails f line → Fails f all
+fails_all f all line on e (inl h) = inl h
+fails_all f all line on e (inr h) = inr (e ∙ ap (λ y. y >>= on) h)
+
+-- a fault of what is the same is the fault of all
+pub fails_so : {Y : Type 0} (f : TextFault) (all mid : Result Y TextFault) → all ≡ mid → Fails f mid → Fails f all
+fails_so f all mid e (inl h) = inl h
+fails_so f all mid e (inr h) = inr (e ∙ h)
+
+-- a call that goes on where another ended
+pub goes_on : (m : Mode) (r : Result (Unit {0}) TextFault) (b : BuilderData) (rest : Text) (all mid : Result Draft TextFault) → all ≡ mid → ReadsOn m r b rest mid → ReadsOn m r b rest all
+goes_on m (Ok x) b rest all mid e h = (h.0, h.1, e ∙ h.2)
+goes_on m (Err f) b rest all mid e h = fails_so f all mid e h

@@ -1,0 +1,207 @@
+-- Each test holds exactly where its row of the table of faults does.
+use Rattle.std.proofs.Common.{◌≡◌, ◌≢◌, ℕ, ◌<◌, ◌≤◌, ◌⊎◌, Bool, true, false, List, Option, Some, None, Result, Ok, Err, refl, ap, arith, inl, inr}
+use Rattle.std.proofs.lemmas.Bool.Decides.{Decides-like, Decides-not, Decides-and, Decides-or, Decides-eqb, leb_tells}
+use Rattle.std.proofs.lemmas.Slice.Eq.{bytes_eq-Decides}
+use Rattle.std.specs.Bool.{Decides}
+use Rattle.std.specs.Prelude.{codes, bytes_eq, not, nat_le, is_some, ◌||◌, ◌&&◌}
+use Rattle.crush_units.specs.declared.id.ItemId.{ItemId}
+use Rattle.crush_units.specs.declared.id.ItemId.TheVariants.{Device, Bucket}
+use Rattle.crush_units.specs.declared.weight.WeightFault.{WeightFault}
+use Rattle.crush_units.specs.Alg.{alg_of_text}
+use Rattle.crush_units.specs.Weight.{weight_of_text}
+use Rattle.crush_table.specs.Table.{sum_below}
+use Rattle.crush_table.specs.Setting.{is_reserved}
+use Rattle.crush_map.specs.Built.{Draft}
+use Rattle.crush_map.specs.Building.{item_named, is_bucket_kind}
+use Rattle.crush_bytes.specs.Words.{is_brace_word}
+use Rattle.crush_text.specs.declared.fault.TextFaultKind.{TextFaultKind}
+use Rattle.crush_text.specs.declared.fault.TextFaultKind.TheVariants.{BadWord, Ended, Unexpected, BadNumber, BadWeight, DuplicateId, DuplicateName, UnknownType, UnknownItem, SecondParent, OtherAlgorithm, LeftOut, UnknownBucketInRule, TooMany, SumTooLarge, OutOfMemory}
+use Rattle.crush_text.specs.Role.{Role, number_of, units, key, opening, type_number, type_name, device_id, new_name, unread, bucket_id, alg_key, algorithm, hash_number, item_or_end, item, weight_key, weight}
+use Rattle.crush_text.specs.Tests.{tests, is_either, is_left_out, is_known, is_weight_for, is_other_sum}
+use Rattle.crush_text.specs.Rows.{IsBrace, IsUnexpected, IsBadNumber, IsNoWeightOf, IsBadWeight, IsDuplicateId, IsDuplicateName, IsUnknownType, IsUnknownItem, IsSecondParent, IsOtherAlgorithm, IsOtherSum, IsLeftOut, IsTooMany, IsSumTooLarge, Holds}
+use Rattle.crush_text.proofs.Judged.{fires, above, not_below}
+
+-- A TEST AND WHAT IT MEANS: one that never holds
+no_row : Decides false ⊥
+no_row = (λ e. absurd cc, λ h. absurd h)
+
+-- one that always does
+each_row : Decides true (Unit {0})
+each_row = (λ e. tt, λ h. refl)
+
+-- a test by itself
+itself : (b : Bool) → Decides b (b ≡ true)
+itself b = (λ e. e, λ e. e)
+
+-- and one that doesn't hold
+isnt : (b : Bool) → Decides (not b) (b ≡ false)
+isnt true = (λ e. absurd cc, λ e. absurd cc)
+isnt false = (λ e. refl, λ e. refl)
+
+-- whether nothing is there
+none_tells : {A : Type 0} (o : Option A) → Decides (not (is_some o)) (o ≡ None)
+none_tells None = (λ e. refl, λ e. refl)
+none_tells {A = A} (Some x) = (λ e. absurd cc, λ e. absurd (let no : (let n : Option A = Some x in n) ≡ None = e in cc))
+
+-- one of two words
+either_tells : (w k l : List ℕ) → Decides (is_either w k l) ((w ≡ k) ⊎ (w ≡ l))
+either_tells w k l = Decides-or _ _ (bytes_eq-Decides w k) (bytes_eq-Decides w l)
+
+-- none of two words
+none_of_two : (w k l : List ℕ) → Decides (not (is_either w k l)) ((w ≢ k) × (w ≢ l))
+none_of_two w k l = Decides-like _ (λ h. (λ e. h (inl e), λ e. h (inr e))) (λ h s. by_side h s) (Decides-not _ (either_tells w k l))
+  where
+    by_side : (w ≢ k) × (w ≢ l) → (w ≡ k) ⊎ (w ≡ l) → ⊥
+    by_side h (inl e) = h.0 e
+    by_side h (inr e) = h.1 e
+
+-- nor another one where it may stand
+nor_third : (b : Bool) (w k l m : List ℕ) → Decides (not (is_either w k l || (b && bytes_eq w m))) ((w ≢ k) × (w ≢ l) × (b ≡ true → w ≢ m))
+nor_third b w k l m = Decides-like _ (λ h. (λ e. h (inl (inl e)), λ e. h (inl (inr e)), λ t e. h (inr (t, e)))) (λ h s. by_side h s) (Decides-not _ (Decides-or _ _ (either_tells w k l) (Decides-and _ _ (itself b) (bytes_eq-Decides w m))))
+  where
+    by_side : (w ≢ k) × (w ≢ l) × (b ≡ true → w ≢ m) → ((w ≡ k) ⊎ (w ≡ l)) ⊎ ((b ≡ true) × (w ≡ m)) → ⊥
+    by_side h (inl (inl e)) = h.0 e
+    by_side h (inl (inr e)) = h.1 e
+    by_side h (inr e) = h.2 e.0 e.1
+
+-- a brace
+pub brace_tells : (w : List ℕ) → Decides (is_brace_word w) (IsBrace w)
+brace_tells w = Decides-or _ _ (bytes_eq-Decides w _) (bytes_eq-Decides w _)
+
+-- a first word that isn't read
+left_out_tells : (w : List ℕ) → Decides (is_left_out w) ((w ≡ codes "tunable") ⊎ ((w ≡ codes "rule") ⊎ (w ≡ codes "choose_args")))
+left_out_tells w = Decides-or _ _ (bytes_eq-Decides w _) (either_tells w _ _)
+
+-- a test that can't hold
+no_true : (b : Bool) → (b ≡ true → ⊥) → b ≡ false
+no_true true h = absurd (h refl)
+no_true false h = refl
+
+-- a first word that begins nothing
+unknown_tells : (d : Draft) (w : List ℕ) → Decides (not (is_known d w)) ((is_bucket_kind d.setting (number_of d w) ≡ false) × (w ≢ codes "tunable") × (w ≢ codes "device") × (w ≢ codes "type") × (w ≢ codes "rule") × (w ≢ codes "choose_args"))
+unknown_tells d w = Decides-like _ (λ h. (no_true _ (λ t. h (inr (inr t))), λ e. h (inl (inl e)), λ e. h (inr (inl (inl e))), λ e. h (inr (inl (inr e))), λ e. h (inl (inr (inl e))), λ e. h (inl (inr (inr e))))) (λ h s. by_side h s)
+    (Decides-not _ (Decides-or _ _ (left_out_tells w) (Decides-or _ _ (either_tells w _ _) (itself (is_bucket_kind d.setting (number_of d w))))))
+  where
+    by_side : (is_bucket_kind d.setting (number_of d w) ≡ false) × (w ≢ codes "tunable") × (w ≢ codes "device") × (w ≢ codes "type") × (w ≢ codes "rule") × (w ≢ codes "choose_args")
+        → ((w ≡ codes "tunable") ⊎ ((w ≡ codes "rule") ⊎ (w ≡ codes "choose_args"))) ⊎ (((w ≡ codes "device") ⊎ (w ≡ codes "type")) ⊎ (is_bucket_kind d.setting (number_of d w) ≡ true)) → ⊥
+    by_side h (inl (inl e)) = h.1 e
+    by_side h (inl (inr (inl e))) = h.4 e
+    by_side h (inl (inr (inr e))) = h.5 e
+    by_side h (inr (inl (inl e))) = h.2 e
+    by_side h (inr (inl (inr e))) = h.3 e
+    by_side h (inr (inr t)) = let f = h.0 in absurd cc
+
+-- a text that is no weight of an item
+no_weight_tells : (i : ItemId) (r : Result ℕ WeightFault) → Decides (not (is_weight_for i r)) (IsNoWeightOf i r)
+no_weight_tells i (Err f) = each_row
+no_weight_tells (Device n) (Ok w) = by_it (nat_le w 2147483647) (leb_tells w 2147483647)
+  where
+    by_it : (b : Bool) → ((b ≡ true) × (w ≤ 2147483647)) ⊎ ((b ≡ false) × (2147483647 < w)) → Decides (not b) (2147483647 < w)
+    by_it b (inl p) = (λ e. let t = p.0 in absurd cc, λ lt. absurd (let le = p.1 in omega (arith, lt, le)))
+    by_it b (inr p) = (λ e. p.1, λ lt. ap not p.0)
+no_weight_tells (Bucket b) (Ok w) = no_row
+
+-- another weight than a bucket's sum
+other_sum_tells : (d : Draft) (i : ItemId) (w : ℕ) → Decides (is_other_sum d i w) (IsOtherSum d i w)
+other_sum_tells d (Device n) w = no_row
+other_sum_tells d (Bucket b) w = Decides-not _ (Decides-eqb w (sum_below d.table b))
+
+-- THE ROWS, one by one
+module _ (d : Draft) (w : List ℕ) where
+  -- the tests stand in the order of the rows
+  pub in_order : (r : Role) → above 2 (tests d r w) ≡ true
+  in_order (key k) = refl
+  in_order r = refl
+
+  unexpected : (r : Role) → Decides (fires Unexpected (tests d r w)) (IsUnexpected r w)
+  unexpected (key k) = Decides-not _ (bytes_eq-Decides w k)
+  unexpected (opening late) = Decides-or _ _ (brace_tells w) (Decides-or _ _ (bytes_eq-Decides w _) (Decides-and _ _ (itself late) (Decides-or _ _ (bytes_eq-Decides w _) (either_tells w _ _))))
+  unexpected (type_name n) = Decides-or _ _ (brace_tells w) (Decides-and _ _ (itself (is_reserved w)) (Decides-not _ (Decides-eqb n 0)))
+  unexpected unread = no_row
+  unexpected alg_key = none_of_two w _ _
+  unexpected (item_or_end any) = nor_third any w _ _ _
+  unexpected weight_key = no_row
+  unexpected r = brace_tells w
+
+  bad_number : (r : Role) → Decides (fires BadNumber (tests d r w)) (IsBadNumber r w)
+  bad_number type_number = isnt _
+  bad_number device_id = isnt _
+  bad_number bucket_id = isnt _
+  bad_number hash_number = isnt _
+  bad_number r = no_row
+
+  bad_weight : (r : Role) → Decides (fires BadWeight (tests d r w)) (IsBadWeight r w)
+  bad_weight (weight i) = no_weight_tells i (weight_of_text w)
+  bad_weight r = no_row
+
+  duplicate_id : (r : Role) → Decides (fires DuplicateId (tests d r w)) (IsDuplicateId d r w)
+  duplicate_id type_number = itself _
+  duplicate_id device_id = itself _
+  duplicate_id bucket_id = itself _
+  duplicate_id r = no_row
+
+  duplicate_name : (r : Role) → Decides (fires DuplicateName (tests d r w)) (IsDuplicateName d r w)
+  duplicate_name (type_name n) = itself _
+  duplicate_name new_name = itself _
+  duplicate_name r = no_row
+
+  unknown_type : (r : Role) → Decides (fires UnknownType (tests d r w)) (IsUnknownType d r w)
+  unknown_type (opening late) = unknown_tells d w
+  unknown_type r = no_row
+
+  unknown_item : (r : Role) → Decides (fires UnknownItem (tests d r w)) (IsUnknownItem d r w)
+  unknown_item item = none_tells (item_named d w)
+  unknown_item r = no_row
+
+  second_parent : (r : Role) → Decides (fires SecondParent (tests d r w)) (IsSecondParent d r w)
+  second_parent item = itself _
+  second_parent r = no_row
+
+  other_algorithm : (r : Role) → Decides (fires OtherAlgorithm (tests d r w)) (IsOtherAlgorithm r w)
+  other_algorithm algorithm = none_tells (alg_of_text w)
+  other_algorithm r = no_row
+
+  left_out : (r : Role) → Decides (fires LeftOut (tests d r w)) (IsLeftOut d r w)
+  left_out (opening late) = left_out_tells w
+  left_out unread = each_row
+  left_out alg_key = bytes_eq-Decides w _
+  left_out (item_or_end any) = bytes_eq-Decides w _
+  left_out weight_key = Decides-not _ (bytes_eq-Decides w _)
+  left_out (weight i) = other_sum_tells d i (units w)
+  left_out r = no_row
+
+  too_many : (r : Role) → Decides (fires TooMany (tests d r w)) (IsTooMany d r w)
+  too_many (opening late) = itself _
+  too_many r = no_row
+
+  sum_too_large : (r : Role) → Decides (fires SumTooLarge (tests d r w)) (IsSumTooLarge d r w)
+  sum_too_large (weight i) = itself _
+  sum_too_large r = no_row
+
+  -- rows that no word has
+  no_memory : (r : Role) → Decides (fires OutOfMemory (tests d r w)) ⊥
+  no_memory (key k) = no_row
+  no_memory r = no_row
+
+  no_bucket : (r : Role) → Decides (fires UnknownBucketInRule (tests d r w)) ⊥
+  no_bucket (key k) = no_row
+  no_bucket r = no_row
+
+  -- a test holds exactly where its row does
+  pub told : (f : TextFaultKind) (r : Role) → Decides (fires f (tests d r w)) (Holds f d r w)
+  told BadWord r = Decides-like _ (λ e. let n = not_below 2 (tests d r w) BadWord (in_order r) (omega arith) in absurd cc) (λ h. absurd h) (itself _)
+  told Ended r = Decides-like _ (λ e. let n = not_below 2 (tests d r w) Ended (in_order r) (omega arith) in absurd cc) (λ h. absurd h) (itself _)
+  told Unexpected r = unexpected r
+  told BadNumber r = bad_number r
+  told BadWeight r = bad_weight r
+  told DuplicateId r = duplicate_id r
+  told DuplicateName r = duplicate_name r
+  told UnknownType r = unknown_type r
+  told UnknownItem r = unknown_item r
+  told SecondParent r = second_parent r
+  told OtherAlgorithm r = other_algorithm r
+  told LeftOut r = left_out r
+  told UnknownBucketInRule r = no_bucket r
+  told TooMany r = too_many r
+  told SumTooLarge r = sum_too_large r
+  told OutOfMemory r = no_memory r

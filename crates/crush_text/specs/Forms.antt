@@ -1,0 +1,13 @@
+-- Which words spell numbers.
+use Rattle.std.specs.Prelude.{ℕ, Bool, ◌&&◌, ◌==◌, nat_lt, nat_le, List, drop, slice_index}
+use Rattle.std.specs.Str.Parse.{digits_value}
+use Rattle.crush_units.specs.Weight.{are_digits}
+use Rattle.crush_units.specs.declared.limits.TheConstants.{FARTHEST_BUCKET_ID}
+
+-- 1 to 10 digits of a value up to `most`
+abbrev pub is_number : ℕ → List ℕ → Bool
+is_number most text = are_digits 10 text && nat_le (digits_value 10 text) most
+
+-- `-` and 1 to 10 digits, a value from -1 to -2147483648
+abbrev pub is_negative : List ℕ → Bool
+is_negative text = (slice_index text 0 == 45) && is_number FARTHEST_BUCKET_ID (drop 1 text) && nat_lt 0 (digits_value 10 (drop 1 text))

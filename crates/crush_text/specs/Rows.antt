@@ -1,0 +1,143 @@
+-- THE TABLE OF FAULTS, row by row: when a word has which fault where it stands for this.
+use Rattle.std.specs.Prelude.{◌≡◌, ◌≢◌, ◌<◌, ◌⊎◌, ℕ, true, false, List, Result, Ok, Err, None, codes, drop}
+use Rattle.std.specs.Str.Parse.{digits_value}
+use Rattle.crush_units.specs.declared.id.ItemId.{ItemId}
+use Rattle.crush_units.specs.declared.id.ItemId.TheVariants.{Device, Bucket}
+use Rattle.crush_units.specs.declared.weight.WeightFault.{WeightFault}
+use Rattle.crush_units.specs.Alg.{alg_of_text}
+use Rattle.crush_units.specs.Weight.{weight_of_text}
+use Rattle.crush_table.specs.Table.{is_there, is_placed, sum_below}
+use Rattle.crush_table.specs.Lawful.{is_too_heavy}
+use Rattle.crush_table.specs.Setting.{is_reserved}
+use Rattle.crush_map.specs.Built.{Draft, with_item}
+use Rattle.crush_map.specs.Building.{has_name, has_bucket_id, item_named, is_bucket_kind, has_kind_number, has_kind_name}
+use Rattle.crush_text.specs.declared.fault.TextFaultKind.{TextFaultKind}
+use Rattle.crush_text.specs.declared.fault.TextFaultKind.TheVariants.{Unexpected, BadNumber, BadWeight, DuplicateId, DuplicateName, UnknownType, UnknownItem, SecondParent, OtherAlgorithm, LeftOut, TooMany, SumTooLarge}
+use Rattle.crush_text.specs.Fault.{fault_number}
+use Rattle.crush_text.specs.Forms.{is_number, is_negative}
+use Rattle.crush_text.specs.Role.{Role, number_of, item_of, units, key, opening, type_number, type_name, device_id, new_name, unread, bucket_id, alg_key, algorithm, hash_number, item_or_end, item, weight_key, weight}
+use Rattle.crush_text.specs.Tests.{is_full}
+use Rattle.crush_units.specs.declared.limits.TheConstants.{HEAVIEST_DEVICE, LAST_DEVICE_ID, LAST_TYPE}
+
+-- `{` or `}`
+abbrev pub IsBrace : List ℕ → Type 0
+IsBrace w = (w ≡ codes "{") ⊎ (w ≡ codes "}")
+
+-- `tunable`, `device` or `type`
+abbrev pub ComesFirst : List ℕ → Type 0
+ComesFirst w = (w ≡ codes "tunable") ⊎ ((w ≡ codes "device") ⊎ (w ≡ codes "type"))
+
+-- a word or a brace that the grammar doesn't have there; a type's forbidden name
+abbrev pub IsUnexpected : Role → List ℕ → Type 0
+IsUnexpected (key k) w = w ≢ k
+IsUnexpected (opening late) w = IsBrace w ⊎ ((w ≡ codes "class") ⊎ ((late ≡ true) × ComesFirst w))
+IsUnexpected (type_name n) w = IsBrace w ⊎ ((is_reserved w ≡ true) × (n ≢ 0))
+IsUnexpected unread w = ⊥
+IsUnexpected alg_key w = (w ≢ codes "alg") × (w ≢ codes "id")
+IsUnexpected (item_or_end any) w = (w ≢ codes "item") × (w ≢ codes "}") × (any ≡ true → w ≢ codes "pos")
+IsUnexpected weight_key w = ⊥
+IsUnexpected r w = IsBrace w
+
+-- no number of the form or the range that is due
+abbrev pub IsBadNumber : Role → List ℕ → Type 0
+IsBadNumber type_number w = is_number LAST_TYPE w ≡ false
+IsBadNumber device_id w = is_number LAST_DEVICE_ID w ≡ false
+IsBadNumber bucket_id w = is_negative w ≡ false
+IsBadNumber hash_number w = is_number 0 w ≡ false
+IsBadNumber r w = ⊥
+
+-- no weight, or one above 2147483647 units for a device
+abbrev pub IsNoWeightOf : ItemId → Result ℕ WeightFault → Type 0
+IsNoWeightOf i (Err f) = Unit {0}
+IsNoWeightOf (Device n) (Ok w) = HEAVIEST_DEVICE < w
+IsNoWeightOf (Bucket b) (Ok w) = ⊥
+
+abbrev pub IsBadWeight : Role → List ℕ → Type 0
+IsBadWeight (weight i) w = IsNoWeightOf i (weight_of_text w)
+IsBadWeight r w = ⊥
+
+-- a number or an id that an earlier line has
+abbrev pub IsDuplicateId : Draft → Role → List ℕ → Type 0
+IsDuplicateId d type_number w = has_kind_number d.setting (digits_value 10 w) ≡ true
+IsDuplicateId d device_id w = is_there d.table (Device (digits_value 10 w)) ≡ true
+IsDuplicateId d bucket_id w = has_bucket_id d (digits_value 10 (drop 1 w)) ≡ true
+IsDuplicateId d r w = ⊥
+
+-- a name that an earlier line has
+abbrev pub IsDuplicateName : Draft → Role → List ℕ → Type 0
+IsDuplicateName d (type_name n) w = has_kind_name d.setting w ≡ true
+IsDuplicateName d new_name w = has_name d w ≡ true
+IsDuplicateName d r w = ⊥
+
+-- a first word that names no type, or type 0, and that begins nothing else
+abbrev pub IsUnknownType : Draft → Role → List ℕ → Type 0
+IsUnknownType d (opening late) w = (is_bucket_kind d.setting (number_of d w) ≡ false) × (w ≢ codes "tunable") × (w ≢ codes "device") × (w ≢ codes "type") × (w ≢ codes "rule") × (w ≢ codes "choose_args")
+IsUnknownType d r w = ⊥
+
+-- no declared device and no closed bucket
+abbrev pub IsUnknownItem : Draft → Role → List ℕ → Type 0
+IsUnknownItem d item w = item_named d w ≡ None
+IsUnknownItem d r w = ⊥
+
+-- an item that a bucket holds already
+abbrev pub IsSecondParent : Draft → Role → List ℕ → Type 0
+IsSecondParent d item w = is_placed d.table (item_of d w) ≡ true
+IsSecondParent d r w = ⊥
+
+-- another algorithm
+abbrev pub IsOtherAlgorithm : Role → List ℕ → Type 0
+IsOtherAlgorithm algorithm w = alg_of_text w ≡ None
+IsOtherAlgorithm r w = ⊥
+
+-- another weight than the sum of a bucket
+abbrev pub IsOtherSum : Draft → ItemId → ℕ → Type 0
+IsOtherSum d (Device n) w = ⊥
+IsOtherSum d (Bucket b) w = w ≢ sum_below d.table b
+
+-- what isn't read here
+abbrev pub IsLeftOut : Draft → Role → List ℕ → Type 0
+IsLeftOut d (opening late) w = (w ≡ codes "tunable") ⊎ ((w ≡ codes "rule") ⊎ (w ≡ codes "choose_args"))
+IsLeftOut d unread w = Unit {0}
+IsLeftOut d alg_key w = w ≡ codes "id"
+IsLeftOut d (item_or_end any) w = w ≡ codes "pos"
+IsLeftOut d weight_key w = w ≢ codes "weight"
+IsLeftOut d (weight i) w = IsOtherSum d i (units w)
+IsLeftOut d r w = ⊥
+
+-- one more type, device or bucket than a map may have
+abbrev pub IsTooMany : Draft → Role → List ℕ → Type 0
+IsTooMany d (opening late) w = is_full d w ≡ true
+IsTooMany d r w = ⊥
+
+-- an item with which a bucket's sum or the total is out of range
+abbrev pub IsSumTooLarge : Draft → Role → List ℕ → Type 0
+IsSumTooLarge d (weight i) w = is_too_heavy (with_item d i (units w)).table ≡ true
+IsSumTooLarge d r w = ⊥
+
+-- a row of the table holds of a word
+abbrev pub Holds : TextFaultKind → Draft → Role → List ℕ → Type 0
+Holds Unexpected d r w = IsUnexpected r w
+Holds BadNumber d r w = IsBadNumber r w
+Holds BadWeight d r w = IsBadWeight r w
+Holds DuplicateId d r w = IsDuplicateId d r w
+Holds DuplicateName d r w = IsDuplicateName d r w
+Holds UnknownType d r w = IsUnknownType d r w
+Holds UnknownItem d r w = IsUnknownItem d r w
+Holds SecondParent d r w = IsSecondParent d r w
+Holds OtherAlgorithm d r w = IsOtherAlgorithm r w
+Holds LeftOut d r w = IsLeftOut d r w
+Holds TooMany d r w = IsTooMany d r w
+Holds SumTooLarge d r w = IsSumTooLarge d r w
+Holds f d r w = ⊥
+
+-- no lesser row holds
+abbrev pub NoneBelow : TextFaultKind → Draft → Role → List ℕ → Type 0
+NoneBelow f d r w = (g : TextFaultKind) → fault_number g < fault_number f → Holds g d r w → ⊥
+
+-- the fault of a word: its row holds, and no lesser one
+abbrev pub IsFault : TextFaultKind → Draft → Role → List ℕ → Type 0
+IsFault f d r w = Holds f d r w × NoneBelow f d r w
+
+-- no row holds
+abbrev pub IsRight : Draft → Role → List ℕ → Type 0
+IsRight d r w = (f : TextFaultKind) → Holds f d r w → ⊥

@@ -1,0 +1,4 @@
+pub mod Items
+pub mod Below
+pub mod Tops
+pub mod Parts

@@ -1,0 +1,4 @@
+pub mod Rows
+pub mod Rooms
+pub mod Steps
+pub mod Fits

@@ -1,0 +1,3 @@
+pub mod OneDevice
+pub mod Subtree
+pub mod Others

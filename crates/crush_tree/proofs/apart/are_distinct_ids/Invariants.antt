@@ -1,7 +1,0 @@
-use Rattle.std.proofs.Common.{◌≡◌, ◌==◌, drop}
-use Rattle.crush_table.specs.Tested.{are_apart}
-use Rattle.crush_tree.specs.Seen.{class_numbers}
-use Rattle.crush_tree.proofs.apart.are_distinct_ids.Given as goal
-
-abbrev pub invariant-loop-i : goal.invariant-loop-i
-invariant-loop-i g l = are_apart (λ a b. b == a) (class_numbers l.class_ids) ≡ are_apart (λ a b. b == a) (class_numbers (drop l.i l.class_ids))

@@ -1,6 +1,0 @@
-use Rattle.std.proofs.Common.{◌==◌, ◌∙◌}
-use Rattle.crush_tree.proofs.ApartSteps.{any_number}
-use Rattle.crush_tree.proofs.apart.has_number_of.Goals as goal
-
-pub returns : goal.returns
-returns g c = c.has_class_id.ensures ∙ any_number (λ b. b == c.args.class.now.id) c.args.class_ids.now

@@ -1,8 +1,0 @@
-use Rattle.std.proofs.Common.{◌≡◌, drop}
-use Rattle.std.specs.Prelude.{bytes_eq}
-use Rattle.crush_table.specs.Tested.{are_apart}
-use Rattle.crush_tree.specs.Seen.{class_names}
-use Rattle.crush_tree.proofs.form.have_distinct_classes.Given as goal
-
-abbrev pub invariant-loop-i : goal.invariant-loop-i
-invariant-loop-i g l = are_apart (λ a b. bytes_eq b a) (class_names l.class_ids) ≡ are_apart (λ a b. bytes_eq b a) (class_names (drop l.i l.class_ids))

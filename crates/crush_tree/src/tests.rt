@@ -1,9 +1,0 @@
-//! Tests by subject, over helpers that build a forest item by item.
-
-mod asks;
-mod chain;
-mod example;
-mod nodes;
-mod puts;
-mod reads;
-mod sums;

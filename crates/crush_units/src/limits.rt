@@ -1,0 +1,69 @@
+//! The limits of a map and of what edits it. Contracts and definitions cite them by these names.
+
+/// Of how many units the weight 1.0 is: Ceph's weights are fixed point numbers of 16 and 16 bits.
+pub const UNITS_OF_ONE: u32 = 65536;
+
+/// What a device weighs at most, in units: 2^31 - 1, just below 32768.0.
+pub const HEAVIEST_DEVICE: u32 = 2147483647;
+
+/// What the devices below a bucket weigh at most together, in units: 2^32 - 1, as Ceph keeps the
+/// weight of a bucket in 32 bits.
+pub const HEAVIEST_BUCKET: u32 = 4294967295;
+
+/// What all placed devices of a map weigh at most together, in units: 2^43 - 1. No sum over a map
+/// comes near 64 bits.
+pub const HEAVIEST_MAP: u64 = 8796093022207;
+
+/// The last id of a device: 2^31 - 1, the greatest of CRUSH's signed ids.
+pub const LAST_DEVICE_ID: u32 = 2147483647;
+
+/// How many ids there are for devices: those from 0 to [`LAST_DEVICE_ID`].
+pub const DEVICE_IDS: u32 = 2147483648;
+
+/// How far below 0 the last id of a bucket is: 2^31, for the least of CRUSH's signed ids.
+pub const FARTHEST_BUCKET_ID: u32 = 2147483648;
+
+/// The last number of a type: 2^16 - 1, as CRUSH keeps the type of a bucket in 16 bits.
+pub const LAST_TYPE: u32 = 65535;
+
+/// How many bytes a name or a class has at most.
+pub const LONGEST_NAME: usize = 255;
+
+/// How many devices a map has at most.
+pub const MOST_DEVICES: u32 = 65536;
+
+/// How many buckets a map has at most.
+pub const MOST_BUCKETS: u32 = 4096;
+
+/// How many class ids a bucket has at most: one for each class that has a shadow of the bucket.
+pub const MOST_CLASS_IDS: usize = 16;
+
+/// How many types a map has at most, with that of devices.
+pub const MOST_TYPES: usize = 256;
+
+/// How many tunables a map sets at most.
+pub const MOST_TUNABLES: usize = 64;
+
+/// How many rules a map has at most.
+pub const MOST_RULES: usize = 256;
+
+/// How many steps a rule has at most.
+pub const MOST_STEPS: usize = 64;
+
+/// How many pairs of a type and a bucket the location of an edit has at most.
+pub const MOST_PAIRS: usize = 16;
+
+/// How many edits a batch has at most.
+pub const MOST_EDITS: usize = 65536;
+
+/// How many operators edit a map at once at most.
+pub const MOST_OPERATORS: usize = 16;
+
+/// How many calls a job has at most.
+pub const MOST_CALLS: usize = 65536;
+
+/// How many entries a history has at most.
+pub const MOST_ENTRIES: usize = 65536;
+
+/// How many bytes a job has at most: 16 MiB.
+pub const LONGEST_JOB: usize = 16777216;

@@ -1,0 +1,105 @@
+//! The command line.
+
+ghost use Rattle.std.specs.Prelude.{◌≡◌, IfOk, codes, not, option_map};
+ghost use Rattle.clap.specs.Words.{first_value, found_of, kind_of, one_text};
+ghost use Rattle.crushedit.specs.Options.{IsFlag, IsFaultOf};
+
+use crate::options::{Options, OptionsFault};
+use crate::run::Mode;
+use clap::error::ErrorKind;
+use clap::{Arg, ArgAction, ArgMatches, Command, Error};
+use std::alloc::{AllocError, Global};
+use std::convert::AsStr;
+
+/// What the program does, in one line.
+const ABOUT: &str = "Edits the hierarchy of a CRUSH map by the scripts of its operators";
+
+/// What the help tells beside the flags.
+const MORE: &str = "\
+A job is the text of a CRUSH map, in the form of `crushtool --decompile`, and behind it a line
+`%operator NAME` with the script of that operator, one command a line:
+
+    .. the map's text ..
+    %operator alice
+    reweight osd.2 1.0
+
+Commands:
+    reweight NAME WEIGHT    the placed device NAME weighs WEIGHT
+
+Standard output gets the map after the script, and behind it, as comments, a line for each
+command with its answer. A command that is refused changes nothing, and the next one is tried.
+
+Exit status:
+    0    the run was done
+    1    the input is no job, and nothing was written
+    2    the command line is refused
+    3    reading or writing failed
+    4    there was no memory, and nothing was written
+";
+
+/// The flags and the file that the program takes.
+fn command<'a>(alloc: Global) -> Result<Command<'a>, AllocError> {
+    let in_turn = Arg::new(alloc, "in-turn")
+        .long("in-turn")
+        .action(ArgAction::SetTrue)
+        .help("Run the scripts one after the other, in the order of their sections");
+    let no_history = Arg::new(alloc, "no-history")
+        .long("no-history")
+        .action(ArgAction::SetTrue)
+        .help("Write no line for each command behind the map");
+    let file = Arg::new(alloc, "FILE")
+        .action(ArgAction::Set)
+        .help("The job; without FILE it is read from standard input");
+    Command::new(alloc, "crushedit")
+        .no_binary_name(true)
+        .version("0.1.0")
+        .about(ABOUT)
+        .after_help(MORE)
+        .arg(in_turn)?
+        .arg(no_history)?
+        .arg(file)
+}
+
+/// The options that a parsed command line has.
+fn options_of(alloc: Global, matches: &ArgMatches<'_>) -> Result<Options, AllocError>
+    ensures in_turn { IfOk result (λ options.
+        IsFlag (one_text (found_of matches.now) (codes "in-turn")) options.mode.in_turn) }
+    ensures history { IfOk result (λ options.
+        IsFlag (one_text (found_of matches.now) (codes "no-history")) (not options.mode.history)) }
+    ensures file { IfOk result (λ options. option_map (λ name. name.bytes.items) options.file
+        ≡ first_value (found_of matches.now) (codes "FILE")) }
+{
+    let mode = Mode {
+        in_turn: matches.get_flag("in-turn"),
+        history: !matches.get_flag("no-history"),
+    };
+    let file = match matches.get_str("FILE") {
+        Some(name) => Some(String::from_str(alloc, name)?),
+        None => None,
+    };
+    Ok(Options { mode, file })
+}
+
+/// An error of the command line's crate, with its text.
+fn fault_of(alloc: Global, error: &Error) -> OptionsFault
+    ensures { IsFaultOf (kind_of error.now) result }
+{
+    let Ok(text) = format!(in alloc; "{error}") else {
+        return OptionsFault::Memory;
+    };
+    match error.kind() {
+        ErrorKind::OutOfMemory => OptionsFault::Memory,
+        ErrorKind::DisplayHelp | ErrorKind::DisplayVersion => OptionsFault::Help(text),
+        _ => OptionsFault::Refused(text),
+    }
+}
+
+/// Reads the words of a command line behind the program's name: `[--in-turn] [--no-history]
+/// [FILE]`, in any order. Each word is one of these or refused: none is ignored.
+pub fn options<S: AsStr>(alloc: Global, words: &[S]) -> Result<Options, OptionsFault> {
+    let command = command(alloc)?;
+    match command.try_get_matches_from(words) {
+        Ok(matches) => Ok(options_of(alloc, &matches)?),
+        Err(error) => Err(fault_of(alloc, &error)),
+    }
+}
