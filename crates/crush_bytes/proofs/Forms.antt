@@ -5,6 +5,7 @@ use Rattle.std.proofs.lemmas.Bool.Decides.{nat_tests}
 use Rattle.std.specs.Prelude.{◌&&◌, ◌||◌, nat_lt}
 use Rattle.std.specs.List.{list_all}
 use Rattle.crush_units.specs.Name.{is_name_byte, is_name}
+use Rattle.crush_units.specs.declared.limits.TheConstants.{LONGEST_NAME}
 use Rattle.crush_bytes.specs.Words.{Word, Stop, Text, is_blank, is_brace, without_comments, first, onto_words, begins_with_name_byte, split, up_to_long, words_in, words, is_brace_word, AreFormed}
 
 -- a brace, or a run of name bytes of whatever length
@@ -87,9 +88,9 @@ short_run false false l x h e = absurd cc
 are_formed : (ws : List Word) (stop : Stop) → AreRuns ws → AreFormed (up_to_long ws stop).words
 unfolding up_to_long
 are_formed [] stop runs = tt
-are_formed (w ∷ ws) stop runs = by_test (ltb 255 (length w.text)) refl (are_formed ws stop runs.1)
+are_formed (w ∷ ws) stop runs = by_test (ltb LONGEST_NAME (length w.text)) refl (are_formed ws stop runs.1)
   where
-    by_test : (long : Bool) → ltb 255 (length w.text) ≡ long → AreFormed (up_to_long ws stop).words → AreFormed (up_to_long (w ∷ ws) stop).words
+    by_test : (long : Bool) → ltb LONGEST_NAME (length w.text) ≡ long → AreFormed (up_to_long ws stop).words → AreFormed (up_to_long (w ∷ ws) stop).words
     by_test true e ih = rw e tt
     by_test false e ih = rw e (short_run _ _ _ _ runs.0 (le-leb _ _ (ltb-false _ _ e)), ih)
 

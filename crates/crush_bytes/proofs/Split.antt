@@ -5,6 +5,7 @@ use Rattle.std.proofs.lemmas.Bool.{le-ltb, lt-ltb, ne_eqb}
 use Rattle.std.proofs.lemmas.List.{length-take, drop_more, drop-drop, drop_all}
 use Rattle.std.specs.Prelude.{not, ◌⊎◌}
 use Rattle.crush_units.specs.Name.{is_name_byte}
+use Rattle.crush_units.specs.declared.limits.TheConstants.{LONGEST_NAME}
 use Rattle.crush_bytes.specs.Words.{Text, ended, bad, is_blank, is_brace, without_comments, stopped, first, onto_words, begins_with_name_byte, split, up_to_long, words_in, words, run_length, IsClear}
 
 -- a blank is behind
@@ -100,19 +101,19 @@ run p b [] l = one_word p b [] l refl refl
 run p b (c ∷ cs) l = run_more (is_name_byte c) p b c cs l refl (λ e. run (p + 1) c cs e)
 
 -- a run that isn't too long is the first word
-pub word : (p b : ℕ) (bs : List ℕ) → is_name_byte b ≡ true → run_length (b ∷ bs) ≤ 255
+pub word : (p b : ℕ) (bs : List ℕ) → is_name_byte b ≡ true → run_length (b ∷ bs) ≤ LONGEST_NAME
     → words p (b ∷ bs) ≡ first p (take (run_length (b ∷ bs)) (b ∷ bs)) (words (p + run_length (b ∷ bs)) (drop (run_length (b ∷ bs)) (b ∷ bs)))
 unfolding up_to_long words_in
 word p b bs l short =
     let n : ℕ = run_length (b ∷ bs) in
-    let test : ltb 255 (length (take (run_length (b ∷ bs)) (b ∷ bs))) ≡ false = le-ltb _ _ (omega (arith, length-take (run_length (b ∷ bs)) (b ∷ bs))) in
+    let test : ltb LONGEST_NAME (length (take (run_length (b ∷ bs)) (b ∷ bs))) ≡ false = le-ltb _ _ (omega (arith, length-take (run_length (b ∷ bs)) (b ∷ bs))) in
     ap (λ (t : Text). up_to_long t.words t.stop) (run p b bs l) ∙ rw test refl
 
 -- a run that is too long stops the words
-pub long_word : (p b : ℕ) (bs : List ℕ) → is_name_byte b ≡ true → 255 < run_length (b ∷ bs) → run_length (b ∷ bs) ≤ length (b ∷ bs) → words p (b ∷ bs) ≡ stopped (bad p)
+pub long_word : (p b : ℕ) (bs : List ℕ) → is_name_byte b ≡ true → LONGEST_NAME < run_length (b ∷ bs) → run_length (b ∷ bs) ≤ length (b ∷ bs) → words p (b ∷ bs) ≡ stopped (bad p)
 unfolding up_to_long words_in
 long_word p b bs l long fits =
-    let test : ltb 255 (length (take (run_length (b ∷ bs)) (b ∷ bs))) ≡ true = lt-ltb _ _ (omega (arith, length-take (run_length (b ∷ bs)) (b ∷ bs))) in
+    let test : ltb LONGEST_NAME (length (take (run_length (b ∷ bs)) (b ∷ bs))) ≡ true = lt-ltb _ _ (omega (arith, length-take (run_length (b ∷ bs)) (b ∷ bs))) in
     ap (λ (t : Text). up_to_long t.words t.stop) (run p b bs l) ∙ rw test refl
 
 -- a byte of a comment, the mark of one, or a blank is behind
@@ -150,13 +151,13 @@ is_brace_next p b rest tail e clear h =
     rw e (brace p b tail k.0 (ne_eqb _ _ k.1) h)
 
 -- neither a brace nor a word of a length that may be
-bad_next : (t : Bool) (p b : ℕ) (tail : List ℕ) → is_name_byte b ≡ t → IsClear (b ∷ tail) → is_brace b ≡ false → (run_length (b ∷ tail) ≡ 0) ⊎ (255 < run_length (b ∷ tail)) → run_length (b ∷ tail) ≤ length (b ∷ tail) → words p (b ∷ tail) ≡ stopped (bad p)
+bad_next : (t : Bool) (p b : ℕ) (tail : List ℕ) → is_name_byte b ≡ t → IsClear (b ∷ tail) → is_brace b ≡ false → (run_length (b ∷ tail) ≡ 0) ⊎ (LONGEST_NAME < run_length (b ∷ tail)) → run_length (b ∷ tail) ≤ length (b ∷ tail) → words p (b ∷ tail) ≡ stopped (bad p)
 bad_next true p b tail l clear h long fits =
     elim long [ inl zero_long ↦ absurd (omega (arith, rw l at zero_long)) | inr more ↦ long_word p b tail l more fits ]
 bad_next false p b tail l clear h long fits = other p b tail clear.0 (ne_eqb _ _ clear.1) h l
 
 -- no word stands at the front of the rest
-pub is_bad_next : (p b n : ℕ) (rest tail : List ℕ) → rest ≡ b ∷ tail → IsClear rest → is_brace b ≡ false → n ≡ run_length rest → n ≤ length rest → (n ≡ 0) ⊎ (255 < n) → words p rest ≡ stopped (bad p)
+pub is_bad_next : (p b n : ℕ) (rest tail : List ℕ) → rest ≡ b ∷ tail → IsClear rest → is_brace b ≡ false → n ≡ run_length rest → n ≤ length rest → (n ≡ 0) ⊎ (LONGEST_NAME < n) → words p rest ≡ stopped (bad p)
 is_bad_next p b n rest tail e clear h count fits long =
     let is : n ≡ run_length (b ∷ tail) = count ∙ ap run_length e in
     rw e (bad_next (is_name_byte b) p b tail refl (subst IsClear e clear) h (rw is at long) (subst (λ (r : List ℕ). run_length r ≤ length r) e (rw count at fits)))
@@ -167,7 +168,7 @@ starts true b tail e lt = e
 starts false b tail e lt = absurd (omega (arith, rw e at lt))
 
 -- a word stands at the front of the rest
-pub is_word_next : (p b n : ℕ) (rest tail : List ℕ) → rest ≡ b ∷ tail → n ≡ run_length rest → n ≢ 0 → n ≤ 255 → words p rest ≡ first p (take n rest) (words (p + n) (drop n rest))
+pub is_word_next : (p b n : ℕ) (rest tail : List ℕ) → rest ≡ b ∷ tail → n ≡ run_length rest → n ≢ 0 → n ≤ LONGEST_NAME → words p rest ≡ first p (take n rest) (words (p + n) (drop n rest))
 is_word_next p b n rest tail e count some short =
     let is : n ≡ run_length (b ∷ tail) = count ∙ ap run_length e in
     let l : is_name_byte b ≡ true = starts (is_name_byte b) b tail refl (omega arith) in
@@ -186,12 +187,12 @@ next_brace p [] some clear h = absurd (omega arith)
 next_brace p (b ∷ tail) some clear h = is_brace_next p b (b ∷ tail) tail refl clear h
 
 -- a word is next
-pub next_word : (p n : ℕ) (rest : List ℕ) → 1 ≤ length rest → n ≡ run_length rest → n ≢ 0 → n ≤ 255 → words p rest ≡ first p (take n rest) (words (p + n) (drop n rest))
+pub next_word : (p n : ℕ) (rest : List ℕ) → 1 ≤ length rest → n ≡ run_length rest → n ≢ 0 → n ≤ LONGEST_NAME → words p rest ≡ first p (take n rest) (words (p + n) (drop n rest))
 next_word p n [] some count nz short = absurd (omega arith)
 next_word p n (b ∷ tail) some count nz short = is_word_next p b n (b ∷ tail) tail refl count nz short
 
 -- what no text may have is next
-pub next_bad : (text : List ℕ) (from p n : ℕ) (rest : List ℕ) → words p (drop p text) ≡ words from (drop from text) → rest ≡ drop p text → 1 ≤ length rest → IsClear rest → is_brace (get_or rest 0 0) ≡ false → n ≡ run_length rest → n ≤ length rest → (n ≡ 0) ⊎ (255 < n) → words from (drop from text) ≡ stopped (bad p)
+pub next_bad : (text : List ℕ) (from p n : ℕ) (rest : List ℕ) → words p (drop p text) ≡ words from (drop from text) → rest ≡ drop p text → 1 ≤ length rest → IsClear rest → is_brace (get_or rest 0 0) ≡ false → n ≡ run_length rest → n ≤ length rest → (n ≡ 0) ⊎ (LONGEST_NAME < n) → words from (drop from text) ≡ stopped (bad p)
 next_bad text from p n [] same is some clear h count fits long = absurd (omega arith)
 next_bad text from p n (b ∷ tail) same is some clear h count fits long = sym same ∙ ap (words p) (sym is) ∙ is_bad_next p b n (b ∷ tail) tail refl clear h count fits long
 

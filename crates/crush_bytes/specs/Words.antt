@@ -1,6 +1,7 @@
 -- The words of a map's text with their places, and what ends them.
 use Rattle.std.specs.Prelude.{◌≢◌, ◌≡◌, ℕ, ◌+◌, Bool, true, false, ◌||◌, List, ◌∷◌, [], length, drop, map, bytes_eq, nat_lt, ◌==◌, if◌then◌else◌}
 use Rattle.crush_units.specs.Name.{is_name_byte, is_name}
+use Rattle.crush_units.specs.declared.limits.TheConstants.{LONGEST_NAME}
 
 -- a word, and the place of its first byte
 pub record Word : Type 0 where
@@ -58,10 +59,10 @@ split place (b ∷ bs) =
     else (if is_name_byte b then (if begins_with_name_byte bs then record { words = onto_words place b (split (place + 1) bs).words; stop = (split (place + 1) bs).stop } else first place (b ∷ []) (split (place + 1) bs))
     else stopped (bad place)))
 
--- the words up to the first that is longer than 255 bytes
+-- the words up to the first that is longer than a name
 unfoldable pub up_to_long : List Word → Stop → Text
 up_to_long [] stop = stopped stop
-up_to_long (w ∷ ws) stop = if nat_lt 255 (length w.text) then stopped (bad w.place) else first w.place w.text (up_to_long ws stop)
+up_to_long (w ∷ ws) stop = if nat_lt LONGEST_NAME (length w.text) then stopped (bad w.place) else first w.place w.text (up_to_long ws stop)
 
 -- the words of bytes that begin at a place, inside a comment or not
 unfoldable pub words_in : Bool → ℕ → List ℕ → Text

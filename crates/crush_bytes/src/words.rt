@@ -2,16 +2,14 @@
 //!
 //! Spaces, tabs, line feeds and carriage returns separate words, `#` begins a comment up to the
 //! end of its line, a brace is a word by itself, and any other word is a longest run of ASCII
-//! letters, digits, `-`, `_` and `.`, of at most 255 bytes.
+//! letters, digits, `-`, `_` and `.`, of at most as many bytes as a name.
 
 ghost use Rattle.std.specs.Prelude.{◌≡◌, if◌then◌else◌, ◌+◌, ◌<◌, ◌≤◌, length, drop, IsTrue};
 ghost use Rattle.crush_bytes.specs.Words.{Text, words, begins, past, is_blank, is_brace, run_length, IsClear};
 
 use crush_units::is_name_byte;
+use crush_units::limits::LONGEST_NAME;
 use std::marker::Model;
-
-/// The most bytes that a word may have.
-const LONGEST_WORD: usize = 255;
 
 /// What comes next in a text. Places count bytes from 0.
 #[derive(Clone, Copy)]
@@ -104,7 +102,7 @@ impl<'a> Lexer<'a> {
                     return Token::Word { place, text };
                 }
                 let len = run_length(rest);
-                if len == 0 || len > LONGEST_WORD {
+                if len == 0 || len > LONGEST_NAME {
                     return Token::Bad { place };
                 }
                 self.place = place + len;

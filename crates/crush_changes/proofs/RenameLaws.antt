@@ -10,7 +10,7 @@ use Rattle.crush_table.specs.Forest.{join}
 use Rattle.crush_table.specs.Stored.{weight_sum, StoresSums}
 use Rattle.crush_changes.specs.Named.{name_in, leaf_with_name, header_with_name, with_name}
 use Rattle.crush_nodes.specs.Ops.{count_of_id}
-use Rattle.crush_nodes.specs.Room.{one_if}
+use Rattle.crush_table.specs.Count.{one_if}
 use Rattle.crush_nodes.proofs.Joins.{pick_no}
 use Rattle.crush_nodes.proofs.Options.{option_or-assoc, option_or-if}
 

@@ -4,6 +4,7 @@ pub mod Chains
 pub mod Changes
 pub mod Differ
 pub mod Edits
+pub mod FitLaws
 pub mod Lawfuls
 pub mod Made
 pub mod Order
@@ -11,6 +12,7 @@ pub mod Others
 pub mod PutLaws
 pub mod Puts
 pub mod Routes
+pub mod SettingLaws
 pub mod Stops
 pub mod Tails
 pub mod Worked

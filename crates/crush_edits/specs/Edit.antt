@@ -45,15 +45,15 @@ refusal s t e = first_refusal (tests s t e (after s t e))
 abbrev pub edit : SettingData → List Row → Edit → Answer
 edit s t e = answer (refusal s t e) t (after s t e)
 
--- whether the edit is made with memory that is taken for it: a weight is set in its place
+-- whether the edit is made with memory that is taken for it: weights are set in their places, buckets exchange what they have, and an item that goes needs none
 abbrev pub takes_memory : Edit → Bool
 takes_memory (Reweight n w) = false
 takes_memory (ReweightSubtree n w) = false
+takes_memory (Swap m n) = false
+takes_memory (Remove n) = false
 takes_memory (Insert d n w l) = true
 takes_memory (CreateOrMove d n w l) = true
 takes_memory (Update d n w l) = true
 takes_memory (Move n l) = true
-takes_memory (Swap m n) = true
-takes_memory (Remove n) = true
 takes_memory (AddBucket n kind) = true
 takes_memory (Rename from to) = true

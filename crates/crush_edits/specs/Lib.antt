@@ -20,5 +20,6 @@ pub mod Pushed
 pub mod Put
 pub mod Refusal
 pub mod Setting
+pub mod SettingSeen
 pub mod Stops
 pub mod Weighing

@@ -15,6 +15,10 @@ use Rattle.crush_edits.specs.Batch.{BatchAnswer, batch_refused, batch_done}
 abbrev pub IsChange : Answer → Type 0
 IsChange a = (made : ℕ) × (u : List Row) × (a ≡ done true made u)
 
+-- the table's answer is done with the same words, and what was edited stands for its table
+abbrev pub IsDone : (List Row → Type 0) → Answer → Done → Type 0
+IsDone stands a d = (u : List Row) × (a ≡ done d.changed d.made u) × stands u
+
 -- the call answers what the table answers, and stands for its table; want of memory comes only where another table would come of the edit
 abbrev pub IsAnswer : (List Row → Type 0) → Answer → Result Done EditFault → Type 0
 IsAnswer stands a (Ok d) = (u : List Row) × (a ≡ done d.changed d.made u) × stands u

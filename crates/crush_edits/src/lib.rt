@@ -7,8 +7,10 @@ pub mod law;
 mod location;
 mod refusal;
 mod rule;
+mod setting;
 
 pub use edit::Edit;
 pub use location::{Location, LocationFault, MOST_PAIRS, Pair};
 pub use refusal::{BatchFault, Done, Dones, EditFault, Refusal};
 pub use rule::{Rule, Step};
+pub use setting::{KeptRule, KeptStep, Kind, Setting, Tunable, is_reserved};

@@ -1,5 +1,5 @@
 -- A builder that is at one draft is at each with the same table.
-use Rattle.std.proofs.Common.{◌≡◌, ℕ, ◌<◌, List, [], refl, sym, subst, ◌∙◌, arith}
+use Rattle.std.proofs.Common.{◌≡◌, ℕ, ◌<◌, ◌≤◌, List, [], refl, sym, subst, ◌∙◌, arith}
 use Rattle.std.proofs.lemmas.List.Elements.{All-nil}
 use Rattle.crush_units.specs.declared.id.ItemId.TheVariants.{Bucket}
 use Rattle.crush_table.specs.Items.{ShadowData}
@@ -8,12 +8,15 @@ use Rattle.crush_table.specs.Lawful.{Lawful}
 use Rattle.crush_table.specs.Table.{Row}
 use Rattle.crush_table.specs.Forest.{ForestData, rows_of, IsSound}
 use Rattle.crush_table.specs.Stands.{Stands}
-use Rattle.crush_table.specs.Setting.{SettingData, Fits, IsKind, HasKind}
+use Rattle.crush_edits.specs.Setting.{SettingData}
+use Rattle.crush_edits.specs.Fits.{Fits, IsKind, IsTunable, IsRule, IsThere, HasKind}
 use Rattle.crush_table.proofs.Found.{is_named-same, is_there-same, parent_of-same}
-use Rattle.crush_table.proofs.Same.{Same-sym, Fits-same, bucket_count-same, used-same}
+use Rattle.crush_table.proofs.Same.{Same-sym, bucket_count-same, used-same}
+use Rattle.crush_edits.proofs.FitLaws.{Fits-same}
 use Rattle.crush_table.proofs.Stands.{stands_for_rows, same_stands}
 use Rattle.crush_map.specs.Built.{Pending, nothing, begun, numbered, filling, Draft, empty_draft}
-use Rattle.crush_map.specs.Building.{BuilderData, CanBegin, CanNumber, IsRoot, IsPending, IsDraft, BuilderFits, own_draft}
+use Rattle.crush_map.specs.Building.{BuilderData, CanBegin, CanNumber, IsRoot, IsPending, IsDraft, BuilderFits, own_draft, held_buckets}
+use Rattle.crush_map.proofs.Held.{held-same}
 
 CanBegin-same : (s : SettingData) (t u : List Row) (k : ℕ) (n : List ℕ) → Lawful t → Same t u → CanBegin s t k n → CanBegin s u k n
 CanBegin-same s t u k n l e c = record {
@@ -50,8 +53,10 @@ pub IsDraft-same : (b : BuilderData) (d : Draft) (u : List Row) → Same d.table
 IsDraft-same b d u e i = record {
   setting = i.setting;
   pending = i.pending;
+  adjusted = i.adjusted;
+  few = subst (λ n. d.adjusted ≤ n) (held-same d.table u e) i.few;
   stands = same_stands b.forest d.table u e i.stands;
-  fits = Fits-same d.setting d.table u e i.fits;
+  fits = Fits-same d.setting d.table u i.stands.lawful e i.fits;
   part = IsPending-same d.setting d.table u d.pending i.stands.lawful e i.part;
 }
 
@@ -60,9 +65,10 @@ pub draft_fits : (b : BuilderData) (d : Draft) → IsDraft b d → BuilderFits b
 draft_fits b d i =
     let e : Same d.table (rows_of b.forest) = Same-sym (rows_of b.forest) d.table i.stands.same in
     record {
-      fits = subst (λ (s : SettingData). Fits s (rows_of b.forest)) (sym i.setting) (Fits-same d.setting d.table (rows_of b.forest) e i.fits);
+      fits = subst (λ (s : SettingData). Fits s (rows_of b.forest)) (sym i.setting) (Fits-same d.setting d.table (rows_of b.forest) i.stands.lawful e i.fits);
       part = subst (λ (s : SettingData). IsPending s (rows_of b.forest) b.pending) (sym i.setting)
           (subst (IsPending d.setting (rows_of b.forest)) (sym i.pending) (IsPending-same d.setting d.table (rows_of b.forest) d.pending i.stands.lawful e i.part));
+      few = subst (λ n. b.adjusted ≤ n) (held-same d.table (rows_of b.forest) e) (subst (λ n. n ≤ held_buckets d.table) (sym i.adjusted) i.few);
     }
 
 -- a builder is at the draft of its own rows
@@ -70,30 +76,44 @@ pub own_is_draft : (b : BuilderData) → IsSound b.forest → BuilderFits b → 
 own_is_draft b sound keeps = record {
   setting = refl;
   pending = refl;
+  adjusted = refl;
+  few = keeps.few;
   stands = stands_for_rows b.forest sound;
   fits = keeps.fits;
   part = keeps.part;
 }
 
 -- and at that of the rows that it has once there is room
-pub room_is_draft : (b : BuilderData) (f : ForestData) → IsSound b.forest → BuilderFits b → ((t : List Row) → Stands b.forest t → Stands f t) → IsDraft b (record { setting = b.setting; table = rows_of f; pending = b.pending })
+pub room_is_draft : (b : BuilderData) (f : ForestData) → IsSound b.forest → BuilderFits b → ((t : List Row) → Stands b.forest t → Stands f t) → IsDraft b (record { setting = b.setting; table = rows_of f; pending = b.pending; adjusted = b.adjusted })
 room_is_draft b f sound keeps kept =
     let own = own_is_draft b sound keeps in
     let after : Stands f (rows_of b.forest) = kept (rows_of b.forest) own.stands in
     IsDraft-same b (own_draft b) (rows_of f) (Same-sym (rows_of f) (rows_of b.forest) after.same) own
 
 -- a map without types and items is the empty draft
-pub empty_is_draft : (s : SettingData) (f : ForestData) → s.kinds ≡ [] → IsSound f → rows_of f ≡ [] → IsDraft (record { setting = s; forest = f; pending = nothing }) empty_draft
-empty_is_draft s f kinds sound rows = record {
-  setting = λ i. record { kinds = kinds i };
+pub empty_is_draft : (s : SettingData) (f : ForestData) → s ≡ empty_draft.setting → IsSound f → rows_of f ≡ [] → IsDraft (record { setting = s; forest = f; pending = nothing; adjusted = 0 }) empty_draft
+empty_is_draft s f same sound rows = record {
+  setting = same;
   pending = refl;
+  adjusted = refl;
+  few = omega arith;
   stands = subst (Stands f) rows (stands_for_rows f sound);
   fits = record {
-    numbers = λ n. omega arith;
-    names = λ n. omega arith;
-    kinds = All-nil IsKind;
-    few = omega arith;
-    types = All-nil (HasKind (record { kinds = [] }));
+    setting = record {
+      numbers = λ n. omega arith;
+      names = λ n. omega arith;
+      tunable_names = λ n. omega arith;
+      rule_names = λ n. omega arith;
+      rule_ids = λ n. omega arith;
+      kinds = All-nil IsKind;
+      tunables = All-nil IsTunable;
+      rules = All-nil (IsRule empty_draft.setting);
+      few_kinds = omega arith;
+      few_tunables = omega arith;
+      few_rules = omega arith;
+    };
+    types = All-nil (HasKind empty_draft.setting);
+    taken = All-nil (IsThere []);
   };
   part = tt;
 }

@@ -15,8 +15,9 @@ use Rattle.crush_table.specs.Columns.{is_under, is_part, table_without, part, as
 use Rattle.crush_table.specs.Forest.{ForestData, rows_of}
 use Rattle.crush_table.specs.ItemRows.{rows, device_row, bucket_row}
 use Rattle.crush_table.specs.Stands.{Stands}
-use Rattle.crush_table.specs.Stored.{StoresSums}
-use Rattle.crush_table.specs.Setting.{SettingData, Fits, HasKind}
+use Rattle.crush_table.specs.Stored.{weight_sum, StoresSums}
+use Rattle.crush_edits.specs.Setting.{SettingData}
+use Rattle.crush_edits.specs.Fits.{Fits, HasKind, IsThere}
 use Rattle.crush_table.proofs.Reorder.{reordered-sym, reordered-All, reordered-count}
 use Rattle.crush_table.specs.Count.{one_if}
 use Rattle.crush_table.proofs.Found.{times, times-cons, Distinct, Distinct-same, is_there-times, times-is_there}
@@ -36,9 +37,10 @@ use Rattle.crush_nodes.specs.Seen.{items_of}
 use Rattle.crush_nodes.specs.declared.node.Node.{Node}
 use Rattle.crush_nodes.specs.declared.node.Node.TheVariants.{Device as DeviceNode, Bucket as BucketNode}
 use Rattle.crush_map.specs.Pending.{with_first_weight}
-use Rattle.crush_map.specs.Built.{Pending, filling, Draft, with_item, placed_row, put_below, table_with_item}
-use Rattle.crush_map.specs.Building.{BuilderData, IsRoot, IsPending, IsDraft}
-use Rattle.crush_map.proofs.TableLaws.{Fits-rows}
+use Rattle.crush_map.specs.Built.{Pending, filling, Draft, with_item, placed_row, put_below, table_with_item, device_weight, adjustment}
+use Rattle.crush_map.proofs.Held.{held-put}
+use Rattle.crush_map.specs.Building.{BuilderData, IsRoot, IsPending, IsDraft, held_buckets}
+use Rattle.crush_edits.proofs.FitLaws.{Fits-rows}
 
 -- THE ROW of an item that is there
 row_there : (o : Option Row) → is_some o ≡ true → (r : Row) × o ≡ Some r
@@ -151,6 +153,20 @@ item_same t i k w n l there far one whole =
     let r = row_there (row_of t i) there in
     subst (Same (table_without i t ++ rows (Some k) (with_first_weight w n))) (sym (put_below-last k i w t r.0 (l.ids i) r.1)) (item_moved t i k w n r.0 l r.1 far one whole)
 
+-- what the item weighs then
+pub weight_to_come : (t : List Row) (i : ItemId) (w : ℕ) (n : Items) → is_there t i ≡ true → IsOne n → Same (rows None n) (part i t) → weight_sum (with_first_weight w n) ≡ (if is_device_id i then w else weight_sum n)
+weight_to_come t i w none there one whole = absurd one
+weight_to_come t (Device x) w (device d none) there one whole = omega arith
+weight_to_come t (Bucket x) w (device d none) there one whole = absurd (let no : false ≡ true = taken_there t (Bucket x) (device_row None d ∷ []) there whole in cc)
+weight_to_come t (Device x) w (bucket h v m kids none) there one whole =
+    let dev = All-head (λ (y : Row). is_device y ≡ true) (bucket_row None h) (rows (Some h.id) kids ++ []) (reordered-All (λ (y : Row). is_device y ≡ true) (reordered-sym whole.rows) (part_devices t x)) in
+    absurd (let no : false ≡ true = dev in cc)
+weight_to_come t (Bucket x) w (bucket h v m kids none) there one whole = refl
+weight_to_come t i w (device d (device f rest)) there one whole = absurd one
+weight_to_come t i w (device d (bucket h v m kids rest)) there one whole = absurd one
+weight_to_come t i w (bucket h v m kids (device f rest)) there one whole = absurd one
+weight_to_come t i w (bucket h v m kids (bucket g u o more rest)) there one whole = absurd one
+
 -- the sums that the item stores are as they were
 pub weighted_sums : (w : ℕ) (n : Items) → StoresSums n → StoresSums (with_first_weight w n)
 weighted_sums w none s = s
@@ -213,7 +229,7 @@ open_root s t p k e h = subst (IsPending s t) e h
 root_row : (t u : List Row) (k : ℕ) → row_of u (Bucket k) ≡ row_of t (Bucket k) → IsRoot t k → IsRoot u k
 root_row t u k e root = record { there = ap is_some e ∙ root.there; root = ap (option_and_then (λ (r : Row). r.parent)) e ∙ root.root }
 
-root_without : (t : List Row) (i : ItemId) (k : ℕ) → IsRoot t k → is_part t i (Bucket k) ≡ false → IsRoot (table_without i t) k
+pub root_without : (t : List Row) (i : ItemId) (k : ℕ) → IsRoot t k → is_part t i (Bucket k) ≡ false → IsRoot (table_without i t) k
 root_without t i k root far = root_row t (table_without i t) k (row_of-only (λ j. not (is_part t i j)) t (Bucket k) ∙ (λ j. if not (far j) then row_of t (Bucket k) else None)) root
 
 root_put : (t : List Row) (i : ItemId) (k w : ℕ) → IsRoot t k → same_id (Bucket k) i ≡ false → IsRoot (put_below k i w t) k
@@ -223,50 +239,60 @@ root_put t i k w root other =
     let last : List Row = map (placed_row k w) (filter (λ (r : Row). same_id r.id i) t) in
     root_row t (put_below k i w t) k (row_of-append (without_row i t) last (Bucket k) ∙ (λ j. if there j then row_of (without_row i t) (Bucket k) else row_of last (Bucket k)) ∙ keeps) root
 
--- the builder once the item is taken out
-pub taken_draft : (b : BuilderData) (g : ForestData) (d : Draft) (i : ItemId) (k : ℕ) → IsDraft b d → b.pending ≡ filling k → same_id (Bucket k) i ≡ false → Stands g (table_without i d.table) →
-    IsDraft (record b { forest = g }) (record d { table = table_without i d.table })
-taken_draft b g d i k at e other st =
-    let p : d.pending ≡ filling k = sym at.pending ∙ e in
-    let root = open_root d.setting d.table d.pending k p at.part in
-    record {
-      setting = at.setting;
-      pending = at.pending;
-      stands = st;
-      fits = Fits-rows d.setting d.table (table_without i d.table) at.fits (All-filter (λ (r : Row). not (is_part d.table i r.id)) (HasKind d.setting) d.table at.fits.types);
-      part = subst (IsPending d.setting (table_without i d.table)) (sym p) (root_without d.table i k root (is_no_part d.table at.stands.lawful i k root other));
-    }
+-- no bucket is gone
+put_there : (t : List Row) (i : ItemId) (k w : ℕ) → Lawful t → is_there t i ≡ true → (b : ℕ) → IsThere t b → IsThere (put_below k i w t) b
+put_there t i k w l there b h =
+    let r = row_there (row_of t i) there in
+    let v : ℕ = if is_device r.0 then w else r.0.weight in
+    let placed : is_there (map (place i (Some k) v) t) (Bucket b) ≡ true = is_there-map (place i (Some k) v) (placed_id i (Some k) v) t (Bucket b) ∙ h in
+    subst (λ u. IsThere u b) (sym (put_below-last k i w t r.0 (l.ids i) r.1))
+    (times-is_there (without_row i t ++ placed_row k w r.0 ∷ []) (Bucket b)
+    (subst (λ n. 1 ≤ n) (reordered-count (λ (x : Row). same_id x.id (Bucket b)) (placed_last i (Some k) v t r.0 (l.ids i) r.1)) (is_there-times (map (place i (Some k) v) t) (Bucket b) placed)))
 
-put_fits : (s : SettingData) (t : List Row) (i : ItemId) (k w : ℕ) → Fits s t → Fits s (put_below k i w t)
-put_fits s t i k w f = Fits-rows s t (put_below k i w t) f
+pub put_fits : (s : SettingData) (t : List Row) (i : ItemId) (k w : ℕ) → Lawful t → is_there t i ≡ true → Fits s t → Fits s (put_below k i w t)
+put_fits s t i k w l there f = Fits-rows s t (put_below k i w t) f
     (All-append (HasKind s) (without_row i t) (map (placed_row k w) (filter (λ (r : Row). same_id r.id i) t))
     (All-filter (λ (r : Row). not (same_id r.id i)) (HasKind s) t f.types)
     (All-map (HasKind s) (placed_row k w) (filter (λ (r : Row). same_id r.id i) t) (All-filter (λ (r : Row). same_id r.id i) (HasKind s) t f.types)))
+    (put_there t i k w l there)
 
-step_at : (b : BuilderData) (h : ForestData) (s : SettingData) (t : List Row) (i : ItemId) (k w : ℕ) → IsDraft b (record { setting = s; table = t; pending = filling k }) → same_id (Bucket k) i ≡ false → Stands h (put_below k i w t) →
-    IsDraft (record b { forest = h }) (with_item (record { setting = s; table = t; pending = filling k }) i w)
-step_at b h s t i k w at other st = record {
+has_no_parent : (o : Option ℕ) → is_some o ≡ false → o ≡ None
+has_no_parent None h = refl
+has_no_parent (Some p) h = absurd (let no : true ≡ false = h in cc)
+
+-- as many buckets are held as weights were adjusted
+put_held : (t : List Row) (i : ItemId) (k n : ℕ) (w : Option ℕ) → Lawful t → is_there t i ≡ true → is_placed t i ≡ false → n ≤ held_buckets t → n + adjustment t i w ≤ held_buckets (put_below k i (device_weight w) t)
+put_held t i k n w l there free h =
+    let r = row_there (row_of t i) there in
+    subst (λ u. n + adjustment t i w ≤ held_buckets u) (sym (put_below-last k i (device_weight w) t r.0 (l.ids i) r.1)) (held-put t i k (device_weight w) n w r.0 l (has_no_parent (parent_of t i) free) r.1 h)
+
+step_at : (b : BuilderData) (h : ForestData) (s : SettingData) (t : List Row) (a : ℕ) (i : ItemId) (k : ℕ) (w : Option ℕ) → IsDraft b (record { setting = s; table = t; pending = filling k; adjusted = a }) → is_there t i ≡ true → is_placed t i ≡ false → same_id (Bucket k) i ≡ false
+    → Stands h (put_below k i (device_weight w) t) → (more : ℕ) → more ≡ adjustment t i w → IsDraft (record b { forest = h; adjusted = b.adjusted + more }) (with_item (record { setting = s; table = t; pending = filling k; adjusted = a }) i w)
+step_at b h s t a i k w at there free other st more is = record {
   setting = at.setting;
   pending = at.pending;
+  adjusted = (λ j. at.adjusted j + is j);
+  few = put_held t i k a w at.stands.lawful there free at.few;
   stands = st;
-  fits = put_fits s t i k w at.fits;
-  part = root_put t i k w at.part other;
+  fits = put_fits s t i k (device_weight w) at.stands.lawful there at.fits;
+  part = root_put t i k (device_weight w) at.part other;
 }
 
 -- the table with the item, where a bucket is being filled
-pub put_table : (d : Draft) (i : ItemId) (k w : ℕ) → d.pending ≡ filling k → (with_item d i w).table ≡ put_below k i w d.table
+pub put_table : (d : Draft) (i : ItemId) (k w : ℕ) → d.pending ≡ filling k → table_with_item d.pending i w d.table ≡ put_below k i w d.table
 put_table d i k w e = ap (λ (p : Pending). table_with_item p i w d.table) e
 
 -- THE STEP: the item stands last in the bucket
-pub item_step : (b : BuilderData) (h : ForestData) (d : Draft) (i : ItemId) (k w : ℕ) (n : Items) → IsDraft b d → b.pending ≡ filling k → is_there d.table i ≡ true → same_id (Bucket k) i ≡ false → IsOne n → Same (rows None n) (part i d.table)
-    → Stands h (table_without i d.table ++ rows (Some k) (with_first_weight w n)) → IsDraft (record b { forest = h }) (with_item d i w)
-item_step b h d i k w n at e there other one whole st =
+pub item_step : (b : BuilderData) (h : ForestData) (d : Draft) (i : ItemId) (k : ℕ) (w : Option ℕ) (n : Items) → IsDraft b d → b.pending ≡ filling k → is_there d.table i ≡ true → is_placed d.table i ≡ false → same_id (Bucket k) i ≡ false → IsOne n → Same (rows None n) (part i d.table)
+    → Stands h (table_without i d.table ++ rows (Some k) (with_first_weight (device_weight w) n)) → (more : ℕ) → more ≡ adjustment d.table i w → IsDraft (record b { forest = h; adjusted = b.adjusted + more }) (with_item d i w)
+item_step b h d i k w n at e there free other one whole st more is =
     let p : d.pending ≡ filling k = sym at.pending ∙ e in
+    let v : ℕ = device_weight w in
     let root = open_root d.setting d.table d.pending k p at.part in
     let far = is_no_part d.table at.stands.lawful i k root other in
-    let put : Stands h (put_below k i w d.table) = same_stands h (table_without i d.table ++ rows (Some k) (with_first_weight w n)) (put_below k i w d.table) (item_same d.table i k w n at.stands.lawful there far one whole) st in
-    subst (λ (x : Pending). IsDraft (record b { forest = h }) (with_item (record { setting = d.setting; table = d.table; pending = x }) i w)) (sym p)
-    (step_at b h d.setting d.table i k w (subst (λ (x : Pending). IsDraft b (record { setting = d.setting; table = d.table; pending = x })) p at) other put)
+    let put : Stands h (put_below k i v d.table) = same_stands h (table_without i d.table ++ rows (Some k) (with_first_weight v n)) (put_below k i v d.table) (item_same d.table i k v n at.stands.lawful there far one whole) st in
+    subst (λ (x : Pending). IsDraft (record b { forest = h; adjusted = b.adjusted + more }) (with_item (record { setting = d.setting; table = d.table; pending = x; adjusted = d.adjusted }) i w)) (sym p)
+    (step_at b h d.setting d.table d.adjusted i k w (subst (λ (x : Pending). IsDraft b (record { setting = d.setting; table = d.table; pending = x; adjusted = d.adjusted })) p at) there free other put more is)
 
 -- the rows with the item, as it is attached to a forest that stands for the table without it
 pub attached_lawful : (g : ForestData) (t : List Row) (i : ItemId) (k w : ℕ) (n : Items) → Lawful t → is_there t i ≡ true → IsRoot t k → same_id (Bucket k) i ≡ false → IsOne n → Same (rows None n) (part i t)
@@ -312,10 +338,6 @@ weighted_small : (w : ℕ) (n : Items) → StoresUpTo 4294967295 n → StoresUpT
 weighted_small w none s = s
 weighted_small w (device d rest) s = s
 weighted_small w (bucket h v m kids rest) s = s
-
-has_no_parent : (o : Option ℕ) → is_some o ≡ false → o ≡ None
-has_no_parent None h = refl
-has_no_parent (Some p) h = absurd (let no : true ≡ false = h in cc)
 
 pub item_small : (t : List Row) (i : ItemId) (w : ℕ) (n : Items) → Lawful t → is_placed t i ≡ false → Same (rows None n) (part i t) → StoresSums n → StoresUpTo 4294967295 (with_first_weight w n)
 item_small t i w n l free whole sums =

@@ -1,12 +1,9 @@
-pub mod Ascending
-pub mod Changes
 pub mod Drafts
-pub mod Edits
+pub mod Faults
+pub mod Held
 pub mod ItemSteps
 pub mod ItemTaken
-pub mod KindLaws
 pub mod KindSteps
-pub mod Refused
 pub mod RowSteps
-pub mod TableLaws
-pub mod Worked
+pub mod RuleSteps
+pub mod TunableSteps

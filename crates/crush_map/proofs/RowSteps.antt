@@ -3,7 +3,7 @@ use Rattle.std.proofs.Common.{◌≡◌, ℕ, ◌<◌, ◌≤◌, Bool, true, fa
 use Rattle.std.proofs.lemmas.Bool.Decides.{nat_tests}
 use Rattle.std.proofs.lemmas.List.Sums.{sum_by_push}
 use Rattle.std.proofs.lemmas.List.Elements.{All-nil}
-use Rattle.std.specs.Prelude.{Option, Some, None, if◌then◌else◌, nat_le, nat_lt, ◌||◌, ◌&&◌, bytes_eq, is_some, option_and_then}
+use Rattle.std.specs.Prelude.{Option, Some, None, if◌then◌else◌, nat_le, nat_lt, ◌||◌, ◌&&◌, bytes_eq, is_some, IfSome, option_and_then}
 use Rattle.std.specs.Option.{option_map}
 use Rattle.crush_units.specs.declared.id.ItemId.{ItemId}
 use Rattle.crush_units.specs.declared.id.ItemId.TheVariants.{Device, Bucket}
@@ -16,12 +16,13 @@ use Rattle.crush_table.specs.Lawful.{Lawful, IsShadowId, has_too_many}
 use Rattle.crush_table.specs.Forest.{ForestData, rows_of}
 use Rattle.crush_table.specs.ItemRows.{device_row, bucket_row}
 use Rattle.crush_table.specs.Stands.{Stands}
-use Rattle.crush_table.specs.Setting.{SettingData}
+use Rattle.crush_edits.specs.Setting.{SettingData}
 use Rattle.crush_table.specs.Count.{one_if}
 use Rattle.crush_table.proofs.Weighs.{or_left}
 use Rattle.crush_table.proofs.Appended.{row_of-append, unused_fresh, Lawful-push_device, Lawful-push_bucket}
 use Rattle.crush_map.proofs.KindSteps.{less}
-use Rattle.crush_map.proofs.TableLaws.{Fits-push}
+use Rattle.crush_map.proofs.Held.{held-push}
+use Rattle.crush_edits.proofs.FitLaws.{Fits-push}
 use Rattle.crush_map.specs.Built.{Pending, nothing, begun, numbered, filling, Draft, with_device, with_alg}
 use Rattle.crush_map.specs.Building.{BuilderData, BuilderFits, CanBegin, CanNumber, IsRoot, IsPending, IsDraft, own_draft, is_bucket_kind, has_name, has_bucket_id, is_full_of_buckets}
 
@@ -40,8 +41,8 @@ is_positive : (k : ℕ) → nat_lt 0 k ≡ true → 0 < k
 is_positive k h = grind (arith, nat_tests)
 
 -- THE ROW of a device without parent
-abbrev pub new_device : ℕ → List ℕ → Row
-new_device id name = device_row None (record { id = id; name = name; weight = 0; class = None })
+abbrev pub new_device : ℕ → List ℕ → Option (List ℕ) → Row
+new_device id name class = device_row None (record { id = id; name = name; weight = 0; class = class })
 
 device_room : (t : List Row) (r : Row) → Lawful t → is_device r ≡ true → is_bucket r ≡ false → nat_le 65536 (device_count t) ≡ false → has_too_many (t ++ r ∷ []) ≡ false
 device_room t r l dev buck few =
@@ -53,20 +54,22 @@ device_room t r l dev buck few =
     λ i. devices i || buckets i
 
 -- the table is lawful with it
-pub device_lawful : (t : List Row) (id : ℕ) (name : List ℕ) → Lawful t → id < 2147483648 → IsName name → is_there t (Device id) ≡ false → is_named t name ≡ false → nat_le 65536 (device_count t) ≡ false → Lawful (t ++ new_device id name ∷ [])
-device_lawful t id name l small form fresh free few =
-    Lawful-push_device t id (new_device id name) refl l
-    (record { name = form; form = record { id = small; kind = refl; light = omega arith; unplaced = λ _. refl; alg = refl; class_ids = refl; class = tt } })
-    refl fresh free (device_room t (new_device id name) l refl refl few)
+pub device_lawful : (t : List Row) (id : ℕ) (name : List ℕ) (class : Option (List ℕ)) → Lawful t → id < 2147483648 → IsName name → IfSome class IsName → is_there t (Device id) ≡ false → is_named t name ≡ false → nat_le 65536 (device_count t) ≡ false → Lawful (t ++ new_device id name class ∷ [])
+device_lawful t id name class l small form kind fresh free few =
+    Lawful-push_device t id (new_device id name class) refl l
+    (record { name = form; form = record { id = small; kind = refl; light = omega arith; unplaced = λ _. refl; alg = refl; class_ids = refl; class = kind } })
+    refl fresh free (device_room t (new_device id name class) l refl refl few)
 
 -- THE STEP: a device
-pub device_step : (b : BuilderData) (f : ForestData) (d : Draft) (id : ℕ) (name : List ℕ) → IsDraft b d → b.pending ≡ nothing → Stands f (d.table ++ new_device id name ∷ []) → IsDraft (record b { forest = f }) (with_device d id name)
-device_step b f d id name i idle st = record {
+pub device_step : (b : BuilderData) (f : ForestData) (d : Draft) (id : ℕ) (name : List ℕ) (class : Option (List ℕ)) → IsDraft b d → b.pending ≡ nothing → Stands f (d.table ++ new_device id name class ∷ []) → IsDraft (record b { forest = f }) (with_device d id name class)
+device_step b f d id name class i idle st = record {
   setting = i.setting;
   pending = i.pending;
+  adjusted = i.adjusted;
+  few = held-push d.adjusted d.table (new_device id name class) i.few;
   stands = st;
-  fits = Fits-push d.setting d.table (new_device id name) i.fits (λ some. absurd (omega (arith, some)));
-  part = subst (IsPending d.setting (d.table ++ new_device id name ∷ [])) (sym (sym i.pending ∙ idle)) tt;
+  fits = Fits-push d.setting d.table (new_device id name class) i.fits (λ some. absurd (omega (arith, some)));
+  part = subst (IsPending d.setting (d.table ++ new_device id name class ∷ [])) (sym (sym i.pending ∙ idle)) tt;
 }
 
 -- what a builder keeps where a bucket begins, and where it gets its id
@@ -74,12 +77,14 @@ pub begin_fits : (b : BuilderData) (k : ℕ) (n m : List ℕ) → BuilderFits b 
 begin_fits b k n m keeps e most form known free few = record {
   fits = keeps.fits;
   part = subst (λ x. CanBegin b.setting (rows_of b.forest) k x) (sym e) (record { known = known; most = most; form = form; free = or_left _ _ free; few = less 4096 (bucket_count (rows_of b.forest)) few });
+  few = keeps.few;
 }
 
 pub id_fits : (b : BuilderData) (k : ℕ) (n : List ℕ) (id : ℕ) → BuilderFits b → b.pending ≡ begun k n → 0 < id → id ≤ 2147483648 → has_bucket_id (own_draft b) id ≡ false → BuilderFits (record b { pending = numbered k n id [] })
 id_fits b k n id keeps e some most free = record {
   fits = keeps.fits;
   part = (subst (IsPending b.setting (rows_of b.forest)) e keeps.part, record { some = some; most = most; free = or_left _ _ free; classes = refl });
+  few = keeps.few;
 }
 
 -- THE ROW of an empty bucket without parent
@@ -125,11 +130,13 @@ new_root t k n id alg num =
     row_of-append t (new_bucket k n id alg ∷ []) (Bucket id) ∙ (λ i. if unused_fresh t id num.free i then row_of t (Bucket id) else (if same_id_refl (Bucket id) i then Some (new_bucket k n id alg) else None)) in
     record { there = ap is_some found; root = ap (option_and_then (λ (r : Row). r.parent)) found }
 
-step_at : (b : BuilderData) (f : ForestData) (s : SettingData) (t : List Row) (k : ℕ) (n : List ℕ) (id : ℕ) (alg : Alg) → IsDraft b (record { setting = s; table = t; pending = numbered k n id [] }) → Stands f (t ++ new_bucket k n id alg ∷ []) →
-    IsDraft (record { setting = b.setting; forest = f; pending = filling id }) (with_alg (record { setting = s; table = t; pending = numbered k n id [] }) alg)
-step_at b f s t k n id alg i st = record {
+step_at : (b : BuilderData) (f : ForestData) (s : SettingData) (t : List Row) (a : ℕ) (k : ℕ) (n : List ℕ) (id : ℕ) (alg : Alg) → IsDraft b (record { setting = s; table = t; pending = numbered k n id []; adjusted = a }) → Stands f (t ++ new_bucket k n id alg ∷ []) →
+    IsDraft (record { setting = b.setting; forest = f; pending = filling id; adjusted = b.adjusted }) (with_alg (record { setting = s; table = t; pending = numbered k n id []; adjusted = a }) alg)
+step_at b f s t a k n id alg i st = record {
   setting = i.setting;
   pending = refl;
+  adjusted = i.adjusted;
+  few = held-push a t (new_bucket k n id alg) i.few;
   stands = st;
   fits = Fits-push s t (new_bucket k n id alg) i.fits (λ _. and_right _ _ i.part.0.known);
   part = new_root t k n id alg i.part.1;
@@ -137,11 +144,11 @@ step_at b f s t k n id alg i st = record {
 
 -- THE STEP: an empty bucket
 pub alg_step : (b : BuilderData) (f : ForestData) (d : Draft) (k : ℕ) (n : List ℕ) (id : ℕ) (alg : Alg) → IsDraft b d → b.pending ≡ numbered k n id [] → Stands f (d.table ++ new_bucket k n id alg ∷ []) →
-    IsDraft (record { setting = b.setting; forest = f; pending = filling id }) (with_alg d alg)
+    IsDraft (record { setting = b.setting; forest = f; pending = filling id; adjusted = b.adjusted }) (with_alg d alg)
 alg_step b f d k n id alg i e st =
     let p : d.pending ≡ numbered k n id [] = sym i.pending ∙ e in
-    subst (λ (x : Pending). IsDraft (record { setting = b.setting; forest = f; pending = filling id }) (with_alg (record { setting = d.setting; table = d.table; pending = x }) alg)) (sym p)
-    (step_at b f d.setting d.table k n id alg (subst (λ (x : Pending). IsDraft b (record { setting = d.setting; table = d.table; pending = x })) p i) st)
+    subst (λ (x : Pending). IsDraft (record { setting = b.setting; forest = f; pending = filling id; adjusted = b.adjusted }) (with_alg (record { setting = d.setting; table = d.table; pending = x; adjusted = d.adjusted }) alg)) (sym p)
+    (step_at b f d.setting d.table d.adjusted k n id alg (subst (λ (x : Pending). IsDraft b (record { setting = d.setting; table = d.table; pending = x; adjusted = d.adjusted })) p i) st)
 
 -- what has a name is there
 there_if : (b : Bool) (r : Row) (o : Option Row) → is_some o ≡ true → is_some (if b then Some r else o) ≡ true

@@ -1,29 +1,33 @@
 -- The state of a builder, the draft at which it is, and the tests that a reader makes before each step.
-use Rattle.std.specs.Prelude.{◌≡◌, ℕ, ◌<◌, ◌≤◌, List, [], Option, Some, None, Bool, true, false, ◌==◌, ◌||◌, ◌&&◌, if◌then◌else◌, length, bytes_eq, nat_lt, nat_le, refl, option_and_then}
-use Rattle.std.specs.List.{list_any}
-use Rattle.std.specs.Coded.{Coded, code_by, coded×}
+use Rattle.std.specs.Prelude.{◌≡◌, ℕ, ◌<◌, ◌≤◌, List, [], Option, Some, None, Bool, true, false, ◌==◌, ◌||◌, ◌&&◌, if◌then◌else◌, length, bytes_eq, nat_lt, nat_le, refl, is_some, option_and_then}
+use Rattle.std.specs.List.{count_by, list_any}
+use Rattle.std.specs.Coded.{Coded, code_by, coded×, coded_ℕ}
 use Rattle.crush_units.specs.declared.id.ItemId.{ItemId}
 use Rattle.crush_units.specs.declared.id.ItemId.TheVariants.{Bucket}
 use Rattle.crush_units.specs.Id.{same_id}
 use Rattle.crush_units.specs.Name.{IsName}
 use Rattle.crush_table.specs.Items.{ShadowData}
-use Rattle.crush_table.specs.Table.{Row, is_there, is_named, parent_of, id_named, used_ids, member, device_count, bucket_count}
+use Rattle.crush_table.specs.Table.{Row, is_bucket, is_there, is_named, parent_of, id_named, used_ids, member, device_count, bucket_count}
 use Rattle.crush_table.specs.Forest.{ForestData, coded_forest, rows_of}
 use Rattle.crush_table.specs.Stands.{Stands}
-use Rattle.crush_table.specs.Setting.{KindData, SettingData, coded_setting, Fits}
+use Rattle.crush_edits.specs.Setting.{KindData, TunableData, SettingData, coded_setting}
+use Rattle.crush_edits.specs.Fits.{Fits}
 use Rattle.crush_map.specs.Built.{Pending, nothing, begun, numbered, filling, Draft}
 use Rattle.crush_map.specs.Stored.{coded_pending}
-use Rattle.crush_units.specs.declared.limits.TheConstants.{FARTHEST_BUCKET_ID, LAST_TYPE, MOST_BUCKETS, MOST_DEVICES, MOST_TYPES}
+use Rattle.crush_units.specs.declared.limits.TheConstants.{FARTHEST_BUCKET_ID, LAST_TYPE, MOST_BUCKETS, MOST_DEVICES, MOST_TUNABLES, MOST_TYPES}
 
 -- what contracts see of a builder
 pub record BuilderData : Type 0 where
   pub setting : SettingData
   pub forest : ForestData
   pub pending : Pending
+  pub adjusted : ℕ
 
 -- a builder is stored as its fields
 abbrev pub coded_builder : Coded BuilderData
-coded_builder = code_by (SettingData × (ForestData × Pending)) (coded× coded_setting (coded× coded_forest coded_pending)) (λ b. (b.setting, (b.forest, b.pending))) (λ p. record { setting = p.0; forest = p.1.0; pending = p.1.1 }) (λ _. refl)
+coded_builder =
+    code_by (SettingData × (ForestData × (Pending × ℕ))) (coded× coded_setting (coded× coded_forest (coded× coded_pending coded_ℕ)))
+    (λ b. (b.setting, (b.forest, (b.pending, b.adjusted)))) (λ p. record { setting = p.0; forest = p.1.0; pending = p.1.1.0; adjusted = p.1.1.1 }) (λ _. refl)
 
 -- a type of buckets that the setting has
 abbrev pub is_bucket_kind : SettingData → ℕ → Bool
@@ -55,22 +59,29 @@ IsPending s t (begun kind name) = CanBegin s t kind name
 IsPending s t (numbered kind name b class_ids) = CanBegin s t kind name × CanNumber t b class_ids
 IsPending s t (filling b) = IsRoot t b
 
+-- how many buckets another holds: no fewer than weights were adjusted
+abbrev pub held_buckets : List Row → ℕ
+held_buckets t = count_by (λ (r : Row). is_bucket r && is_some r.parent) t
+
 -- the builder is at the draft
 pub record IsDraft (b : BuilderData) (d : Draft) : Type 0 where
   pub setting : b.setting ≡ d.setting
   pub pending : b.pending ≡ d.pending
+  pub adjusted : b.adjusted ≡ d.adjusted
+  pub few : d.adjusted ≤ held_buckets d.table
   pub stands : Stands b.forest d.table
   pub fits : Fits d.setting d.table
   pub part : IsPending d.setting d.table d.pending
 
 -- its own rows are the table of one such draft
 abbrev pub own_draft : BuilderData → Draft
-own_draft b = record { setting = b.setting; table = rows_of b.forest; pending = b.pending }
+own_draft b = record { setting = b.setting; table = rows_of b.forest; pending = b.pending; adjusted = b.adjusted }
 
 -- what each builder keeps beside what its forest keeps
 pub record BuilderFits (b : BuilderData) : Type 0 where
   pub fits : Fits b.setting (rows_of b.forest)
   pub part : IsPending b.setting (rows_of b.forest) b.pending
+  pub few : b.adjusted ≤ held_buckets (rows_of b.forest)
 
 -- THE TESTS
 abbrev pub is_idle : Pending → Bool
@@ -122,6 +133,9 @@ has_kind_number s k = list_any (λ (x : KindData). x.number == k) s.kinds
 abbrev pub has_kind_name : SettingData → List ℕ → Bool
 has_kind_name s n = list_any (λ (x : KindData). bytes_eq x.name n) s.kinds
 
+abbrev pub has_tunable : SettingData → List ℕ → Bool
+has_tunable s n = list_any (λ (x : TunableData). bytes_eq x.name n) s.tunables
+
 -- one more would pass a limit
 abbrev pub is_full_of_devices : Draft → Bool
 is_full_of_devices d = nat_le MOST_DEVICES (device_count d.table)
@@ -131,3 +145,6 @@ is_full_of_buckets d = nat_le MOST_BUCKETS (bucket_count d.table)
 
 abbrev pub is_full_of_kinds : Draft → Bool
 is_full_of_kinds d = nat_le MOST_TYPES (length d.setting.kinds)
+
+abbrev pub is_full_of_tunables : Draft → Bool
+is_full_of_tunables d = nat_le MOST_TUNABLES (length d.setting.tunables)

@@ -1,13 +1,16 @@
 -- What a builder makes, statement by statement, of the text of a map.
-use Rattle.std.specs.Prelude.{ℕ, List, [], ◌∷◌, ◌++◌, Some, None, if◌then◌else◌, map, filter}
+use Rattle.std.specs.Prelude.{ℕ, ◌+◌, ◌==◌, List, [], ◌∷◌, ◌++◌, Option, Some, None, not, if◌then◌else◌, map, filter}
 use Rattle.crush_units.specs.declared.id.ItemId.{ItemId}
 use Rattle.crush_units.specs.declared.alg.Alg.{Alg}
 use Rattle.crush_units.specs.Id.{same_id}
 use Rattle.crush_table.specs.Items.{ShadowData}
-use Rattle.crush_table.specs.Table.{Row, is_device}
+use Rattle.crush_units.specs.declared.id.ItemId.TheVariants.{Device, Bucket}
+use Rattle.crush_units.specs.declared.limits.TheConstants.{UNITS_OF_ONE}
+use Rattle.crush_table.specs.Count.{one_if}
+use Rattle.crush_table.specs.Table.{Row, is_device, sum_below}
 use Rattle.crush_table.specs.Columns.{without_row}
 use Rattle.crush_table.specs.ItemRows.{device_row, bucket_row}
-use Rattle.crush_table.specs.Setting.{SettingData}
+use Rattle.crush_edits.specs.Setting.{SettingData}
 
 -- what of a bucket was read before it is in the table, and then the bucket that is being filled
 pub data Pending : Type 0 where
@@ -16,23 +19,28 @@ pub data Pending : Type 0 where
   numbered : ℕ → List ℕ → ℕ → List ShadowData → Pending
   filling : ℕ → Pending
 
--- what was built so far: setting, table, and the statement in the middle of which the text is
+-- what was built so far: setting, table, the statement in the middle of which the text is, and how many written weights of buckets weren't their sums
 pub record Draft : Type 0 where
   pub setting : SettingData
   pub table : List Row
   pub pending : Pending
+  pub adjusted : ℕ
 
 -- THE STEPS
 abbrev pub empty_draft : Draft
-empty_draft = record { setting = record { kinds = [] }; table = []; pending = nothing }
+empty_draft = record { setting = record { kinds = []; tunables = []; rules = [] }; table = []; pending = nothing; adjusted = 0 }
 
 -- a type
 abbrev pub with_kind : Draft → ℕ → List ℕ → Draft
-with_kind d number name = record d { setting = record { kinds = d.setting.kinds ++ record { number = number; name = name } ∷ [] } }
+with_kind d number name = record d { setting = record d.setting { kinds = d.setting.kinds ++ record { number = number; name = name } ∷ [] } }
+
+-- a tunable
+abbrev pub with_tunable : Draft → List ℕ → ℕ → Draft
+with_tunable d name value = record d { setting = record d.setting { tunables = d.setting.tunables ++ record { name = name; value = value } ∷ [] } }
 
 -- a device, for the time being in no bucket
-abbrev pub with_device : Draft → ℕ → List ℕ → Draft
-with_device d id name = record d { table = d.table ++ device_row None (record { id = id; name = name; weight = 0; class = None }) ∷ [] }
+abbrev pub with_device : Draft → ℕ → List ℕ → Option (List ℕ) → Draft
+with_device d id name class = record d { table = d.table ++ device_row None (record { id = id; name = name; weight = 0; class = class }) ∷ [] }
 
 -- the first words of a bucket, and its id
 abbrev pub begun_bucket : Draft → ℕ → List ℕ → Draft
@@ -76,8 +84,19 @@ table_with_item (begun kind name) i w t = t
 table_with_item (numbered kind name b class_ids) i w t = t
 table_with_item (filling b) i w t = put_below b i w t
 
-abbrev pub with_item : Draft → ItemId → ℕ → Draft
-with_item d i w = record d { table = table_with_item d.pending i w d.table }
+-- what a device weighs: what is written, or 1.0
+abbrev pub device_weight : Option ℕ → ℕ
+device_weight None = UNITS_OF_ONE
+device_weight (Some w) = w
+
+-- one for a bucket whose written weight isn't its sum
+abbrev pub adjustment : List Row → ItemId → Option ℕ → ℕ
+adjustment t (Device x) w = 0
+adjustment t (Bucket b) None = 0
+adjustment t (Bucket b) (Some w) = one_if (not (w == sum_below t b))
+
+abbrev pub with_item : Draft → ItemId → Option ℕ → Draft
+with_item d i w = record d { table = table_with_item d.pending i (device_weight w) d.table; adjusted = d.adjusted + adjustment d.table i w }
 
 -- the bucket's closing brace
 abbrev pub with_end : Draft → Draft

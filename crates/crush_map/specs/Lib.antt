@@ -1,13 +1,7 @@
 pub mod Building
 pub mod Built
-pub mod Changed
-pub mod Edit
-pub mod Edits
-pub mod Examples
-pub mod Kinds
-pub mod Law
+pub mod Faults
 pub mod MapData
-pub mod Outcome
 pub mod Pending
-pub mod Refusal
+pub mod Rules
 pub mod Stored

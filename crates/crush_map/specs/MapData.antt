@@ -4,7 +4,8 @@ use Rattle.std.specs.Coded.{Coded, code_by, coded×}
 use Rattle.crush_table.specs.Table.{Row}
 use Rattle.crush_table.specs.Forest.{ForestData, coded_forest, rows_of}
 use Rattle.crush_table.specs.Stands.{Stands}
-use Rattle.crush_table.specs.Setting.{SettingData, coded_setting, Fits}
+use Rattle.crush_edits.specs.Setting.{SettingData, coded_setting}
+use Rattle.crush_edits.specs.Fits.{Fits}
 
 pub record MapData : Type 0 where
   pub setting : SettingData

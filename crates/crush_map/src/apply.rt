@@ -1,27 +1,32 @@
 //! Edits of a map.
 
-ghost use Rattle.std.specs.Prelude.{◌≡◌, List, IfOk, OnErr, true};
+ghost use Rattle.std.specs.Prelude.{◌≡◌, ℕ, ◌≤◌, List, length, IfOk, OnErr, true};
+ghost use Rattle.crush_units.specs.declared.limits.TheConstants.{MOST_EDITS};
 ghost use Rattle.crush_table.specs.Table.{Row};
 ghost use Rattle.crush_table.specs.Stands.{Stands};
-ghost use Rattle.crush_map.specs.declared.refusal.Refusal.{Refusal as DeclaredRefusal};
-ghost use Rattle.crush_map.specs.Edit.{edit, refused, takes_memory};
-ghost use Rattle.crush_map.specs.Outcome.{IsDone, IsChange};
+ghost use Rattle.crush_tree.specs.Sameness.{IsSameForest};
+ghost use Rattle.crush_edits.specs.declared.refusal.Refusal.{Refusal as DeclaredRefusal};
+ghost use Rattle.crush_edits.specs.Answer.{refused};
+ghost use Rattle.crush_edits.specs.Batch.{batch, batch_refused};
+ghost use Rattle.crush_edits.specs.Edit.{edit, takes_memory};
+ghost use Rattle.crush_apply.specs.Batched.{IsBatchDone};
+ghost use Rattle.crush_edits.specs.Outcome.{IsDone, IsChange};
 
-mod reweight;
-
-use crate::edit::Edit;
 use crate::map::CrushMap;
-use crate::refusal::{Done, EditFault};
-use reweight::reweight;
+use crush_apply::{apply_batch, apply_edit};
+use crush_edits::{BatchFault, Done, Dones, Edit, EditFault};
 use std::alloc::Allocator;
 
 impl<A: Allocator> CrushMap<A> {
-    /// Makes the edit, or tells why it isn't made; the map is then as before.
+    /// Makes the edit, or tells why it isn't made.
     ///
-    /// Where several refusals hold, the one of least number is told. Want of memory is told only of
-    /// an edit that takes memory, where nothing speaks against it and the map would be another
-    /// after it: so never of a new weight.
+    /// Where several refusals hold, the one of least number is told, and the map is as before. Want
+    /// of memory is told only of an edit that takes memory, where nothing speaks against it and the
+    /// map would be another after it: so never of new weights, of an exchange or of a removal. The
+    /// map then has what it had, and perhaps room for more.
     pub fn apply(&mut self, asked: &Edit) -> Result<Done, EditFault>
+    where
+        A: Clone,
         ensures done { IfOk result (λ d. (t : List Row) → Stands self.old.forest t
             → IsDone (Stands self.new.forest) (edit self.old.setting t asked.now) d) }
         ensures refused { (r : DeclaredRefusal) → result ≡ Err (EditFault.Refused r)
@@ -31,11 +36,33 @@ impl<A: Allocator> CrushMap<A> {
             → (t : List Row) → Stands self.old.forest t
             → IsChange (edit self.old.setting t asked.now) }
         ensures memory { result ≡ Err EditFault.OutOfMemory → takes_memory asked.now ≡ true }
-        ensures kept { OnErr result (self.new ≡ self.old) }
+        ensures unchanged { (r : DeclaredRefusal) → result ≡ Err (EditFault.Refused r)
+            → self.new ≡ self.old }
+        ensures kept { OnErr result (IsSameForest self.new.forest self.old.forest) }
         ensures setting { self.new.setting ≡ self.old.setting }
     {
-        match asked {
-            Edit::Reweight(name, weight) => Ok(reweight(&mut self.forest, name, *weight)?),
-        }
+        apply_edit(&mut self.forest, &self.setting, asked)
+    }
+
+    /// Makes the edits one after the other, each on what the ones before it made, or none of them:
+    /// at most 65,536.
+    ///
+    /// Where one is refused, its index, from 0, and its refusal are told. The map is then as before
+    /// the first, and so it is for want of memory, which may be told of a batch of which a later
+    /// edit would be refused.
+    pub fn apply_batch(&mut self, edits: &[Edit]) -> Result<Dones, BatchFault>
+    where
+        A: Clone,
+        requires few { length edits.now ≤ MOST_EDITS }
+        ensures done { IfOk result (λ d. (t : List Row) → Stands self.old.forest t
+            → IsBatchDone (Stands self.new.forest) (batch self.old.setting t edits.now) d) }
+        ensures refused { (index : ℕ) (r : DeclaredRefusal)
+            → result ≡ Err (BatchFault.Refused index r)
+            → (t : List Row) → Stands self.old.forest t
+            → batch self.old.setting t edits.now ≡ batch_refused index r }
+        ensures unchanged { OnErr result (self.new ≡ self.old) }
+        ensures setting { self.new.setting ≡ self.old.setting }
+    {
+        apply_batch(&mut self.forest, &self.setting, edits)
     }
 }

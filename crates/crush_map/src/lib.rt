@@ -4,15 +4,13 @@
 
 mod apply;
 mod builder;
-mod edit;
-mod law;
+mod fault;
 mod map;
-mod refusal;
-mod setting;
 
-pub use builder::{BuildFault, MapBuilder};
-pub use edit::Edit;
-pub use law::refusals_are_told_by_number;
+pub use builder::MapBuilder;
+pub use crush_edits::{
+    BatchFault, Done, Dones, Edit, EditFault, KeptRule, KeptStep, Kind, Location, LocationFault,
+    Pair, Refusal, Rule, Setting, Step, Tunable, is_reserved,
+};
+pub use fault::{BuildFault, RuleFault, RulePart};
 pub use map::CrushMap;
-pub use refusal::{Done, EditFault, Refusal};
-pub use setting::{Kind, Setting, is_reserved};

@@ -12,6 +12,7 @@ ghost use Rattle.crush_units.specs.declared.limits.TheConstants.{DEVICE_IDS, HEA
 
 use crate::node::{Bucket, Header, Leaf, Node, ShadowId};
 use crush_units::Name;
+use crush_units::limits::{HEAVIEST_DEVICE, MOST_CLASS_IDS};
 use std::alloc::Allocator;
 
 /// Whether the item and each below it is of its form.
@@ -48,7 +49,7 @@ fn is_formed_leaf<A: Allocator>(leaf: &Leaf<A>) -> bool
     let _number = leaf.id.number();
     let _bytes = leaf.name.as_bytes();
     is_class(&leaf.class);
-    leaf.weight.units() <= 2147483647
+    leaf.weight.units() <= HEAVIEST_DEVICE
 }
 
 /// A class is a name.
@@ -75,7 +76,7 @@ fn is_formed<A: Allocator>(header: &Header<A>) -> bool
     }
     let class_ids = header.class_ids.as_slice();
     shadow_ids_in_form(class_ids);
-    if class_ids.len() > 16 {
+    if class_ids.len() > MOST_CLASS_IDS {
         return false;
     }
     have_distinct_classes(class_ids)

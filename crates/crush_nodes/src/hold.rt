@@ -4,7 +4,8 @@ ghost use Rattle.std.specs.Prelude.{◌≡◌, ℕ, ◌+◌, ◌<◌, ◌≤◌,
 ghost use Rattle.crush_table.specs.ItemRows.{rows};
 ghost use Rattle.crush_table.specs.Stored.{weight_sum, StoresSums};
 ghost use Rattle.crush_nodes.specs.Held.{first_room, first_bucket, is_own_place, bucket_with};
-ghost use Rattle.crush_nodes.specs.Room.{one_if, room_in};
+ghost use Rattle.crush_table.specs.Count.{one_if};
+ghost use Rattle.crush_nodes.specs.Room.{room_in};
 ghost use Rattle.crush_nodes.specs.Seen.{items_of};
 ghost use Rattle.crush_nodes.specs.declared.place.Place.{Place};
 ghost use Rattle.crush_units.specs.declared.limits.TheConstants.{HEAVIEST_BUCKET};

@@ -1,8 +1,8 @@
 -- A call that is added to the last script.
-use Rattle.std.proofs.Common.{◌≡◌, ℕ, zero, suc, ◌+◌, ◌<◌, false, List, [], ◌∷◌, ◌++◌, Ok, length, map, get_or, set, nat_le, ap, sym, ◌∙◌, arith, rules, tests}
+use Rattle.std.proofs.Common.{◌≡◌, ℕ, zero, suc, ◌+◌, ◌<◌, ◌≤◌, true, false, List, [], ◌∷◌, ◌++◌, Ok, Err, length, map, get_or, set, nat_le, ap, sym, ◌∙◌, arith, rules, tests}
 use Rattle.crush_script.specs.declared.call.Call.{Call}
 use Rattle.crush_script.specs.declared.sections.Script.{Script}
-use Rattle.crush_script.specs.Sections.{ScriptData, SectionsData, script_data, call_in_last, with_call}
+use Rattle.crush_script.specs.Sections.{ScriptData, script_data, call_in_last}
 
 -- the last script is set to one with one more call
 pub call_in_last-set : (c : Call) (xs : List Script) (i : ℕ) (s n : Script) → i + 1 ≡ length xs → s ≡ get_or xs i s → script_data n ≡ record (script_data s) { calls = s.calls.items ++ c ∷ [] } → call_in_last c (map script_data xs) ≡ map script_data (set xs i n)
@@ -11,7 +11,3 @@ call_in_last-set c (x ∷ []) zero s n last is more = ap (λ (r : ScriptData). r
 call_in_last-set c (x ∷ []) (suc i) s n last is more = absurd (omega arith)
 call_in_last-set c (x ∷ y ∷ xs) zero s n last is more = absurd (omega arith)
 call_in_last-set c (x ∷ y ∷ xs) (suc i) s n last is more = ap (λ (r : List ScriptData). script_data x ∷ r) (call_in_last-set c (y ∷ xs) i s n (omega arith) is more)
-
--- a call that isn't one too many
-pub with_call-few : (number : ℕ) (s : SectionsData) (c : Call) → s.calls < 65536 → with_call number s c ≡ Ok (record { scripts = call_in_last c s.scripts; calls = s.calls + 1 })
-with_call-few number s c few = let e : nat_le 65536 s.calls ≡ false = search (rules, tests) in rw e

@@ -83,7 +83,7 @@ split_of [] = record { parts = []; split = refl; words = refl }
 split_of (b ∷ bs) = split_more b bs (is_space_or_tab b) refl (split_of bs)
 
 -- a word that isn't empty is kept
-kept : (word : List ℕ) (parts : List (List ℕ)) → 0 < length word → filter is_some_word (word ∷ parts) ≡ word ∷ filter is_some_word parts
+pub kept : (word : List ℕ) (parts : List (List ℕ)) → 0 < length word → filter is_some_word (word ∷ parts) ≡ word ∷ filter is_some_word parts
 kept word parts some = let e : ltb 0 (length word) ≡ true = search (rules, tests) in rw e
 
 -- the first word, and the words behind it

@@ -3,8 +3,8 @@ use Rattle.std.proofs.Common.{◌≡◌, ℕ, suc, ◌+◌, ◌<◌, List, [], �
 use Rattle.std.proofs.lemmas.List.{append-nil, take_more, map_push, length-take-le, length-map}
 use Rattle.std.proofs.lemmas.List.Sums.{sum_by-append, sum_by-cons}
 use Rattle.std.specs.List.{sum_by}
-use Rattle.crush_table.specs.Setting.{SettingData}
 use Rattle.crush_table.specs.Table.{Row}
+use Rattle.crush_edits.specs.Setting.{SettingData}
 use Rattle.crush_script.specs.declared.call.Call.{Call}
 use Rattle.crush_script.specs.declared.call.Reply.{Reply}
 use Rattle.crush_script.specs.declared.sections.Script.{Script}

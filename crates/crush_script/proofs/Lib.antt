@@ -1,8 +1,11 @@
 pub mod Cuts
+pub mod Pairs
 pub mod Writing
 pub mod Calls
 pub mod Few
 pub mod Histories
 pub mod InTurn
 pub mod EntryLines
+pub mod PrintedWords
+pub mod PrintedLaws
 pub mod Examples

@@ -10,6 +10,10 @@ pub then_writes : {X E : Type 0} (r : Result X E) (a b c : Option (List ℕ)) (x
 then_writes (Ok v) a b c x y first second = appends_both a b c x y first second
 then_writes (Err e) a b c x y first second = then_front a b c x y first second
 
+-- three parts as one text
+pub three_parts : (x y z : List ℕ) → x ++ (y ++ (z ++ [])) ≡ x ++ y ++ z
+three_parts x y z = simp (append_assoc, append-nil)
+
 -- five parts as one text
 pub five_parts : (v w x y z : List ℕ) → v ++ (w ++ (x ++ (y ++ (z ++ [])))) ≡ v ++ w ++ x ++ y ++ z
 five_parts v w x y z = simp (append_assoc, append-nil)

@@ -1,14 +1,19 @@
 -- What the words of a line in a section say.
-use Rattle.std.specs.Prelude.{ℕ, List, [], ◌∷◌, codes, bytes_eq, Result, Ok, Err, if◌then◌else◌}
+use Rattle.std.specs.Prelude.{ℕ, List, [], ◌∷◌, ◌++◌, ◌||◌, Option, Some, None, codes, bytes_eq, Result, Ok, Err, if◌then◌else◌}
 use Rattle.crush_units.specs.Name.{is_name}
 use Rattle.crush_units.specs.Weight.{weight_of_text}
 use Rattle.crush_units.specs.declared.weight.WeightFault.{WeightFault}
-use Rattle.crush_map.specs.declared.edit.Edit.{Edit}
-use Rattle.crush_map.specs.declared.edit.Edit.TheVariants.{Reweight}
+use Rattle.crush_edits.specs.declared.location.Pair.{Pair}
+use Rattle.crush_edits.specs.declared.edit.Edit.{Edit}
+use Rattle.crush_edits.specs.declared.edit.Edit.TheVariants.{Insert, CreateOrMove, Update, Move, Swap, Reweight, ReweightSubtree, Remove, AddBucket, Rename}
 use Rattle.crush_script.specs.declared.command.Command.{Command}
 use Rattle.crush_script.specs.declared.command.Command.TheVariants as says
+use Rattle.crush_script.specs.declared.command.Keyword.{Keyword}
+use Rattle.crush_script.specs.declared.command.Keyword.TheVariants as word
+use Rattle.crush_script.specs.declared.command.Placing.{Placing}
 use Rattle.crush_script.specs.declared.command.LineFault.{LineFault}
 use Rattle.crush_script.specs.declared.command.LineFault.TheVariants.{BadLine, NoSuchCommand}
+use Rattle.crush_script.specs.Words.{pair_of, can_add, device_named}
 
 -- go on with what was read, or stop at the fault
 infixl 10 ◌>>=◌
@@ -41,23 +46,122 @@ unfoldable pub end_at : {X : Type 0} → X → List (List ℕ) → Result X Line
 end_at value [] = Ok value
 end_at value (word ∷ rest) = Err BadLine
 
--- `reweight NAME W`, behind its first word
+-- one more pair `TYPE=NAME`
+unfoldable pub with_pair : List Pair → List ℕ → Result (List Pair) LineFault
+with_pair l word = if can_add l (pair_of word) then Ok (l ++ pair_of word ∷ []) else Err BadLine
+
+-- all words are pairs, behind those that there are
+unfoldable pub with_pairs : List Pair → List (List ℕ) → Result (List Pair) LineFault
+with_pairs l [] = Ok l
+with_pairs l (word ∷ rest) = with_pair l word >>= λ more. with_pairs more rest
+
+-- `PAIR ..`: the words that are left, 0 to 16 pairs
+unfoldable pub location_at : List (List ℕ) → Result (List Pair) LineFault
+location_at words = with_pairs [] words
+
+-- a name is that of a device
+abbrev pub the_device : Option ℕ → Result ℕ LineFault
+the_device None = Err BadLine
+the_device (Some id) = Ok id
+
+-- `osd.N W PAIR ..`
+unfoldable pub placing_at : List (List ℕ) → Result Placing LineFault
+placing_at words = do
+  name ← name_at words
+  device ← the_device (device_named name.value)
+  weight ← weight_at name.rest
+  at ← location_at weight.rest
+  Ok (record { device = device; name = name.value; weight = weight.value; at = at })
+
+-- `NAME PAIR ..`
+unfoldable pub move_at : List (List ℕ) → Result Edit LineFault
+move_at words = do
+  name ← name_at words
+  at ← location_at name.rest
+  Ok (Move name.value at)
+
+-- `NAME W`, of a device or of a bucket
 unfoldable pub reweight_at : List (List ℕ) → Result Edit LineFault
 reweight_at words = do
   name ← name_at words
   weight ← weight_at name.rest
   end_at (Reweight name.value weight.value) weight.rest
 
+unfoldable pub subtree_at : List (List ℕ) → Result Edit LineFault
+subtree_at words = do
+  name ← name_at words
+  weight ← weight_at name.rest
+  end_at (ReweightSubtree name.value weight.value) weight.rest
+
+-- `NAME`
+unfoldable pub remove_at : List (List ℕ) → Result Edit LineFault
+remove_at words = do
+  name ← name_at words
+  end_at (Remove name.value) name.rest
+
+-- `NAME NAME`, `NAME TYPENAME`, `FROM TO`
+unfoldable pub swap_at : List (List ℕ) → Result Edit LineFault
+swap_at words = do
+  a ← name_at words
+  b ← name_at a.rest
+  end_at (Swap a.value b.value) b.rest
+
+unfoldable pub add_bucket_at : List (List ℕ) → Result Edit LineFault
+add_bucket_at words = do
+  name ← name_at words
+  kind ← name_at name.rest
+  end_at (AddBucket name.value kind.value) kind.rest
+
+unfoldable pub rename_at : List (List ℕ) → Result Edit LineFault
+rename_at words = do
+  from ← name_at words
+  to ← name_at from.rest
+  end_at (Rename from.value to.value) to.rest
+
+-- the command that a first word names
+unfoldable pub keyword_of : List ℕ → Option Keyword
+keyword_of first =
+    if bytes_eq first (codes "add") then Some word.Add
+    else if bytes_eq first (codes "set") then Some word.Set
+    else if bytes_eq first (codes "create-or-move") then Some word.CreateOrMove
+    else if bytes_eq first (codes "move") then Some word.Move
+    else if bytes_eq first (codes "swap-bucket") then Some word.SwapBucket
+    else if bytes_eq first (codes "reweight") then Some word.Reweight
+    else if bytes_eq first (codes "reweight-subtree") then Some word.ReweightSubtree
+    else if bytes_eq first (codes "rm") || bytes_eq first (codes "remove") then Some word.Rm
+    else if bytes_eq first (codes "add-bucket") then Some word.AddBucket
+    else if bytes_eq first (codes "rename-bucket") then Some word.RenameBucket
+    else None
+
+-- the edit of a command, by the words behind its first
+abbrev pub edit_of : Keyword → List (List ℕ) → Result Edit LineFault
+edit_of word.Add rest = placing_at rest >>= λ p. Ok (Insert p.device p.name p.weight p.at)
+edit_of word.Set rest = placing_at rest >>= λ p. Ok (Update p.device p.name p.weight p.at)
+edit_of word.CreateOrMove rest = placing_at rest >>= λ p. Ok (CreateOrMove p.device p.name p.weight p.at)
+edit_of word.Move rest = move_at rest
+edit_of word.SwapBucket rest = swap_at rest
+edit_of word.Reweight rest = reweight_at rest
+edit_of word.ReweightSubtree rest = subtree_at rest
+edit_of word.Rm rest = remove_at rest
+edit_of word.AddBucket rest = add_bucket_at rest
+edit_of word.RenameBucket rest = rename_at rest
+
+-- the same, where the first word may be no command
+abbrev pub edit_by : Option Keyword → List (List ℕ) → Result Edit LineFault
+edit_by None rest = Err NoSuchCommand
+edit_by (Some keyword) rest = edit_of keyword rest
+
 -- the edit that a first word and the words behind it say
 unfoldable pub edit_at : List ℕ → List (List ℕ) → Result Edit LineFault
-edit_at first rest = if bytes_eq first (codes "reweight") then reweight_at rest else Err NoSuchCommand
+edit_at first rest = edit_by (keyword_of first) rest
 
 -- what a line says that begins no section
 unfoldable pub command : List (List ℕ) → Result Command LineFault
 command [] = Ok says.Nothing
-command (first ∷ rest) = do
-  edit ← edit_at first rest
-  Ok (says.Edit edit)
+command (first ∷ rest) =
+    if bytes_eq first (codes "begin") then end_at says.Begin rest
+    else if bytes_eq first (codes "commit") then end_at says.Commit rest
+    else edit_at first rest >>= λ edit. Ok (says.Edit edit)
 
 -- `%operator NAME`: the name of the section that a line begins
 unfoldable pub operator : List (List ℕ) → Result (List ℕ) LineFault

@@ -1,12 +1,14 @@
 -- Calls on a table, and histories of calls.
-use Rattle.std.specs.Prelude.{◌≡◌, ℕ, ◌+◌, ◌==◌, List, [], ◌∷◌, ◌++◌, Bool, false, if◌then◌else◌, map, filter}
-use Rattle.crush_table.specs.Setting.{SettingData}
+use Rattle.std.specs.Prelude.{◌≡◌, ℕ, ◌+◌, ◌==◌, List, [], ◌∷◌, ◌++◌, Bool, false, if◌then◌else◌, map, filter, nat_lt}
 use Rattle.crush_table.specs.Table.{Row}
-use Rattle.crush_map.specs.Edit.{Answer, refused, done, edit}
+use Rattle.crush_edits.specs.Setting.{SettingData}
+use Rattle.crush_edits.specs.Answer.{Answer, refused, done}
+use Rattle.crush_edits.specs.Edit.{edit}
+use Rattle.crush_edits.specs.Batch.{BatchAnswer, batch_refused, batch_done, batch}
 use Rattle.crush_script.specs.declared.call.Call.{Call}
-use Rattle.crush_script.specs.declared.call.Call.TheVariants.{One}
+use Rattle.crush_script.specs.declared.call.Call.TheVariants.{One, Batch}
 use Rattle.crush_script.specs.declared.call.Reply.{Reply}
-use Rattle.crush_script.specs.declared.call.Reply.TheVariants.{Done, Refused}
+use Rattle.crush_script.specs.declared.call.Reply.TheVariants.{Done, Dones, Refused, BatchRefused}
 use Rattle.crush_script.specs.Sections.{ScriptData}
 
 -- what a call makes of a table: the reply, and the table after
@@ -19,9 +21,15 @@ abbrev pub edit_outcome : List Row → Answer → Outcome
 edit_outcome t (refused r) = record { reply = Refused r; table = t }
 edit_outcome t (done changed made u) = record { reply = Done (record { changed = changed; made = made }); table = u }
 
+-- a refused batch leaves the table
+abbrev pub batch_outcome : List Row → BatchAnswer → Outcome
+batch_outcome t (batch_refused index r) = record { reply = BatchRefused index r; table = t }
+batch_outcome t (batch_done d u) = record { reply = Dones d; table = u }
+
 -- ANSWER: the reply to a call on a table, and the table after
 abbrev pub call_outcome : SettingData → List Row → Call → Outcome
 call_outcome s t (One e) = edit_outcome t (edit s t e)
+call_outcome s t (Batch es) = batch_outcome t (batch s t es)
 
 -- an entry of a history: the operator's number from 0, its call and the reply
 pub record EntryData : Type 0 where
@@ -42,7 +50,9 @@ IsLegal s t (e ∷ h) = (e.reply ≡ (call_outcome s t e.call).reply) × IsLegal
 -- whether a reply tells of a change
 abbrev pub is_change : Reply → Bool
 is_change (Done d) = d.changed
+is_change (Dones d) = nat_lt 0 d.changed
 is_change (Refused r) = false
+is_change (BatchRefused index r) = false
 
 -- how many entries are a change
 unfoldable pub changes : List EntryData → ℕ

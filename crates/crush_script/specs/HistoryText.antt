@@ -1,25 +1,58 @@
 -- The lines of a history, and the text of a job that has run.
-use Rattle.std.specs.Prelude.{ℕ, ◌+◌, List, [], ◌∷◌, ◌++◌, Bool, true, false, codes, decimal, slice_index_or, map}
+use Rattle.std.specs.Prelude.{ℕ, ◌+◌, List, [], ◌∷◌, ◌++◌, Bool, true, false, codes, decimal, slice_index_or, map, flat_map}
 use Rattle.crush_units.specs.Weight.{weight_text}
-use Rattle.crush_table.specs.Setting.{SettingData}
 use Rattle.crush_table.specs.Table.{Row}
-use Rattle.crush_map.specs.declared.edit.Edit.{Edit}
-use Rattle.crush_map.specs.declared.edit.Edit.TheVariants.{Reweight}
-use Rattle.crush_map.specs.Refusal.{refusal_name, refusal_error}
+use Rattle.crush_edits.specs.declared.location.Pair.{Pair}
+use Rattle.crush_edits.specs.declared.edit.Edit.{Edit}
+use Rattle.crush_edits.specs.declared.edit.Edit.TheVariants.{Insert, CreateOrMove, Update, Move, Swap, Reweight, ReweightSubtree, Remove, AddBucket, Rename}
+use Rattle.crush_edits.specs.declared.refusal.Refusal.{Refusal}
+use Rattle.crush_edits.specs.Refusal.{refusal_name, refusal_error}
+use Rattle.crush_edits.specs.Setting.{SettingData}
 use Rattle.crush_text.specs.MapText.{map_text}
 use Rattle.crush_script.specs.declared.call.Call.{Call}
-use Rattle.crush_script.specs.declared.call.Call.TheVariants.{One}
+use Rattle.crush_script.specs.declared.call.Call.TheVariants.{One, Batch}
 use Rattle.crush_script.specs.declared.call.Reply.{Reply}
-use Rattle.crush_script.specs.declared.call.Reply.TheVariants.{Done, Refused}
+use Rattle.crush_script.specs.declared.call.Reply.TheVariants.{Done, Dones, Refused, BatchRefused}
 use Rattle.crush_script.specs.Sections.{ScriptData}
 use Rattle.crush_script.specs.History.{EntryData, table_after}
 
--- an edit as its command, with the weight in five decimals
+-- the pairs of a location, in the order given, each behind a space
+abbrev pub pair_text : Pair → List ℕ
+pair_text p = codes " " ++ p.kind ++ codes "=" ++ p.name
+
+abbrev pub pairs_text : List Pair → List ℕ
+pairs_text at = flat_map pair_text at
+
+-- a first word with a name, with two, and with a name and a weight in five decimals
+abbrev pub one_name : List ℕ → List ℕ → List ℕ
+one_name first name = first ++ codes " " ++ name
+
+abbrev pub two_names : List ℕ → List ℕ → List ℕ → List ℕ
+two_names first a b = first ++ codes " " ++ a ++ codes " " ++ b
+
+abbrev pub weighed : List ℕ → List ℕ → ℕ → List ℕ
+weighed first name weight = first ++ codes " " ++ name ++ codes " " ++ weight_text weight
+
+-- AN EDIT as its command
 abbrev pub edit_text : Edit → List ℕ
-edit_text (Reweight name weight) = codes "reweight " ++ name ++ codes " " ++ weight_text weight
+edit_text (Insert device name weight at) = weighed (codes "add") name weight ++ pairs_text at
+edit_text (CreateOrMove device name weight at) = weighed (codes "create-or-move") name weight ++ pairs_text at
+edit_text (Update device name weight at) = weighed (codes "set") name weight ++ pairs_text at
+edit_text (Move name at) = one_name (codes "move") name ++ pairs_text at
+edit_text (Swap a b) = two_names (codes "swap-bucket") a b
+edit_text (Reweight name weight) = weighed (codes "reweight") name weight
+edit_text (ReweightSubtree name weight) = weighed (codes "reweight-subtree") name weight
+edit_text (Remove name) = one_name (codes "rm") name
+edit_text (AddBucket name kind) = two_names (codes "add-bucket") name kind
+edit_text (Rename from to) = two_names (codes "rename-bucket") from to
+
+-- A CALL: a batch is `begin ; `, each edit followed by ` ; `, and `commit`
+abbrev pub edits_text : List Edit → List ℕ
+edits_text es = flat_map (λ e. edit_text e ++ codes " ; ") es
 
 abbrev pub call_text : Call → List ℕ
 call_text (One edit) = edit_text edit
+call_text (Batch es) = codes "begin ; " ++ (edits_text es ++ codes "commit")
 
 abbrev pub digit_of : Bool → List ℕ
 digit_of true = codes "1"
@@ -29,10 +62,20 @@ digit_of false = codes "0"
 unfoldable pub line_front : ℕ → List ℕ → List ℕ
 line_front number operator = codes "# " ++ decimal number ++ codes " " ++ operator ++ codes " "
 
--- what stands behind it: ` = done changed C made M` or ` = refused NAME ERROR`, and a line feed
+-- a refusal's name and its error
+abbrev pub refusal_text : Refusal → List ℕ
+refusal_text r = refusal_name r ++ codes " " ++ decimal (refusal_error r) ++ codes "\n"
+
+-- what stands before the refusal of an edit of a batch
+abbrev pub refused_at_text : ℕ → List ℕ
+refused_at_text index = codes " = refused at " ++ decimal index ++ codes " "
+
+-- A REPLY, as it stands behind the call, and the line feed
 unfoldable pub line_end : Reply → List ℕ
 line_end (Done d) = codes " = done changed " ++ digit_of d.changed ++ codes " made " ++ decimal d.made ++ codes "\n"
-line_end (Refused r) = codes " = refused " ++ refusal_name r ++ codes " " ++ decimal (refusal_error r) ++ codes "\n"
+line_end (Dones d) = codes " = dones " ++ decimal d.edits ++ codes " changed " ++ decimal d.changed ++ codes " made " ++ decimal d.made ++ codes "\n"
+line_end (Refused r) = codes " = refused " ++ refusal_text r
+line_end (BatchRefused index r) = refused_at_text index ++ refusal_text r
 
 -- the line of a call and its reply: `# NUMBER OPERATOR CALL = REPLY`
 abbrev pub line_text : ℕ → List ℕ → Call → Reply → List ℕ

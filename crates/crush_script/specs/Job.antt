@@ -1,16 +1,16 @@
 -- What a job is, and why bytes are none.
 use Rattle.std.specs.Prelude.{◌≡◌, ℕ, ◌<◌, ◌≤◌, List, length, Ok, Err}
-use Rattle.crush_table.specs.Setting.{SettingData}
 use Rattle.crush_table.specs.Table.{Row}
+use Rattle.crush_edits.specs.Setting.{SettingData}
 use Rattle.crush_map.specs.MapData.{MapStands}
 use Rattle.crush_text.specs.Document.{IsMapText}
 use Rattle.crush_text.specs.declared.fault.TextFault.{TextFault}
 use Rattle.crush_script.specs.declared.fault.JobFault.{JobFault}
-use Rattle.crush_script.specs.declared.fault.JobFault.TheVariants.{BadLine, NoSuchCommand, TooManyOperators, Text, OutOfMemory, TooLong, TooManyCalls}
+use Rattle.crush_script.specs.declared.fault.JobFault.TheVariants.{BadLine, NoSuchCommand, OpenBatch, TooManyOperators, DuplicateOperator, Text, OutOfMemory, TooLong, TooManyCalls}
 use Rattle.crush_script.specs.declared.job.Job.{Job}
 use Rattle.crush_script.specs.Lines.{map_part}
 use Rattle.crush_script.specs.MapPart.{IsNoMap}
-use Rattle.crush_script.specs.Sections.{ScriptData, scripts_data, sections_of}
+use Rattle.crush_script.specs.Sections.{ScriptData, SectionsData, scripts_data, sections_of}
 use Rattle.crush_units.specs.declared.limits.TheConstants.{LONGEST_JOB}
 
 -- what a job says: the setting and the table of its map, how many written weights of it were replaced, and the scripts
@@ -24,8 +24,9 @@ pub record JobData : Type 0 where
 pub record IsJob (bytes : List ℕ) (job : JobData) : Type 0 where
   pub short : length bytes ≤ LONGEST_JOB
   pub map : IsMapText (map_part bytes) job.setting job.table job.adjusted
-  pub calls : ℕ
-  pub sections : sections_of bytes ≡ Ok (record { scripts = job.scripts; calls = calls })
+  pub said : SectionsData
+  pub sections : sections_of bytes ≡ Ok said
+  pub scripts : said.scripts ≡ job.scripts
 
 -- the bytes are a job
 abbrev pub HasJob : List ℕ → Type 0
@@ -55,7 +56,9 @@ pub record HasNoMap (bytes : List ℕ) (fault : TextFault) : Type 0 where
 abbrev pub IsJobFault : List ℕ → JobFault → Type 0
 IsJobFault bytes (BadLine number) = IsLineFault bytes (BadLine number)
 IsJobFault bytes (NoSuchCommand number) = IsLineFault bytes (NoSuchCommand number)
+IsJobFault bytes (OpenBatch number) = IsLineFault bytes (OpenBatch number)
 IsJobFault bytes (TooManyOperators number) = IsLineFault bytes (TooManyOperators number)
+IsJobFault bytes (DuplicateOperator number) = IsLineFault bytes (DuplicateOperator number)
 IsJobFault bytes (TooManyCalls number) = IsLineFault bytes (TooManyCalls number)
 IsJobFault bytes (Text fault) = HasNoMap bytes fault
 IsJobFault bytes OutOfMemory = length bytes ≤ LONGEST_JOB

@@ -1,4 +1,5 @@
 pub mod Lines
+pub mod Words
 pub mod Command
 pub mod AnswersAs
 pub mod Sections
@@ -9,3 +10,4 @@ pub mod History
 pub mod Entries
 pub mod HistoryText
 pub mod Turns
+pub mod Printed

@@ -1,12 +1,12 @@
 -- The map's text of a job: what it says, and when it says nothing.
 use Rattle.std.specs.Prelude.{ℕ, List}
-use Rattle.crush_table.specs.Setting.{SettingData}
 use Rattle.crush_table.specs.Table.{Row}
+use Rattle.crush_edits.specs.Setting.{SettingData}
 use Rattle.crush_text.specs.declared.fault.TextFault.{TextFault}
 use Rattle.crush_text.specs.Document.{IsMapText}
 use Rattle.crush_text.specs.Flaw.{IsMapFlaw}
 use Rattle.crush_script.specs.declared.fault.JobFault.{JobFault}
-use Rattle.crush_script.specs.declared.fault.JobFault.TheVariants.{BadLine, NoSuchCommand, TooManyOperators, Text, OutOfMemory, TooLong, TooManyCalls}
+use Rattle.crush_script.specs.declared.fault.JobFault.TheVariants.{BadLine, NoSuchCommand, OpenBatch, TooManyOperators, DuplicateOperator, Text, OutOfMemory, TooLong, TooManyCalls}
 
 -- the text has this flaw, and so is that of no map
 pub record IsNoMap (text : List ℕ) (fault : TextFault) : Type 0 where
@@ -19,6 +19,8 @@ IsMapFault text (Text fault) = IsNoMap text fault
 IsMapFault text OutOfMemory = Unit {0}
 IsMapFault text (BadLine number) = ⊥
 IsMapFault text (NoSuchCommand number) = ⊥
+IsMapFault text (OpenBatch number) = ⊥
 IsMapFault text (TooManyOperators number) = ⊥
+IsMapFault text (DuplicateOperator number) = ⊥
 IsMapFault text (TooManyCalls number) = ⊥
 IsMapFault text TooLong = ⊥

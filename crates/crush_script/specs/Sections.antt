@@ -1,19 +1,21 @@
 -- The scripts of a job: a fold over the lines of its sections.
-use Rattle.std.specs.Prelude.{ℕ, ◌+◌, List, [], ◌∷◌, ◌++◌, length, map, Result, Ok, Err, if◌then◌else◌, nat_le}
-use Rattle.std.specs.List.{sum_by}
+use Rattle.std.specs.Prelude.{ℕ, ◌+◌, List, [], ◌∷◌, ◌++◌, Bool, Option, Some, None, length, map, Result, Ok, Err, if◌then◌else◌, nat_le, bytes_eq}
+use Rattle.std.specs.List.{sum_by, list_any}
+use Rattle.crush_edits.specs.declared.edit.Edit.{Edit}
 use Rattle.crush_script.specs.declared.call.Call.{Call}
-use Rattle.crush_script.specs.declared.call.Call.TheVariants.{One}
+use Rattle.crush_script.specs.declared.call.Call.TheVariants.{One, Batch}
 use Rattle.crush_script.specs.declared.command.Command.{Command}
-use Rattle.crush_script.specs.declared.command.Command.TheVariants.{Nothing, Edit}
+use Rattle.crush_script.specs.declared.command.Command.TheVariants as says
 use Rattle.crush_script.specs.declared.command.LineFault.{LineFault}
 use Rattle.crush_script.specs.declared.command.LineFault.TheVariants as line
 use Rattle.crush_script.specs.declared.fault.JobFault.{JobFault}
 use Rattle.crush_script.specs.declared.fault.JobFault.TheVariants as job
+use Rattle.crush_script.specs.declared.sections.BegunBatch.{BegunBatch}
 use Rattle.crush_script.specs.declared.sections.Script.{Script}
 use Rattle.crush_script.specs.declared.sections.Sections.{Sections}
 use Rattle.crush_script.specs.Command.{◌>>=◌, command, operator}
 use Rattle.crush_script.specs.Lines.{lines, section_part, section_line, line_words, begins_section}
-use Rattle.crush_units.specs.declared.limits.TheConstants.{MOST_CALLS}
+use Rattle.crush_units.specs.declared.limits.TheConstants.{MOST_CALLS, MOST_EDITS, MOST_OPERATORS}
 
 -- the script of one operator: its name, and its calls in order
 pub record ScriptData : Type 0 where
@@ -26,27 +28,21 @@ script_data s = record { name = s.name; calls = s.calls.items }
 abbrev pub scripts_data : List Script → List ScriptData
 scripts_data scripts = map script_data scripts
 
--- what the lines so far say: the scripts, and how many calls they have in all
+-- what the lines so far say: the scripts, how many calls were begun in all, and the batch that is open, with the line of its `begin` and its edits
 pub record SectionsData : Type 0 where
   pub scripts : List ScriptData
   pub calls : ℕ
+  pub begun : Option BegunBatch
 
 abbrev pub sections_data : Sections → SectionsData
-sections_data s = record { scripts = scripts_data s.scripts.items; calls = s.calls }
+sections_data s = record { scripts = scripts_data s.scripts.items; calls = s.calls; begun = s.begun }
 
 abbrev pub no_sections : SectionsData
-no_sections = record { scripts = []; calls = 0 }
+no_sections = record { scripts = []; calls = 0; begun = None }
 
 -- how many calls scripts have in all
 abbrev pub call_count : List ScriptData → ℕ
 call_count scripts = sum_by (λ (s : ScriptData). length s.calls) scripts
-
--- at most so many sections, and so many calls in all
-abbrev pub most_operators : ℕ
-most_operators = 1
-
-abbrev pub most_calls : ℕ
-most_calls = MOST_CALLS
 
 -- a fault of a line, told with the line's number
 abbrev pub fault_at : ℕ → LineFault → JobFault
@@ -58,11 +54,30 @@ abbrev pub in_line : {X : Type 0} → ℕ → Result X LineFault → Result X Jo
 in_line number (Ok x) = Ok x
 in_line number (Err fault) = Err (fault_at number fault)
 
+-- no batch is open
+abbrev pub without_batch : SectionsData → Option BegunBatch → Result SectionsData JobFault
+without_batch s None = Ok s
+without_batch s (Some b) = Err (job.OpenBatch b.line)
+
+abbrev pub closed : SectionsData → Result SectionsData JobFault
+closed s = without_batch s s.begun
+
+-- whether a section has the name
+abbrev pub has_operator : List ScriptData → List ℕ → Bool
+has_operator scripts name = list_any (λ (s : ScriptData). bytes_eq s.name name) scripts
+
 -- one more section
 abbrev pub with_section : ℕ → SectionsData → List ℕ → Result SectionsData JobFault
 with_section number s name =
-    if nat_le most_operators (length s.scripts) then Err (job.TooManyOperators number)
+    if nat_le MOST_OPERATORS (length s.scripts) then Err (job.TooManyOperators number)
+    else if has_operator s.scripts name then Err (job.DuplicateOperator number)
     else Ok (record s { scripts = s.scripts ++ (record { name = name; calls = [] }) ∷ [] })
+
+-- one more call is begun
+abbrev pub counted : ℕ → SectionsData → Result SectionsData JobFault
+counted number s =
+    if nat_le MOST_CALLS s.calls then Err (job.TooManyCalls number)
+    else Ok (record s { calls = s.calls + 1 })
 
 -- the last script has one more call
 abbrev pub call_in_last : Call → List ScriptData → List ScriptData
@@ -70,25 +85,44 @@ call_in_last c [] = []
 call_in_last c (s ∷ []) = (record s { calls = s.calls ++ c ∷ [] }) ∷ []
 call_in_last c (s ∷ r ∷ rest) = s ∷ call_in_last c (r ∷ rest)
 
--- one more call
-abbrev pub with_call : ℕ → SectionsData → Call → Result SectionsData JobFault
-with_call number s c =
-    if nat_le most_calls s.calls then Err (job.TooManyCalls number)
-    else Ok (record { scripts = call_in_last c s.scripts; calls = s.calls + 1 })
+abbrev pub with_call : Call → SectionsData → SectionsData
+with_call c s = record s { scripts = call_in_last c s.scripts }
+
+-- one more edit: of the batch that is open, or as a call
+abbrev pub in_batch : ℕ → SectionsData → BegunBatch → Edit → Result SectionsData JobFault
+in_batch number s b e =
+    if nat_le MOST_EDITS (length b.edits) then Err (job.BadLine number)
+    else Ok (record s { begun = Some (record { line = b.line; edits = b.edits ++ e ∷ [] }) })
+
+abbrev pub with_edit : ℕ → SectionsData → Option BegunBatch → Edit → Result SectionsData JobFault
+with_edit number s None e = counted number s >>= λ more. Ok (with_call (One e) more)
+with_edit number s (Some b) e = in_batch number s b e
+
+-- `begin`, where no batch is open, is the first line of one more call
+abbrev pub with_begin : ℕ → SectionsData → Option BegunBatch → Result SectionsData JobFault
+with_begin number s None = counted number s >>= λ more. Ok (record more { begun = Some (record { line = number; edits = [] }) })
+with_begin number s (Some b) = Err (job.BadLine number)
+
+-- `commit`, where a batch is open
+abbrev pub with_commit : ℕ → SectionsData → Option BegunBatch → Result SectionsData JobFault
+with_commit number s None = Err (job.BadLine number)
+with_commit number s (Some b) = Ok (with_call (Batch b.edits) (record s { begun = None }))
 
 abbrev pub with_command : ℕ → SectionsData → Command → Result SectionsData JobFault
-with_command number s Nothing = Ok s
-with_command number s (Edit edit) = with_call number s (One edit)
+with_command number s says.Nothing = Ok s
+with_command number s (says.Edit edit) = with_edit number s s.begun edit
+with_command number s says.Begin = with_begin number s s.begun
+with_command number s says.Commit = with_commit number s s.begun
 
 -- one line
 unfoldable pub with_line : ℕ → SectionsData → List ℕ → Result SectionsData JobFault
 with_line number s text =
-    if begins_section text then (in_line number (operator (line_words text)) >>= λ name. with_section number s name)
+    if begins_section text then (closed s >>= λ r. in_line number (operator (line_words text)) >>= λ name. with_section number r name)
     else (in_line number (command (line_words text)) >>= λ c. with_command number s c)
 
--- the lines from a number on; the first faulty one decides
+-- the lines from a number on; the first faulty one decides, and at the end no batch is open
 unfoldable pub with_lines : ℕ → SectionsData → List (List ℕ) → Result SectionsData JobFault
-with_lines number s [] = Ok s
+with_lines number s [] = closed s
 with_lines number s (text ∷ rest) = with_line number s text >>= λ next. with_lines (number + 1) next rest
 
 -- what the sections of a job say

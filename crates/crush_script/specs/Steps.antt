@@ -1,7 +1,7 @@
 -- What reading lines leaves, unless memory lacks.
 use Rattle.std.specs.Prelude.{◌≡◌, Result, Ok, Err}
 use Rattle.crush_script.specs.declared.fault.JobFault.{JobFault}
-use Rattle.crush_script.specs.declared.fault.JobFault.TheVariants.{BadLine, NoSuchCommand, TooManyOperators, Text, OutOfMemory, TooLong, TooManyCalls}
+use Rattle.crush_script.specs.declared.fault.JobFault.TheVariants.{BadLine, NoSuchCommand, OpenBatch, TooManyOperators, DuplicateOperator, Text, OutOfMemory, TooLong, TooManyCalls}
 use Rattle.crush_script.specs.declared.sections.Sections.{Sections}
 use Rattle.crush_script.specs.Sections.{SectionsData, sections_data}
 
@@ -9,7 +9,9 @@ use Rattle.crush_script.specs.Sections.{SectionsData, sections_data}
 abbrev pub FailsAs : JobFault → Result SectionsData JobFault → Type 0
 FailsAs (BadLine number) given = given ≡ Err (BadLine number)
 FailsAs (NoSuchCommand number) given = given ≡ Err (NoSuchCommand number)
+FailsAs (OpenBatch number) given = given ≡ Err (OpenBatch number)
 FailsAs (TooManyOperators number) given = given ≡ Err (TooManyOperators number)
+FailsAs (DuplicateOperator number) given = given ≡ Err (DuplicateOperator number)
 FailsAs (TooManyCalls number) given = given ≡ Err (TooManyCalls number)
 FailsAs (Text fault) given = ⊥
 FailsAs OutOfMemory given = Unit {0}

@@ -1,7 +1,7 @@
 -- What the history of scripts that run in turn is.
 use Rattle.std.specs.Prelude.{◌≡◌, ℕ, zero, suc, List, [], ◌∷◌, length, map}
-use Rattle.crush_table.specs.Setting.{SettingData}
 use Rattle.crush_table.specs.Table.{Row}
+use Rattle.crush_edits.specs.Setting.{SettingData}
 use Rattle.crush_script.specs.declared.call.Call.{Call}
 use Rattle.crush_script.specs.Sections.{ScriptData, call_count}
 use Rattle.crush_script.specs.History.{EntryData, AnsweredData, IsLegal, of_operator, turns}

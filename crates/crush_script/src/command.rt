@@ -2,11 +2,12 @@
 
 ghost use Rattle.std.specs.Prelude.{◌≡◌};
 ghost use Rattle.crush_script.specs.AnswersAs.{AnswersAs, AnswersAndLeaves};
-ghost use Rattle.crush_script.specs.Command.{command, operator, name_at, weight_at, end_at, reweight_at, edit_at};
+ghost use Rattle.crush_script.specs.Command.{command, operator, name_at, weight_at, end_at, with_pair, location_at, placing_at, move_at, swap_at, reweight_at, subtree_at, remove_at, add_bucket_at, rename_at, keyword_of, edit_of, edit_at};
 
-use crate::line::LineWords;
-use crush_map::Edit;
-use crush_units::{Name, NameFault, Weight};
+use crate::line::{LineWords, place_of};
+use crate::word::device_named;
+use crush_edits::{Edit, Location, LocationFault};
+use crush_units::{DeviceId, Name, NameFault, Weight};
 use std::alloc::Global;
 
 /// Why a line says nothing.
@@ -27,6 +28,34 @@ pub(crate) enum Command {
     Nothing,
     /// An edit.
     Edit(Edit),
+    /// A batch begins.
+    Begin,
+    /// A batch ends.
+    Commit,
+}
+
+/// The command that makes an edit.
+#[derive(Clone, Copy)]
+pub(crate) enum Keyword {
+    Add,
+    Set,
+    CreateOrMove,
+    Move,
+    SwapBucket,
+    Reweight,
+    ReweightSubtree,
+    Rm,
+    AddBucket,
+    RenameBucket,
+}
+
+/// A device, and where it is to be put with which weight.
+#[derive(Drop)]
+pub(crate) struct Placing {
+    pub(crate) device: DeviceId,
+    pub(crate) name: Name<Global>,
+    pub(crate) weight: Weight,
+    pub(crate) at: Location,
 }
 
 /// Takes the next word as a name.
@@ -69,6 +98,75 @@ fn read_end<T: Drop>(value: T, words: &mut LineWords<'_>) -> Result<T, LineFault
     }
 }
 
+/// The location with one pair more, which the word says.
+#[tactic(auto, unfolding(crate::specs::Command::with_pair))]
+fn with_pair(at: Location, word: &[u8]) -> Result<Location, LineFault>
+    ensures { AnswersAs result (with_pair at word.now) }
+{
+    let mut at = at;
+    let (kind, rest) = word.split_at(place_of(b'=', word));
+    let [_, name @ ..] = rest else {
+        return Err(LineFault::BadLine);
+    };
+    match at.push(kind, name) {
+        Ok(()) => Ok(at),
+        Err(LocationFault::TooMany) => Err(LineFault::BadLine),
+        Err(LocationFault::BadName) => Err(LineFault::BadLine),
+        Err(LocationFault::OutOfMemory) => Err(LineFault::OutOfMemory),
+    }
+}
+
+/// Takes all words that are left, as the pairs of a location.
+#[tactic(auto, unfolding(crate::specs::Command::location_at, crate::specs::Command::with_pairs))]
+fn read_location(alloc: Global, words: &mut LineWords<'_>) -> Result<Location, LineFault>
+    ensures { AnswersAs result (location_at words.old) }
+{
+    let mut at = Location::new(alloc);
+    while let Some(word) = words.next() {
+        at = with_pair(at, word)?;
+    }
+    Ok(at)
+}
+
+/// A device, its weight and its location.
+#[tactic(auto, unfolding(crate::specs::Command::placing_at))]
+fn read_placing(alloc: Global, words: &mut LineWords<'_>) -> Result<Placing, LineFault>
+    ensures { AnswersAs result (placing_at words.old) }
+{
+    let name = read_name(alloc, words)?;
+    let Some(device) = device_named(name.as_bytes()) else {
+        return Err(LineFault::BadLine);
+    };
+    let weight = read_weight(words)?;
+    let at = read_location(alloc, words)?;
+    Ok(Placing {
+        device,
+        name,
+        weight,
+        at,
+    })
+}
+
+/// The words behind `move`.
+#[tactic(auto, unfolding(crate::specs::Command::move_at))]
+fn read_move(alloc: Global, words: &mut LineWords<'_>) -> Result<Edit, LineFault>
+    ensures { AnswersAs result (move_at words.old) }
+{
+    let name = read_name(alloc, words)?;
+    let at = read_location(alloc, words)?;
+    Ok(Edit::Move { name, at })
+}
+
+/// The words behind `swap-bucket`.
+#[tactic(auto, unfolding(crate::specs::Command::swap_at))]
+fn read_swap(alloc: Global, words: &mut LineWords<'_>) -> Result<Edit, LineFault>
+    ensures { AnswersAs result (swap_at words.old) }
+{
+    let a = read_name(alloc, words)?;
+    let b = read_name(alloc, words)?;
+    read_end(Edit::Swap { a, b }, words)
+}
+
 /// The words behind `reweight`.
 #[tactic(auto, unfolding(crate::specs::Command::reweight_at))]
 fn read_reweight(alloc: Global, words: &mut LineWords<'_>) -> Result<Edit, LineFault>
@@ -76,7 +174,137 @@ fn read_reweight(alloc: Global, words: &mut LineWords<'_>) -> Result<Edit, LineF
 {
     let name = read_name(alloc, words)?;
     let weight = read_weight(words)?;
-    read_end(Edit::Reweight(name, weight), words)
+    read_end(Edit::Reweight { name, weight }, words)
+}
+
+/// The words behind `reweight-subtree`.
+#[tactic(auto, unfolding(crate::specs::Command::subtree_at))]
+fn read_subtree(alloc: Global, words: &mut LineWords<'_>) -> Result<Edit, LineFault>
+    ensures { AnswersAs result (subtree_at words.old) }
+{
+    let name = read_name(alloc, words)?;
+    let weight = read_weight(words)?;
+    read_end(Edit::ReweightSubtree { name, weight }, words)
+}
+
+/// The words behind `rm` and `remove`.
+#[tactic(auto, unfolding(crate::specs::Command::remove_at))]
+fn read_remove(alloc: Global, words: &mut LineWords<'_>) -> Result<Edit, LineFault>
+    ensures { AnswersAs result (remove_at words.old) }
+{
+    let name = read_name(alloc, words)?;
+    read_end(Edit::Remove { name }, words)
+}
+
+/// The words behind `add-bucket`.
+#[tactic(auto, unfolding(crate::specs::Command::add_bucket_at))]
+fn read_add_bucket(alloc: Global, words: &mut LineWords<'_>) -> Result<Edit, LineFault>
+    ensures { AnswersAs result (add_bucket_at words.old) }
+{
+    let name = read_name(alloc, words)?;
+    let kind = read_name(alloc, words)?;
+    read_end(Edit::AddBucket { name, kind }, words)
+}
+
+/// The words behind `rename-bucket`.
+#[tactic(auto, unfolding(crate::specs::Command::rename_at))]
+fn read_rename(alloc: Global, words: &mut LineWords<'_>) -> Result<Edit, LineFault>
+    ensures { AnswersAs result (rename_at words.old) }
+{
+    let from = read_name(alloc, words)?;
+    let to = read_name(alloc, words)?;
+    read_end(Edit::Rename { from, to }, words)
+}
+
+/// The command that a first word names.
+#[tactic(auto, unfolding(crate::specs::Command::keyword_of))]
+fn keyword_of(first: &[u8]) -> Option<Keyword>
+    ensures { result ≡ keyword_of first.now }
+{
+    if first == b"add".as_slice() {
+        Some(Keyword::Add)
+    } else if first == b"set".as_slice() {
+        Some(Keyword::Set)
+    } else if first == b"create-or-move".as_slice() {
+        Some(Keyword::CreateOrMove)
+    } else if first == b"move".as_slice() {
+        Some(Keyword::Move)
+    } else if first == b"swap-bucket".as_slice() {
+        Some(Keyword::SwapBucket)
+    } else if first == b"reweight".as_slice() {
+        Some(Keyword::Reweight)
+    } else if first == b"reweight-subtree".as_slice() {
+        Some(Keyword::ReweightSubtree)
+    } else if first == b"rm".as_slice() || first == b"remove".as_slice() {
+        Some(Keyword::Rm)
+    } else if first == b"add-bucket".as_slice() {
+        Some(Keyword::AddBucket)
+    } else if first == b"rename-bucket".as_slice() {
+        Some(Keyword::RenameBucket)
+    } else {
+        None
+    }
+}
+
+/// The edit of a command that puts a device.
+fn read_edit_of(
+    alloc: Global,
+    keyword: Keyword,
+    words: &mut LineWords<'_>,
+) -> Result<Edit, LineFault>
+    ensures { AnswersAs result (edit_of keyword words.old) }
+{
+    match keyword {
+        Keyword::Add => {
+            let Placing {
+                device,
+                name,
+                weight,
+                at,
+            } = read_placing(alloc, words)?;
+            Ok(Edit::Insert {
+                device,
+                name,
+                weight,
+                at,
+            })
+        }
+        Keyword::Set => {
+            let Placing {
+                device,
+                name,
+                weight,
+                at,
+            } = read_placing(alloc, words)?;
+            Ok(Edit::Update {
+                device,
+                name,
+                weight,
+                at,
+            })
+        }
+        Keyword::CreateOrMove => {
+            let Placing {
+                device,
+                name,
+                weight,
+                at,
+            } = read_placing(alloc, words)?;
+            Ok(Edit::CreateOrMove {
+                device,
+                name,
+                weight,
+                at,
+            })
+        }
+        Keyword::Move => read_move(alloc, words),
+        Keyword::SwapBucket => read_swap(alloc, words),
+        Keyword::Reweight => read_reweight(alloc, words),
+        Keyword::ReweightSubtree => read_subtree(alloc, words),
+        Keyword::Rm => read_remove(alloc, words),
+        Keyword::AddBucket => read_add_bucket(alloc, words),
+        Keyword::RenameBucket => read_rename(alloc, words),
+    }
 }
 
 /// The edit of a first word and the words behind it.
@@ -84,10 +312,10 @@ fn read_reweight(alloc: Global, words: &mut LineWords<'_>) -> Result<Edit, LineF
 fn read_edit(alloc: Global, first: &[u8], words: &mut LineWords<'_>) -> Result<Edit, LineFault>
     ensures { AnswersAs result (edit_at first.now words.old) }
 {
-    if first == b"reweight".as_slice() {
-        return read_reweight(alloc, words);
+    match keyword_of(first) {
+        Some(keyword) => read_edit_of(alloc, keyword, words),
+        None => Err(LineFault::NoSuchCommand),
     }
-    Err(LineFault::NoSuchCommand)
 }
 
 /// What the words of a line say that begins no section.
@@ -98,6 +326,12 @@ pub(crate) fn read_command(alloc: Global, words: &mut LineWords<'_>) -> Result<C
     let Some(first) = words.next() else {
         return Ok(Command::Nothing);
     };
+    if first == b"begin".as_slice() {
+        return read_end(Command::Begin, words);
+    }
+    if first == b"commit".as_slice() {
+        return read_end(Command::Commit, words);
+    }
     let edit = read_edit(alloc, first, words)?;
     Ok(Command::Edit(edit))
 }

@@ -23,7 +23,9 @@ fn is_change(reply: Reply) -> bool
 {
     match reply {
         Reply::Done(done) => done.changed,
+        Reply::Dones(dones) => dones.changed > 0,
         Reply::Refused(_) => false,
+        Reply::BatchRefused(_, _) => false,
     }
 }
 

@@ -12,15 +12,22 @@ use thiserror::Error;
 #[derive(Clone, Copy, Debug, PartialEq, Eq, Error)]
 pub enum JobFault {
     /// The line isn't of the form that its first word asks for, or begins with `%` and isn't
-    /// `%operator NAME`.
+    /// `%operator NAME`; or it is a `begin` inside a batch, a `commit` outside, or the 65,537th
+    /// edit of a batch.
     #[error("line {0}: BadLine")]
     BadLine(usize),
     /// The line's first word is no command.
     #[error("line {0}: NoSuchCommand")]
     NoSuchCommand(usize),
-    /// The line begins one section more than a job may have.
+    /// The batch that begins on this line isn't ended where a section begins, or at the end.
+    #[error("line {0}: OpenBatch")]
+    OpenBatch(usize),
+    /// The line begins the 17th section.
     #[error("line {0}: TooManyOperators")]
     TooManyOperators(usize),
+    /// The line begins a section with a name that an earlier section has.
+    #[error("line {0}: DuplicateOperator")]
+    DuplicateOperator(usize),
     /// The map's text has a flaw, whose place is one in the job.
     #[error("{0}")]
     Text(TextFault),
@@ -30,7 +37,7 @@ pub enum JobFault {
     /// The job has more than 16,777,216 bytes.
     #[error("TooLong")]
     TooLong,
-    /// The line has the 65,537th call.
+    /// The line is the first of the 65,537th call.
     #[error("line {0}: TooManyCalls")]
     TooManyCalls(usize),
 }

@@ -3,14 +3,15 @@
 ghost use Rattle.std.specs.Prelude.{◌≡◌, ◌<◌, ◌^◌, [], length, slice_index_or, IfErr, IfOk};
 ghost use Rattle.crush_bytes.specs.Writes.{Writes};
 ghost use Rattle.crush_script.specs.Entries.{history_data};
-ghost use Rattle.crush_script.specs.HistoryText.{edit_text, call_text, digit_of, line_front, line_end, line_text, entries_text, names_of};
+ghost use Rattle.crush_script.specs.HistoryText.{digit_of, line_front, refusal_text, refused_at_text, line_end, line_text, entries_text, names_of};
 ghost use Rattle.crush_script.specs.Sections.{scripts_data};
 
 use crate::call::{Call, Reply};
 use crate::entry::Entry;
+use crate::printed::write_call;
 use crate::sections::Script;
-use crush_bytes::{WriteFault, put_all};
-use crush_map::{Done, Edit, Refusal};
+use crush_bytes::{WriteFault, put, put_all};
+use crush_edits::{Done, Dones, Refusal};
 use itoa::Buffer;
 use std::alloc::{AllocError, Global};
 use std::io::Write;
@@ -34,39 +35,6 @@ fn write_front<W: Write>(number: u32, operator: &[u8], out: &mut W) -> Result<()
             b" ".as_slice(),
         ],
     )
-}
-
-/// Writes the command of an edit.
-fn write_edit<W: Write>(edit: &Edit, out: &mut W) -> Result<(), WriteFault>
-    ensures writes { Writes result (W.contents out.old) (W.contents out.new) (edit_text edit.now) }
-    ensures fault { IfErr result (λ fault. fault ≡ WriteFault.Write) }
-{
-    match edit {
-        Edit::Reweight(name, weight) => {
-            let mut digits = [0u8; 16];
-            let len = weight.text(&mut digits);
-            let (weight, _) = digits.split_at(len);
-            put_all(
-                out,
-                &[
-                    b"reweight ".as_slice(),
-                    name.as_bytes(),
-                    b" ".as_slice(),
-                    weight,
-                ],
-            )
-        }
-    }
-}
-
-/// Writes a call.
-fn write_call<W: Write>(call: &Call, out: &mut W) -> Result<(), WriteFault>
-    ensures writes { Writes result (W.contents out.old) (W.contents out.new) (call_text call.now) }
-    ensures fault { IfErr result (λ fault. fault ≡ WriteFault.Write) }
-{
-    match call {
-        Call::One(edit) => write_edit(edit, out),
-    }
 }
 
 /// A truth as a digit.
@@ -98,6 +66,45 @@ fn write_done<W: Write>(done: Done, out: &mut W) -> Result<(), WriteFault>
     )
 }
 
+/// Writes the reply to a batch that was made, and ends the line.
+#[tactic(auto, unfolding(crate::specs::HistoryText::line_end))]
+fn write_dones<W: Write>(dones: Dones, out: &mut W) -> Result<(), WriteFault>
+    ensures writes { Writes result (W.contents out.old) (W.contents out.new)
+        (line_end (Reply.Dones dones)) }
+    ensures fault { IfErr result (λ fault. fault ≡ WriteFault.Write) }
+{
+    let mut edits_buffer = Buffer::new();
+    let edits = edits_buffer.format(dones.edits).as_bytes();
+    let mut changed_buffer = Buffer::new();
+    let changed = changed_buffer.format(dones.changed).as_bytes();
+    let mut made_buffer = Buffer::new();
+    let made = made_buffer.format(dones.made).as_bytes();
+    put_all(
+        out,
+        &[
+            b" = dones ".as_slice(),
+            edits,
+            b" changed ".as_slice(),
+            changed,
+            b" made ".as_slice(),
+            made,
+            b"\n".as_slice(),
+        ],
+    )
+}
+
+/// Writes a refusal's name and its error, and ends the line.
+fn write_refusal<W: Write>(refusal: Refusal, out: &mut W) -> Result<(), WriteFault>
+    ensures writes { Writes result (W.contents out.old) (W.contents out.new)
+        (refusal_text refusal) }
+    ensures fault { IfErr result (λ fault. fault ≡ WriteFault.Write) }
+{
+    let mut buffer = Buffer::new();
+    let error = buffer.format(refusal.error()).as_bytes();
+    let name = refusal.name().as_bytes();
+    put_all(out, &[name, b" ".as_slice(), error, b"\n".as_slice()])
+}
+
 /// Writes the reply to an edit that was refused, and ends the line.
 #[tactic(auto, unfolding(crate::specs::HistoryText::line_end))]
 fn write_refused<W: Write>(refusal: Refusal, out: &mut W) -> Result<(), WriteFault>
@@ -105,19 +112,34 @@ fn write_refused<W: Write>(refusal: Refusal, out: &mut W) -> Result<(), WriteFau
         (line_end (Reply.Refused refusal)) }
     ensures fault { IfErr result (λ fault. fault ≡ WriteFault.Write) }
 {
+    put(out, b" = refused ")?;
+    write_refusal(refusal, out)
+}
+
+/// Writes what stands before the refusal of an edit of a batch.
+fn write_refused_at<W: Write>(index: u32, out: &mut W) -> Result<(), WriteFault>
+    ensures writes { Writes result (W.contents out.old) (W.contents out.new)
+        (refused_at_text index) }
+    ensures fault { IfErr result (λ fault. fault ≡ WriteFault.Write) }
+{
     let mut buffer = Buffer::new();
-    let error = buffer.format(refusal.error()).as_bytes();
-    let name = refusal.name().as_bytes();
-    put_all(
-        out,
-        &[
-            b" = refused ".as_slice(),
-            name,
-            b" ".as_slice(),
-            error,
-            b"\n".as_slice(),
-        ],
-    )
+    let index = buffer.format(index).as_bytes();
+    put_all(out, &[b" = refused at ".as_slice(), index, b" ".as_slice()])
+}
+
+/// Writes the reply to a batch that was refused, and ends the line.
+#[tactic(auto, unfolding(crate::specs::HistoryText::line_end))]
+fn write_batch_refused<W: Write>(
+    index: u32,
+    refusal: Refusal,
+    out: &mut W,
+) -> Result<(), WriteFault>
+    ensures writes { Writes result (W.contents out.old) (W.contents out.new)
+        (line_end (Reply.BatchRefused index refusal)) }
+    ensures fault { IfErr result (λ fault. fault ≡ WriteFault.Write) }
+{
+    write_refused_at(index, out)?;
+    write_refusal(refusal, out)
 }
 
 /// Writes a reply, and ends the line.
@@ -127,15 +149,18 @@ fn write_reply<W: Write>(reply: Reply, out: &mut W) -> Result<(), WriteFault>
 {
     match reply {
         Reply::Done(done) => write_done(done, out),
+        Reply::Dones(dones) => write_dones(dones, out),
         Reply::Refused(refusal) => write_refused(refusal, out),
+        Reply::BatchRefused(index, refusal) => write_batch_refused(index, refusal, out),
     }
 }
 
 /// Writes the line of an entry: `# NUMBER OPERATOR CALL = REPLY`.
 ///
-/// Entries count from 1. An edit shows as its command, its weight with five decimals. The reply is
-/// `done changed C made M`, where C is 1 or 0, or `refused NAME ERROR`; `docs/FORMATS.md` has the
-/// form. The line begins with `#`, and so is a comment by the grammar of a map's text.
+/// Entries count from 1. An edit shows as its command, its weight with five decimals, and a batch as
+/// `begin ; EDIT ; .. ; commit`. The reply is `done changed C made M`, where C is 1 or 0,
+/// `dones N changed C made M`, `refused NAME ERROR` or `refused at INDEX NAME ERROR`;
+/// `docs/FORMATS.md` has the form. The line begins with `#`, and so is a comment by the grammar of a map's text.
 ///
 /// It takes no memory, so the one fault is [`WriteFault::Write`], after which the writer holds a
 /// front of the line.

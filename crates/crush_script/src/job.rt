@@ -1,8 +1,8 @@
 //! Jobs: a map's text, and behind it the scripts of its operators.
 
 ghost use Rattle.std.specs.Prelude.{◌≡◌, ◌≤◌, ℕ, List, IfOk, IfErr, MatchResult};
-ghost use Rattle.crush_table.specs.Setting.{SettingData};
 ghost use Rattle.crush_table.specs.Table.{Row};
+ghost use Rattle.crush_edits.specs.Setting.{SettingData};
 ghost use Rattle.crush_table.specs.Stands.{Stands};
 ghost use Rattle.crush_map.specs.MapData.{MapStands};
 ghost use Rattle.crush_text.specs.Document.{IsMapText};
@@ -17,10 +17,8 @@ use crate::line::{cut_job, line_feeds};
 use crate::sections::{Script, Sections, read_sections};
 use crush_map::CrushMap;
 use crush_text::{TextFaultKind, read_map};
+use crush_units::limits::LONGEST_JOB;
 use std::alloc::Global;
-
-/// The most bytes that a job may have.
-const LONGEST_JOB: usize = 16_777_216;
 
 /// A map, and what its operators are to do with it.
 #[derive(Drop)]
@@ -56,14 +54,17 @@ fn read_map_text(alloc: Global, text: &[u8]) -> Result<(CrushMap<Global>, u32), 
 ///
 /// The map's text is all that stands before the first line whose first byte is `%`. From there on
 /// each line that begins with `%` is `%operator NAME` and begins the section of that operator;
-/// the other lines are its calls, one a line. `docs/FORMATS.md` has the commands.
+/// the other lines are its calls, one a line but for batches, which stand between a line `begin`
+/// and a line `commit`. `docs/FORMATS.md` has the commands.
 ///
 /// Of several faults the first of these is told:
 /// - [`JobFault::TooLong`]: there are more than 16,777,216 bytes.
 /// - [`JobFault::Text`]: the map's text has this flaw, whose place is that of a byte of the job.
 /// - a fault of the first faulty line of the sections, with its number from 1:
-///   [`JobFault::BadLine`], [`JobFault::NoSuchCommand`], [`JobFault::TooManyOperators`] or
-///   [`JobFault::TooManyCalls`].
+///   [`JobFault::BadLine`], [`JobFault::NoSuchCommand`], [`JobFault::OpenBatch`],
+///   [`JobFault::TooManyOperators`], [`JobFault::DuplicateOperator`] or
+///   [`JobFault::TooManyCalls`]. A batch that is still open where a section begins or at the end is
+///   a fault of that place, but told with the line of its `begin`.
 ///
 /// [`JobFault::OutOfMemory`] may come in place of any but the first.
 pub fn read_job(alloc: Global, bytes: &[u8]) -> Result<Job, JobFault>
@@ -84,7 +85,7 @@ pub fn read_job(alloc: Global, bytes: &[u8]) -> Result<Job, JobFault>
     let (text, rest) = cut_job(bytes);
     let (map, adjusted) = read_map_text(alloc, text)?;
     let sections = read_sections(alloc, line_feeds(text) + 1, rest)?;
-    let Sections { scripts, calls: _ } = sections;
+    let Sections { scripts, .. } = sections;
     Ok(Job {
         map,
         adjusted,

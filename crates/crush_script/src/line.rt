@@ -40,7 +40,7 @@ pub(crate) fn line_feeds(text: &[u8]) -> usize
 }
 
 /// The place of the first such byte, or the length where there is none.
-fn place_of(byte: u8, text: &[u8]) -> usize
+pub(crate) fn place_of(byte: u8, text: &[u8]) -> usize
     ensures place { result ≡ position_or_len (λ b. b == byte) text.now }
     ensures within { result ≤ length text.now }
 {

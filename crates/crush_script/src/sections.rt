@@ -1,22 +1,18 @@
 //! The sections of a job, each of which is the script of one operator.
 
-ghost use Rattle.std.specs.Prelude.{◌≡◌, ◌+◌, ◌<◌, ◌^◌, false, true, length, OnOk};
+ghost use Rattle.std.specs.Prelude.{◌≡◌, ◌+◌, ◌<◌, ◌^◌, false, true, length};
 ghost use Rattle.crush_script.specs.Lines.{lines, begins_section};
-ghost use Rattle.crush_script.specs.Sections.{with_lines, no_sections};
+ghost use Rattle.crush_script.specs.Sections.{with_lines, no_sections, has_operator, scripts_data};
 ghost use Rattle.crush_script.specs.Steps.{GivesSections};
 
-use crate::call::Call;
+use crate::call::{Call, Edits};
 use crate::command::{Command, read_command, read_operator};
 use crate::fault::JobFault;
 use crate::line::{LineWords, begins_section, cut_line};
+use crush_edits::Edit;
 use crush_units::Name;
+use crush_units::limits::{MOST_CALLS, MOST_OPERATORS};
 use std::alloc::Global;
-
-/// The most sections of a job.
-const MOST_OPERATORS: usize = 1;
-
-/// The most calls of a job, all its sections together.
-const MOST_CALLS: usize = 65_536;
 
 /// The script of one operator.
 #[derive(Debug, Drop)]
@@ -27,18 +23,52 @@ pub struct Script {
     pub calls: Vec<Call>,
 }
 
+/// A batch whose `commit` is still to come.
+#[derive(Drop)]
+pub(crate) struct BegunBatch {
+    /// The number of the line of its `begin`.
+    pub(crate) line: usize,
+    /// Its edits so far.
+    pub(crate) edits: Edits,
+}
+
 /// What the lines so far say.
 #[derive(Drop)]
 pub(crate) struct Sections {
     /// The scripts, the last of which goes on.
     pub(crate) scripts: Vec<Script>,
-    /// How many calls they have in all.
+    /// How many calls they have in all, with the batch that is open.
     pub(crate) calls: usize,
+    /// The batch that is open.
+    pub(crate) begun: Option<BegunBatch>,
+}
+
+/// Whether one of the scripts is that of an operator of this name.
+fn has_operator(scripts: &[Script], name: &Name<Global>) -> bool
+    ensures { result ≡ has_operator (scripts_data scripts.now) name.now }
+{
+    for script in scripts {
+        if script.name.is(name.as_bytes()) {
+            return true;
+        }
+    }
+    false
 }
 
 impl Sections {
-    ghost use Rattle.crush_script.specs.Sections.{sections_data, with_section, with_call, with_line};
+    ghost use Rattle.std.specs.Prelude.{◌≡◌, ◌<◌, length, OnOk};
+    ghost use Rattle.crush_script.specs.Sections.{sections_data, closed, counted, with_section, with_call, with_edit, with_begin, with_commit, with_command, with_line};
     ghost use Rattle.crush_script.specs.Steps.{Steps};
+
+    /// The fault of a batch that is still open, told with the line of its `begin`.
+    fn check_closed(&self) -> Result<(), JobFault>
+        ensures { Steps result (sections_data self.now) (closed (sections_data self.now)) }
+    {
+        match &self.begun {
+            Some(batch) => Err(JobFault::OpenBatch(batch.line)),
+            None => Ok(()),
+        }
+    }
 
     /// Begins the section of an operator.
     fn begin(&mut self, alloc: Global, number: usize, name: Name<Global>) -> Result<(), JobFault>
@@ -49,25 +79,101 @@ impl Sections {
         if self.scripts.len() >= MOST_OPERATORS {
             return Err(JobFault::TooManyOperators(number));
         }
+        if has_operator(self.scripts.as_slice(), &name) {
+            return Err(JobFault::DuplicateOperator(number));
+        }
         let calls = Vec::new(alloc);
         self.scripts.push(Script { name, calls })?;
         Ok(())
     }
 
-    /// Adds a call to the last script. There is one.
-    fn add_call(&mut self, number: usize, call: Call) -> Result<(), JobFault>
-        requires begun { 0 < length self.old.scripts.items }
+    /// Counts one call more, whose first line has this number.
+    fn count_call(&mut self, number: usize) -> Result<(), JobFault>
         ensures steps { Steps result (sections_data self.new)
-            (with_call number (sections_data self.old) call) }
-        ensures begun { OnOk result (0 < length self.new.scripts.items) }
+            (counted number (sections_data self.old)) }
+        ensures scripts { self.new.scripts ≡ self.old.scripts }
     {
         if self.calls >= MOST_CALLS {
             return Err(JobFault::TooManyCalls(number));
         }
-        let last = self.scripts.len() - 1;
-        self.scripts[last].calls.push(call)?;
         self.calls += 1;
         Ok(())
+    }
+
+    /// Adds a call to the last script. There is one.
+    fn add_call(&mut self, call: Call) -> Result<(), JobFault>
+        requires begun { 0 < length self.old.scripts.items }
+        ensures steps { Steps result (sections_data self.new)
+            (Ok (with_call call (sections_data self.old))) }
+        ensures begun { OnOk result (0 < length self.new.scripts.items) }
+    {
+        let last = self.scripts.len() - 1;
+        self.scripts[last].calls.push(call)?;
+        Ok(())
+    }
+
+    /// Adds an edit, to the batch that is open or as a call of the last script.
+    fn add_edit(&mut self, number: usize, edit: Edit) -> Result<(), JobFault>
+        requires begun { 0 < length self.old.scripts.items }
+        ensures steps { Steps result (sections_data self.new)
+            (with_edit number (sections_data self.old) self.old.begun edit) }
+        ensures begun { OnOk result (0 < length self.new.scripts.items) }
+    {
+        if let Some(batch) = &mut self.begun {
+            if !batch.edits.has_room() {
+                return Err(JobFault::BadLine(number));
+            }
+            batch.edits.push(edit)?;
+            return Ok(());
+        }
+        self.count_call(number)?;
+        self.add_call(Call::One(edit))
+    }
+
+    /// Begins a batch.
+    fn begin_batch(&mut self, alloc: Global, number: usize) -> Result<(), JobFault>
+        requires begun { 0 < length self.old.scripts.items }
+        ensures steps { Steps result (sections_data self.new)
+            (with_begin number (sections_data self.old) self.old.begun) }
+        ensures begun { OnOk result (0 < length self.new.scripts.items) }
+    {
+        if self.begun.is_some() {
+            return Err(JobFault::BadLine(number));
+        }
+        self.count_call(number)?;
+        self.begun = Some(BegunBatch {
+            line: number,
+            edits: Edits::new(Vec::new(alloc)),
+        });
+        Ok(())
+    }
+
+    /// Ends a batch, which is then a call of the last script.
+    fn commit_batch(&mut self, number: usize) -> Result<(), JobFault>
+        requires begun { 0 < length self.old.scripts.items }
+        ensures steps { Steps result (sections_data self.new)
+            (with_commit number (sections_data self.old) self.old.begun) }
+        ensures begun { OnOk result (0 < length self.new.scripts.items) }
+    {
+        let Some(batch) = self.begun.take() else {
+            return Err(JobFault::BadLine(number));
+        };
+        self.add_call(Call::Batch(batch.edits))
+    }
+
+    /// Does what a line says that begins no section.
+    fn obey(&mut self, alloc: Global, number: usize, command: Command) -> Result<(), JobFault>
+        requires begun { 0 < length self.old.scripts.items }
+        ensures steps { Steps result (sections_data self.new)
+            (with_command number (sections_data self.old) command) }
+        ensures begun { OnOk result (0 < length self.new.scripts.items) }
+    {
+        match command {
+            Command::Nothing => Ok(()),
+            Command::Edit(edit) => self.add_edit(number, edit),
+            Command::Begin => self.begin_batch(alloc, number),
+            Command::Commit => self.commit_batch(number),
+        }
     }
 
     /// Reads a line. Where it begins no section, one is open.
@@ -80,13 +186,12 @@ impl Sections {
     {
         let mut words = LineWords::of_line(line);
         if begins_section(line) {
+            self.check_closed()?;
             let name = read_operator(alloc, &mut words).map_err(|fault| fault.at(number))?;
             return self.begin(alloc, number, name);
         }
-        match read_command(alloc, &mut words).map_err(|fault| fault.at(number))? {
-            Command::Nothing => Ok(()),
-            Command::Edit(edit) => self.add_call(number, Call::One(edit)),
-        }
+        let command = read_command(alloc, &mut words).map_err(|fault| fault.at(number))?;
+        self.obey(alloc, number, command)
     }
 }
 
@@ -100,6 +205,7 @@ pub(crate) fn read_sections(alloc: Global, first: usize, text: &[u8]) -> Result<
     let mut sections = Sections {
         scripts: Vec::new(alloc),
         calls: 0,
+        begun: None,
     };
     let mut number = first;
     let mut rest = text;
@@ -109,5 +215,6 @@ pub(crate) fn read_sections(alloc: Global, first: usize, text: &[u8]) -> Result<
         number += 1;
         rest = others;
     }
+    sections.check_closed()?;
     Ok(sections)
 }

@@ -1,20 +1,22 @@
 //! The scripts of a job, run one after the other.
 
-ghost use Rattle.std.specs.Prelude.{◌≡◌, ◌+◌, ◌++◌, List, IfOk, OnOk, length};
-ghost use Rattle.crush_table.specs.Setting.{SettingData};
+ghost use Rattle.std.specs.Prelude.{◌≡◌, ◌≤◌, ◌+◌, ◌++◌, List, IfOk, OnOk, length};
+ghost use Rattle.crush_units.specs.declared.limits.TheConstants.{MOST_EDITS};
 ghost use Rattle.crush_table.specs.Table.{Row};
-ghost use Rattle.crush_map.specs.Edit.{edit};
+ghost use Rattle.crush_edits.specs.Setting.{SettingData};
+ghost use Rattle.crush_edits.specs.Edit.{edit};
+ghost use Rattle.crush_edits.specs.Batch.{batch};
 ghost use Rattle.crush_map.specs.MapData.{MapStands};
-ghost use Rattle.crush_script.specs.declared.call.Call.TheVariants.{One};
 ghost use Rattle.crush_script.specs.Sections.{scripts_data, call_count};
-ghost use Rattle.crush_script.specs.History.{table_after, turn, turns, call_outcome, edit_outcome};
+ghost use Rattle.crush_script.specs.History.{table_after, turn, turns, call_outcome, edit_outcome, batch_outcome};
 ghost use Rattle.crush_script.specs.Entries.{history_data};
 ghost use Rattle.crush_script.specs.Turns.{TurnsAreHistory};
 
 use crate::call::{Call, Reply};
 use crate::entry::Entry;
 use crate::sections::Script;
-use crush_map::{CrushMap, Edit, EditFault};
+use crush_edits::{BatchFault, Edit, EditFault};
+use crush_map::CrushMap;
 use std::alloc::{AllocError, Global};
 
 /// Makes one edit.
@@ -30,12 +32,17 @@ fn make_edit(map: &mut CrushMap<Global>, asked: &Edit) -> Result<Reply, AllocErr
     }
 }
 
-/// The edit of a call.
-fn one_edit(call: &Call) -> &Edit
-    ensures { call.now ≡ One result.now }
+/// Makes a batch of at most 65,536 edits, or none of them.
+fn make_batch(map: &mut CrushMap<Global>, asked: &[Edit]) -> Result<Reply, AllocError>
+    requires { length asked.now ≤ MOST_EDITS }
+    ensures { IfOk result (λ reply. (s : SettingData) (t : List Row) → MapStands map.old s t
+        → (reply ≡ (batch_outcome t (batch s t asked.now)).reply)
+        × MapStands map.new s (batch_outcome t (batch s t asked.now)).table) }
 {
-    match call {
-        Call::One(edit) => edit,
+    match map.apply_batch(asked) {
+        Ok(dones) => Ok(Reply::Dones(dones)),
+        Err(BatchFault::Refused(index, refusal)) => Ok(Reply::BatchRefused(index, refusal)),
+        Err(BatchFault::OutOfMemory) => Err(AllocError),
     }
 }
 
@@ -45,7 +52,10 @@ fn make_call(map: &mut CrushMap<Global>, call: &Call) -> Result<Reply, AllocErro
         → (reply ≡ (call_outcome s t call.now).reply)
         × MapStands map.new s (call_outcome s t call.now).table) }
 {
-    make_edit(map, one_edit(call))
+    match call {
+        Call::One(edit) => make_edit(map, edit),
+        Call::Batch(edits) => make_batch(map, edits.as_slice()),
+    }
 }
 
 /// Makes the calls of one operator in order.

@@ -14,7 +14,6 @@ use Rattle.crush_table.specs.Reordered.{IsReordered, through}
 use Rattle.crush_table.specs.Table.{Row, is_device, is_bucket, is_there, parent_of, then_up, climb, above, member, is_below, sum_below, summed_weight, total, item_weight, weight_of, device_count, bucket_count, bucket_ids, used_ids, free_ids}
 use Rattle.crush_table.specs.Same.{Same}
 use Rattle.crush_table.specs.Lawful.{IsRow, HasParent, Lawful, is_over, is_too_heavy, has_too_many}
-use Rattle.crush_table.specs.Setting.{SettingData, HasKind, Fits}
 use Rattle.crush_table.proofs.Reorder.{one_if, reordered-refl, reordered-sym, reordered-sum, reordered-count, reordered-length, reordered-All, sum_by-flat_map}
 use Rattle.crush_table.proofs.Found.{Distinct, Distinct-same, is_there-same, parent_of-same, own_weight_of-same}
 use Rattle.crush_table.proofs.Sums.{added_weight}
@@ -103,18 +102,6 @@ pub free_ids-same : (t u : List Row) → IsReordered t u → (n : ℕ) → free_
 free_ids-same t u p n =
     let tests : (λ (k : ℕ). not (member k (used_ids t))) ≡ (λ (k : ℕ). not (member k (used_ids u))) = λ i k. not (used-same t u p k i) in
     λ i. take n (filter (tests i) (range_with_len 1 (used_ids-length t u p i + n)))
-
-pub kinds_fit-same : (s : SettingData) (t u : List Row) → IsReordered t u → Fits s t → Fits s u
-kinds_fit-same s t u p f = record {
-  numbers = f.numbers;
-  names = f.names;
-  kinds = f.kinds;
-  few = f.few;
-  types = reordered-All (HasKind s) p f.types;
-}
-
-pub Fits-same : (s : SettingData) (t u : List Row) → Same t u → Fits s t → Fits s u
-Fits-same s t u p = kinds_fit-same s t u p.rows
 
 HasParent-same : (t u : List Row) → IsReordered t u → Distinct t → (r : Row) → HasParent t r → HasParent u r
 HasParent-same t u p d r h = by_parent r.parent h where

@@ -8,9 +8,7 @@ pub mod Law
 pub mod Lawful
 pub mod MoveLaw
 pub mod Reordered
-pub mod Rows
 pub mod Same
-pub mod Setting
 pub mod Stands
 pub mod Stored
 pub mod Table

@@ -12,7 +12,6 @@
 //! | `Columns` | what a call does to a table: a filter, an append, a column set |
 //! | `Items`, `ItemRows`, `Stored` | nested boxes as data, their rows, the weights stored |
 //! | `Forest`, `Stands` | a forest as data, and the table for which it stands |
-//! | `Setting` | a map's types, and which settings fit a table |
 //! | `Law`, `KeepsLaw`, `MoveLaw` | the statements of the laws |
 //!
 //! [`law`] has the laws, each the contract of a function that does nothing. Lemmas are in

@@ -13,21 +13,21 @@ use Rattle.crush_units.specs.Alg.{alg_text}
 use Rattle.crush_units.specs.Name.{are_name_bytes, IsName}
 use Rattle.crush_units.specs.Weight.{are_digits, weight_of_text}
 use Rattle.crush_table.specs.Table.{is_there, id_named, sum_below, bucket_count}
-use Rattle.crush_table.specs.Setting.{is_reserved}
+use Rattle.crush_edits.specs.Fits.{is_reserved}
 use Rattle.crush_map.specs.Built.{Draft, Pending, nothing, begun as is_begun, filling as is_filling, with_device, with_item, pending_with_id}
 use Rattle.crush_map.specs.Building.{IsPending, is_bucket_kind, has_name, has_bucket_id, has_pending_name, has_pending_id, closed_item, is_full_of_buckets}
 use Rattle.crush_bytes.specs.Words.{is_brace_word}
 use Rattle.crush_text.specs.declared.reader.statement.Opening.{Opening}
 use Rattle.crush_text.specs.declared.reader.statement.Opening.TheVariants as openings
 use Rattle.crush_text.specs.Forms.{is_number}
-use Rattle.crush_text.specs.Role.{Role, value, number_of, item_of, units, key, opening, type_number, type_name, device_id, new_name, unread, bucket_id, alg_key, algorithm, hash_number, item_or_end, item, weight_key, weight}
-use Rattle.crush_text.specs.Form.{Mode, first, second, begun, numbered, filling, at, Form, done, word, optional}
-use Rattle.crush_text.specs.Grammar.{type_line, device_line, bucket_line, id_line, alg_line, item_line, statement, item_or_brace, lines}
+use Rattle.crush_text.specs.Role.{Role, value, number_of, item_of, units, key, opening, type_number, type_name, device_id, new_name, class_name, bucket_id, alg_key, algorithm, hash_number, item_or_end, item, weight_key, weight}
+use Rattle.crush_text.specs.Form.{Mode, first, second, begun, numbered, filling, Form, done, word, optional}
+use Rattle.crush_text.specs.Grammar.{type_line, device_class, device_line, bucket_line, id_line, alg_line, item_line, statement, item_or_brace, lines}
 use Rattle.crush_text.specs.Tests.{Test, ◌when◌, tests, unless, is_weight_for, is_other_sum}
 use Rattle.crush_text.specs.Rows.{IsRight}
 use Rattle.crush_text.specs.Admitted.{IsLawfulDraft, MayWeigh, IsFor}
 use Rattle.crush_text.specs.Document.{IsMap}
-use Rattle.crush_text.proofs.Allowed.{kind_free, type_named, item_form, device_free, is_light, light_device}
+use Rattle.crush_text.proofs.Allowed.{kind_free, type_named, item_form, DeviceFree, device_free, class_form, is_light, light_device}
 use Rattle.crush_text.proofs.Keeps.{Stage}
 use Rattle.crush_text.proofs.Lawful.{listable}
 use Rattle.crush_text.proofs.Laws.{word_right}
@@ -107,7 +107,7 @@ found_named p None i e = absurd (let no : (let x : Option ItemId = None in x) �
 found_named p (Some j) i e = refl
 
 -- a weight with which the table is lawful is one for its item
-weight_fits : (d : Draft) (i : ItemId) (b w : ℕ) → d.pending ≡ is_filling b → is_there d.table i ≡ true → IsMap (with_item d i w) → is_weight_for i (Ok w) ≡ true
+weight_fits : (d : Draft) (i : ItemId) (b w : ℕ) → d.pending ≡ is_filling b → is_there d.table i ≡ true → IsMap (with_item d i (Some w)) → is_weight_for i (Ok w) ≡ true
 weight_fits d (Device n) b w p there m = le-leb w 2147483647 (light_device d b n w p there m)
 weight_fits d (Bucket x) b w p there m = refl
 
@@ -131,10 +131,10 @@ Rightly d (optional k f g) = Rightly d f × Rightly d g
 
 module _ (d : Draft) (m : IsMap d) where
   -- an item's weight
-  right_weight : (i : ItemId) (b : ℕ) (w : List ℕ) → d.pending ≡ is_filling b → is_there d.table i ≡ true → IsFor d (weight i) w → IsLawfulDraft (with_item d i (units w)) → IsRight d (weight i) w
+  right_weight : (i : ItemId) (b : ℕ) (w : List ℕ) → d.pending ≡ is_filling b → is_there d.table i ≡ true → IsFor d (weight i) w → IsLawfulDraft (with_item d i (Some (units w))) → IsRight d (weight i) w
   right_weight i b w p there h l =
       let fit : is_weight_for i (weight_of_text w) ≡ true = ap (is_weight_for i) h.0 ∙ weight_fits d i b (units w) p there l.map in
-      passed d (weight i) w (no_brace (λ x. is_weight_for i (weight_of_text x)) w refl refl fit, (not_from_true _ fit, (own_sum d i (units w) h.1, (is_light (with_item d i (units w)).table l.map.lawful, tt))))
+      passed d (weight i) w (no_brace (λ x. is_weight_for i (weight_of_text x)) w refl refl fit, (not_from_true _ fit, (own_sum d i (units w) h.1, (is_light (with_item d i (Some (units w))).table l.map.lawful, tt))))
 
   -- the line of an item
   right_item : (any : Bool) → Stage (filling any) d → Rightly d (item_line d)
@@ -199,20 +199,26 @@ module _ (d : Draft) (m : IsMap d) where
   right_bucket : d.pending ≡ nothing → (k : ℕ) → Rightly d (bucket_line d k)
   right_bucket idle k = λ x fx px. (right_name x px.pending.form (or_from _ _ px.pending.free (ap (λ (q : Pending). has_pending_name q x) idle)), tt)
 
-  -- what a device's line builds where it ends lawfully
-  device_built : (n : ℕ) (x : List ℕ) → Possible d (optional (codes "class") (word unread (λ _. done (at first d))) (done (at first (with_device d n x)))) → IsLawfulDraft (with_device d n x)
-  device_built n x (inl h) = absurd h.1
-  device_built n x (inr h) = h
+  -- where a device's line ends lawfully its number and its name are free
+  device_built : d.pending ≡ nothing → (n : ℕ) (x : List ℕ) → Possible d (device_class d n x) → DeviceFree d n x
+  device_built idle n x (inl h) = device_free d n x (Some h.2.0) idle h.2.2.map
+  device_built idle n x (inr h) = device_free d n x None idle h.map
+
+  -- the name of its class
+  right_class : (n : ℕ) (x c : List ℕ) → IsLawfulDraft (with_device d n x (Some c)) → IsRight d class_name c
+  right_class n x c l = passed d class_name c (name_no_brace c (class_form d n x c l.map), tt)
 
   -- the line of a device
   right_device : d.pending ≡ nothing → Rightly d (device_line d)
   right_device idle = λ n fn pn. (
-    let f = device_free d (digits_value 10 n) pn.0 idle (device_built (digits_value 10 n) pn.0 pn.2).map in
+    let f = device_built idle (digits_value 10 n) pn.0 pn.2 in
         let le : digits_value 10 n ≤ 2147483647 = omega (arith, f.most) in
         passed d device_id n (digits_no_brace n fn, (not_from_true _ (number_in 2147483647 n fn le), (f.number, tt))),
     λ x fx px.
-        let f = device_free d (digits_value 10 n) x idle (device_built (digits_value 10 n) x px).map in
-        (right_name x f.form f.name, (λ u fu pu. absurd fu, tt)),
+        let f = device_built idle (digits_value 10 n) x px in (
+          right_name x f.form f.name,
+          (λ k fk pk. (right_key d (codes "class") k fk, λ c fc pc. (right_class (digits_value 10 n) x c pc, tt)), tt),
+        ),
   )
 
   -- a type
@@ -243,12 +249,12 @@ module _ (d : Draft) (m : IsMap d) where
 
   -- of a device
   opened_device : d.pending ≡ nothing → Opened false (codes "device")
-  opened_device idle = λ p. let f = device_free d (digits_value 10 p.0) p.2.0 idle (device_built (digits_value 10 p.0) p.2.0 p.2.2).map in (passed d (opening false) (codes "device") (refl, (refl, (refl, (f.few, tt)))), right_device idle)
+  opened_device idle = λ p. let f = device_built idle (digits_value 10 p.0) p.2.0 p.2.2 in (passed d (opening false) (codes "device") (refl, (refl, (refl, (f.few, tt)))), right_device idle)
 
   -- of a bucket
   opened_bucket : d.pending ≡ nothing → (late : Bool) (w : List ℕ) → 0 < number_of d w → Opened late w
   opened_bucket idle late w some =
-      let t = type_named d.setting.kinds w m.fits.kinds some in
+      let t = type_named d.setting.kinds w m.fits.setting.kinds some in
       let n = no_key w t.free in
       let is : value d (opening late) w ≡ openings.Bucket (number_of d w) = rw (n.kind, n.device) refl in
       subst (λ (o : Opening). Possible d (statement d o) → IsRight d (opening late) w × Rightly d (statement d o)) (sym is) (λ p.

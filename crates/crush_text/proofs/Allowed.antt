@@ -1,5 +1,5 @@
 -- What a draft has before a line, told by the table and the setting with that line.
-use Rattle.std.proofs.Common.{◌≡◌, ℕ, ◌+◌, ◌<◌, ◌≤◌, Bool, true, false, List, [], ◌∷◌, ◌++◌, Some, None, length, refl, sym, ap, subst, ◌∙◌, arith}
+use Rattle.std.proofs.Common.{◌≡◌, ℕ, ◌+◌, ◌<◌, ◌≤◌, Bool, true, false, List, [], ◌∷◌, ◌++◌, Option, Some, length, refl, sym, ap, subst, ◌∙◌, arith}
 use Rattle.std.proofs.lemmas.Bool.{le-ltb, lt-leb, eq-eqb}
 use Rattle.std.proofs.lemmas.List.{length-append}
 use Rattle.std.proofs.lemmas.List.Elements.{All-head, All-tail}
@@ -17,10 +17,12 @@ use Rattle.crush_units.specs.declared.limits.TheConstants.{DEVICE_IDS, HEAVIEST_
 use Rattle.crush_table.specs.Table.{Row, is_device, row_of, row_named, is_there, is_named, sum_below, total, device_count}
 use Rattle.crush_table.specs.Columns.{without_row}
 use Rattle.crush_table.specs.Lawful.{Lawful, IsRow, IsRowOf, IsDeviceRow, is_over, is_too_heavy}
-use Rattle.crush_table.specs.Setting.{KindData, IsKind, is_reserved}
+use Rattle.crush_edits.specs.Setting.{KindData}
+use Rattle.crush_edits.specs.Fits.{IsKind, is_reserved}
 use Rattle.crush_table.proofs.Found.{times, row_of-absent}
 use Rattle.crush_map.specs.Built.{Draft, Pending, nothing, filling, with_kind, with_device, placed_row, put_below, table_with_item, with_item}
 use Rattle.crush_map.specs.Building.{has_name, has_pending_name, has_kind_number, has_kind_name, is_full_of_devices, is_full_of_kinds}
+use Rattle.crush_map.proofs.RowSteps.{new_device}
 use Rattle.crush_text.specs.Document.{IsMap}
 
 -- one or none
@@ -76,10 +78,10 @@ pub kind_free : (d : Draft) (n : ℕ) (x : List ℕ) → IsMap (with_kind d n x)
 kind_free d n x m =
     let kind : KindData = record { number = n; name = x } in
     record {
-      number = any_none (λ (k : KindData). k.number == n) d.setting.kinds (none_before (λ (k : KindData). k.number == n) d.setting.kinds kind (eq-eqb n n refl) (m.fits.numbers n));
-      name = any_none (λ (k : KindData). bytes_eq k.name x) d.setting.kinds (none_before (λ (k : KindData). bytes_eq k.name x) d.setting.kinds kind (same_bytes x) (m.fits.names x));
-      few = lt-leb 256 (length d.setting.kinds) (omega (arith, m.fits.few, length-append d.setting.kinds (kind ∷ [])));
-      kind = last_of IsKind d.setting.kinds kind m.fits.kinds;
+      number = any_none (λ (k : KindData). k.number == n) d.setting.kinds (none_before (λ (k : KindData). k.number == n) d.setting.kinds kind (eq-eqb n n refl) (m.fits.setting.numbers n));
+      name = any_none (λ (k : KindData). bytes_eq k.name x) d.setting.kinds (none_before (λ (k : KindData). bytes_eq k.name x) d.setting.kinds kind (same_bytes x) (m.fits.setting.names x));
+      few = lt-leb 256 (length d.setting.kinds) (omega (arith, m.fits.setting.few_kinds, length-append d.setting.kinds (kind ∷ [])));
+      kind = last_of IsKind d.setting.kinds kind m.fits.setting.kinds;
     }
 
 -- what the name of a type of buckets is: a name, and none of the grammar's words
@@ -139,8 +141,15 @@ device_free_by d n r is idle l =
     }
 
 -- and so is a device's
-pub device_free : (d : Draft) (n : ℕ) (x : List ℕ) → d.pending ≡ nothing → IsMap (with_device d n x) → DeviceFree d n x
-device_free d n x idle m = device_free_by d n (record { id = Device n; kind = 0; name = x; parent = None; weight = 0; class = None; alg = None; class_ids = [] }) refl idle m.lawful
+pub device_free : (d : Draft) (n : ℕ) (x : List ℕ) (class : Option (List ℕ)) → d.pending ≡ nothing → IsMap (with_device d n x class) → DeviceFree d n x
+device_free d n x class idle m = device_free_by d n (new_device n x class) refl idle m.lawful
+
+-- whose class has the form of a name
+pub class_form : (d : Draft) (n : ℕ) (x c : List ℕ) → IsMap (with_device d n x (Some c)) → IsName c
+class_form d n x c m =
+    let row = last_of IsRow d.table (new_device n x (Some c)) m.lawful.rows in
+    let own : IsDeviceRow n (new_device n x (Some c)) = row.form in
+    own.class
 
 -- a lawful table isn't too heavy
 light_item : (t : List Row) → Lawful t → (i : ItemId) → is_over t i ≡ false
@@ -178,7 +187,7 @@ row_light n b w (r ∷ t) all there = by_id (same_id r.id (Device n)) refl all t
     by_id false e all there ih = ih all there
 
 -- so the table with a device in the bucket that is being filled tells that it may weigh that
-pub light_device : (d : Draft) (b n w : ℕ) → d.pending ≡ filling b → is_there d.table (Device n) ≡ true → IsMap (with_item d (Device n) w) → w ≤ HEAVIEST_DEVICE
+pub light_device : (d : Draft) (b n w : ℕ) → d.pending ≡ filling b → is_there d.table (Device n) ≡ true → IsMap (with_item d (Device n) (Some w)) → w ≤ HEAVIEST_DEVICE
 light_device d b n w p there m =
     let l : Lawful (put_below b (Device n) w d.table) = subst (λ (q : Pending). Lawful (table_with_item q (Device n) w d.table)) p m.lawful in
     row_light n b w d.table (all_last IsRow (without_row (Device n) d.table) (map (placed_row b w) (filter (λ (r : Row). same_id r.id (Device n)) d.table)) l.rows) there

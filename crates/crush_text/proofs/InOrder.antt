@@ -9,7 +9,7 @@ use Rattle.crush_table.specs.Items.{LeafData, Items, none, bucket, size_of}
 use Rattle.crush_table.specs.Forest.{ForestData, rows_of, all_items, OnlyBuckets, IsSound}
 use Rattle.crush_table.specs.ItemRows.{device_row}
 use Rattle.crush_table.specs.Stands.{Stands}
-use Rattle.crush_table.specs.Setting.{SettingData}
+use Rattle.crush_edits.specs.Setting.{SettingData}
 use Rattle.crush_table.specs.Table.{Row}
 use Rattle.crush_table.proofs.Reorder.{reordered-length}
 use Rattle.crush_nodes.specs.Seen.{items_of, node_id}
@@ -68,6 +68,11 @@ found_all f start one two u r nothing first second is_u is_r =
 pub section_done : (old start out heading lines text : List ℕ) → start ≡ old ++ heading → out ≡ start ++ lines → lines ≡ text → out ≡ old ++ (heading ++ text)
 section_done old start out heading lines text begun ended are = ended ∙ (λ i. begun i ++ are i) ∙ append_assoc old heading text
 
+-- a section whose last lines may fail
+pub section_pushed : {X E : Type 0} (r : Result X E) (old start out heading lines text : List ℕ) → start ≡ old ++ heading → OnOk r (out ≡ start ++ lines) → lines ≡ text → OnOk r (out ≡ old ++ (heading ++ text))
+section_pushed (Ok x) old start out heading lines text begun ended are = section_done old start out heading lines text begun ended are
+section_pushed (Err e) old start out heading lines text begun ended are = tt
+
 -- THE ROOTS: each prints what the table says of the bucket of its number
 root_prints : {A : _} (s : SettingData) (t : List Row) (ns : List (Node A)) → Told t None (items_of ns) → OnlyBuckets (items_of ns) → size_of (items_of ns) ≤ length t
     → All (λ node. bucket_texts s t (length t) (BucketItem (id_number (node_id node))) ≡ texts s (items_of (node ∷ []))) ns
@@ -102,12 +107,13 @@ roots_in_order s f t ns are sound stands =
     ap (λ (l : List ℕ). flat_map text (ascending l)) (root_node_numbers ns (subst OnlyBuckets (sym are) sound.roots) ∙ ap root_ids are ∙ sym (root_ids-join f.unplaced f.roots sound.unplaced) ∙ sym (root_numbers_are (all_items f)))
     ∙ ap (flat_map text) (ascending-reordered root_number (rows_of f) t stands.same.rows)
 
--- the whole text, section by section; the last two are pushed at once, and that may fail
-pub map_done : {X E : Type 0} (r : Result X E) (old one two three four out tunables devices kinds buckets rules end : List ℕ) → one ≡ old ++ tunables → two ≡ one ++ devices → three ≡ two ++ kinds → four ≡ three ++ buckets
-    → out ≡ (if is_ok r then four ++ (rules ++ end) else four) → OnOk r (out ≡ old ++ (((((tunables ++ devices) ++ kinds) ++ buckets) ++ rules) ++ end))
-map_done (Ok x) old one two three four out tunables devices kinds buckets rules end a b c d e =
+-- the whole text, section by section; the last line may fail
+pub map_done : {X E : Type 0} (r : Result X E) (old one two three four five out tunables devices kinds buckets rules end : List ℕ) → one ≡ old ++ tunables → two ≡ one ++ devices → three ≡ two ++ kinds → four ≡ three ++ buckets → five ≡ four ++ rules
+    → out ≡ (if is_ok r then five ++ end else five) → OnOk r (out ≡ old ++ (((((tunables ++ devices) ++ kinds) ++ buckets) ++ rules) ++ end))
+map_done (Ok x) old one two three four five out tunables devices kinds buckets rules end a b c d e h =
     let begun : two ≡ old ++ (tunables ++ devices) = section_done old one two tunables devices devices a b refl in
     let more : three ≡ old ++ ((tunables ++ devices) ++ kinds) = section_done old two three (tunables ++ devices) kinds kinds begun c refl in
     let most : four ≡ old ++ (((tunables ++ devices) ++ kinds) ++ buckets) = section_done old three four ((tunables ++ devices) ++ kinds) buckets buckets more d refl in
-    section_done old four out (((tunables ++ devices) ++ kinds) ++ buckets) (rules ++ end) (rules ++ end) most e refl ∙ ap (λ (l : List ℕ). old ++ l) (sym (append_assoc (((tunables ++ devices) ++ kinds) ++ buckets) rules end))
-map_done (Err x) old one two three four out tunables devices kinds buckets rules end a b c d e = tt
+    let all : five ≡ old ++ ((((tunables ++ devices) ++ kinds) ++ buckets) ++ rules) = section_done old four five (((tunables ++ devices) ++ kinds) ++ buckets) rules rules most e refl in
+    section_done old five out ((((tunables ++ devices) ++ kinds) ++ buckets) ++ rules) end end all h refl
+map_done (Err x) old one two three four five out tunables devices kinds buckets rules end a b c d e h = tt

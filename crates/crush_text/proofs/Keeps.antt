@@ -4,7 +4,7 @@ use Rattle.std.proofs.lemmas.Bool.{and_parts, or_parts, ltb-true, leb-true}
 use Rattle.std.proofs.lemmas.Bool.Decides.{Decides-eqb}
 use Rattle.std.proofs.lemmas.Slice.Eq.{bytes_eq-Decides}
 use Rattle.std.proofs.lemmas.List.Elements.{All-nil}
-use Rattle.std.specs.Prelude.{◌||◌, ◌&&◌, ◌==◌, codes, bytes_eq, drop, length, nat_lt, nat_le, unwrap_or, slice_index}
+use Rattle.std.specs.Prelude.{◌||◌, ◌&&◌, ◌==◌, codes, bytes_eq, drop, length, nat_lt, nat_le, unwrap_or, slice_index, IfSome}
 use Rattle.std.specs.List.{list_any}
 use Rattle.std.specs.Str.Parse.{digits_value}
 use Rattle.crush_units.specs.declared.alg.Alg.{Alg}
@@ -14,19 +14,20 @@ use Rattle.crush_units.specs.declared.weight.WeightFault.{WeightFault}
 use Rattle.crush_units.specs.Name.{is_name, are_name_bytes, IsName}
 use Rattle.crush_units.specs.Weight.{are_digits, weight_of_text}
 use Rattle.crush_table.specs.Lawful.{Lawful, IsRow, HasParent}
-use Rattle.crush_table.specs.Setting.{KindData, SettingData, Fits, IsKind, HasKind}
+use Rattle.crush_edits.specs.Setting.{KindData, SettingData}
+use Rattle.crush_edits.specs.Fits.{Fits, IsKind, IsTunable, IsRule, IsThere, HasKind}
 use Rattle.crush_table.specs.Table.{Row, bucket_count, sum_below}
-use Rattle.crush_map.specs.Built.{Draft, Pending, nothing, begun as is_begun, numbered as is_numbered, filling as is_filling, empty_draft, pending_with_id, pending_row, pending_with_alg, with_alg}
+use Rattle.crush_map.specs.Built.{Draft, Pending, nothing, begun as is_begun, numbered as is_numbered, filling as is_filling, empty_draft, pending_with_id, pending_row, pending_with_alg, with_alg, with_device}
 use Rattle.crush_map.specs.Building.{CanBegin, CanNumber, IsRoot, is_bucket_kind, is_full_of_kinds, is_full_of_devices, is_full_of_buckets, item_named}
 use Rattle.crush_map.proofs.KindSteps.{less}
 use Rattle.crush_map.proofs.RowSteps.{new_bucket, bucket_lawful}
-use Rattle.crush_map.proofs.TableLaws.{Fits-push}
+use Rattle.crush_edits.proofs.FitLaws.{Fits-push}
 use Rattle.crush_bytes.specs.Words.{Word, Text, words, is_brace_word, AreFormed, begins_with_key}
 use Rattle.crush_bytes.proofs.Forms.{words_are_formed}
 use Rattle.crush_text.specs.declared.fault.TextFaultKind.TheVariants.{Unexpected, BadNumber, BadWeight, DuplicateId, DuplicateName, UnknownType, UnknownItem, LeftOut, TooMany, SumTooLarge}
 use Rattle.crush_text.specs.declared.reader.statement.Opening.TheVariants as openings
 use Rattle.crush_text.specs.Forms.{is_number}
-use Rattle.crush_text.specs.Role.{opening, value, number_of, item_of, units_or_none, units}
+use Rattle.crush_text.specs.Role.{opening, device_id, new_name, value, number_of, item_of, units_or_none, units}
 use Rattle.crush_text.specs.Form.{Mode, first, second, begun, numbered, filling, Progress, at, Form, done, word, optional}
 use Rattle.crush_text.specs.Grammar.{type_line, device_line, bucket_line, id_line, alg_line, item_line, statement, item_or_brace, lines, next}
 use Rattle.crush_text.specs.Rows.{IsNoWeightOf, IsOtherSum, IsRight}
@@ -143,18 +144,21 @@ module _ (d : Draft) (m : IsMap d) where
   -- a device
   keeps_device : d.pending ≡ nothing → is_full_of_devices d ≡ false → Keeps Good d (device_line d)
   keeps_device idle few = λ n fn rn. λ x fx rx. (
-    λ u fu ru. absurd (ru LeftOut tt),
-    record {
-      map = map_with_device d (digits_value 10 n) x m (number_most 2147483647 n (rn BadNumber)) (name_of x fx (not_true _ (λ t. rx Unexpected ((brace_tells x).0 t)))) (not_true _ (rn DuplicateId)) (not_true _ (rx DuplicateName)) few;
-      stage = idle;
-    },
+    λ k fk rk. λ c fc rc. made n x (Some c) rn fx rx (name_of c fc (not_true _ (λ t. rc Unexpected ((brace_tells c).0 t)))),
+    made n x None rn fx rx tt,
   )
+    where
+      made : (n x : List ℕ) (class : Option (List ℕ)) → IsRight d device_id n → IsWord x → IsRight d new_name x → IfSome class IsName → Good (at first (with_device d (digits_value 10 n) x class))
+      made n x class rn fx rx kind = record {
+        map = map_with_device d (digits_value 10 n) x class m (number_most 2147483647 n (rn BadNumber)) (name_of x fx (not_true _ (λ t. rx Unexpected ((brace_tells x).0 t)))) kind (not_true _ (rn DuplicateId)) (not_true _ (rx DuplicateName)) few;
+        stage = idle;
+      }
 
   -- the name of a bucket
   keeps_bucket : (k : List ℕ) → is_bucket_kind d.setting (number_of d k) ≡ true → is_full_of_buckets d ≡ false → Keeps Good d (bucket_line d (number_of d k))
   keeps_bucket k known few = λ x fx rx.
       let some = ltb-true 0 (number_of d k) (and_parts (nat_lt 0 (number_of d k)) (list_any (λ (y : KindData). y.number == number_of d k) d.setting.kinds) known).0 in
-      let t = kind_there d.setting.kinds k (number_of d k) m.fits.kinds refl some in
+      let t = kind_there d.setting.kinds k (number_of d k) m.fits.setting.kinds refl some in
       record {
         map = record { lawful = m.lawful; fits = m.fits };
         stage = (
@@ -258,11 +262,21 @@ nothing_there = record {
     buckets = omega arith;
   };
   fits = record {
-    numbers = λ n. omega arith;
-    names = λ n. omega arith;
-    kinds = All-nil IsKind;
-    few = omega arith;
-    types = All-nil (HasKind (record { kinds = [] }));
+    setting = record {
+      numbers = λ n. omega arith;
+      names = λ n. omega arith;
+      tunable_names = λ n. omega arith;
+      rule_names = λ n. omega arith;
+      rule_ids = λ n. omega arith;
+      kinds = All-nil IsKind;
+      tunables = All-nil IsTunable;
+      rules = All-nil (IsRule empty_draft.setting);
+      few_kinds = omega arith;
+      few_tunables = omega arith;
+      few_rules = omega arith;
+    };
+    types = All-nil (HasKind empty_draft.setting);
+    taken = All-nil (IsThere []);
   };
 }
 

@@ -1,8 +1,8 @@
 -- With a line that has no fault, table and setting are lawful.
 use Rattle.std.proofs.Common.{◌≡◌, ℕ, ◌<◌, ◌≤◌, Bool, true, false, List, [], ◌∷◌, ◌++◌, Option, Some, None, refl, sym, ap, subst, ◌∙◌, arith}
 use Rattle.std.proofs.lemmas.Bool.{eq-eqb, or_parts, or_right}
-use Rattle.std.proofs.lemmas.List.Elements.{All-head, All-tail, All-filter, All-map, All-append}
-use Rattle.std.specs.Prelude.{◌==◌, not, bytes_eq, map, filter, find, is_some, unwrap_or, option_and_then, All, if◌then◌else◌}
+use Rattle.std.proofs.lemmas.List.Elements.{All-head, All-tail}
+use Rattle.std.specs.Prelude.{◌==◌, not, bytes_eq, map, filter, find, is_some, unwrap_or, option_and_then, All, IfSome, if◌then◌else◌}
 use Rattle.std.specs.List.{list_any}
 use Rattle.std.specs.Option.{option_map}
 use Rattle.crush_units.specs.declared.id.ItemId.{ItemId}
@@ -13,15 +13,16 @@ use Rattle.crush_units.proofs.Ids.{same_id_refl, same_id_equal}
 use Rattle.crush_table.specs.Table.{Row, sum_below, is_device, is_device_id, row_of, row_named, id_named, is_there, member, used_ids}
 use Rattle.crush_table.specs.Columns.{is_part, without_row}
 use Rattle.crush_table.specs.Lawful.{Lawful, is_too_heavy}
-use Rattle.crush_table.specs.Setting.{KindData, SettingData, IsKind, Fits, HasKind, is_reserved}
+use Rattle.crush_edits.specs.Setting.{KindData}
+use Rattle.crush_edits.specs.Fits.{IsKind, Fits, is_reserved}
 use Rattle.crush_table.proofs.Appended.{row_of-append, unused_fresh}
 use Rattle.crush_table.proofs.Removed.{row_of-only}
 use Rattle.crush_map.specs.Built.{Draft, Pending, nothing, begun, numbered, filling, with_kind, with_device, placed_row, put_below, table_with_item, with_item}
 use Rattle.crush_map.specs.Building.{IsRoot, is_open, has_name, closed_item, item_named, has_kind_number, has_kind_name, is_full_of_devices, is_full_of_kinds}
 use Rattle.crush_map.proofs.KindSteps.{Fits-with_kind}
 use Rattle.crush_map.proofs.RowSteps.{new_device, device_lawful}
-use Rattle.crush_map.proofs.TableLaws.{Fits-push, Fits-rows}
-use Rattle.crush_map.proofs.ItemSteps.{is_no_part, item_lawful}
+use Rattle.crush_edits.proofs.FitLaws.{Fits-push}
+use Rattle.crush_map.proofs.ItemSteps.{is_no_part, item_lawful, put_fits}
 use Rattle.crush_text.specs.Document.{IsMap}
 
 -- a type more
@@ -32,10 +33,10 @@ map_with_kind d n x m most form free number name few = record {
 }
 
 -- a device more
-pub map_with_device : (d : Draft) (n : ℕ) (x : List ℕ) → IsMap d → n ≤ 2147483647 → IsName x → is_there d.table (Device n) ≡ false → has_name d x ≡ false → is_full_of_devices d ≡ false → IsMap (with_device d n x)
-map_with_device d n x m most form number name few = record {
-  lawful = device_lawful d.table n x m.lawful (omega arith) form number ((or_parts _ _ name).0) few;
-  fits = Fits-push d.setting d.table (new_device n x) m.fits (λ some. absurd (omega (arith, some)));
+pub map_with_device : (d : Draft) (n : ℕ) (x : List ℕ) (class : Option (List ℕ)) → IsMap d → n ≤ 2147483647 → IsName x → IfSome class IsName → is_there d.table (Device n) ≡ false → has_name d x ≡ false → is_full_of_devices d ≡ false → IsMap (with_device d n x class)
+map_with_device d n x class m most form kind number name few = record {
+  lawful = device_lawful d.table n x class m.lawful (omega arith) form kind number ((or_parts _ _ name).0) few;
+  fits = Fits-push d.setting d.table (new_device n x class) m.fits (λ some. absurd (omega (arith, some)));
 }
 
 -- a number is that of a type
@@ -140,31 +141,23 @@ lawful_below t (Bucket x) b w l small there stands far h =
     let same : put_below b (Bucket x) 0 t ≡ put_below b (Bucket x) w t = bucket_table (filling b) x 0 w t in
     subst Lawful same (item_lawful t (Bucket x) b 0 l there stands far (λ _. omega arith) (ap is_too_heavy same ∙ h))
 
--- and the setting fits it
-fits_below : (s : SettingData) (t : List Row) (i : ItemId) (b w : ℕ) → Fits s t → Fits s (put_below b i w t)
-fits_below s t i b w f =
-    Fits-rows s t (put_below b i w t) f
-    (All-append (HasKind s) (without_row i t) (map (placed_row b w) (filter (λ (r : Row). same_id r.id i) t))
-    (All-filter (λ (r : Row). not (same_id r.id i)) (HasKind s) t f.types)
-    (All-map (HasKind s) (placed_row b w) (filter (λ (r : Row). same_id r.id i) t) (All-filter (λ (r : Row). same_id r.id i) (HasKind s) t f.types)))
-
 -- an item more
 pub record ItemMade (d : Draft) (i : ItemId) (w b : ℕ) : Type 0 where
-  pub map : IsMap (with_item d i w)
-  pub root : IsRoot (with_item d i w).table b
+  pub map : IsMap (with_item d i (Some w))
+  pub root : IsRoot (with_item d i (Some w)).table b
 
 -- an item's line makes it
-pub map_with_item : (d : Draft) (x : List ℕ) (i : ItemId) (w b : ℕ) → IsMap d → d.pending ≡ filling b → IsRoot d.table b → item_named d x ≡ Some i → IsWeightOf d i w → is_too_heavy (with_item d i w).table ≡ false → ItemMade d i w b
+pub map_with_item : (d : Draft) (x : List ℕ) (i : ItemId) (w b : ℕ) → IsMap d → d.pending ≡ filling b → IsRoot d.table b → item_named d x ≡ Some i → IsWeightOf d i w → is_too_heavy (with_item d i (Some w)).table ≡ false → ItemMade d i w b
 map_with_item d x i w b m p root named weight light =
     let l = listable d x i named in
-    let is : (with_item d i w).table ≡ put_below b i w d.table = ap (λ (q : Pending). table_with_item q i w d.table) p in
+    let is : (with_item d i (Some w)).table ≡ put_below b i w d.table = ap (λ (q : Pending). table_with_item q i w d.table) p in
     let other : same_id (Bucket b) i ≡ false = ap (λ (q : Pending). is_open q i) (sym p) ∙ l.closed in
     let far = is_no_part d.table m.lawful i b root other in
     let h : is_too_heavy (put_below b i w d.table) ≡ false = ap is_too_heavy (sym is) ∙ light in
     record {
       map = record {
         lawful = subst Lawful (sym is) (lawful_below d.table i b w m.lawful (light_weight d i w weight) l.there root.there far h);
-        fits = subst (Fits d.setting) (sym is) (fits_below d.setting d.table i b w m.fits);
+        fits = subst (Fits d.setting) (sym is) (put_fits d.setting d.table i b w m.lawful l.there m.fits);
       };
       root = subst (λ (t : List Row). IsRoot t b) (sym is) (root_kept d.table i b w root other);
     }

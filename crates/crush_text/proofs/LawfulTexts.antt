@@ -15,14 +15,14 @@ use Rattle.crush_units.specs.declared.weight.WeightFault.{WeightFault}
 use Rattle.crush_units.specs.Alg.{alg_text, alg_of_text}
 use Rattle.crush_units.specs.Weight.{are_digits, weight_of_text}
 use Rattle.crush_table.specs.Table.{sum_below}
-use Rattle.crush_table.specs.Setting.{KindData}
+use Rattle.crush_edits.specs.Setting.{KindData}
 use Rattle.crush_map.specs.Built.{Draft}
 use Rattle.crush_map.specs.Building.{IsPending, is_bucket_kind, item_named}
 use Rattle.crush_bytes.specs.Words.{Word, words, AreFormed, begins_with_key}
 use Rattle.crush_bytes.proofs.Forms.{words_are_formed}
 use Rattle.crush_text.specs.declared.fault.TextFaultKind.TheVariants.{Unexpected, BadNumber, BadWeight, UnknownType, UnknownItem, SecondParent, OtherAlgorithm, LeftOut}
 use Rattle.crush_text.specs.Forms.{is_number}
-use Rattle.crush_text.specs.Role.{Role, value, number_of, units, units_or_none, key, opening, type_number, type_name, device_id, new_name, unread, bucket_id, alg_key, algorithm, hash_number, item_or_end, item, weight_key, weight}
+use Rattle.crush_text.specs.Role.{Role, value, number_of, units, units_or_none, key, opening, type_number, type_name, device_id, new_name, class_name, bucket_id, alg_key, algorithm, hash_number, item_or_end, item, weight_key, weight}
 use Rattle.crush_text.specs.Form.{Mode, first, second, begun, numbered, filling, Progress, Form, done, word, optional}
 use Rattle.crush_text.specs.Grammar.{next}
 use Rattle.crush_text.specs.Rows.{IsNoWeightOf, IsOtherSum, IsRight}
@@ -162,7 +162,7 @@ is_for d type_number w h = digits_of 65535 w (h BadNumber)
 is_for d (type_name n) w h = tt
 is_for d device_id w h = digits_of 2147483647 w (h BadNumber)
 is_for d new_name w h = tt
-is_for d unread w h = absurd (h LeftOut tt)
+is_for d class_name w h = tt
 is_for d bucket_id w h =
     let parts = and_parts ((slice_index w 0 == 45) && is_number 2147483648 (drop 1 w)) (nat_lt 0 (digits_value 10 (drop 1 w))) (not_false _ (h BadNumber)) in
     let digits = and_parts (slice_index w 0 == 45) (is_number 2147483648 (drop 1 w)) parts.0 in

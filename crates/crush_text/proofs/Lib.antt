@@ -14,6 +14,7 @@ pub mod OneOfBoth
 pub mod PrintedMaps
 pub mod SameText
 pub mod Sorting
+pub mod TakenNames
 pub mod TheTable
 pub mod Told
 pub mod Weighed

@@ -1,13 +1,14 @@
 -- What the empty map and the plain example map print, computed.
 use Rattle.std.proofs.Common.{◌≡◌, refl}
-use Rattle.std.specs.Prelude.{ℕ, List, [], ◌∷◌, Some, None, codes}
+use Rattle.std.specs.Prelude.{ℕ, pos, negsuc, true, false, List, [], ◌∷◌, Some, None, codes}
 use Rattle.std.specs.Fmt.{digits}
 use Rattle.crush_units.specs.declared.alg.Alg.TheVariants.{Straw, Straw2}
 use Rattle.crush_table.specs.Items.{LeafData, HeaderData, none, device, bucket}
 use Rattle.crush_table.specs.Forest.{rows_of}
-use Rattle.crush_table.specs.Setting.{KindData, SettingData}
+use Rattle.crush_edits.specs.Setting.{KindData, SettingData, RuleData, take, choose, set, emit}
 use Rattle.crush_table.specs.Table.{Row}
-use Rattle.crush_text.specs.Lines.{device_line, kind_line, item_line, class_id_line, bucket_head, bucket_choice, bucket_lines}
+use Rattle.crush_text.specs.Lines.{tunable_line, device_line, kind_line, item_line, class_id_line, bucket_head, bucket_choice, bucket_lines}
+use Rattle.crush_text.specs.RuleLines.{bucket_name, take_line, choice_text, choose_line, set_line, rule_head, size_line, rule_lines}
 use Rattle.crush_text.specs.MapText.{device_numbers, kind_numbers, root_numbers, device_lines, root_texts, of_row, kind_text, kids_lines, bucket_text, bucket_texts, tunable_section, device_section, kind_section, bucket_section, rule_section, map_text}
 
 -- a device without class
@@ -35,10 +36,10 @@ example = rows_of (record {
 
 -- the types of the plain example map
 abbrev setting : SettingData
-setting = record { kinds = type 0 (codes "osd") ∷ (type 1 (codes "host") ∷ (type 3 (codes "rack") ∷ (type 11 (codes "root") ∷ []))) }
+setting = record { kinds = type 0 (codes "osd") ∷ (type 1 (codes "host") ∷ (type 3 (codes "rack") ∷ (type 11 (codes "root") ∷ []))); tunables = []; rules = [] }
 
 -- the map without anything
-empty_map : map_text (record { kinds = [] }) [] ≡ codes "# begin crush map\n\n# devices\n\n# types\n\n# buckets\n\n# rules\n\n# end crush map\n"
+empty_map : map_text (record { kinds = []; tunables = []; rules = [] }) [] ≡ codes "# begin crush map\n\n# devices\n\n# types\n\n# buckets\n\n# rules\n\n# end crush map\n"
 unfolding map_text tunable_section device_section kind_section bucket_section rule_section device_lines root_texts device_numbers kind_numbers root_numbers
 empty_map = refl
 
@@ -96,3 +97,40 @@ two_roots_devices = refl
 two_roots_buckets : bucket_section setting two_roots ≡ codes "\n# buckets\nroot spare {\n\tid -4\t\t# do not change unnecessarily\n\t# weight 0.00000\n\talg straw2\n\thash 0\t# rjenkins1\n}\nhost h9 {\n\tid -9\t\t# do not change unnecessarily\n\tid -10 class ssd\t\t# do not change unnecessarily\n\t# weight 0.00002\n\talg straw\n\thash 0\t# rjenkins1\n\titem osd.12 weight 0.00002\n}\n"
 unfolding bucket_section root_texts root_numbers bucket_texts bucket_text of_row kids_lines item_line class_id_line bucket_head bucket_choice bucket_lines kind_text digits
 two_roots_buckets = refl
+
+-- the example map with a tunable and a rule
+abbrev replicated : RuleData
+replicated = record {
+  name = codes "replicated_rule";
+  id = 0;
+  kind = codes "replicated";
+  min_size = None;
+  max_size = None;
+  steps = take 1 None ∷ (choose true true (pos 0) (codes "host") ∷ (emit ∷ []));
+}
+
+abbrev whole : SettingData
+whole = record { kinds = setting.kinds; tunables = record { name = codes "choose_total_tries"; value = 50 } ∷ []; rules = replicated ∷ [] }
+
+whole_tunables : tunable_section whole ≡ codes "# begin crush map\ntunable choose_total_tries 50\n"
+unfolding tunable_section tunable_line digits
+whole_tunables = refl
+
+whole_rules : rule_section whole example ≡ codes "\n# rules\nrule replicated_rule {\n\tid 0\n\ttype replicated\n\tstep take default\n\tstep chooseleaf firstn 0 type host\n\tstep emit\n}\n"
+unfolding rule_section rule_lines rule_head size_line bucket_name take_line choose_line choice_text digits
+whole_rules = refl
+
+-- a rule with both sizes and a step of each kind, over a bucket that has another name by now
+abbrev every_step : RuleData
+every_step = record {
+  name = codes "ec";
+  id = 7;
+  kind = codes "erasure";
+  min_size = Some 3;
+  max_size = Some 6;
+  steps = set (codes "set_chooseleaf_tries") 5 ∷ (take 9 (Some ssd) ∷ (choose false true (pos 2) (codes "host") ∷ (choose false false (negsuc 0) (codes "osd") ∷ (choose true false (pos 0) (codes "host") ∷ (emit ∷ [])))));
+}
+
+every_step_lines : rule_lines two_roots every_step ≡ codes "rule ec {\n\tid 7\n\ttype erasure\n\tmin_size 3\n\tmax_size 6\n\tstep set_chooseleaf_tries 5\n\tstep take h9 class ssd\n\tstep choose firstn 2 type host\n\tstep choose indep -1 type osd\n\tstep chooseleaf indep 0 type host\n\tstep emit\n}\n"
+unfolding rule_lines rule_head size_line bucket_name take_line choose_line set_line choice_text digits
+every_step_lines = refl

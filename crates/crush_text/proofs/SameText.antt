@@ -1,17 +1,18 @@
 -- Tables that are the same, but for the order of their rows, print the same text.
 use Rattle.std.proofs.Common.{◌≡◌, ℕ, zero, suc, List, [], ◌++◌, refl, ap, ◌∙◌}
-use Rattle.std.specs.Prelude.{flat_map, length, codes}
-use Rattle.std.specs.Option.{option_map_or}
+use Rattle.std.specs.Prelude.{flat_map, length, codes, unwrap_or}
+use Rattle.std.specs.Option.{option_map, option_map_or}
 use Rattle.crush_units.specs.declared.id.ItemId.{ItemId}
 use Rattle.crush_units.specs.declared.id.ItemId.TheVariants.{Device, Bucket}
 use Rattle.crush_table.specs.Lawful.{Lawful}
 use Rattle.crush_table.specs.Same.{Same}
-use Rattle.crush_table.specs.Setting.{SettingData}
+use Rattle.crush_edits.specs.Setting.{StepData, take, choose, set, emit, RuleData, SettingData}
 use Rattle.crush_table.specs.Table.{Row, item_weight}
 use Rattle.crush_table.proofs.Found.{row_of-same}
 use Rattle.crush_table.proofs.Reorder.{reordered-length}
 use Rattle.crush_table.proofs.Same.{sum_below-same, item_weight-same}
 use Rattle.crush_text.specs.Lines.{device_line, item_line, bucket_lines}
+use Rattle.crush_text.specs.RuleLines.{bucket_name, take_line, step_line, rule_head, size_line, rule_lines}
 use Rattle.crush_text.specs.MapText.{device_number, root_number, device_numbers, root_numbers, of_row, kind_text, kids_lines, bucket_text, bucket_texts, device_lines, root_texts, tunable_section, device_section, kind_section, bucket_section, rule_section, map_text, SameTablesPrintAlike}
 use Rattle.crush_text.proofs.Sorting.{ascending-reordered}
 
@@ -50,8 +51,24 @@ module _ (s : SettingData) (t u : List Row) (l : Lawful t) (same : Same t u) whe
   unfolding root_texts root_numbers
   root_texts-same = ap (λ n. flat_map (λ b. bucket_texts s t n (Bucket b)) (root_numbers t)) (reordered-length same.rows) ∙ (λ k. flat_map (λ b. bucket_texts-same (length u) (Bucket b) k) (ascending-reordered root_number t u same.rows k))
 
+  -- of a taken bucket its name
+  bucket_name-same : (b : ℕ) → bucket_name t b ≡ bucket_name u b
+  unfolding bucket_name
+  bucket_name-same b = ap (λ o. unwrap_or (option_map (λ (r : Row). r.name) o) []) (row_of-same t u same.rows l.ids (Bucket b))
+
+  step_line-same : (x : StepData) → step_line t x ≡ step_line u x
+  step_line-same (take b class) = ap (λ n. take_line n class) (bucket_name-same b)
+  step_line-same (choose leaf firstn count kind) = refl
+  step_line-same (set name value) = refl
+  step_line-same emit = refl
+
+  rule_lines-same : (r : RuleData) → rule_lines t r ≡ rule_lines u r
+  unfolding rule_lines
+  rule_lines-same r = ap (λ l. rule_head r ++ size_line (codes "\tmin_size ") r.min_size ++ size_line (codes "\tmax_size ") r.max_size ++ l ++ codes "}\n") (λ k. flat_map (λ x. step_line-same x k) r.steps)
+
 -- whatever the order of the rows
 pub map_text-same : SameTablesPrintAlike
 unfolding map_text device_section bucket_section rule_section
 map_text-same s t u l same =
-    λ k. tunable_section s ++ (codes "\n# devices\n" ++ device_lines-same s t u l same k) ++ kind_section s ++ (codes "\n# buckets\n" ++ root_texts-same s t u l same k) ++ rule_section s t ++ codes "\n# end crush map\n"
+    λ k. tunable_section s ++ (codes "\n# devices\n" ++ device_lines-same s t u l same k) ++ kind_section s ++ (codes "\n# buckets\n" ++ root_texts-same s t u l same k)
+    ++ (codes "\n# rules\n" ++ flat_map (λ r. rule_lines-same s t u l same r k) s.rules) ++ codes "\n# end crush map\n"

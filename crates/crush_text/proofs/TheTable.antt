@@ -10,13 +10,13 @@ use Rattle.crush_units.specs.declared.weight.WeightFault.{WeightFault}
 use Rattle.crush_units.specs.Alg.{alg_of_text}
 use Rattle.crush_units.specs.Weight.{weight_of_text}
 use Rattle.crush_table.specs.Table.{sum_below}
-use Rattle.crush_table.specs.Setting.{is_reserved}
+use Rattle.crush_edits.specs.Fits.{is_reserved}
 use Rattle.crush_map.specs.Built.{Draft}
 use Rattle.crush_map.specs.Building.{item_named, is_bucket_kind}
 use Rattle.crush_bytes.specs.Words.{is_brace_word}
 use Rattle.crush_text.specs.declared.fault.TextFaultKind.{TextFaultKind}
 use Rattle.crush_text.specs.declared.fault.TextFaultKind.TheVariants.{BadWord, Ended, Unexpected, BadNumber, BadWeight, DuplicateId, DuplicateName, UnknownType, UnknownItem, SecondParent, OtherAlgorithm, LeftOut, UnknownBucketInRule, TooMany, SumTooLarge, OutOfMemory}
-use Rattle.crush_text.specs.Role.{Role, number_of, units, key, opening, type_number, type_name, device_id, new_name, unread, bucket_id, alg_key, algorithm, hash_number, item_or_end, item, weight_key, weight}
+use Rattle.crush_text.specs.Role.{Role, number_of, units, key, opening, type_number, type_name, device_id, new_name, bucket_id, alg_key, algorithm, hash_number, item_or_end, item, weight_key, weight}
 use Rattle.crush_text.specs.Tests.{tests, is_either, is_left_out, is_known, is_weight_for, is_other_sum}
 use Rattle.crush_text.specs.Rows.{IsBrace, IsUnexpected, IsBadNumber, IsNoWeightOf, IsBadWeight, IsDuplicateId, IsDuplicateName, IsUnknownType, IsUnknownItem, IsSecondParent, IsOtherAlgorithm, IsOtherSum, IsLeftOut, IsTooMany, IsSumTooLarge, Holds}
 use Rattle.crush_text.proofs.Judged.{fires, above, not_below}
@@ -117,7 +117,6 @@ module _ (d : Draft) (w : List ℕ) where
   unexpected (key k) = Decides-not _ (bytes_eq-Decides w k)
   unexpected (opening late) = Decides-or _ _ (brace_tells w) (Decides-or _ _ (bytes_eq-Decides w _) (Decides-and _ _ (itself late) (Decides-or _ _ (bytes_eq-Decides w _) (either_tells w _ _))))
   unexpected (type_name n) = Decides-or _ _ (brace_tells w) (Decides-and _ _ (itself (is_reserved w)) (Decides-not _ (Decides-eqb n 0)))
-  unexpected unread = no_row
   unexpected alg_key = none_of_two w _ _
   unexpected (item_or_end any) = nor_third any w _ _ _
   unexpected weight_key = no_row
@@ -163,7 +162,6 @@ module _ (d : Draft) (w : List ℕ) where
 
   left_out : (r : Role) → Decides (fires LeftOut (tests d r w)) (IsLeftOut d r w)
   left_out (opening late) = left_out_tells w
-  left_out unread = each_row
   left_out alg_key = bytes_eq-Decides w _
   left_out (item_or_end any) = bytes_eq-Decides w _
   left_out weight_key = Decides-not _ (bytes_eq-Decides w _)

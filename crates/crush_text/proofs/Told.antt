@@ -13,7 +13,7 @@ use Rattle.crush_table.specs.Forest.{ForestData, rows_of, all_items, join, OnlyD
 use Rattle.crush_table.specs.ItemRows.{rows, device_row, bucket_row}
 use Rattle.crush_table.specs.Stands.{Stands}
 use Rattle.crush_table.specs.Stored.{stored_weight}
-use Rattle.crush_table.specs.Setting.{SettingData}
+use Rattle.crush_edits.specs.Setting.{SettingData}
 use Rattle.crush_table.specs.Table.{Row, row_of, kids, sum_below, item_weight}
 use Rattle.crush_table.specs.Count.{one_if}
 use Rattle.crush_table.proofs.Sums.{buckets, buckets-rows, stored_weight-absent}

@@ -1,7 +1,7 @@
 -- What is read of a whole text.
 use Rattle.std.proofs.Common.{◌≡◌, ℕ, List, Ok, sym, ap, ◌∙◌, inl, inr, refl}
 use Rattle.crush_table.specs.Table.{Row}
-use Rattle.crush_table.specs.Setting.{SettingData}
+use Rattle.crush_edits.specs.Setting.{SettingData}
 use Rattle.crush_map.specs.Built.{Draft}
 use Rattle.crush_bytes.specs.Words.{Text, words}
 use Rattle.crush_text.specs.declared.fault.TextFault.{TextFault}

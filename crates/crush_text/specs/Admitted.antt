@@ -7,11 +7,11 @@ use Rattle.crush_units.specs.declared.id.ItemId.TheVariants.{Device, Bucket}
 use Rattle.crush_units.specs.Alg.{alg_text}
 use Rattle.crush_units.specs.Weight.{are_digits, weight_of_text}
 use Rattle.crush_table.specs.Table.{Row, is_placed, sum_below}
-use Rattle.crush_table.specs.Setting.{SettingData}
+use Rattle.crush_edits.specs.Setting.{SettingData}
 use Rattle.crush_map.specs.Built.{Draft}
 use Rattle.crush_map.specs.Building.{IsPending, item_named}
 use Rattle.crush_bytes.specs.Words.{Word, ended, words}
-use Rattle.crush_text.specs.Role.{Role, value, number_of, item_of, units, key, opening, type_number, type_name, device_id, new_name, unread, bucket_id, alg_key, algorithm, hash_number, item_or_end, item, weight_key, weight}
+use Rattle.crush_text.specs.Role.{Role, value, number_of, item_of, units, key, opening, type_number, type_name, device_id, new_name, class_name, bucket_id, alg_key, algorithm, hash_number, item_or_end, item, weight_key, weight}
 use Rattle.crush_text.specs.Form.{Form, done, word, optional}
 use Rattle.crush_text.specs.Grammar.{next}
 use Rattle.crush_text.specs.Flow.{State, between, amid, arrive}
@@ -40,7 +40,7 @@ IsFor d type_number w = are_digits 10 w ≡ true
 IsFor d (type_name n) w = Unit {0}
 IsFor d device_id w = are_digits 10 w ≡ true
 IsFor d new_name w = Unit {0}
-IsFor d unread w = ⊥
+IsFor d class_name w = Unit {0}
 IsFor d bucket_id w = (slice_index w 0 ≡ 45) × (are_digits 10 (drop 1 w) ≡ true)
 IsFor d alg_key w = w ≡ codes "alg"
 IsFor d algorithm w = (a : Alg) × (w ≡ alg_text a)

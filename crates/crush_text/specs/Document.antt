@@ -1,7 +1,8 @@
 -- Which words spell lines, which texts are documents, and what map a text is.
 use Rattle.std.specs.Prelude.{◌≡◌, ℕ, true, List, [], ◌∷◌, ◌++◌}
 use Rattle.crush_table.specs.Table.{Row}
-use Rattle.crush_table.specs.Setting.{SettingData, Fits}
+use Rattle.crush_edits.specs.Setting.{SettingData}
+use Rattle.crush_edits.specs.Fits.{Fits}
 use Rattle.crush_table.specs.Lawful.{Lawful}
 use Rattle.crush_map.specs.Built.{Draft, empty_draft}
 use Rattle.crush_bytes.specs.Words.{Word, Text, ended, words}

@@ -1,10 +1,10 @@
 -- THE GRAMMAR, line by line. A line ends where the map grows by it.
-use Rattle.std.specs.Prelude.{ℕ, Bool, true, false, codes, if◌then◌else◌}
+use Rattle.std.specs.Prelude.{ℕ, Bool, List, true, false, codes, if◌then◌else◌, Some, None}
 use Rattle.crush_units.specs.declared.id.ItemId.{ItemId}
 use Rattle.crush_map.specs.Built.{Draft, with_kind, with_device, begun_bucket, with_id, with_alg, with_item, with_end}
 use Rattle.crush_text.specs.declared.reader.statement.Opening.{Opening}
 use Rattle.crush_text.specs.declared.reader.statement.Opening.TheVariants as openings
-use Rattle.crush_text.specs.Role.{key, opening, type_number, type_name, device_id, new_name, unread, bucket_id, alg_key, algorithm, hash_number, item_or_end, item, weight_key, weight}
+use Rattle.crush_text.specs.Role.{key, opening, type_number, type_name, device_id, new_name, class_name, bucket_id, alg_key, algorithm, hash_number, item_or_end, item, weight_key, weight}
 use Rattle.crush_text.specs.Form.{Mode, first, second, begun, numbered, filling, Progress, at, Form, done, optional, ◌>>=◌, ◌>>◌}
 
 -- `type` N NAME
@@ -14,16 +14,21 @@ type_line d = do
   x ← type_name n
   done (at first (with_kind d n x))
 
--- `device` N NAME; a class isn't read
+-- [`class` CLASS]
+abbrev pub device_class : Draft → ℕ → List ℕ → Form
+device_class d n x = optional (codes "class")
+    (do
+      key (codes "class")
+      c ← class_name
+      done (at first (with_device d n x (Some c))))
+    (done (at first (with_device d n x None)))
+
+-- `device` N NAME [`class` CLASS]
 abbrev pub device_line : Draft → Form
 device_line d = do
   n ← device_id
   x ← new_name
-  optional (codes "class")
-      (do
-        unread
-        done (at first d))
-      (done (at first (with_device d n x)))
+  device_class d n x
 
 -- TYPE NAME
 abbrev pub bucket_line : Draft → ℕ → Form
@@ -55,7 +60,7 @@ alg_line d = do
 abbrev pub item_weight : Draft → ItemId → Form
 item_weight d i = do
   w ← weight i
-  done (at (filling true) (with_item d i w))
+  done (at (filling true) (with_item d i (Some w)))
 
 -- `item` NAME `weight` WEIGHT
 abbrev pub item_line : Draft → Form

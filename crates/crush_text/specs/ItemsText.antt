@@ -4,7 +4,7 @@ use Rattle.crush_units.specs.declared.id.ItemId.{ItemId}
 use Rattle.crush_units.specs.declared.id.ItemId.TheVariants.{Device, Bucket}
 use Rattle.crush_table.specs.Items.{LeafData, HeaderData, Items, none, device, bucket}
 use Rattle.crush_table.specs.ItemRows.{bucket_row}
-use Rattle.crush_table.specs.Setting.{SettingData}
+use Rattle.crush_edits.specs.Setting.{SettingData}
 use Rattle.crush_text.specs.Lines.{item_line, bucket_lines}
 use Rattle.crush_text.specs.MapText.{kind_text}
 

@@ -12,5 +12,6 @@ pub mod MapOrFlaw
 pub mod MapText
 pub mod Reads
 pub mod Role
+pub mod RuleLines
 pub mod Rows
 pub mod Tests

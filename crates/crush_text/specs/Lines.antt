@@ -7,6 +7,7 @@ use Rattle.crush_units.specs.Alg.{alg_text}
 use Rattle.crush_units.specs.Weight.{weight_text}
 use Rattle.crush_table.specs.Items.{ShadowData}
 use Rattle.crush_table.specs.Table.{Row}
+use Rattle.crush_edits.specs.Setting.{TunableData}
 
 -- an item's id: that of a bucket is below 0
 abbrev pub id_text : ItemId → List ℕ
@@ -17,6 +18,10 @@ id_text (Bucket b) = 45 ∷ decimal b
 abbrev pub class_text : Option (List ℕ) → List ℕ
 class_text None = []
 class_text (Some c) = codes " class " ++ c
+
+-- `tunable NAME N`
+unfoldable pub tunable_line : TunableData → List ℕ
+tunable_line k = codes "tunable " ++ k.name ++ codes " " ++ decimal k.value ++ codes "\n"
 
 -- `device N NAME`, and its class
 unfoldable pub device_line : Row → List ℕ

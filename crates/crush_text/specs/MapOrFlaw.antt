@@ -1,7 +1,8 @@
 -- What bytes can be: the text of one map, or bytes with one flaw.
 use Rattle.std.specs.Prelude.{◌≡◌, ◌⊎◌, ◌↔◌, ℕ, List, ◌∷◌, ◌++◌, Err}
 use Rattle.crush_table.specs.Table.{Row}
-use Rattle.crush_table.specs.Setting.{SettingData, Fits}
+use Rattle.crush_edits.specs.Setting.{SettingData}
+use Rattle.crush_edits.specs.Fits.{Fits}
 use Rattle.crush_table.specs.Lawful.{Lawful}
 use Rattle.crush_map.specs.Built.{Draft}
 use Rattle.crush_text.specs.declared.fault.TextFaultKind.{TextFaultKind}

@@ -1,13 +1,15 @@
 -- The printed form of a map, written from its table: docs/FORMATS.md has the same in words.
-use Rattle.std.specs.Prelude.{◌≡◌, ℕ, zero, suc, List, [], ◌∷◌, ◌++◌, if◌then◌else◌, is_some, nat_le, length, map, flat_map, unwrap_or, codes}
+use Rattle.std.specs.Prelude.{◌≡◌, ℕ, zero, suc, List, [], ◌∷◌, ◌++◌, if◌then◌else◌, Some, is_some, nat_le, length, All, map, flat_map, unwrap_or, codes}
 use Rattle.std.specs.Option.{option_map_or}
 use Rattle.crush_units.specs.declared.id.ItemId.{ItemId}
 use Rattle.crush_units.specs.declared.id.ItemId.TheVariants.{Device, Bucket}
 use Rattle.crush_table.specs.Lawful.{Lawful}
 use Rattle.crush_table.specs.Same.{Same}
-use Rattle.crush_table.specs.Setting.{KindData, SettingData, kind_name}
+use Rattle.crush_edits.specs.Setting.{KindData, SettingData, kind_name, taken_buckets}
+use Rattle.crush_edits.specs.Fits.{Fits}
 use Rattle.crush_table.specs.Table.{Row, row_of, kids, sum_below, item_weight, bucket_ids}
-use Rattle.crush_text.specs.Lines.{device_line, kind_line, item_line, bucket_lines}
+use Rattle.crush_text.specs.Lines.{tunable_line, device_line, kind_line, item_line, bucket_lines}
+use Rattle.crush_text.specs.RuleLines.{bucket_name, rule_lines}
 
 -- a number among numbers that stand from the least to the greatest
 abbrev pub put_in : ℕ → List ℕ → List ℕ
@@ -70,9 +72,9 @@ device_lines t = flat_map (λ d. of_row t (Device d) device_line) (device_number
 unfoldable pub root_texts : SettingData → List Row → List ℕ
 root_texts s t = flat_map (λ b. bucket_texts s t (length t) (Bucket b)) (root_numbers t)
 
--- the sections, each with its heading: tunables, of which there are none
+-- the sections, each with its heading: tunables, in the order in which they were declared
 unfoldable pub tunable_section : SettingData → List ℕ
-tunable_section s = codes "# begin crush map\n"
+tunable_section s = codes "# begin crush map\n" ++ flat_map tunable_line s.tunables
 
 -- devices
 unfoldable pub device_section : List Row → List ℕ
@@ -86,9 +88,9 @@ kind_section s = codes "\n# types\n" ++ flat_map (λ n. kind_line n (kind_text s
 unfoldable pub bucket_section : SettingData → List Row → List ℕ
 bucket_section s t = codes "\n# buckets\n" ++ root_texts s t
 
--- rules, of which there are none
+-- rules, in the order in which they were declared, with the names that the buckets have in the table
 unfoldable pub rule_section : SettingData → List Row → List ℕ
-rule_section s t = codes "\n# rules\n"
+rule_section s t = codes "\n# rules\n" ++ flat_map (rule_lines t) s.rules
 
 -- MAP TEXT: the text of a map with this setting and this table
 unfoldable pub map_text : SettingData → List Row → List ℕ
@@ -97,3 +99,11 @@ map_text s t = tunable_section s ++ device_section t ++ kind_section s ++ bucket
 -- tables that are the same, but for the order of their rows, print the same text
 abbrev pub SameTablesPrintAlike : Type 0
 SameTablesPrintAlike = (s : SettingData) (t u : List Row) → Lawful t → Same t u → map_text s t ≡ map_text s u
+
+-- a bucket that is there is printed by the name of its row
+abbrev pub IsNamedSo : List Row → ℕ → Type 0
+IsNamedSo t b = (r : Row) × (row_of t (Bucket b) ≡ Some r) × (bucket_name t b ≡ r.name)
+
+-- and so is each bucket that a rule takes, of a setting that fits
+abbrev pub TakenBucketsAreNamed : Type 0
+TakenBucketsAreNamed = (s : SettingData) (t : List Row) → Fits s t → All (IsNamedSo t) (taken_buckets s)

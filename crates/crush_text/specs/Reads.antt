@@ -91,7 +91,7 @@ IsBehindItem false b = IsIdle b
 
 -- an item is added with the weight that its word says
 abbrev pub Adds : Result (Unit {0}) TextFault → BuilderData → Draft → ItemId → Result ℕ TextFault → Type 0
-Adds (Ok x) builder d i weight = (w : ℕ) × IsDraft builder (with_item d i w) × (weight ≡ Ok w)
+Adds (Ok x) builder d i weight = (w : ℕ) × IsDraft builder (with_item d i (Some w)) × (weight ≡ Ok w)
 Adds (Err f) builder d i weight = Fails f weight
 
 -- lines were read: what comes of the rest is what came of all

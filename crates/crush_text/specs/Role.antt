@@ -8,7 +8,7 @@ use Rattle.crush_units.specs.declared.id.ItemId.TheVariants.{Device}
 use Rattle.crush_units.specs.declared.weight.WeightFault.{WeightFault}
 use Rattle.crush_units.specs.Alg.{alg_of_text}
 use Rattle.crush_units.specs.Weight.{weight_of_text}
-use Rattle.crush_table.specs.Setting.{kind_number}
+use Rattle.crush_edits.specs.Setting.{kind_number}
 use Rattle.crush_map.specs.Built.{Draft}
 use Rattle.crush_map.specs.Building.{item_named}
 use Rattle.crush_text.specs.declared.reader.statement.Opening.{Opening}
@@ -22,7 +22,7 @@ pub data Role : Type 0 where
   type_name : ℕ → Role
   device_id : Role
   new_name : Role
-  unread : Role
+  class_name : Role
   bucket_id : Role
   alg_key : Role
   algorithm : Role
@@ -40,7 +40,7 @@ El type_number = ℕ
 El (type_name n) = List ℕ
 El device_id = ℕ
 El new_name = List ℕ
-El unread = Unit {0}
+El class_name = List ℕ
 El bucket_id = ℕ
 El alg_key = Unit {0}
 El algorithm = Alg
@@ -77,7 +77,7 @@ value d type_number w = digits_value 10 w
 value d (type_name n) w = w
 value d device_id w = digits_value 10 w
 value d new_name w = w
-value d unread w = tt
+value d class_name w = w
 value d bucket_id w = digits_value 10 (drop 1 w)
 value d alg_key w = tt
 value d algorithm w = unwrap_or (alg_of_text w) Straw2

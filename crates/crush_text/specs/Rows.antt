@@ -1,5 +1,5 @@
 -- THE TABLE OF FAULTS, row by row: when a word has which fault where it stands for this.
-use Rattle.std.specs.Prelude.{◌≡◌, ◌≢◌, ◌<◌, ◌⊎◌, ℕ, true, false, List, Result, Ok, Err, None, codes, drop}
+use Rattle.std.specs.Prelude.{◌≡◌, ◌≢◌, ◌<◌, ◌⊎◌, ℕ, true, false, List, Result, Ok, Err, None, codes, drop, Some}
 use Rattle.std.specs.Str.Parse.{digits_value}
 use Rattle.crush_units.specs.declared.id.ItemId.{ItemId}
 use Rattle.crush_units.specs.declared.id.ItemId.TheVariants.{Device, Bucket}
@@ -8,14 +8,14 @@ use Rattle.crush_units.specs.Alg.{alg_of_text}
 use Rattle.crush_units.specs.Weight.{weight_of_text}
 use Rattle.crush_table.specs.Table.{is_there, is_placed, sum_below}
 use Rattle.crush_table.specs.Lawful.{is_too_heavy}
-use Rattle.crush_table.specs.Setting.{is_reserved}
+use Rattle.crush_edits.specs.Fits.{is_reserved}
 use Rattle.crush_map.specs.Built.{Draft, with_item}
 use Rattle.crush_map.specs.Building.{has_name, has_bucket_id, item_named, is_bucket_kind, has_kind_number, has_kind_name}
 use Rattle.crush_text.specs.declared.fault.TextFaultKind.{TextFaultKind}
 use Rattle.crush_text.specs.declared.fault.TextFaultKind.TheVariants.{Unexpected, BadNumber, BadWeight, DuplicateId, DuplicateName, UnknownType, UnknownItem, SecondParent, OtherAlgorithm, LeftOut, TooMany, SumTooLarge}
 use Rattle.crush_text.specs.Fault.{fault_number}
 use Rattle.crush_text.specs.Forms.{is_number, is_negative}
-use Rattle.crush_text.specs.Role.{Role, number_of, item_of, units, key, opening, type_number, type_name, device_id, new_name, unread, bucket_id, alg_key, algorithm, hash_number, item_or_end, item, weight_key, weight}
+use Rattle.crush_text.specs.Role.{Role, number_of, item_of, units, key, opening, type_number, type_name, device_id, new_name, bucket_id, alg_key, algorithm, hash_number, item_or_end, item, weight_key, weight}
 use Rattle.crush_text.specs.Tests.{is_full}
 use Rattle.crush_units.specs.declared.limits.TheConstants.{HEAVIEST_DEVICE, LAST_DEVICE_ID, LAST_TYPE}
 
@@ -32,7 +32,6 @@ abbrev pub IsUnexpected : Role → List ℕ → Type 0
 IsUnexpected (key k) w = w ≢ k
 IsUnexpected (opening late) w = IsBrace w ⊎ ((w ≡ codes "class") ⊎ ((late ≡ true) × ComesFirst w))
 IsUnexpected (type_name n) w = IsBrace w ⊎ ((is_reserved w ≡ true) × (n ≢ 0))
-IsUnexpected unread w = ⊥
 IsUnexpected alg_key w = (w ≢ codes "alg") × (w ≢ codes "id")
 IsUnexpected (item_or_end any) w = (w ≢ codes "item") × (w ≢ codes "}") × (any ≡ true → w ≢ codes "pos")
 IsUnexpected weight_key w = ⊥
@@ -97,7 +96,6 @@ IsOtherSum d (Bucket b) w = w ≢ sum_below d.table b
 -- what isn't read here
 abbrev pub IsLeftOut : Draft → Role → List ℕ → Type 0
 IsLeftOut d (opening late) w = (w ≡ codes "tunable") ⊎ ((w ≡ codes "rule") ⊎ (w ≡ codes "choose_args"))
-IsLeftOut d unread w = Unit {0}
 IsLeftOut d alg_key w = w ≡ codes "id"
 IsLeftOut d (item_or_end any) w = w ≡ codes "pos"
 IsLeftOut d weight_key w = w ≢ codes "weight"
@@ -111,7 +109,7 @@ IsTooMany d r w = ⊥
 
 -- an item with which a bucket's sum or the total is out of range
 abbrev pub IsSumTooLarge : Draft → Role → List ℕ → Type 0
-IsSumTooLarge d (weight i) w = is_too_heavy (with_item d i (units w)).table ≡ true
+IsSumTooLarge d (weight i) w = is_too_heavy (with_item d i (Some (units w))).table ≡ true
 IsSumTooLarge d r w = ⊥
 
 -- a row of the table holds of a word

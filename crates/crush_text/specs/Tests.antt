@@ -1,5 +1,5 @@
 -- How a word is judged: the faults that it may have where it stands, by their numbers.
-use Rattle.std.specs.Prelude.{ℕ, Bool, true, false, not, ◌&&◌, ◌||◌, ◌==◌, nat_le, List, [], ◌∷◌, Result, Ok, Err, is_some, bytes_eq, codes, drop, if◌then◌else◌}
+use Rattle.std.specs.Prelude.{ℕ, Bool, true, false, not, ◌&&◌, ◌||◌, ◌==◌, nat_le, List, [], ◌∷◌, Result, Ok, Err, is_some, bytes_eq, codes, drop, if◌then◌else◌, Some}
 use Rattle.std.specs.Str.Parse.{digits_value}
 use Rattle.crush_units.specs.declared.id.ItemId.{ItemId}
 use Rattle.crush_units.specs.declared.id.ItemId.TheVariants.{Device, Bucket}
@@ -8,14 +8,14 @@ use Rattle.crush_units.specs.Alg.{alg_of_text}
 use Rattle.crush_units.specs.Weight.{weight_of_text}
 use Rattle.crush_table.specs.Table.{is_there, is_placed, sum_below}
 use Rattle.crush_table.specs.Lawful.{is_too_heavy}
-use Rattle.crush_table.specs.Setting.{is_reserved}
+use Rattle.crush_edits.specs.Fits.{is_reserved}
 use Rattle.crush_map.specs.Built.{Draft, with_item}
 use Rattle.crush_map.specs.Building.{has_name, has_bucket_id, item_named, has_kind_number, has_kind_name, is_bucket_kind, is_full_of_devices, is_full_of_buckets, is_full_of_kinds}
 use Rattle.crush_text.specs.declared.fault.TextFaultKind.{TextFaultKind}
 use Rattle.crush_text.specs.declared.fault.TextFaultKind.TheVariants.{Unexpected, BadNumber, BadWeight, DuplicateId, DuplicateName, UnknownType, UnknownItem, SecondParent, OtherAlgorithm, LeftOut, TooMany, SumTooLarge}
 use Rattle.crush_bytes.specs.Words.{is_brace_word}
 use Rattle.crush_text.specs.Forms.{is_number, is_negative}
-use Rattle.crush_text.specs.Role.{Role, El, value, number_of, item_of, units, key, opening, type_number, type_name, device_id, new_name, unread, bucket_id, alg_key, algorithm, hash_number, item_or_end, item, weight_key, weight}
+use Rattle.crush_text.specs.Role.{Role, El, value, number_of, item_of, units, key, opening, type_number, type_name, device_id, new_name, class_name, bucket_id, alg_key, algorithm, hash_number, item_or_end, item, weight_key, weight}
 use Rattle.crush_units.specs.declared.limits.TheConstants.{HEAVIEST_DEVICE, LAST_DEVICE_ID, LAST_TYPE}
 
 -- a fault, and whether the word has it
@@ -74,7 +74,7 @@ tests d type_number w = a_number LAST_TYPE w ((DuplicateId when has_kind_number 
 tests d (type_name n) w = (Unexpected when is_brace_word w || (is_reserved w && not (n == 0))) ∷ (DuplicateName when has_kind_name d.setting w) ∷ []
 tests d device_id w = a_number LAST_DEVICE_ID w ((DuplicateId when is_there d.table (Device (digits_value 10 w))) ∷ [])
 tests d new_name w = a_word w ((DuplicateName when has_name d w) ∷ [])
-tests d unread w = (LeftOut when true) ∷ []
+tests d class_name w = a_word w []
 tests d bucket_id w = a_word w ((BadNumber when not (is_negative w)) ∷ (DuplicateId when has_bucket_id d (digits_value 10 (drop 1 w))) ∷ [])
 tests d alg_key w = (Unexpected when not (is_either w (codes "alg") (codes "id"))) ∷ (LeftOut when bytes_eq w (codes "id")) ∷ []
 tests d algorithm w = a_word w ((OtherAlgorithm when not (is_some (alg_of_text w))) ∷ [])
@@ -82,7 +82,7 @@ tests d hash_number w = a_number 0 w []
 tests d (item_or_end any) w = (Unexpected when not (is_either w (codes "item") (codes "}") || (any && bytes_eq w (codes "pos")))) ∷ (LeftOut when bytes_eq w (codes "pos")) ∷ []
 tests d item w = a_word w ((UnknownItem when not (is_some (item_named d w))) ∷ (SecondParent when is_placed d.table (item_of d w)) ∷ [])
 tests d weight_key w = (LeftOut when not (bytes_eq w (codes "weight"))) ∷ []
-tests d (weight i) w = a_word w ((BadWeight when not (is_weight_for i (weight_of_text w))) ∷ (LeftOut when is_other_sum d i (units w)) ∷ (SumTooLarge when is_too_heavy (with_item d i (units w)).table) ∷ [])
+tests d (weight i) w = a_word w ((BadWeight when not (is_weight_for i (weight_of_text w))) ∷ (LeftOut when is_other_sum d i (units w)) ∷ (SumTooLarge when is_too_heavy (with_item d i (Some (units w))).table) ∷ [])
 
 -- a value, unless one of the tests holds: then the first one that does
 abbrev pub unless : {A : Type 0} → List Test → A → Result A TextFaultKind

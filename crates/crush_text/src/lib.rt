@@ -8,5 +8,5 @@ mod reader;
 
 pub use crush_bytes::{Reader, Token, WriteFault, put, put_all};
 pub use fault::{TextFault, TextFaultKind};
-pub use printer::{same_tables_print_alike, write_map};
+pub use printer::{same_tables_print_alike, taken_buckets_are_named, write_map};
 pub use reader::{a_text_has_one_map_or_one_flaw, read_map, read_map_in};

@@ -1,7 +1,7 @@
 //! Reads the text of a map.
 
 ghost use Rattle.std.specs.Prelude.{◌≡◌, ℕ, List, IfOk, IfErr, MatchResult};
-ghost use Rattle.crush_table.specs.Setting.{SettingData};
+ghost use Rattle.crush_edits.specs.Setting.{SettingData};
 ghost use Rattle.crush_table.specs.Table.{Row};
 ghost use Rattle.crush_table.specs.Stands.{Stands};
 ghost use Rattle.crush_map.specs.MapData.{MapStands};
@@ -28,8 +28,8 @@ use std::alloc::{Allocator, Global};
 ///
 /// The second value counts the items that are buckets and whose weight in the text wasn't their
 /// sum; since such a text is refused as [`TextFaultKind::LeftOut`], it is 0. Refused so too are
-/// tunables, rules and weight sets, classes of devices and of ids, items without a weight, and the
-/// positions of items. docs/FORMATS.md has the grammar, and each fault with its place.
+/// tunables, rules and weight sets, classes of ids, items without a weight, and the positions of
+/// items. docs/FORMATS.md has the grammar, and each fault with its place.
 pub fn read_map(alloc: Global, text: &[u8]) -> Result<(CrushMap<Global>, u32), TextFault>
     // What is read is a map that the text spells.
     ensures map { IfOk result (λ m. (t : List Row)

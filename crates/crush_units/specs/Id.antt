@@ -1,5 +1,5 @@
 -- Ids of devices, buckets and items, as numbers.
-use Rattle.std.specs.Prelude.{ℕ, suc, ◌-◌, ℤ, pos, negsuc, Bool, true, false, ◌&&◌, ◌==◌, ◌<◌, ◌≤◌, ◌^◌, nat_lt, nat_le, Option, Some, None, if◌then◌else◌}
+use Rattle.std.specs.Prelude.{ℕ, suc, ◌-◌, ℤ, pos, negsuc, Bool, true, false, ◌&&◌, ◌==◌, ◌<◌, ◌≤◌, nat_lt, nat_le, Option, Some, None, if◌then◌else◌}
 use Rattle.crush_units.specs.declared.id.ItemId.{ItemId}
 use Rattle.crush_units.specs.declared.id.ItemId.TheVariants.{Device, Bucket}
 use Rattle.crush_units.specs.declared.limits.TheConstants.{DEVICE_IDS, FARTHEST_BUCKET_ID, LAST_DEVICE_ID}

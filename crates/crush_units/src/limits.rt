@@ -38,6 +38,9 @@ pub const MOST_BUCKETS: u32 = 4096;
 /// How many class ids a bucket has at most: one for each class that has a shadow of the bucket.
 pub const MOST_CLASS_IDS: usize = 16;
 
+/// For how many new buckets free ids are asked for at once at most.
+pub const MOST_FREE_IDS: usize = 65536;
+
 /// How many types a map has at most, with that of devices.
 pub const MOST_TYPES: usize = 256;
 

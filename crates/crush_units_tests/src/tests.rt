@@ -16,6 +16,7 @@ fn limits(rt: HostRuntime) {
     assert_eq!(rt; (FARTHEST_BUCKET_ID, LAST_TYPE), (1 << 31, 65_535));
     assert_eq!(rt; (MOST_DEVICES, MOST_BUCKETS), (65_536, 4_096));
     assert_eq!(rt; (LONGEST_NAME, MOST_CLASS_IDS, MOST_TYPES), (255, 16, 256));
+    assert_eq!(rt; MOST_FREE_IDS, 65_536);
     assert_eq!(rt; (MOST_TUNABLES, MOST_RULES, MOST_STEPS), (64, 256, 64));
     assert_eq!(rt; (MOST_PAIRS, MOST_EDITS), (16, 65_536));
     assert_eq!(rt;

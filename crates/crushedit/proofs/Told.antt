@@ -6,7 +6,7 @@ use Rattle.crush_bytes.proofs.Appending.{appends_nothing}
 use Rattle.std.proofs.lemmas.List.{take_all, length-take}
 use Rattle.crush_script.specs.Job.{HasJob, IsJob, IsJobFault, JobData}
 use Rattle.crush_script.specs.declared.fault.JobFault.{JobFault}
-use Rattle.crush_script.specs.declared.fault.JobFault.TheVariants.{BadLine, NoSuchCommand, TooManyOperators, Text, OutOfMemory, TooLong, TooManyCalls}
+use Rattle.crush_script.specs.declared.fault.JobFault.TheVariants.{BadLine, NoSuchCommand, OpenBatch, TooManyOperators, DuplicateOperator, Text, OutOfMemory, TooLong, TooManyCalls}
 use Rattle.crushedit.specs.Faults.{of_job}
 use Rattle.crushedit.specs.declared.fault.RunFault.TheVariants as run
 use Rattle.crushedit.specs.declared.fault.RunFault.{RunFault}
@@ -66,7 +66,9 @@ too_long (Some xs) bytes e h = omega (arith, h, ap length e, length-take 1677721
 pub is_run_fault : (all : Option (List ℕ)) (bytes : List ℕ) (f : JobFault) → IfSome all (λ xs. bytes ≡ take 16777217 xs) → IsJobFault bytes f → IsRunFault all (of_job f)
 is_run_fault all bytes (BadLine n) e h = (λ x. absurd cc, fault_of_all all bytes (BadLine n) e h.short h)
 is_run_fault all bytes (NoSuchCommand n) e h = (λ x. absurd cc, fault_of_all all bytes (NoSuchCommand n) e h.short h)
+is_run_fault all bytes (OpenBatch n) e h = (λ x. absurd cc, fault_of_all all bytes (OpenBatch n) e h.short h)
 is_run_fault all bytes (TooManyOperators n) e h = (λ x. absurd cc, fault_of_all all bytes (TooManyOperators n) e h.short h)
+is_run_fault all bytes (DuplicateOperator n) e h = (λ x. absurd cc, fault_of_all all bytes (DuplicateOperator n) e h.short h)
 is_run_fault all bytes (TooManyCalls n) e h = (λ x. absurd cc, fault_of_all all bytes (TooManyCalls n) e h.short h)
 is_run_fault all bytes (Text f) e h = (λ x. absurd cc, fault_of_all all bytes (Text f) e h.short h)
 is_run_fault all bytes TooLong e h = (λ x. absurd cc, too_long all bytes e h)

@@ -3,7 +3,7 @@ use Rattle.std.specs.Prelude.{ℕ, ◌==◌, List, [], ◌++◌, Result, Ok, Err
 use Rattle.crush_text.specs.declared.fault.TextFault.{TextFault}
 use Rattle.crush_text.specs.Fault.{fault_name}
 use Rattle.crush_script.specs.declared.fault.JobFault.{JobFault}
-use Rattle.crush_script.specs.declared.fault.JobFault.TheVariants.{BadLine, NoSuchCommand, TooManyOperators, Text, OutOfMemory, TooLong, TooManyCalls}
+use Rattle.crush_script.specs.declared.fault.JobFault.TheVariants.{BadLine, NoSuchCommand, OpenBatch, TooManyOperators, DuplicateOperator, Text, OutOfMemory, TooLong, TooManyCalls}
 use Rattle.crushedit.specs.declared.fault.RunFault.{RunFault}
 use Rattle.crushedit.specs.declared.fault.RunFault.TheVariants as run
 use Rattle.crushedit.specs.declared.run.Summary.{Summary}
@@ -28,7 +28,9 @@ text_fault f = codes "crushedit: byte " ++ decimal f.place ++ codes ": " ++ faul
 abbrev pub job_fault : JobFault → List ℕ
 job_fault (BadLine number) = line_fault number (codes "BadLine")
 job_fault (NoSuchCommand number) = line_fault number (codes "NoSuchCommand")
+job_fault (OpenBatch number) = line_fault number (codes "OpenBatch")
 job_fault (TooManyOperators number) = line_fault number (codes "TooManyOperators")
+job_fault (DuplicateOperator number) = line_fault number (codes "DuplicateOperator")
 job_fault (TooManyCalls number) = line_fault number (codes "TooManyCalls")
 job_fault (Text f) = text_fault f
 job_fault TooLong = codes "crushedit: TooLong\n"
@@ -49,7 +51,9 @@ report_line (Err f) = run_fault f
 abbrev pub job_status : JobFault → ℕ
 job_status (BadLine number) = 1
 job_status (NoSuchCommand number) = 1
+job_status (OpenBatch number) = 1
 job_status (TooManyOperators number) = 1
+job_status (DuplicateOperator number) = 1
 job_status (TooManyCalls number) = 1
 job_status (Text f) = 1
 job_status TooLong = 1

@@ -16,17 +16,28 @@ const ABOUT: &str = "Edits the hierarchy of a CRUSH map by the scripts of its op
 
 /// What the help tells beside the flags.
 const MORE: &str = "\
-A job is the text of a CRUSH map, in the form of `crushtool --decompile`, and behind it a line
-`%operator NAME` with the script of that operator, one command a line:
+A job is the text of a CRUSH map, in the form of `crushtool --decompile`, and behind it the scripts
+of up to 16 operators, each a line `%operator NAME` and then one command a line:
 
     .. the map's text ..
     %operator alice
+    add osd.12 1.8 host=node3 rack=r2 root=default
     reweight osd.2 1.0
 
-Commands:
-    reweight NAME WEIGHT    the placed device NAME weighs WEIGHT
+Commands, as those of `ceph osd crush`. A PAIR is TYPE=BUCKET; a location has up to 16 of them:
+    add osd.N WEIGHT PAIR ..             puts the new or spare device osd.N there
+    set osd.N WEIGHT PAIR ..             the same of any device, and sets its weight
+    create-or-move osd.N WEIGHT PAIR ..  the same, but a placed device keeps its weight
+    move NAME PAIR ..                    puts an item there, with all that is below it
+    swap-bucket NAME NAME                exchanges names and items of two buckets
+    reweight NAME WEIGHT                 the placed device NAME weighs WEIGHT
+    reweight-subtree NAME WEIGHT         each device below the bucket NAME weighs WEIGHT
+    rm NAME, remove NAME                 removes a device, or a bucket without items
+    add-bucket NAME TYPE                 makes an empty bucket that stands in no other
+    rename-bucket NAME NAME              gives a bucket another name
+    begin, commit                        the commands between are made all, or none
 
-Standard output gets the map after the script, and behind it, as comments, a line for each
+Standard output gets the map after the scripts, and behind it, as comments, a line for each
 command with its answer. A command that is refused changes nothing, and the next one is tried.
 
 Exit status:

@@ -62,7 +62,9 @@ fn write_job_fault<E: Write>(fault: JobFault, err: &mut E) -> Result<(), WriteFa
     match fault {
         JobFault::BadLine(number) => write_line_fault(number, "BadLine", err),
         JobFault::NoSuchCommand(number) => write_line_fault(number, "NoSuchCommand", err),
+        JobFault::OpenBatch(number) => write_line_fault(number, "OpenBatch", err),
         JobFault::TooManyOperators(number) => write_line_fault(number, "TooManyOperators", err),
+        JobFault::DuplicateOperator(number) => write_line_fault(number, "DuplicateOperator", err),
         JobFault::TooManyCalls(number) => write_line_fault(number, "TooManyCalls", err),
         JobFault::Text(fault) => write_text_fault(fault, err),
         JobFault::TooLong => put(err, b"crushedit: TooLong\n"),

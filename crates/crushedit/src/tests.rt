@@ -12,6 +12,7 @@ mod refusals;
 mod replies;
 mod reports;
 mod runs;
+mod worked;
 
 /// The plain example map, with nothing behind it.
 const PLAIN: &[u8] =

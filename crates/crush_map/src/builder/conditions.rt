@@ -1,16 +1,23 @@
 //! The tests that tell whether a call of the builder may be made.
 
-ghost use Rattle.std.specs.Prelude.{◌≡◌, ◌↔◌, IsTrue, IfSome, true, false};
+ghost use Rattle.std.specs.Prelude.{◌≡◌, ◌↔◌, IsTrue, IfSome, IfOk, bytes_eq, true, false};
+ghost use Rattle.std.specs.Option.{ok_or};
+ghost use Rattle.crush_map.specs.declared.fault.BuildFault.TheVariants.{UnknownItem};
 ghost use Rattle.crush_units.specs.declared.id.ItemId.TheVariants.{Device, Bucket};
 ghost use Rattle.crush_table.specs.Table.{is_there, is_placed, weight_of};
-ghost use Rattle.crush_table.specs.Setting.{kind_number};
+ghost use Rattle.crush_edits.specs.Setting.{kind_number};
 ghost use Rattle.crush_map.specs.Built.{Draft, nothing};
 ghost use Rattle.crush_map.specs.Building.{IsDraft, is_begun, is_numbered, is_filling, is_open};
 ghost use Rattle.crush_map.specs.Building.{has_kind_number, has_kind_name, has_name, has_bucket_id};
 ghost use Rattle.crush_map.specs.Building.{is_bucket_kind, item_named, is_full_of_devices};
 ghost use Rattle.crush_map.specs.Building.{is_full_of_buckets, is_full_of_kinds};
+ghost use Rattle.crush_map.specs.Building.{has_tunable, is_full_of_tunables};
+ghost use Rattle.std.specs.List.{list_any};
+ghost use Rattle.crush_edits.specs.declared.setting.Tunable.{Tunable as DeclaredTunable};
 
 use super::{MapBuilder, Pending};
+use crate::fault::BuildFault;
+use crush_edits::Tunable;
 use crush_units::{BucketId, DeviceId, ItemId, TypeId, Weight};
 use std::alloc::Allocator;
 
@@ -87,6 +94,13 @@ impl<A: Allocator> MapBuilder<A> {
         self.kind_number(name).is_some()
     }
 
+    /// Whether a tunable has this name.
+    pub fn has_tunable(&self, name: &[u8]) -> bool
+        ensures { (d : Draft) → IsDraft self.now d → result ≡ has_tunable d.setting name.now }
+    {
+        names_tunable(self.setting.tunables(), name)
+    }
+
     /// Whether buckets can have the type of this number: it isn't 0, and one of the map's types.
     pub fn is_bucket_kind(&self, number: TypeId) -> bool
         ensures { (d : Draft) → IsDraft self.now d → result ≡ is_bucket_kind d.setting number }
@@ -101,8 +115,20 @@ impl<A: Allocator> MapBuilder<A> {
         self.setting.kind_number(name)
     }
 
+    /// The device or the complete bucket of this name, or [`BuildFault::UnknownItem`] where there is
+    /// none.
+    pub fn item_named(&self, name: &[u8]) -> Result<ItemId, BuildFault>
+        ensures value { (d : Draft) → IsDraft self.now d
+            → result ≡ ok_or (item_named d name.now) UnknownItem }
+        ensures there { IfOk result (λ i. (d : Draft) → IsDraft self.now d
+            → is_there d.table i ≡ true) }
+        ensures closed { IfOk result (λ i. is_open self.now.pending i ≡ false) }
+    {
+        self.closed_item(name).ok_or(BuildFault::UnknownItem)
+    }
+
     /// The device or the complete bucket of this name, or `None` where there is none.
-    pub fn item_named(&self, name: &[u8]) -> Option<ItemId>
+    pub(super) fn closed_item(&self, name: &[u8]) -> Option<ItemId>
         ensures value { (d : Draft) → IsDraft self.now d → result ≡ item_named d name.now }
         ensures there { IfSome result (λ i. (d : Draft) → IsDraft self.now d
             → is_there d.table i ≡ true) }
@@ -134,6 +160,13 @@ impl<A: Allocator> MapBuilder<A> {
         self.forest.weight(id)
     }
 
+    /// How many buckets were put into another with a written weight that wasn't their sum.
+    pub fn adjusted(&self) -> u32
+        ensures { (d : Draft) → IsDraft self.now d → result ≡ d.adjusted }
+    {
+        self.adjusted
+    }
+
     /// Whether there are 65,536 devices.
     pub fn is_full_of_devices(&self) -> bool
         ensures { (d : Draft) → IsDraft self.now d → result ≡ is_full_of_devices d }
@@ -155,8 +188,15 @@ impl<A: Allocator> MapBuilder<A> {
         self.setting.kinds().len() >= 256
     }
 
+    /// Whether there are 64 tunables.
+    pub fn is_full_of_tunables(&self) -> bool
+        ensures { (d : Draft) → IsDraft self.now d → result ≡ is_full_of_tunables d }
+    {
+        self.setting.tunables().len() >= 64
+    }
+
     /// Whether the bucket is the one that is being filled.
-    fn fills(&self, id: BucketId) -> bool
+    pub(super) fn fills(&self, id: BucketId) -> bool
         ensures { result ≡ is_open self.now.pending (Bucket id) }
     {
         match &self.pending {
@@ -164,4 +204,11 @@ impl<A: Allocator> MapBuilder<A> {
             _ => false,
         }
     }
+}
+
+/// Whether one of the tunables has the name.
+fn names_tunable(tunables: &[Tunable], name: &[u8]) -> bool
+    ensures { result ≡ list_any (λ (x : DeclaredTunable). bytes_eq x.name name.now) tunables.now }
+{
+    tunables.iter().any(|tunable| tunable.name.is(name))
 }

@@ -179,15 +179,15 @@ fn a_bucket_that_is_open(rt: HostRuntime) -> Result<(), Fail> {
     assert!(rt; builder.has_name(b"h1"));
     open_bucket(&rt, &mut builder, -2)?;
     assert!(rt; !builder.is_idle());
-    assert!(rt; builder.item_named(b"h1").is_none());
-    let id = builder.item_named(b"osd.0").expect(&rt, "an item");
+    assert!(rt; builder.item_named(b"h1") == Err(BuildFault::UnknownItem));
+    let id = builder.item_named(b"osd.0")?;
     assert_eq!(rt; id.number(), 0);
     Ok(())
 }
 
 /// Asserts what the item of this name weighs so far, in units.
 fn weighs_now(rt: &impl Abort, builder: &MapBuilder<Global>, name: &str, units: u32) {
-    let id = builder.item_named(name.as_bytes()).expect(rt, name);
+    let id = builder.item_named(name.as_bytes()).ok().expect(rt, name);
     let weight = builder.weight_of(id).expect(rt, name);
     assert_eq!(rt; weight.units(), units, "at {name}");
 }
@@ -229,5 +229,7 @@ fn at_most_256_types(rt: HostRuntime) -> Result<(), Fail> {
         }
     }
     assert!(rt; builder.is_full_of_kinds());
+    let told = add_type(&rt, &mut builder, 0, b"osd");
+    assert!(rt; told == Err(BuildFault::TooMany));
     Ok(())
 }

@@ -49,7 +49,8 @@ fn is_in_full_memory<A: Allocator + Clone>(
 fn in_heaps_of_each_size(rt: HostRuntime) -> Result<(), Fail> {
     let whole = example_map(&rt, rt.alloc(), rt.alloc())?;
     let name = Name::read(rt.alloc(), b"osd.2")?;
-    let new_weight = Edit::Reweight(name, Weight::from_units(65536));
+    let weight = Weight::from_units(65536);
+    let new_weight = Edit::Reweight { name, weight };
     for i in 1..1024 {
         let heap = LocalHeap::new(rt.alloc(), 64 * i)?;
         match example_map(&rt, rt.alloc(), &heap) {

@@ -2,7 +2,7 @@
 
 use crate::tests::building::{example_map, map_with_spare, types_and_devices, weighs};
 use crate::tests::statements::{add_item, begin_bucket, end_bucket, finish, open_bucket};
-use crush_map::{CrushMap, Done, Edit, EditFault, Refusal};
+use crush_map::{BatchFault, CrushMap, Done, Dones, Edit, EditFault, Refusal};
 use crush_units::{Name, Weight};
 use std::alloc::Global;
 use std::process::Abort;
@@ -11,7 +11,8 @@ use std::test::Fail;
 /// `ceph osd crush reweight NAME WEIGHT`, with the weight in units.
 fn reweight(name: &[u8], units: u32, alloc: Global) -> Result<Edit, Fail> {
     let name = Name::read(alloc, name)?;
-    Ok(Edit::Reweight(name, Weight::from_units(units)))
+    let weight = Weight::from_units(units);
+    Ok(Edit::Reweight { name, weight })
 }
 
 #[test]
@@ -78,5 +79,36 @@ fn a_full_host(rt: HostRuntime) -> Result<(), Fail> {
     };
     assert!(rt; map.apply(&edit) == Ok(done));
     weighs(&rt, &map, "h1", 4294967294);
+    Ok(())
+}
+
+/// Makes the edits, at most 65,536, all or none.
+fn make_all(
+    rt: &impl Abort,
+    map: &mut CrushMap<Global>,
+    edits: &[Edit],
+) -> Result<Dones, BatchFault> {
+    assert!(rt; edits.len() <= 65536);
+    map.apply_batch(edits)
+}
+
+#[test]
+fn a_batch_of_new_weights(rt: HostRuntime) -> Result<(), Fail> {
+    let mut map = example_map(&rt, rt.alloc(), rt.alloc())?;
+    let before = map.try_copy()?;
+    let mut edits = Vec::new(rt.alloc());
+    edits.push(reweight(b"osd.2", 65536, rt.alloc())?)?;
+    edits.push(reweight(b"osd.9", 65536, rt.alloc())?)?;
+    let refused = BatchFault::Refused(1, Refusal::NoSuchItem);
+    assert!(rt; make_all(&rt, &mut map, edits.as_slice()) == Err(refused));
+    assert!(rt; map.forest().is_same(before.forest()));
+    let _ = edits.pop();
+    let done = Dones {
+        edits: 1,
+        changed: 1,
+        made: 0,
+    };
+    assert!(rt; make_all(&rt, &mut map, edits.as_slice()) == Ok(done));
+    weighs(&rt, &map, "default", 196608);
     Ok(())
 }

@@ -1,12 +1,7 @@
-//! Statements of a map's text, each with the tests that its call asks for.
-
-ghost use Rattle.std.specs.Prelude.{◌≡◌};
-ghost use Rattle.crush_table.specs.Table.{is_placed as is_placed_in};
-ghost use Rattle.crush_map.specs.Built.{Draft};
-ghost use Rattle.crush_map.specs.Building.{IsDraft};
+//! Statements of a map's text, with the conditions that their calls have.
 
 use crush_map::{BuildFault, CrushMap, MapBuilder, is_reserved};
-use crush_units::{Alg, BucketId, DeviceId, ItemId, TypeId, Weight, is_name};
+use crush_units::{Alg, BucketId, DeviceId, TypeId, Weight, is_name};
 use std::alloc::Allocator;
 use std::process::Abort;
 
@@ -17,15 +12,10 @@ pub fn add_type<A: Allocator + Clone>(
     number: u16,
     name: &[u8],
 ) -> Result<(), BuildFault> {
-    let number = TypeId::new(number);
     assert!(rt; builder.is_idle());
     assert!(rt; is_name(name));
     assert!(rt; !is_reserved(name));
-    assert!(rt; !builder.has_kind_number(number));
-    assert!(rt; !builder.has_kind_name(name));
-    assert!(rt; !builder.is_full_of_kinds());
-    builder.kind(number, name)?;
-    Ok(())
+    builder.kind(TypeId::new(number), name)
 }
 
 /// `device NUMBER NAME`
@@ -38,11 +28,22 @@ pub fn add_device<A: Allocator + Clone>(
     let id = DeviceId::new(number).expect(rt, "a device");
     assert!(rt; builder.is_idle());
     assert!(rt; is_name(name));
-    assert!(rt; !builder.has_device(id));
-    assert!(rt; !builder.has_name(name));
-    assert!(rt; !builder.is_full_of_devices());
-    builder.device(id, name)?;
-    Ok(())
+    builder.device(id, name, None)
+}
+
+/// `device NUMBER NAME class CLASS`
+pub fn add_device_of_class<A: Allocator + Clone>(
+    rt: &impl Abort,
+    builder: &mut MapBuilder<A>,
+    number: i32,
+    name: &[u8],
+    class: &[u8],
+) -> Result<(), BuildFault> {
+    let id = DeviceId::new(number).expect(rt, "a device");
+    assert!(rt; builder.is_idle());
+    assert!(rt; is_name(name));
+    assert!(rt; is_name(class));
+    builder.device(id, name, Some(class))
 }
 
 /// `TYPE NAME {`
@@ -53,13 +54,19 @@ pub fn begin_bucket<A: Allocator + Clone>(
     name: &[u8],
 ) -> Result<(), BuildFault> {
     let kind = builder.kind_number(kind).expect(rt, "a type");
+    begin_of_type(rt, builder, kind, name)
+}
+
+/// `TYPE NAME {`, with the type by its number.
+pub fn begin_of_type<A: Allocator + Clone>(
+    rt: &impl Abort,
+    builder: &mut MapBuilder<A>,
+    kind: TypeId,
+    name: &[u8],
+) -> Result<(), BuildFault> {
     assert!(rt; builder.is_idle());
     assert!(rt; is_name(name));
-    assert!(rt; builder.is_bucket_kind(kind));
-    assert!(rt; !builder.has_name(name));
-    assert!(rt; !builder.is_full_of_buckets());
-    builder.begin(kind, name)?;
-    Ok(())
+    builder.begin(kind, name)
 }
 
 /// `id NUMBER`, and `alg straw2`
@@ -70,18 +77,9 @@ pub fn open_bucket<A: Allocator + Clone>(
 ) -> Result<(), BuildFault> {
     let id = BucketId::new(number).expect(rt, "a bucket");
     assert!(rt; builder.is_begun());
-    assert!(rt; !builder.has_bucket_id(id));
-    builder.id(id);
+    builder.id(id)?;
     assert!(rt; builder.is_numbered());
-    builder.alg(Alg::Straw2)?;
-    Ok(())
-}
-
-/// Whether a bucket holds the item.
-fn is_placed<A: Allocator>(builder: &MapBuilder<A>, id: &ItemId) -> bool
-    ensures { (d : Draft) → IsDraft builder.now d → result ≡ is_placed_in d.table id.now }
-{
-    builder.is_placed(*id)
+    builder.alg(Alg::Straw2)
 }
 
 /// `item NAME weight WEIGHT`, with the weight in units
@@ -91,12 +89,20 @@ pub fn add_item<A: Allocator + Clone>(
     name: &[u8],
     units: u32,
 ) -> Result<(), BuildFault> {
-    let weight = Weight::from_units(units);
     assert!(rt; builder.is_filling());
-    assert!(rt; weight.is_device_weight());
-    let id = builder.item_named(name).expect(rt, "an item");
-    assert!(rt; !is_placed(builder, &id));
-    builder.item(id, weight)
+    let id = builder.item_named(name)?;
+    builder.item(id, Some(Weight::from_units(units)))
+}
+
+/// `item NAME`
+pub fn add_item_as_it_is<A: Allocator + Clone>(
+    rt: &impl Abort,
+    builder: &mut MapBuilder<A>,
+    name: &[u8],
+) -> Result<(), BuildFault> {
+    assert!(rt; builder.is_filling());
+    let id = builder.item_named(name)?;
+    builder.item(id, None)
 }
 
 /// `}`

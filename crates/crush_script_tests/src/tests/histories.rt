@@ -1,6 +1,6 @@
 //! Scripts that run one after the other, and the history of it.
 
-use crush_map::{Done, Refusal};
+use crush_edits::{Done, Refusal};
 use crush_script::{Entry, Job, Reply, count_changes, history_text, read_job, run_in_turn};
 use std::test::Fail;
 

@@ -1,6 +1,6 @@
 //! Jobs, from their bytes.
 
-use crush_map::Edit;
+use crush_edits::Edit;
 use crush_script::{Call, JobFault, read_job};
 use crush_text::{TextFault, TextFaultKind};
 use std::test::Fail;
@@ -21,9 +21,13 @@ fn a_job_is_read(rt: HostRuntime) -> Result<(), Fail> {
     let script = &job.scripts[0];
     assert!(rt; script.name.is(b"a"));
     assert_eq!(rt; script.calls.len(), 1);
-    let Call::One(Edit::Reweight(name, weight)) = &script.calls[0];
-    assert!(rt; name.is(b"osd.2"));
-    assert_eq!(rt; weight.units(), 65536);
+    match &script.calls[0] {
+        Call::One(Edit::Reweight { name, weight }) => {
+            assert!(rt; name.is(b"osd.2"));
+            assert_eq!(rt; weight.units(), 65536);
+        }
+        _ => assert!(rt; false, "another call"),
+    }
     Ok(())
 }
 
@@ -46,10 +50,7 @@ fn faults_of_jobs(rt: HostRuntime) {
             b"type 1 host\n%operator a\nfly x",
             JobFault::NoSuchCommand(3),
         ),
-        (
-            b"type 1 host\n%operator a\n%operator b\n",
-            JobFault::TooManyOperators(3),
-        ),
+        (b"type 1 host\n%operator a\nbegin", JobFault::OpenBatch(3)),
         (b"# %\r\n\n%operator\n", JobFault::BadLine(3)),
         (
             b"type 1 host\nhost a {\n%operator a\nfly x",

@@ -1,6 +1,6 @@
 //! The lines of sections, read as those of whole jobs.
 
-use crush_map::Edit;
+use crush_edits::Edit;
 use crush_script::{Call, JobFault, Script, read_job};
 use crush_text::{TextFault, TextFaultKind};
 use std::test::Fail;
@@ -8,8 +8,10 @@ use std::test::Fail;
 /// Whether the call of this place is `reweight NAME UNITS`.
 fn is_reweight(script: &Script, place: usize, name: &[u8], units: u32) -> bool {
     match script.calls.get(place) {
-        Some(Call::One(Edit::Reweight(item, weight))) => item.is(name) && weight.units() == units,
-        None => false,
+        Some(Call::One(Edit::Reweight { name: item, weight })) => {
+            item.is(name) && weight.units() == units
+        }
+        _ => false,
     }
 }
 
@@ -79,8 +81,8 @@ fn the_first_faulty_line_decides(rt: HostRuntime) {
         (b"\n%operator a\nReweight x 2", JobFault::NoSuchCommand(3)),
         (b"\n%operator a\n %operator b", JobFault::NoSuchCommand(3)),
         (
-            b"\n%operator a\n\n%operator b\nfly",
-            JobFault::TooManyOperators(4),
+            b"\n%operator a\n\n%operator a\nfly",
+            JobFault::DuplicateOperator(4),
         ),
         (b"\n%operator a\n%operator", JobFault::BadLine(3)),
         (b"\n%operator", JobFault::BadLine(2)),
@@ -112,6 +114,154 @@ fn a_job_has_few_calls(rt: HostRuntime) -> Result<(), Fail> {
     text.extend_from_slice(b" 1")?;
     let fault = read_job(rt.alloc(), text.as_slice()).err();
     assert_eq!(rt; fault, Some(JobFault::TooManyCalls(65539)));
+    text.truncate(text.len() - 13);
+    text.extend_from_slice(b"\nbegin\nfly")?;
+    let fault = read_job(rt.alloc(), text.as_slice()).err();
+    assert_eq!(rt; fault, Some(JobFault::TooManyCalls(65539)));
+    Ok(())
+}
+
+#[test]
+fn lines_of_another_form_are_bad(rt: HostRuntime) -> Result<(), Fail> {
+    let lines: [&[u8]; 30] = [
+        b"add osd.0",
+        b"add h1 1 host=h1",
+        b"add osd.01 1 host=h1",
+        b"add osd. 1 host=h1",
+        b"add osd.2147483648 1 host=h1",
+        b"add osd.-1 1 host=h1",
+        b"add Osd.1 1 host=h1",
+        b"add osd.1 65536 host=h1",
+        b"set osd.1 host=h1",
+        b"create-or-move osd.1 1 host = h1",
+        b"move",
+        b"move h1 host",
+        b"move h1 a=b=c",
+        b"move h1 =b",
+        b"move h1 a=",
+        b"move h1 =",
+        b"move h1 a=b a/c=d",
+        b"swap-bucket a",
+        b"swap-bucket a b c",
+        b"reweight osd.0",
+        b"reweight-subtree a 1 1",
+        b"reweight-subtree a -1",
+        b"rm",
+        b"rm a b",
+        b"remove a b",
+        b"add-bucket a",
+        b"add-bucket a b=c",
+        b"rename-bucket a",
+        b"begin at 0",
+        b"commit",
+    ];
+    for line in lines {
+        let mut text = Vec::from_slice(rt.alloc(), b"%operator a\nrm x\n")?;
+        text.extend_from_slice(line)?;
+        let fault = read_job(rt.alloc(), text.as_slice()).err();
+        assert_eq!(rt; fault, Some(JobFault::BadLine(3)));
+    }
+    Ok(())
+}
+
+#[test]
+fn words_that_are_no_commands(rt: HostRuntime) -> Result<(), Fail> {
+    let words: [&[u8]; 8] = [
+        b"Add",
+        b"add_bucket",
+        b"del",
+        b"link",
+        b"set-device-class ssd osd.0",
+        b"rm-device-class osd.0",
+        b"begin;",
+        b"Commit",
+    ];
+    for word in words {
+        let mut text = Vec::from_slice(rt.alloc(), b"%operator a\nbegin\n")?;
+        text.extend_from_slice(word)?;
+        let fault = read_job(rt.alloc(), text.as_slice()).err();
+        assert_eq!(rt; fault, Some(JobFault::NoSuchCommand(3)));
+    }
+    Ok(())
+}
+
+#[test]
+fn batches_are_read(rt: HostRuntime) -> Result<(), Fail> {
+    let text =
+        b"%operator a\nrm x\nbegin # one\nrm x\n\n# rm z\nrm y\ncommit\nbegin\ncommit\n%operator b\n";
+    let job = read_job(rt.alloc(), text)?;
+    assert_eq!(rt; job.scripts.len(), 2);
+    assert_eq!(rt; job.scripts[1].calls.len(), 0);
+    let calls = &job.scripts[0].calls;
+    assert_eq!(rt; calls.len(), 3);
+    let mut lens = [0; 3];
+    for (place, call) in calls.iter().enumerate() {
+        lens[place] = match call {
+            Call::One(_) => 9,
+            Call::Batch(edits) => edits.as_slice().len(),
+        };
+    }
+    assert_eq!(rt; lens, [9, 2, 0]);
+    Ok(())
+}
+
+#[test]
+fn faults_of_batches(rt: HostRuntime) {
+    let faulty: [(&[u8], JobFault); 9] = [
+        (b"%operator a\nbegin\n", JobFault::OpenBatch(2)),
+        (b"%operator a\n\nbegin\nrm x", JobFault::OpenBatch(3)),
+        (b"%operator a\nbegin\n%operator b", JobFault::OpenBatch(2)),
+        (b"%operator a\nbegin\n%operator a", JobFault::OpenBatch(2)),
+        (b"%operator a\nbegin\n%", JobFault::OpenBatch(2)),
+        (b"%operator a\nbegin\nrm\n%", JobFault::BadLine(3)),
+        (b"%operator a\nbegin\nbegin\n", JobFault::BadLine(3)),
+        (b"%operator a\nbegin\ncommit x\n", JobFault::BadLine(3)),
+        (
+            b"%operator a\nbegin\ncommit\ncommit\n",
+            JobFault::BadLine(4),
+        ),
+    ];
+    for (text, fault) in faulty {
+        assert_eq!(rt; read_job(rt.alloc(), text).err(), Some(fault));
+    }
+}
+
+/// Sixteen sections, each of another operator.
+const SIXTEEN: &[u8] =
+    b"%operator 0\n%operator 1\n%operator 2\n%operator 3\n%operator 4\n%operator 5\n%operator 6\n%operator 7\n%operator 8\n%operator 9\n%operator a\n%operator b\n%operator c\n%operator d\n%operator e\n%operator f\n";
+
+#[test]
+fn a_job_has_at_most_sixteen_operators(rt: HostRuntime) -> Result<(), Fail> {
+    let mut text = Vec::from_slice(rt.alloc(), SIXTEEN)?;
+    assert_eq!(rt; read_job(rt.alloc(), text.as_slice())?.scripts.len(), 16);
+    text.extend_from_slice(b"%operator")?;
+    let fault = read_job(rt.alloc(), text.as_slice()).err();
+    assert_eq!(rt; fault, Some(JobFault::BadLine(17)));
+    text.extend_from_slice(b" 0")?;
+    let fault = read_job(rt.alloc(), text.as_slice()).err();
+    assert_eq!(rt; fault, Some(JobFault::TooManyOperators(17)));
+    Ok(())
+}
+
+#[test]
+fn a_batch_has_at_most_65536_edits(rt: HostRuntime) -> Result<(), Fail> {
+    let mut text = Vec::from_slice(rt.alloc(), b"%operator a\nbegin\n")?;
+    for _ in 0..65536 {
+        text.extend_from_slice(b"rm x\n")?;
+    }
+    text.extend_from_slice(b"\n")?;
+    let len = text.len();
+    text.extend_from_slice(b"commit")?;
+    let job = read_job(rt.alloc(), text.as_slice())?;
+    assert_eq!(rt; job.scripts[0].calls.len(), 1);
+    text.truncate(len);
+    text.extend_from_slice(b"rm x")?;
+    let fault = read_job(rt.alloc(), text.as_slice()).err();
+    assert_eq!(rt; fault, Some(JobFault::BadLine(65540)));
+    text.truncate(len);
+    text.extend_from_slice(b"fly")?;
+    let fault = read_job(rt.alloc(), text.as_slice()).err();
+    assert_eq!(rt; fault, Some(JobFault::NoSuchCommand(65540)));
     Ok(())
 }
 

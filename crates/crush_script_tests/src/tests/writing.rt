@@ -1,8 +1,8 @@
 //! Lines of a history.
 
 use crush_bytes::WriteFault;
-use crush_map::{Done, Edit, Refusal};
-use crush_script::{Call, Reply, write_entry};
+use crush_edits::{Done, Dones, Edit, Refusal};
+use crush_script::{Call, Edits, JobFault, Reply, read_job, write_entry};
 use crush_units::{Name, Weight};
 use std::alloc::Global;
 use std::io::{self, Error, ErrorKind, Write};
@@ -11,7 +11,8 @@ use std::test::Fail;
 /// The call `reweight NAME UNITS`.
 fn reweight(alloc: Global, name: &[u8], units: u32) -> Result<Call, Fail> {
     let name = Name::read(alloc, name)?;
-    Ok(Call::One(Edit::Reweight(name, Weight::from_units(units))))
+    let weight = Weight::from_units(units);
+    Ok(Call::One(Edit::Reweight { name, weight }))
 }
 
 /// Takes `room` bytes, and then fails.
@@ -91,6 +92,150 @@ fn an_entry_is_a_line(rt: HostRuntime) -> Result<(), Fail> {
         );
         assert_eq!(rt; held.as_slice(), line);
     }
+    Ok(())
+}
+
+#[test]
+fn commands_are_printed_as_they_are_read(rt: HostRuntime) -> Result<(), Fail> {
+    let alloc = rt.alloc();
+    let lines: [(&[u8], &[u8]); 14] = [
+        (
+            b"add osd.3 0.333 host=h3 rack=r1 root=default",
+            b"add osd.3 0.33299 host=h3 rack=r1 root=default",
+        ),
+        (
+            b"add osd.2147483647 65535.99998",
+            b"add osd.2147483647 65535.99998",
+        ),
+        (b"set osd.0 3\thost=h1", b"set osd.0 3.00000 host=h1"),
+        (
+            b"create-or-move osd.10 5.0 root=other host=h1 # back",
+            b"create-or-move osd.10 5.00000 root=other host=h1",
+        ),
+        (b" move h1  rack=r1", b"move h1 rack=r1"),
+        (b"move osd.0", b"move osd.0"),
+        (b"swap-bucket h1 h2", b"swap-bucket h1 h2"),
+        (b"reweight h1 0.015625", b"reweight h1 0.01563"),
+        (
+            b"reweight-subtree osd.0 1",
+            b"reweight-subtree osd.0 1.00000",
+        ),
+        (b"rm osd.0", b"rm osd.0"),
+        (b"remove h1\r", b"rm h1"),
+        (b"add-bucket h9 host", b"add-bucket h9 host"),
+        (b"rename-bucket a.b-c_ 9", b"rename-bucket a.b-c_ 9"),
+        (b"rm commit", b"rm commit"),
+    ];
+    let reply = Reply::Refused(Refusal::SumTooLarge);
+    for (line, printed) in lines {
+        let mut text = Vec::from_slice(alloc, b"%operator a\n")?;
+        text.extend_from_slice(line)?;
+        let job = read_job(alloc, text.as_slice())?;
+        let mut held = Vec::new(alloc);
+        assert_eq!(rt;
+            write_entry(10, b"a", &job.scripts[0].calls[0], reply, &mut held),
+            Ok(())
+        );
+        let mut expected = Vec::from_slice(alloc, b"# 10 a ")?;
+        expected.extend_from_slice(printed)?;
+        expected.extend_from_slice(b" = refused SumTooLarge 34\n")?;
+        assert_eq!(rt; held.as_slice(), expected.as_slice());
+    }
+    Ok(())
+}
+
+#[test]
+fn devices_are_read_with_their_ids(rt: HostRuntime) -> Result<(), Fail> {
+    let job = read_job(
+        rt.alloc(),
+        b"%operator a\nadd osd.2147483647 1 host=h1 root=r\n",
+    )?;
+    match &job.scripts[0].calls[0] {
+        Call::One(
+            Edit::Insert {
+                device,
+                name,
+                weight,
+                at,
+            },
+        ) => {
+            assert_eq!(rt; device.number(), 2147483647);
+            assert!(rt; name.is(b"osd.2147483647"));
+            assert_eq!(rt; weight.units(), 65536);
+            assert_eq!(rt; at.pairs().len(), 2);
+            assert!(rt; at.pairs()[0].kind.is(b"host"));
+            assert!(rt; at.pairs()[1].name.is(b"r"));
+        }
+        _ => assert!(rt; false, "another call"),
+    }
+    Ok(())
+}
+
+#[test]
+fn locations_have_at_most_sixteen_pairs(rt: HostRuntime) -> Result<(), Fail> {
+    let mut text = Vec::from_slice(rt.alloc(), b"%operator a\nmove h")?;
+    for _ in 0..16 {
+        text.extend_from_slice(b" host=h1")?;
+    }
+    assert_eq!(rt; read_job(rt.alloc(), text.as_slice())?.scripts.len(), 1);
+    text.extend_from_slice(b" host=h1")?;
+    let fault = read_job(rt.alloc(), text.as_slice()).err();
+    assert_eq!(rt; fault, Some(JobFault::BadLine(2)));
+    Ok(())
+}
+
+#[test]
+fn batches_are_lines(rt: HostRuntime) -> Result<(), Fail> {
+    let alloc = rt.alloc();
+    let job = read_job(
+        alloc,
+        b"%operator a\nbegin\nadd osd.3 1 host=h2\nrename-bucket h1 hq\nrm h2\ncommit\nbegin\ncommit\n",
+    )?;
+    let calls = &job.scripts[0].calls;
+    let mut held = Vec::new(alloc);
+    let refused = Reply::BatchRefused(2, Refusal::NotEmpty);
+    assert_eq!(rt; write_entry(1, b"a", &calls[0], refused, &mut held), Ok(()));
+    let line: &[u8] =
+        b"# 1 a begin ; add osd.3 1.00000 host=h2 ; rename-bucket h1 hq ; rm h2 ; commit = refused at 2 NotEmpty 39\n";
+    assert_eq!(rt; held.as_slice(), line);
+    held.clear();
+    let none = Reply::Dones(Dones {
+        edits: 0,
+        changed: 0,
+        made: 0,
+    });
+    assert_eq!(rt; write_entry(2, b"a", &calls[1], none, &mut held), Ok(()));
+    let line: &[u8] = b"# 2 a begin ; commit = dones 0 changed 0 made 0\n";
+    assert_eq!(rt; held.as_slice(), line);
+    held.clear();
+    let many = Reply::Dones(Dones {
+        edits: 65536,
+        changed: 12,
+        made: 4096,
+    });
+    assert_eq!(rt;
+        write_entry(65536, b"b", &calls[1], many, &mut held),
+        Ok(())
+    );
+    let line: &[u8] = b"# 65536 b begin ; commit = dones 65536 changed 12 made 4096\n";
+    assert_eq!(rt; held.as_slice(), line);
+    Ok(())
+}
+
+#[test]
+fn a_copy_of_a_call_prints_alike(rt: HostRuntime) -> Result<(), Fail> {
+    let alloc = rt.alloc();
+    let mut edits = Vec::new(alloc);
+    let Call::One(edit) = reweight(alloc, b"osd.2", 65536)? else {
+        return Ok(());
+    };
+    edits.push(edit)?;
+    let call = Call::Batch(Edits::new(edits)).try_copy(alloc)?;
+    let mut held = Vec::new(alloc);
+    let reply = Reply::Refused(Refusal::Loop);
+    assert_eq!(rt; write_entry(1, b"a", &call, reply, &mut held), Ok(()));
+    let line: &[u8] = b"# 1 a begin ; reweight osd.2 1.00000 ; commit = refused Loop 40\n";
+    assert_eq!(rt; held.as_slice(), line);
     Ok(())
 }
 

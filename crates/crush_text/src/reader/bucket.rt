@@ -80,7 +80,9 @@ fn read_id<A: Allocator>(
     read_key(reader, b"{")?;
     read_key(reader, b"id")?;
     let id = read_bucket_id(reader, builder)?;
-    builder.id(id);
+    let Ok(()) = builder.id(id) else {
+        unreachable!()
+    };
     Ok(())
 }
 
@@ -189,10 +191,10 @@ fn add_item<A: Allocator>(
         (placed word.entry.place (word_for d (weight item) word.entry.text.now)) }
 {
     let weight = own_weight(word, &item, builder)?;
-    match builder.item(item, weight) {
+    match builder.item(item, Some(weight)) {
         Ok(()) => Ok(()),
         Err(BuildFault::SumTooLarge) => Err(word.fault(TextFaultKind::SumTooLarge)),
-        Err(BuildFault::OutOfMemory) => Err(word.fault(TextFaultKind::OutOfMemory)),
+        Err(_) => Err(word.fault(TextFaultKind::OutOfMemory)),
     }
 }
 

@@ -8,12 +8,12 @@ ghost use Rattle.crush_text.specs.Grammar.{device_line};
 ghost use Rattle.crush_text.specs.Reads.{IsIdle, Reads, line_at};
 
 use crate::fault::{TextFault, TextFaultKind};
-use crate::reader::roles::{read_device_id, read_new_name, read_unread};
+use crate::reader::roles::{read_class_name, read_device_id, read_key, read_new_name};
 use crush_bytes::Reader;
 use crush_map::MapBuilder;
 use std::alloc::Allocator;
 
-/// A device, behind the word `device`. A class isn't read.
+/// A device, behind the word `device`, and its class where that is given.
 #[tactic(auto, unfolding(crate::specs::Reads::line_at))]
 pub(crate) fn read_device<A: Allocator + Clone>(
     reader: &mut Reader<'_>,
@@ -29,9 +29,14 @@ pub(crate) fn read_device<A: Allocator + Clone>(
     let id = read_device_id(reader, builder)?;
     let name = read_new_name(reader, builder)?;
     if reader.is_next(b"class") {
-        return read_unread(reader);
+        read_key(reader, b"class")?;
+        let class = read_class_name(reader)?;
+        let Ok(()) = builder.device(id, name.text, Some(class.text)) else {
+            return Err(class.fault(TextFaultKind::OutOfMemory));
+        };
+        return Ok(());
     }
-    let Ok(()) = builder.device(id, name.text) else {
+    let Ok(()) = builder.device(id, name.text, None) else {
         return Err(name.fault(TextFaultKind::OutOfMemory));
     };
     Ok(())

@@ -1,14 +1,14 @@
 //! The words of a statement, each by what it is for.
 
-ghost use Rattle.std.specs.Prelude.{◌≡◌, ◌<◌, length, true, false, IfOk, OnOk, Some, None, drop, if◌then◌else◌};
+ghost use Rattle.std.specs.Prelude.{◌≡◌, ◌<◌, length, true, false, IfOk, IfSome, OnOk, Some, None, drop, if◌then◌else◌};
 ghost use Rattle.std.specs.Str.Parse.{digits_value};
 ghost use Rattle.crush_units.specs.Name.{IsName};
 ghost use Rattle.crush_units.specs.declared.id.ItemId.TheVariants.{Device};
 ghost use Rattle.crush_table.specs.Table.{is_there, is_placed};
-ghost use Rattle.crush_table.specs.Setting.{is_reserved as is_reserved_name};
+ghost use Rattle.crush_edits.specs.Fits.{is_reserved as is_reserved_name};
 ghost use Rattle.crush_map.specs.Built.{Draft};
-ghost use Rattle.crush_map.specs.Building.{IsDraft, is_open, has_name, has_bucket_id, has_kind_number, has_kind_name};
-ghost use Rattle.crush_text.specs.Role.{key, type_number, type_name, device_id, new_name, unread, bucket_id, alg_key, algorithm, hash_number, item_or_end, item, weight_key};
+ghost use Rattle.crush_map.specs.Building.{IsDraft, is_open, item_named, has_name, has_bucket_id, has_kind_number, has_kind_name};
+ghost use Rattle.crush_text.specs.Role.{key, type_number, type_name, device_id, new_name, class_name, bucket_id, alg_key, algorithm, hash_number, item_or_end, item, weight_key};
 ghost use Rattle.crush_text.specs.Forms.{is_negative};
 ghost use Rattle.crush_text.specs.Reads.{Gives, word_at};
 
@@ -133,15 +133,19 @@ pub(crate) fn read_new_name<'a, A: Allocator>(
     Ok(word)
 }
 
-/// A word that isn't read here.
+/// The class of a device.
 #[tactic(auto, unfolding(crate::specs::Reads::word_at))]
-pub(crate) fn read_unread(reader: &mut Reader<'_>) -> Result<(), TextFault>
+pub(crate) fn read_class_name<'a>(reader: &mut Reader<'a>) -> Result<PlacedWord<'a>, TextFault>
     ensures gives { (d : Draft)
-        → Gives (λ x. (x, reader.new)) result (word_at d unread reader.old) }
+        → Gives (λ x. (x.text.now, reader.new)) result (word_at d class_name reader.old) }
+    ensures named { IfOk result (λ x. IsName x.text.now) }
     ensures shorter { OnOk result (length reader.new.words < length reader.old.words) }
 {
     let word = next_word(reader)?;
-    Err(word.fault(TextFaultKind::LeftOut))
+    if word.is_brace() {
+        return Err(word.fault(TextFaultKind::Unexpected));
+    }
+    Ok(word)
 }
 
 /// A bucket's id that is free: `-` and a number from 1 to 2147483648.
@@ -269,10 +273,23 @@ pub(crate) fn read_item_name<A: Allocator>(
     if word.is_brace() {
         return Err(word.fault(TextFaultKind::Unexpected));
     }
-    match builder.item_named(word.text) {
+    match item_named(builder, word.text) {
         None => Err(word.fault(TextFaultKind::UnknownItem)),
         Some(id) if builder.is_placed(id) => Err(word.fault(TextFaultKind::SecondParent)),
         Some(id) => Ok(id),
+    }
+}
+
+/// The device or the complete bucket of a name, if there is one.
+fn item_named<A: Allocator>(builder: &MapBuilder<A>, name: &[u8]) -> Option<ItemId>
+    ensures value { (d : Draft) → IsDraft builder.now d → result ≡ item_named d name.now }
+    ensures there { IfSome result (λ i. (d : Draft) → IsDraft builder.now d
+        → is_there d.table i ≡ true) }
+    ensures closed { IfSome result (λ i. is_open builder.now.pending i ≡ false) }
+{
+    match builder.item_named(name) {
+        Ok(id) => Some(id),
+        Err(_) => None,
     }
 }
 

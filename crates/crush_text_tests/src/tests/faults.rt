@@ -44,7 +44,24 @@ fn bytes_that_no_text_has(rt: HostRuntime) -> Result<(), Fail> {
             (b"host a $ id -1", 43),
             (b"host a { id -1 alg straw2 item d weight 1,5 }", 77),
             (b"\x80", 36),
+            (b"host$", 40),
+            (b"device 1 e class $", 53),
+            (b"device 1 e class s$", 54),
         ],
+    )
+}
+
+/// A word ends where a byte stands that no text may have, and is judged before that byte.
+#[test]
+fn words_before_such_a_byte(rt: HostRuntime) -> Result<(), Fail> {
+    let alloc = rt.alloc();
+    are_refused(&rt, alloc, TextFaultKind::UnknownType, &[(b"nosuch$", 36)])?;
+    are_refused(&rt, alloc, TextFaultKind::BadNumber, &[(b"type x$", 41)])?;
+    are_refused(
+        &rt,
+        alloc,
+        TextFaultKind::DuplicateId,
+        &[(b"device 0$", 43)],
     )
 }
 
@@ -57,6 +74,9 @@ fn texts_that_end_inside_a_statement(rt: HostRuntime) -> Result<(), Fail> {
         &[
             (b"type", 40),
             (b"device 1", 44),
+            (b"class", 41),
+            (b"device 1 e class", 52),
+            (b"device 1 e class # ssd", 58),
             (b"host a { id -1 alg", 54),
             (b"host a { id -1 alg straw2 item d weight 1 # }", 81),
         ],
@@ -74,12 +94,18 @@ fn words_out_of_place(rt: HostRuntime) -> Result<(), Fail> {
             (b"}", 36),
             (b"host a { id -1 alg straw2 }\nclass ssd", 64),
             (b"type {", 41),
+            (b"type 2 rack class ssd", 48),
             (b"type 2 rule", 43),
             (b"type 2 tunable", 43),
             (b"type 2 choose_args", 43),
             (b"type 2 }", 43),
+            (b"type 0 device type 2 device", 57),
             (b"device }", 43),
             (b"device 1 {", 45),
+            (b"device 1 e {", 47),
+            (b"device 1 e class {", 53),
+            (b"device 1 e class }", 53),
+            (b"device 1 e class a class b", 55),
             (b"host {", 41),
             (b"host a id", 43),
             (b"host a { alg", 45),
@@ -137,6 +163,10 @@ fn weights_out_of_form_or_range(rt: HostRuntime) -> Result<(), Fail> {
             (
                 b"host a { id -1 alg straw2 }\nroot r { id -2 alg straw2 item a weight 65536 }",
                 104,
+            ),
+            (
+                b"device 1 e\nhost a { id -1 alg straw2 item d weight 32767 item e weight 65535 }",
+                107,
             ),
         ],
     )
@@ -257,7 +287,6 @@ fn what_is_not_read_here(rt: HostRuntime) -> Result<(), Fail> {
             (b"rule x { id 0 }", 36),
             (b"host a { id -1 alg straw2 }\nrule x { id 0 }", 64),
             (b"choose_args 0 { }", 36),
-            (b"device 1 e class ssd", 47),
             (b"host a { id -1 id -2 class ssd alg straw2 }", 51),
             (b"host a { id -1 alg straw2 item d }", 69),
             (b"host a { id -1 alg straw2 item d item d }", 69),

@@ -88,6 +88,21 @@ fn lines_are_printed_in_order(rt: HostRuntime) -> Result<(), Fail> {
     Ok(())
 }
 
+/// A device of a class that is named like the word before it, and one without a class.
+#[test]
+fn classes_of_devices_are_printed(rt: HostRuntime) -> Result<(), Fail> {
+    let out = printed(
+        rt.alloc(),
+        b"device 1 osd.1\nclass class\ndevice 0 osd.0 device 2 class class osd.0",
+    )?;
+    let expected: &[u8] =
+        b"# begin crush map\n\n# devices\ndevice 0 osd.0\ndevice 1 osd.1 class class\ndevice 2 class class osd.0\n\n# types\n\n# buckets\n\n# rules\n\n# end crush map\n";
+    assert!(rt; out.as_slice() == expected);
+    let again = printed(rt.alloc(), expected)?;
+    assert!(rt; again.as_slice() == expected);
+    Ok(())
+}
+
 #[test]
 fn a_front_of_the_map_stands_after_a_failure(rt: HostRuntime) -> Result<(), Fail> {
     let text = plain_example_map(rt.alloc())?;

@@ -26,19 +26,27 @@ fn the_plain_example_map_is_read(rt: HostRuntime) -> Result<(), Fail> {
 
 #[test]
 fn the_empty_text_is_a_map(rt: HostRuntime) -> Result<(), Fail> {
-    let (map, _) = read_map(rt.alloc(), b"")?;
-    assert_eq!(rt; map.total(), 0);
+    let (map, adjusted) = read_map(rt.alloc(), b"")?;
+    assert_eq!(rt; adjusted, 0);
+    assert_eq!(rt; map.counts().devices, 0);
+    assert_eq!(rt; map.counts().buckets, 0);
+    assert_eq!(rt; map.setting().kinds().len(), 0);
     Ok(())
 }
 
 #[test]
 fn lines_at_the_edges_of_the_grammar_are_read(rt: HostRuntime) -> Result<(), Fail> {
-    let lines: [&[u8]; 10] = [
+    let lines: [&[u8]; 15] = [
         b"type 0 rule",
         b"type 00002 rack",
         b"type 65535 rack",
         b"device 2147483647 e",
         b"device 1 type",
+        b"class ssd",
+        b"device 1 e class ssd",
+        b"device 1 e\nclass class",
+        b"device 1 e class d",
+        b"device 1 class class ssd device 2 e class ssd",
         b"host rule { id -1 alg straw }",
         b"host a{id -2147483648 alg list hash 000}",
         b"host a { id -0000000001 alg straw2 item d weight 32767.99998 }",

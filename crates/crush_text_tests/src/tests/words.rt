@@ -36,5 +36,10 @@ fn stops_at_long_words(rt: HostRuntime) -> Result<(), Fail> {
     assert!(rt; is_word(&mut reader, 0, &[b'a'; 255]));
     let mut reader = Reader::new(&[b'a'; 256]);
     assert!(rt; matches!(reader.next(), Token::Bad { place: 0 }));
+    let mut text = Vec::new(rt.alloc());
+    text.extend_from_slice(&[b'a'; 256])?;
+    text.push(b'$')?;
+    let mut reader = Reader::new(text.as_slice());
+    assert!(rt; matches!(reader.next(), Token::Bad { place: 0 }));
     Ok(())
 }

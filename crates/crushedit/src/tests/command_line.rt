@@ -58,7 +58,7 @@ fn help_says_what_a_job_is(rt: HostRuntime) {
         "Usage: crushedit [OPTIONS] [FILE]\n",
         "--in-turn ",
         "--no-history ",
-        "\n    %operator alice\n    reweight osd.2 1.0\n",
+        "\n    %operator alice\n    add osd.12 1.8 host=node3 rack=r2 root=default\n    reweight osd.2 1.0\n",
         "\n    reweight NAME WEIGHT ",
         "\n    4    there was no memory",
     ];

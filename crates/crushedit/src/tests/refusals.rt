@@ -17,7 +17,7 @@ fn is_refused(rt: &impl AllocGlobal, bytes: &[u8], fault: JobFault, line: &[u8])
 
 #[test]
 fn refuses_faulty_lines(rt: HostRuntime) -> Result<(), Fail> {
-    let cases: [(&[u8], JobFault, &[u8]); 5] = [
+    let cases: [(&[u8], JobFault, &[u8]); 10] = [
         (
             b"%operator a\nreweight osd.0 0.0000000000000000001\n",
             JobFault::BadLine(43),
@@ -39,9 +39,34 @@ fn refuses_faulty_lines(rt: HostRuntime) -> Result<(), Fail> {
             b"crushedit: line 44: BadLine\n",
         ),
         (
-            b"%operator a\n%operator b\n",
-            JobFault::TooManyOperators(43),
-            b"crushedit: line 43: TooManyOperators\n",
+            b"%operator 1\n%operator 2\n%operator 3\n%operator 4\n%operator 5\n%operator 6\n%operator 7\n%operator 8\n%operator 9\n%operator 10\n%operator 11\n%operator 12\n%operator 13\n%operator 14\n%operator 15\n%operator 16\n%operator 1\n",
+            JobFault::TooManyOperators(58),
+            b"crushedit: line 58: TooManyOperators\n",
+        ),
+        (
+            b"%operator a\n%operator a\n",
+            JobFault::DuplicateOperator(43),
+            b"crushedit: line 43: DuplicateOperator\n",
+        ),
+        (
+            b"%operator a\nrm x\nbegin\nrm y\n",
+            JobFault::OpenBatch(44),
+            b"crushedit: line 44: OpenBatch\n",
+        ),
+        (
+            b"%operator a\nbegin\nrm y\n%operator a\n",
+            JobFault::OpenBatch(43),
+            b"crushedit: line 43: OpenBatch\n",
+        ),
+        (
+            b"%operator a\nbegin\nfly y\n",
+            JobFault::NoSuchCommand(44),
+            b"crushedit: line 44: NoSuchCommand\n",
+        ),
+        (
+            b"%operator a\ncommit\n",
+            JobFault::BadLine(43),
+            b"crushedit: line 43: BadLine\n",
         ),
     ];
     for (lines, fault, line) in cases {

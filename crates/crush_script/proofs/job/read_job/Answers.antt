@@ -32,8 +32,9 @@ returns-clause-job c =
       record {
         short = omega arith;
         map = subst (λ (x : List ℕ). IsMapText x job.setting job.table job.adjusted) c.cut_job.ensures.map m.1;
-        calls = c.in_ok-sections.sections.calls;
+        said = sections_data c.in_ok-sections.sections;
         sections = sections_of-cut c.args.bytes.now _ _ _ _ c.cut_job.ensures.map c.cut_job.ensures.sections c.line_feeds.ensures.count c.in_ok-sections.ensures;
+        scripts = refl;
       },
       record { map = record { setting = refl; forest = m.2 }; adjusted = refl; scripts = refl },
     )
@@ -45,7 +46,7 @@ returns-clause-only c = λ job is.
     record {
       map = m.0;
       adjusted = m.1;
-      scripts = same_scripts (sections_data c.in_ok-sections.sections) (record { scripts = job.scripts; calls = is.calls }) (sym own ∙ is.sections);
+      scripts = same_scripts (sections_data c.in_ok-sections.sections) is.said (sym own ∙ is.sections) ∙ is.scripts;
     }
 
 pub returns-clause-few : goal.returns-clause-few

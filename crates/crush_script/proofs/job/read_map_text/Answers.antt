@@ -1,6 +1,6 @@
 use Rattle.std.proofs.Common.{ℕ, List, inl, inr}
-use Rattle.crush_table.specs.Setting.{SettingData}
 use Rattle.crush_table.specs.Table.{Row}
+use Rattle.crush_edits.specs.Setting.{SettingData}
 use Rattle.crush_text.specs.Document.{IsMapText}
 use Rattle.crush_script.proofs.job.read_map_text.Goals as goal
 

@@ -1,6 +1,7 @@
 -- A refused edit: the reply is the table's, and the map is as before.
 use Rattle.std.proofs.Common.{◌≡◌, ap, sym, subst, Err}
-use Rattle.crush_map.specs.Edit.{edit, Answer, refused}
+use Rattle.crush_edits.specs.Answer.{Answer, refused}
+use Rattle.crush_edits.specs.Edit.{edit}
 use Rattle.crush_map.specs.MapData.{MapData, MapStands}
 use Rattle.crush_script.specs.History.{edit_outcome}
 use Rattle.crush_script.proofs.turns.make_edit.Goals as goal
@@ -12,5 +13,5 @@ returns-in-Err-Refused c s t st =
     let told = arm.ensures.refused arm.refusal (ap Err arm.field-0-is) t st.forest in
     let is : edit s t e ≡ refused arm.refusal = subst (λ z. edit z t e ≡ refused arm.refusal) st.setting told in (
       sym (ap (λ (a : Answer). (edit_outcome t a).reply) is),
-      subst (λ (a : Answer). MapStands c.apply.new.self s (edit_outcome t a).table) (sym is) (subst (λ (m : MapData). MapStands m s t) (sym arm.ensures.kept) st),
+      subst (λ (a : Answer). MapStands c.apply.new.self s (edit_outcome t a).table) (sym is) (subst (λ (m : MapData). MapStands m s t) (sym (arm.ensures.unchanged arm.refusal (ap Err arm.field-0-is))) st),
     )

@@ -1,6 +1,6 @@
 use Rattle.std.proofs.Common.{◌≡◌, List, take, ◌++◌, ◌+◌, length}
-use Rattle.crush_table.specs.Setting.{SettingData}
 use Rattle.crush_table.specs.Table.{Row}
+use Rattle.crush_edits.specs.Setting.{SettingData}
 use Rattle.crush_map.specs.MapData.{MapStands}
 use Rattle.crush_script.specs.History.{table_after, turn}
 use Rattle.crush_script.specs.Entries.{history_data}

@@ -2,7 +2,7 @@
 use Rattle.std.proofs.Common.{◌∙◌, sym, subst}
 use Rattle.std.proofs.lemmas.Result.{err_from_is_err_and}
 use Rattle.crush_table.specs.Stands.{Stands}
-use Rattle.crush_table.specs.Setting.{SettingData}
+use Rattle.crush_edits.specs.Setting.{SettingData}
 use Rattle.crush_map.specs.Built.{empty_draft}
 use Rattle.crush_text.specs.Document.{IsMapText}
 use Rattle.crush_text.proofs.Whole.{is_flaw, no_map, is_map, only_map}

@@ -14,8 +14,8 @@ use Rattle.crush_map.proofs.builder.MapBuilder.alg.Goals as goal
 
 pub attach-requires-clause-fits : goal.attach-requires-clause-fits
 attach-requires-clause-fits g c =
-    let b : BuilderData = record { setting = c.self.inside.setting; forest = c.self.inside.forest; pending = pending_data c.self.inside.pending } in
-    let d : Draft = record { setting = b.setting; table = rows_of c.reserve.new.self; pending = b.pending } in
+    let b : BuilderData = record { setting = c.self.inside.setting; forest = c.self.inside.forest; pending = pending_data c.self.inside.pending; adjusted = c.self.inside.adjusted } in
+    let d : Draft = record { setting = b.setting; table = rows_of c.reserve.new.self; pending = b.pending; adjusted = b.adjusted } in
     let at : IsDraft b d = room_is_draft b c.reserve.new.self c.recall_invariant.ensures c.self.invariant c.reserve.ensures.stands in
     let p : b.pending ≡ numbered c.in-Numbered.kind c.in-Numbered.name c.in-Numbered.id [] = ap pending_data (sym c.replace.ensures.value ∙ c.in-Numbered.is) in
     let can = subst (λ (x : Pending). IsPending b.setting d.table x) p at.part in
@@ -24,16 +24,16 @@ attach-requires-clause-fits g c =
 
 pub invariant_of-self-2 : goal.invariant_of-self-2
 invariant_of-self-2 g c =
-    let b : BuilderData = record { setting = c.self.inside.setting; forest = c.self.inside.forest; pending = pending_data c.self.inside.pending } in
+    let b : BuilderData = record { setting = c.self.inside.setting; forest = c.self.inside.forest; pending = pending_data c.self.inside.pending; adjusted = c.self.inside.adjusted } in
     let own : IsDraft b (own_draft b) = own_is_draft b c.recall_invariant.ensures c.self.invariant in
     let p : b.pending ≡ numbered c.in-Numbered.kind c.in-Numbered.name c.in-Numbered.id [] = ap pending_data (sym c.replace.ensures.value ∙ c.in-Numbered.is) in
-    draft_fits (record { setting = b.setting; forest = c.attach.new.self; pending = filling c.in-Numbered.id }) (with_alg (own_draft b) c.args.alg)
+    draft_fits (record { setting = b.setting; forest = c.attach.new.self; pending = filling c.in-Numbered.id; adjusted = b.adjusted }) (with_alg (own_draft b) c.args.alg)
     (alg_step b c.attach.new.self (own_draft b) c.in-Numbered.kind c.in-Numbered.name c.in-Numbered.id c.args.alg own p
     (subst (λ (n : Items). Stands c.attach.new.self ((own_draft b).table ++ rows None n)) c.in_ok-node.ensures (c.attach.ensures.stands (own_draft b).table (c.reserve.ensures.stands (own_draft b).table own.stands))))
 
-pub returns : goal.returns
-returns g c = λ d i.
-    let b : BuilderData = record { setting = c.self.inside.setting; forest = c.self.inside.forest; pending = pending_data c.self.inside.pending } in
+pub returns-clause-ok : goal.returns-clause-ok
+returns-clause-ok g c = λ d i.
+    let b : BuilderData = record { setting = c.self.inside.setting; forest = c.self.inside.forest; pending = pending_data c.self.inside.pending; adjusted = c.self.inside.adjusted } in
     let at : IsDraft b d = subst (λ (x : BuilderData). IsDraft x d) (sym c.self.view_is) i in
     let p : b.pending ≡ numbered c.in-Numbered.kind c.in-Numbered.name c.in-Numbered.id [] = ap pending_data (sym c.replace.ensures.value ∙ c.in-Numbered.is) in
     alg_step b c.attach.new.self d c.in-Numbered.kind c.in-Numbered.name c.in-Numbered.id c.args.alg at p

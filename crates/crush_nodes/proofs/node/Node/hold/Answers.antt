@@ -5,7 +5,8 @@ use Rattle.crush_table.specs.Forest.{join}
 use Rattle.crush_table.specs.ItemRows.{rows}
 use Rattle.crush_table.specs.Stored.{weight_sum, StoresSums}
 use Rattle.crush_nodes.specs.Held.{first_room, first_bucket, is_own_place, bucket_with}
-use Rattle.crush_nodes.specs.Room.{count, one_if, room_in}
+use Rattle.crush_table.specs.Count.{one_if}
+use Rattle.crush_nodes.specs.Room.{count, room_in}
 use Rattle.crush_nodes.specs.Seen.{items_of}
 use Rattle.crush_nodes.specs.declared.node.Node.{Node}
 use Rattle.crush_nodes.specs.declared.node.Node.TheVariants.{Device, Bucket}

@@ -11,4 +11,5 @@ returns-in_err-weight-clause-adds g c = λ d h.
 
 pub returns-in-Ok-clause-adds : goal.returns-in-Ok-clause-adds
 returns-in-Ok-clause-adds g c = λ d h.
-    (c.in_ok-weight.weight, c.in-Ok.ensures.ok d h, own_ok c.args.word.place d c.args.item c.args.word.text.now c.in_ok-weight.weight (c.in_ok-weight.ensures d h) (light_of c.item.result c.in-Ok.field-0 _ c.in-Ok.is (c.item.ensures.heavy d h).1))
+    let k = c.in-Ok.ensures.ok d h in
+    (c.in_ok-weight.weight, k.1, own_ok c.args.word.place d c.args.item c.args.word.text.now c.in_ok-weight.weight (c.in_ok-weight.ensures d h) (light_of _ _ _ _ k.0))

@@ -1,0 +1,83 @@
+-- The tests of an edit that puts a device, asked group by group.
+use Rattle.std.proofs.Common.{◌≡◌, ℕ, Bool, true, false, List, [], ◌∷◌, ◌++◌, ap, ◌∙◌}
+use Rattle.std.specs.Prelude.{Result, Ok, Err, IfOk, IfErr, if◌then◌else◌, Some, None, bytes_eq}
+use Rattle.std.specs.List.{count_by}
+use Rattle.crush_units.specs.declared.id.ItemId.TheVariants.{Device}
+use Rattle.crush_table.specs.Table.{Row, is_placed}
+use Rattle.crush_edits.specs.declared.location.Pair.{Pair}
+use Rattle.crush_edits.specs.declared.refusal.Refusal.{Refusal}
+use Rattle.crush_edits.specs.declared.refusal.Refusal.TheVariants.{AlreadyPlaced}
+use Rattle.crush_edits.specs.Answer.{After, first_refusal, room_test, sum_test}
+use Rattle.crush_edits.specs.Located.{location_tests, device_tests, end_tests}
+use Rattle.crush_edits.specs.New.{IsRoute}
+use Rattle.crush_edits.specs.Placing.{insert_tests, device_put_tests}
+use Rattle.crush_edits.specs.Setting.{SettingData}
+use Rattle.crush_edits.specs.Stops.{StopData, stops}
+use Rattle.crush_edits.proofs.Order.{group_passes, group_refuses}
+use Rattle.crush_edits.proofs.Stops.{no_stop_named}
+use Rattle.crush_apply.specs.Planned.{CanCome, last_refusal}
+use Rattle.crush_apply.proofs.Passed.{device_passes, location_nothing}
+use Rattle.crush_apply.proofs.Weights.{light_bound}
+
+-- what holds of an Ok, and of an Err
+pub ok_both : {X E : Type 0} (P Q R : X → Type 0) (x : Result X E) → ((v : X) → P v → Q v → R v) → IfOk x P → IfOk x Q → IfOk x R
+ok_both P Q R (Ok v) f p q = f v p q
+ok_both P Q R (Err e) f p q = tt
+
+pub err_more : {X E : Type 0} (P Q : E → Type 0) (x : Result X E) → ((e : E) → P e → Q e) → IfErr x P → IfErr x Q
+err_more P Q (Ok v) f p = tt
+err_more P Q (Err e) f p = f e p
+
+-- a test that doesn't hold leaves it to the next
+next_test : (r : Refusal) (b : Bool) (qs : List (Refusal × Bool)) → b ≡ false → first_refusal ((r, b) ∷ qs) ≡ first_refusal qs
+next_test r b qs e = ap (λ z. if z then Some r else first_refusal qs) e
+
+abbrev last_tests : After → List (Refusal × Bool)
+last_tests a = room_test a ∷ (sum_test a ∷ [])
+
+module _ (s : SettingData) (t : List Row) (d : ℕ) (n : List ℕ) (w : ℕ) (l : List Pair) where
+  abbrev device : List (Refusal × Bool)
+  device = device_tests s t d n w l
+
+  abbrev ends : List (Refusal × Bool)
+  ends = end_tests t (stops s l)
+
+  -- INSERT
+  abbrev placed : After → List (Refusal × Bool)
+  placed a = (AlreadyPlaced, is_placed t (Device d)) ∷ (ends ++ last_tests a)
+
+  pub insert_device : (r : Refusal) (a : After) → first_refusal (device_tests s t d n w l) ≡ Some r → first_refusal (insert_tests s t d n w l a) ≡ Some r
+  insert_device r a e = group_refuses device (placed a) r e
+
+  pub insert_placed : (a : After) → first_refusal (device_tests s t d n w l) ≡ None → is_placed t (Device d) ≡ true → first_refusal (insert_tests s t d n w l a) ≡ Some AlreadyPlaced
+  insert_placed a e there = group_passes device (placed a) e ∙ ap (λ z. if z then Some AlreadyPlaced else first_refusal (ends ++ last_tests a)) there
+
+  pub insert_end : (r : Refusal) (a : After) → first_refusal (device_tests s t d n w l) ≡ None → is_placed t (Device d) ≡ false → first_refusal (end_tests t (stops s l)) ≡ Some r → first_refusal (insert_tests s t d n w l a) ≡ Some r
+  insert_end r a e free f = group_passes device (placed a) e ∙ next_test AlreadyPlaced (is_placed t (Device d)) (ends ++ last_tests a) free ∙ group_refuses ends (last_tests a) r f
+
+  pub insert_last : (a : After) → first_refusal (device_tests s t d n w l) ≡ None → is_placed t (Device d) ≡ false → first_refusal (end_tests t (stops s l)) ≡ None → first_refusal (insert_tests s t d n w l a) ≡ last_refusal a
+  insert_last a e free f = group_passes device (placed a) e ∙ next_test AlreadyPlaced (is_placed t (Device d)) (ends ++ last_tests a) free ∙ group_passes ends (last_tests a) f
+
+  -- CREATE OR MOVE, UPDATE
+  pub put_device : (r : Refusal) (a : After) → first_refusal (device_tests s t d n w l) ≡ Some r → first_refusal (device_put_tests s t d n w l a) ≡ Some r
+  put_device r a e = group_refuses device (ends ++ last_tests a) r e
+
+  pub put_end : (r : Refusal) (a : After) → first_refusal (device_tests s t d n w l) ≡ None → first_refusal (end_tests t (stops s l)) ≡ Some r → first_refusal (device_put_tests s t d n w l a) ≡ Some r
+  put_end r a e f = group_passes device (ends ++ last_tests a) e ∙ group_refuses ends (last_tests a) r f
+
+  pub put_last : (a : After) → first_refusal (device_tests s t d n w l) ≡ None → first_refusal (end_tests t (stops s l)) ≡ None → first_refusal (device_put_tests s t d n w l a) ≡ last_refusal a
+  put_last a e f = group_passes device (ends ++ last_tests a) e ∙ group_passes ends (last_tests a) f
+
+  -- BOTH: the location passes, and the device can come
+  pub located : first_refusal (device_tests s t d n w l) ≡ None → first_refusal (location_tests s l) ≡ None
+  located e = location_nothing s l (device_passes s t d n w l e).location
+
+  pub can_come : (ps : List StopData) → first_refusal (device_tests s t d n w l) ≡ None → ps ≡ stops s l → IsRoute t ps → CanCome t d n w ps
+  can_come ps e are route =
+      let passes = device_passes s t d n w l e in
+      record {
+        route = route;
+        own = passes.own;
+        other = ap (count_by (λ (p : StopData). bytes_eq p.name n)) are ∙ no_stop_named s l n passes.other;
+        weight = light_bound w passes.light;
+      }

@@ -1,0 +1,66 @@
+-- New buckets, one more at a time.
+use Rattle.std.proofs.Common.{◌≡◌, ℕ, zero, suc, ◌+◌, ◌<◌, ◌≤◌, List, [], ◌∷◌, ◌++◌, length, take, get_or, refl, ap, sym, ◌∙◌, arith, add-one}
+use Rattle.std.specs.Prelude.{All}
+use Rattle.std.proofs.lemmas.List.Elements.{All-head, All-tail}
+use Rattle.crush_table.specs.Items.{Items, none, bucket}
+use Rattle.crush_table.specs.Stored.{weight_sum}
+use Rattle.crush_nodes.specs.Held.{bucket_with}
+use Rattle.crush_edits.specs.declared.location.Pair.{Pair}
+use Rattle.crush_edits.specs.Stops.{StopData}
+use Rattle.crush_edits.specs.Put.{NewData, with_ids, new_header}
+use Rattle.crush_edits.specs.Boxes.{boxes}
+use Rattle.crush_edits.proofs.Boxes.{boxes-more, weight_sum-boxes}
+use Rattle.crush_apply.specs.declared.route.Stop.{Stop}
+use Rattle.crush_apply.specs.Stopped.{pair_name, stop_data, stops_data}
+
+-- a pair with a name is there
+pub pair_there : (l : List Pair) (k : ℕ) → 0 < length (pair_name l k) → k < length l
+pair_there [] k h = absurd (omega (arith, h))
+pair_there (p ∷ l) zero h = omega arith
+pair_there (p ∷ l) (suc k) h = let ih = pair_there l k h in omega arith
+
+pub pair_name-get : (l : List Pair) (k : ℕ) (d : Pair) → k < length l → pair_name l k ≡ (get_or l k d).name
+pair_name-get [] k d h = absurd (omega (arith, h))
+pair_name-get (p ∷ l) zero d h = refl
+pair_name-get (p ∷ l) (suc k) d h = pair_name-get l k d (omega (arith, h))
+
+-- what holds of all stops holds of each
+pub stop_at : (P : StopData → Type 0) (l : List Pair) (xs : List Stop) (k : ℕ) (d : Stop) → k < length xs → All P (stops_data l xs) → P (stop_data l (get_or xs k d))
+stop_at P l [] k d h all = absurd (omega (arith, h))
+stop_at P l (x ∷ xs) zero d h all = All-head P (stop_data l x) (stops_data l xs) all
+stop_at P l (x ∷ xs) (suc k) d h all = stop_at P l xs k d (omega (arith, h)) (All-tail P (stop_data l x) (stops_data l xs) all)
+
+-- a stop with an id
+abbrev pub new_of : ℕ → StopData → NewData
+new_of i p = record { id = i; kind = p.kind; name = p.name }
+
+-- one stop more
+with_ids-more : (l : List Pair) (ids : List ℕ) (xs : List Stop) (k i : ℕ) (d : Stop) → k < length ids → k < length xs
+    → with_ids (take (suc k) ids) (stops_data l (take (suc k) xs)) ≡ with_ids (take k ids) (stops_data l (take k xs)) ++ new_of (get_or ids k i) (stop_data l (get_or xs k d)) ∷ []
+with_ids-more l [] xs k i d h g = absurd (omega (arith, h))
+with_ids-more l (j ∷ ids) [] k i d h g = absurd (omega (arith, g))
+with_ids-more l (j ∷ ids) (x ∷ xs) zero i d h g = refl
+with_ids-more l (j ∷ ids) (x ∷ xs) (suc k) i d h g = ap (λ z. new_of j (stop_data l x) ∷ z) (with_ids-more l ids xs k i d (omega (arith, h)) (omega (arith, g)))
+
+-- a new bucket that holds those before it
+pub one_more : (l : List Pair) (ids : List ℕ) (xs : List Stop) (k i : ℕ) (d : Stop) (above below more : Items) → k < length ids → k < length xs
+    → above ≡ bucket (new_header (new_of (get_or ids k i) (stop_data l (get_or xs k d)))) 0 1 none none
+    → below ≡ boxes 1 none (with_ids (take k ids) (stops_data l (take k xs)))
+    → more ≡ bucket_with below above
+    → more ≡ boxes 1 none (with_ids (take (k + 1) ids) (stops_data l (take (k + 1) xs)))
+one_more l ids xs k i d above below more h g empty so_far held =
+    let n = new_of (get_or ids k i) (stop_data l (get_or xs k d)) in
+    let ns = with_ids (take k ids) (stops_data l (take k xs)) in
+    let first : 0 + weight_sum (boxes 1 none ns) ≡ weight_sum (boxes 1 none ns) = omega arith in
+    held ∙ (λ j. bucket_with (so_far j) (empty j))
+    ∙ (λ j. bucket (new_header n) (first j) 1 (boxes 1 none ns) none)
+    ∙ sym (boxes-more 1 none ns n)
+    ∙ sym (ap (boxes 1 none) (with_ids-more l ids xs k i d h g))
+    ∙ (λ j. boxes 1 none (with_ids (take (sym (add-one k) j) ids) (stops_data l (take (sym (add-one k) j) xs))))
+
+-- both weigh nothing
+pub weigh_nothing : (above below : Items) (h : _) (ns : List NewData) → above ≡ bucket h 0 1 none none → below ≡ boxes 1 none ns → weight_sum above + weight_sum below ≤ 4294967295
+weigh_nothing above below h ns empty so_far =
+    let nothing : weight_sum above ≡ 0 = ap weight_sum empty in
+    let none_below : weight_sum below ≡ 0 = ap weight_sum so_far ∙ weight_sum-boxes 1 none ns in
+    omega arith

@@ -1,0 +1,109 @@
+-- A device that is put, whether it is there or not.
+use Rattle.std.proofs.Common.{◌≡◌, ℕ, ◌<◌, Bool, true, false, List, ap, sym, subst, ◌∙◌, refl}
+use Rattle.std.specs.Prelude.{not, Option, Some, None, IfSome, is_some, option_and_then, bytes_eq}
+use Rattle.std.specs.Option.{option_map}
+use Rattle.std.proofs.lemmas.Slice.Eq.{bytes_eq-Decides}
+use Rattle.crush_units.specs.declared.id.ItemId.{ItemId}
+use Rattle.crush_units.specs.declared.id.ItemId.TheVariants.{Device, Bucket}
+use Rattle.crush_units.specs.Id.{same_id}
+use Rattle.crush_units.specs.Name.{IsName}
+use Rattle.crush_units.proofs.Ids.{same_id_equal}
+use Rattle.crush_units.specs.declared.limits.TheConstants.{DEVICE_IDS}
+use Rattle.crush_table.specs.Items.{LeafData}
+use Rattle.crush_table.specs.ItemRows.{device_row}
+use Rattle.crush_table.specs.Columns.{is_part}
+use Rattle.crush_table.specs.Table.{Row, row_of, id_named, is_named, is_there, name_of, class_of}
+use Rattle.crush_table.specs.Lawful.{Lawful, is_too_heavy, has_too_many}
+use Rattle.crush_table.proofs.Moved.{row_id}
+use Rattle.crush_table.proofs.Weighs.{or_left, or_right}
+use Rattle.crush_edits.specs.Answer.{meets}
+use Rattle.crush_edits.specs.Changed.{same_table}
+use Rattle.crush_edits.specs.LawPut.{IsApart}
+use Rattle.crush_edits.specs.Located.{is_taken}
+use Rattle.crush_edits.specs.New.{IsRoute}
+use Rattle.crush_edits.specs.Placing.{edited_device}
+use Rattle.crush_edits.specs.Put.{put, held}
+use Rattle.crush_edits.specs.Stops.{StopData, receiver}
+use Rattle.crush_edits.proofs.PutLaws.{changes, changes_new}
+use Rattle.crush_edits.proofs.Routes.{named_there}
+use Rattle.crush_edits.proofs.Tails.{edited_is_own}
+use Rattle.crush_apply.specs.declared.plan.Plan.{Plan}
+use Rattle.crush_apply.specs.Placed.{CanPut, CanPutNew, Leads}
+use Rattle.crush_apply.specs.Planned.{IsPlan}
+
+pub not_back : (b : Bool) → not b ≡ false → b ≡ true
+not_back true h = refl
+not_back false h = absurd cc
+
+absent_row : (t : List Row) (i : ItemId) → is_there t i ≡ false → row_of t i ≡ None
+absent_row t i h = by_row (row_of t i) h where
+  by_row : (o : Option Row) → is_some o ≡ false → o ≡ None
+  by_row None e = refl
+  by_row (Some r) e = absurd cc
+
+-- a device that is there has the name
+pub own_name : (t : List Row) (i : ItemId) (n : List ℕ) (r : Row) → is_taken t i n ≡ false → row_of t i ≡ Some r → r.name ≡ n
+own_name t i n r own found =
+    let other : meets (λ m. not (bytes_eq m n)) (name_of t i) ≡ false = or_right (meets (λ j. not (same_id j i)) (id_named t n)) (meets (λ m. not (bytes_eq m n)) (name_of t i)) own in
+    let at : meets (λ m. not (bytes_eq m n)) (option_map (λ (x : Row). x.name) (Some r)) ≡ false = ap (λ o. meets (λ m. not (bytes_eq m n)) (option_map (λ (x : Row). x.name) o)) (sym found) ∙ other in
+    (bytes_eq-Decides r.name n).0 (not_back (bytes_eq r.name n) at)
+
+-- its row, as the edit writes it
+pub own_put : (t : List Row) (d : ℕ) (n : List ℕ) (w : ℕ) (ps : List StopData) (r : Row) → Lawful t → is_taken t (Device d) n ≡ false → row_of t (Device d) ≡ Some r → put t (edited_device t d n w) ps ≡ put t (record r { weight = w }) ps
+own_put t d n w ps r lawful own found =
+    ap (λ m. put t (edited_device t d m w) ps) (sym (own_name t (Device d) n r own found)) ∙ ap (λ x. put t x ps) (edited_is_own t d w r lawful found)
+
+-- a device that isn't there has no class
+abbrev pub new_leaf : ℕ → List ℕ → ℕ → LeafData
+new_leaf d n w = record { id = d; name = n; weight = w; class = None }
+
+pub new_put : (t : List Row) (d : ℕ) (n : List ℕ) (w : ℕ) (ps : List StopData) → is_there t (Device d) ≡ false → put t (edited_device t d n w) ps ≡ put t (device_row None (new_leaf d n w)) ps
+new_put t d n w ps gone =
+    let class : class_of t (Device d) ≡ None = ap (option_and_then (λ (x : Row). x.class)) (absent_row t (Device d) gone) in
+    ap (λ c. put t (device_row None (record { id = d; name = n; weight = w; class = c })) ps) class
+
+-- nothing receives a device below itself
+pub device_apart : (t : List Row) (d : ℕ) (i : ItemId) (ps : List StopData) → i ≡ Device d → IsApart t i ps
+device_apart t d i ps is = subst (λ j. IsApart t j ps) (sym is) (apart (receiver t ps)) where
+  apart : (o : Option ℕ) → IfSome o (λ b. is_part t (Device d) (Bucket b) ≡ false)
+  apart None = tt
+  apart (Some b) = refl
+
+-- a name that is nobody else's is nobody's, where the device isn't there
+new_name : (t : List Row) (i : ItemId) (n : List ℕ) → is_taken t i n ≡ false → is_there t i ≡ false → is_named t n ≡ false
+new_name t i n own gone = by_id (id_named t n) (or_left (meets (λ j. not (same_id j i)) (id_named t n)) (meets (λ m. not (bytes_eq m n)) (name_of t i)) own) (named_there t n) where
+  by_id : (o : Option ItemId) → meets (λ j. not (same_id j i)) o ≡ false → IfSome o (λ j. is_there t j ≡ true) → is_some o ≡ false
+  by_id None e there = refl
+  by_id (Some j) e there = absurd (let same : j ≡ i = same_id_equal j i (not_back (same_id j i) e) in let again : is_there t i ≡ true = ap (is_there t) (sym same) ∙ there in cc)
+
+-- WHAT A PLAN GIVES: the device can be put, whether it is there or not
+pub plan_leads : (t : List Row) (d : ℕ) (n : List ℕ) (w : ℕ) (ps : List StopData) (p : Plan) → IsPlan t d n w ps p → Leads t ps p.receiver
+plan_leads t d n w ps p plan = record { route = plan.can.route; receiver = plan.receiver }
+
+pub plan_own : (t : List Row) (d : ℕ) (n : List ℕ) (w : ℕ) (ps : List StopData) (p : Plan) (r : Row) → Lawful t → IsPlan t d n w ps p → row_of t (Device d) ≡ Some r → CanPut t r w ps
+plan_own t d n w ps p r lawful plan found =
+    let same = own_put t d n w ps r lawful plan.can.own found in
+    record {
+      apart = device_apart t d r.id ps (row_id (Device d) t r found);
+      room = ap has_too_many (sym same) ∙ plan.room;
+      light = ap is_too_heavy (sym same) ∙ plan.light;
+    }
+
+pub plan_new : (t : List Row) (d : ℕ) (n : List ℕ) (w : ℕ) (ps : List StopData) (p : Plan) → IsPlan t d n w ps p → is_there t (Device d) ≡ false → d < DEVICE_IDS → IsName n → CanPutNew t (new_leaf d n w) ps
+plan_new t d n w ps p plan gone id name =
+    let same = new_put t d n w ps gone in
+    record {
+      gone = gone;
+      unnamed = new_name t (Device d) n plan.can.own gone;
+      other = plan.can.other;
+      form = λ b. record { name = name; form = record { id = id; kind = refl; light = plan.can.weight; unplaced = λ e. absurd cc; alg = refl; class_ids = refl; class = tt } };
+      room = ap has_too_many (sym same) ∙ plan.room;
+      light = ap is_too_heavy (sym same) ∙ plan.light;
+    }
+
+-- another table comes of it, unless the device is held
+pub put_changes : (t : List Row) (d : ℕ) (n : List ℕ) (w : ℕ) (ps : List StopData) → Lawful t → IsRoute t ps → held t (Device d) ps ≡ false → same_table t (put t (edited_device t d n w) ps) ≡ false
+put_changes t d n w ps lawful route free = by_there (is_there t (Device d)) refl where
+  by_there : (b : Bool) → is_there t (Device d) ≡ b → same_table t (put t (edited_device t d n w) ps) ≡ false
+  by_there true there = changes t ps (edited_device t d n w) lawful route there free
+  by_there false gone = ap (same_table t) (new_put t d n w ps gone) ∙ changes_new t ps (new_leaf d n w) lawful route gone

@@ -1,0 +1,17 @@
+-- Items that the hierarchy finds by their names.
+use Rattle.std.proofs.Common.{◌≡◌, ℕ, true, List, ap, sym, subst, ◌∙◌}
+use Rattle.std.specs.Prelude.{Some, IfSome}
+use Rattle.crush_units.specs.declared.id.ItemId.{ItemId}
+use Rattle.crush_table.specs.Table.{Row, id_named, is_there}
+use Rattle.crush_table.specs.Forest.{ForestData, rows_of, IsSound}
+use Rattle.crush_table.specs.Stands.{Stands}
+use Rattle.crush_table.proofs.Stands.{stands_for_rows}
+use Rattle.crush_edits.proofs.Routes.{named_there}
+
+-- what has a name is there
+pub there_by_name : (t : List Row) (n : List ℕ) (i : ItemId) → id_named t n ≡ Some i → is_there t i ≡ true
+there_by_name t n i named = subst (λ o. IfSome o (λ j. is_there t j ≡ true)) named (named_there t n)
+
+-- also among the rows of a hierarchy, of which it is told for every table
+pub found_there : (f : ForestData) (n : List ℕ) (i j : ItemId) → IsSound f → ((t : List Row) → Stands f t → Some i ≡ id_named t n) → i ≡ j → is_there (rows_of f) j ≡ true
+found_there f n i j sound named is = there_by_name (rows_of f) n j (sym (named (rows_of f) (stands_for_rows f sound)) ∙ ap Some is)

@@ -1,0 +1,110 @@
+-- The steps of a put: the new buckets attached, the item taken out and attached in the lowest.
+use Rattle.std.proofs.Common.{◌≡◌, ℕ, ◌≤◌, true, false, List, ◌++◌, ap, sym, subst, refl, ◌∙◌}
+use Rattle.std.specs.Prelude.{Bool, if◌then◌else◌, Some, None, IfSome, is_some}
+use Rattle.crush_units.specs.declared.id.ItemId.{ItemId}
+use Rattle.crush_units.specs.declared.id.ItemId.TheVariants.{Device, Bucket}
+use Rattle.crush_units.specs.Id.{same_id}
+use Rattle.crush_table.specs.Items.{LeafData, Items, none, device, bucket}
+use Rattle.crush_table.specs.ItemRows.{rows, device_row}
+use Rattle.crush_table.specs.Forest.{ForestData, rows_of, join, OnlyDevices}
+use Rattle.crush_table.specs.Stands.{Stands}
+use Rattle.crush_table.specs.Table.{Row, row_of, is_there}
+use Rattle.crush_table.specs.Same.{Same}
+use Rattle.crush_table.specs.Law.{IsOne}
+use Rattle.crush_table.specs.Lawful.{IsRow, Lawful, has_too_many}
+use Rattle.crush_table.specs.Columns.{table_without, part}
+use Rattle.crush_table.proofs.Attached.{is_there-append}
+use Rattle.crush_table.proofs.Changes.{Same-with}
+use Rattle.crush_table.proofs.Moved.{row_id}
+use Rattle.crush_table.proofs.Same.{Same-sym, Same-trans, Lawful-same}
+use Rattle.crush_nodes.specs.Ops.{part_of}
+use Rattle.crush_edits.specs.LawRoute.{rows_made}
+use Rattle.crush_edits.specs.Put.{next_place, put}
+use Rattle.crush_edits.specs.Stops.{StopData}
+use Rattle.crush_edits.proofs.PutLaws.{room_new, room_new_device, moves, moves_device, new_puts, lawful_put, lawful_new}
+use Rattle.crush_edits.proofs.Tails.{next_stays, form_stays, row_form}
+use Rattle.crush_apply.specs.Placed.{Leads, CanPut, CanPutNew}
+
+-- items come to a forest where the table that they make is lawful
+pub attach_lawful : (g : ForestData) (u v n : List Row) → Stands g u → Same (u ++ n) v → Lawful v → Lawful (rows_of g ++ n)
+attach_lawful g u v n st same lawful =
+    let whole : Same (rows_of g ++ n) v = Same-trans (rows_of g ++ n) (u ++ n) v (Same-with n (rows_of g) u st.same) same in
+    Lawful-same v (rows_of g ++ n) (Same-sym (rows_of g ++ n) v whole) lawful
+
+-- AN ITEM THAT IS THERE, with the weight that it has afterwards
+module _ (t : List Row) (l : Lawful t) (i : ItemId) (ps : List StopData) (o : _) (leads : Leads t ps o) (r : Row) (w : ℕ) (found : row_of t i ≡ Some r) (can : CanPut t r w ps) where
+  own : r.id ≡ i
+  own = row_id i t r found
+
+  found_own : row_of t r.id ≡ Some r
+  found_own = ap (row_of t) own ∙ found
+
+  pub few_new : has_too_many (t ++ rows_made t ps) ≡ false
+  few_new = room_new t ps l leads.route r w found_own can.room
+
+  pub still_there : is_there (t ++ rows_made t ps) i ≡ true
+  still_there = is_there-append t (rows_made t ps) i (ap is_some found)
+
+  pub next_there : (b : ℕ) → next_place t ps ≡ Some b → is_there (table_without i (t ++ rows_made t ps)) (Bucket b) ≡ true
+  next_there b next =
+      let stays : IfSome (next_place t ps) (λ k. is_there (table_without r.id (t ++ rows_made t ps)) (Bucket k) ≡ true) = next_stays t ps r l leads.route found_own can.apart few_new in
+      subst (λ j. is_there (table_without j (t ++ rows_made t ps)) (Bucket b) ≡ true) own
+      (subst (λ q. IfSome q (λ k. is_there (table_without r.id (t ++ rows_made t ps)) (Bucket k) ≡ true)) next stays)
+
+  pub put_lawful : ((b : ℕ) → IsRow (record r { parent = Some b; weight = w })) → Lawful (put t (record r { weight = w }) ps)
+  put_lawful form = lawful_put t ps l leads.route r w found_own can.apart form can.light can.room
+
+  pub device_form : (d : ℕ) → i ≡ Device d → w ≤ 2147483647 → (b : ℕ) → IsRow (record r { parent = Some b; weight = w })
+  device_form d e light b = (form_stays r (row_form t l r.id r found_own)).1 d b w (own ∙ e) light
+
+  pub device_same : (d : LeafData) (b : ℕ) → next_place t ps ≡ Some b → Same (rows None (device d none)) (part i (t ++ rows_made t ps))
+      → Same (table_without i (t ++ rows_made t ps) ++ rows (Some b) (device (record d { weight = w }) none)) (put t (record r { weight = w }) ps)
+  device_same d b next whole =
+      subst (λ j. Same (table_without j (t ++ rows_made t ps) ++ rows (Some b) (device (record d { weight = w }) none)) (put t (record r { weight = w }) ps)) own
+      (subst (λ q. Same (table_without r.id (t ++ rows_made t ps) ++ rows q (device (record d { weight = w }) none)) (put t (record r { weight = w }) ps)) next
+      (moves_device t ps l leads.route r w found_own can.apart can.room d (subst (λ j. Same (rows None (device d none)) (part j (t ++ rows_made t ps))) (sym own) whole)))
+
+-- as it is
+module _ (t : List Row) (l : Lawful t) (i : ItemId) (ps : List StopData) (o : _) (leads : Leads t ps o) (r : Row) (found : row_of t i ≡ Some r) (can : CanPut t r r.weight ps) where
+  pub item_form : (b : ℕ) → IsRow (record r { parent = Some b })
+  item_form = (form_stays r (row_form t l i r found)).0
+
+  pub item_same : (n : Items) (b : ℕ) → next_place t ps ≡ Some b → IsOne n → Same (rows None n) (part i (t ++ rows_made t ps)) → Same (table_without i (t ++ rows_made t ps) ++ rows (Some b) n) (put t r ps)
+  item_same n b next one whole =
+      let own_id = row_id i t r found in
+      subst (λ j. Same (table_without j (t ++ rows_made t ps) ++ rows (Some b) n) (put t r ps)) own_id
+      (subst (λ q. Same (table_without r.id (t ++ rows_made t ps) ++ rows q n) (put t r ps)) next
+      (moves t ps l leads.route r n (ap (row_of t) own_id ∙ found) can.apart can.room one (subst (λ j. Same (rows None n) (part j (t ++ rows_made t ps))) (sym own_id) whole)))
+
+-- A DEVICE THAT ISN'T THERE
+module _ (t : List Row) (l : Lawful t) (ps : List StopData) (o : _) (leads : Leads t ps o) (d : LeafData) (can : CanPutNew t d ps) where
+  pub few_new_device : has_too_many (t ++ rows_made t ps) ≡ false
+  few_new_device = room_new_device t ps l leads.route d can.gone can.room
+
+  pub new_same : (b : ℕ) → next_place t ps ≡ Some b → Same ((t ++ rows_made t ps) ++ rows (Some b) (device d none)) (put t (device_row None d) ps)
+  new_same b next = subst (λ q. Same ((t ++ rows_made t ps) ++ rows q (device d none)) (put t (device_row None d) ps)) next (new_puts t ps l leads.route d can.gone)
+
+  pub new_lawful_put : Lawful (put t (device_row None d) ps)
+  new_lawful_put = lawful_new t ps l leads.route d can.gone can.unnamed can.other can.form can.light can.room
+
+-- THE PART of a device is a device
+devices_join : (a b : Items) → OnlyDevices a → OnlyDevices b → OnlyDevices (join a b)
+devices_join none b p q = q
+devices_join (device d s) b p q = devices_join s b p q
+devices_join (bucket h w m k s) b p q = elim p [ ]
+
+devices_if : (c : Bool) (d : LeafData) (s : Items) → OnlyDevices s → OnlyDevices (if c then device d s else s)
+devices_if true d s o = o
+devices_if false d s o = o
+
+pub part_devices : (d : ℕ) (s : Items) → OnlyDevices (part_of (Device d) s)
+part_devices d none = tt
+part_devices d (device x s) = devices_if (same_id (Device x.id) (Device d)) x (part_of (Device d) s) (part_devices d s)
+part_devices d (bucket h w m k s) = devices_join (part_of (Device d) k) (part_of (Device d) s) (part_devices d k) (part_devices d s)
+
+pub one_device : (n : Items) → OnlyDevices n → IsOne n → (d : LeafData) × (n ≡ device d none)
+one_device none o one = absurd one
+one_device (device d none) o one = (d, refl)
+one_device (device d (device e s)) o one = absurd one
+one_device (device d (bucket h w m k s)) o one = absurd one
+one_device (bucket h w m k s) o one = absurd o

@@ -1,0 +1,107 @@
+-- What the table answers to an update.
+use Rattle.std.proofs.Common.{◌≡◌, ℕ, ◌≤◌, Bool, true, false, List, [], ◌∷◌, ap, sym, refl, ◌∙◌, arith}
+use Rattle.std.proofs.lemmas.Bool.Decides.{nat_tests}
+use Rattle.std.proofs.lemmas.Slice.Eq.{bytes_eq-Decides}
+use Rattle.std.specs.Prelude.{not, if◌then◌else◌, ◌||◌, nat_lt, Option, Some, None, is_some, option_and_then, bytes_eq}
+use Rattle.std.specs.Option.{option_map}
+use Rattle.crush_units.specs.declared.id.ItemId.{ItemId}
+use Rattle.crush_units.specs.declared.id.ItemId.TheVariants.{Device}
+use Rattle.crush_units.specs.Id.{same_id}
+use Rattle.crush_units.proofs.Ids.{same_id_equal}
+use Rattle.crush_table.specs.Columns.{set_weight}
+use Rattle.crush_table.specs.Table.{Row, is_device, is_bucket, row_of, row_named, id_named, parent_of, is_placed, device_count, bucket_count}
+use Rattle.crush_table.specs.Lawful.{Lawful, is_too_heavy, has_too_many}
+use Rattle.crush_units.specs.Id.{is_device_id}
+use Rattle.crush_table.proofs.Changes.{with_weight, with_weight-id}
+use Rattle.crush_table.proofs.Columns.{count-map}
+use Rattle.crush_table.proofs.Passing.{lawful_room}
+use Rattle.crush_table.proofs.Weighs.{or_left}
+use Rattle.crush_edits.specs.declared.edit.Edit.TheVariants.{Reweight, Update}
+use Rattle.crush_edits.specs.declared.location.Pair.{Pair}
+use Rattle.crush_edits.specs.declared.refusal.Refusal.{Refusal}
+use Rattle.crush_edits.specs.declared.refusal.Refusal.TheVariants.{NoRoom, SumTooLarge}
+use Rattle.crush_edits.specs.Answer.{After, answer, done, kept, meets, first_refusal, is_heavy, sum_test}
+use Rattle.crush_edits.specs.Edit.{edit, refusal}
+use Rattle.crush_edits.specs.Located.{is_taken}
+use Rattle.crush_edits.specs.Placing.{put_after, edited_device, device_put_tests, after_update}
+use Rattle.crush_edits.specs.Put.{put, is_id, held}
+use Rattle.crush_edits.specs.Setting.{SettingData}
+use Rattle.crush_edits.specs.Stops.{StopData, stops}
+use Rattle.crush_apply.specs.declared.plan.Plan.{Plan}
+use Rattle.crush_apply.specs.Planned.{IsPlan, last_refusal}
+use Rattle.crush_apply.proofs.Devices.{own_name, not_back}
+use Rattle.crush_apply.proofs.Done.{put_done}
+
+-- what is held stands in a bucket
+pub held_placed : (t : List Row) (i : ItemId) (ps : List StopData) → held t i ps ≡ true → is_placed t i ≡ true
+held_placed t i [] h = absurd cc
+held_placed t i (p ∷ ps) h = by_parent (parent_of t i) h where
+  by_parent : (o : Option ℕ) → is_id o (id_named t p.name) ≡ true → is_some o ≡ true
+  by_parent None e = absurd cc
+  by_parent (Some b) e = refl
+
+placed_row : (t : List Row) (i : ItemId) → is_placed t i ≡ true → (r : Row) × (row_of t i ≡ Some r)
+placed_row t i h = by_row (row_of t i) h where
+  by_row : (o : Option Row) → is_some (option_and_then (λ (x : Row). x.parent) o) ≡ true → (r : Row) × (o ≡ Some r)
+  by_row None e = absurd cc
+  by_row (Some r) e = (r, refl)
+
+-- the name of a row is named
+named_row : (t : List Row) (i : ItemId) (r : Row) (n : List ℕ) → row_of t i ≡ Some r → bytes_eq r.name n ≡ true → is_some (row_named t n) ≡ true
+named_row [] i r n found same = absurd cc
+named_row (x ∷ t) i r n found same = by_name (bytes_eq x.name n) refl (same_id x.id i) found (λ f. named_row t i r n f same) where
+  by_name : (b : Bool) → bytes_eq x.name n ≡ b → (c : Bool) → (if c then Some x else row_of t i) ≡ Some r → (row_of t i ≡ Some r → is_some (row_named t n) ≡ true) → is_some (if b then Some x else row_named t n) ≡ true
+  by_name true e c f ih = refl
+  by_name false e true f ih = absurd (let is : x ≡ r = cc in let no : false ≡ true = sym e ∙ ap (λ (y : Row). bytes_eq y.name n) is ∙ same in cc)
+  by_name false e false f ih = ih f
+
+-- a placed device has the name that isn't another's
+pub placed_named : (t : List Row) (d : ℕ) (n : List ℕ) → is_taken t (Device d) n ≡ false → is_placed t (Device d) ≡ true → id_named t n ≡ Some (Device d)
+placed_named t d n own placed =
+    let row = placed_row t (Device d) placed in
+    let same : row.0.name ≡ n = own_name t (Device d) n row.0 own row.1 in
+    by_named (row_named t n) (named_row t (Device d) row.0 n row.1 ((bytes_eq-Decides row.0.name n).1 same)) (or_left (meets (λ j. not (same_id j (Device d))) (id_named t n)) _ own) where
+      by_named : (o : Option Row) → is_some o ≡ true → meets (λ j. not (same_id j (Device d))) (option_map (λ (r : Row). r.id) o) ≡ false → option_map (λ (r : Row). r.id) o ≡ Some (Device d)
+      by_named None some e = absurd cc
+      by_named (Some r) some e = ap Some (same_id_equal r.id (Device d) (not_back (same_id r.id (Device d)) e))
+
+-- a weight changes no counts
+same_room : (i : ItemId) (w : ℕ) (t : List Row) → has_too_many (set_weight i w t) ≡ has_too_many t
+same_room i w t =
+    let which : Row → Bool = λ r. same_id r.id i in
+    let devices : device_count (set_weight i w t) ≡ device_count t = count-map (with_weight which w) is_device (λ r. ap is_device_id (with_weight-id which w r)) t in
+    let buckets : bucket_count (set_weight i w t) ≡ bucket_count t = count-map (with_weight which w) is_bucket (λ r. ap (λ j. not (is_device_id j)) (with_weight-id which w r)) t in
+    λ k. nat_lt 65536 (devices k) || nat_lt 4096 (buckets k)
+
+light_weight : (w : ℕ) → w ≤ 2147483647 → is_heavy w ≡ false
+light_weight w h = grind (arith, nat_tests)
+
+-- THE HELD DEVICE: the update is the device's new weight
+pub held_update : (s : SettingData) (t : List Row) (d : ℕ) (n : List ℕ) (w : ℕ) (l : List Pair) → Lawful t → ((a : After) → first_refusal (device_put_tests s t d n w l a) ≡ last_refusal a)
+    → is_taken t (Device d) n ≡ false → w ≤ 2147483647 → held t (Device d) (stops s l) ≡ true → edit s t (Update d n w l) ≡ edit s t (Reweight n w)
+held_update s t d n w l lawful last own light there =
+    let u : List Row = set_weight (Device d) w t in
+    let placed = held_placed t (Device d) (stops s l) there in
+    let named = placed_named t d n own placed in
+    let not_heavy = light_weight w light in
+    let few : has_too_many u ≡ false = same_room (Device d) w t ∙ lawful_room t lawful in
+    let stays : after_update s t d n w l ≡ kept u = ap (λ b. if b then kept u else put_after t (edited_device t d n w) (stops s l)) there in
+    let reweighed : edit s t (Reweight n w) ≡ answer (first_refusal (sum_test (kept u) ∷ [])) t (kept u) = rw (not_heavy, named, placed) refl in
+    ap (λ o. answer o t (after_update s t d n w l)) (last (after_update s t d n w l))
+    ∙ ap (λ a. answer (last_refusal a) t a) stays
+    ∙ ap (λ b. answer (if b then Some NoRoom else (if is_too_heavy u then Some SumTooLarge else None)) t (kept u)) few
+    ∙ sym reweighed
+
+-- THE DEVICE THAT IS PUT: where a plan is found, and where none is
+free_after : (s : SettingData) (t : List Row) (d : ℕ) (n : List ℕ) (w : ℕ) (l : List Pair) → held t (Device d) (stops s l) ≡ false → after_update s t d n w l ≡ put_after t (edited_device t d n w) (stops s l)
+free_after s t d n w l free = ap (λ b. if b then kept (set_weight (Device d) w t) else put_after t (edited_device t d n w) (stops s l)) free
+
+module _ (s : SettingData) (t : List Row) (d : ℕ) (n : List ℕ) (w : ℕ) (l : List Pair) (last : (a : After) → first_refusal (device_put_tests s t d n w l a) ≡ last_refusal a) (free : held t (Device d) (stops s l) ≡ false) where
+  pub put_refused : (r : Refusal) → last_refusal (put_after t (edited_device t d n w) (stops s l)) ≡ Some r → refusal s t (Update d n w l) ≡ Some r
+  put_refused r h = last (after_update s t d n w l) ∙ ap last_refusal (free_after s t d n w l free) ∙ h
+
+  pub update_done : (p : Plan) → Lawful t → IsPlan t d n w (stops s l) p → edit s t (Update d n w l) ≡ done true p.fresh (put t (edited_device t d n w) (stops s l))
+  update_done p lawful plan =
+      ap (λ o. answer o t (after_update s t d n w l)) (last (after_update s t d n w l))
+      ∙ ap (λ a. answer (last_refusal a) t a) (free_after s t d n w l free)
+      ∙ put_done t d n w (stops s l) p lawful plan free

@@ -1,0 +1,154 @@
+-- New buckets that are attached, and the way into the lowest of them.
+use Rattle.std.proofs.Common.{◌≡◌, ℕ, zero, suc, ◌+◌, ◌<◌, ◌≤◌, true, List, [], ◌∷◌, ◌++◌, length, take, get_or, ap, sym, subst, ◌∙◌, refl, arith, eq-eqb, append-nil, ⊎_elim}
+use Rattle.std.specs.Prelude.{Option, Some, None, IfSome, All, Result, Ok, Err, IfOk, OnOk, ◌==◌, if◌then◌else◌}
+use Rattle.std.specs.List.{prefix_len}
+use Rattle.std.proofs.lemmas.Bool.{eqb-true}
+use Rattle.std.proofs.lemmas.List.{length-take-le}
+use Rattle.std.proofs.lemmas.List.Sums.{prefix_len-le-length}
+use Rattle.std.proofs.lemmas.List.Elements.{All-take}
+use Rattle.crush_units.specs.declared.id.ItemId.TheVariants.{Bucket}
+use Rattle.crush_table.specs.Items.{Items, none, bucket}
+use Rattle.crush_table.specs.ItemRows.{rows}
+use Rattle.crush_table.specs.Forest.{ForestData, OnlyBuckets}
+use Rattle.crush_table.specs.Stored.{weight_sum}
+use Rattle.crush_table.specs.Table.{Row, is_there}
+use Rattle.crush_table.proofs.Weighs.{true_or_false}
+use Rattle.crush_nodes.specs.Ops.{FitsPlace, is_place}
+use Rattle.crush_table.specs.Count.{one_if}
+use Rattle.crush_nodes.specs.Room.{parent_at, same_place, room, room_in, bucket_room}
+use Rattle.crush_nodes.specs.declared.place.Place.{Place}
+use Rattle.crush_nodes.specs.declared.place.Place.TheVariants.{Bucket as AtBucket, Root, Unplaced}
+use Rattle.crush_edits.specs.declared.location.Pair.{Pair}
+use Rattle.crush_edits.specs.Boxes.{boxes}
+use Rattle.crush_edits.specs.LawRoute.{rows_made}
+use Rattle.crush_edits.specs.New.{IsStop, IsRoute}
+use Rattle.crush_edits.specs.Put.{NewData, with_ids, new_header, new_buckets, next_up, next_place}
+use Rattle.crush_edits.specs.Stops.{StopData, is_fresh, fresh_stops, receiver}
+use Rattle.crush_edits.proofs.Boxes.{rows-empty}
+use Rattle.crush_edits.proofs.Routes.{receiver_there, route_next}
+use Rattle.crush_edits.proofs.Tails.{none_new}
+use Rattle.crush_apply.specs.declared.route.Stop.{Stop}
+use Rattle.crush_apply.specs.Placed.{place_at, numbered, new_boxes, Leads}
+use Rattle.crush_apply.specs.Stopped.{stop_data, stops_data}
+
+pub parent_of_place : (o : Option ℕ) → parent_at (place_at o) ≡ o
+parent_of_place None = refl
+parent_of_place (Some b) = refl
+
+pub stops-length : (l : List Pair) (xs : List Stop) → length (stops_data l xs) ≡ length xs
+stops-length l [] = refl
+stops-length l (x ∷ xs) = ap suc (stops-length l xs)
+
+pub stops-take : (l : List Pair) (k : ℕ) (xs : List Stop) → stops_data l (take k xs) ≡ take k (stops_data l xs)
+stops-take l zero xs = refl
+stops-take l (suc k) [] = refl
+stops-take l (suc k) (x ∷ xs) = ap (λ z. stop_data l x ∷ z) (stops-take l k xs)
+
+-- a new root is a bucket
+buckets-boxes : (m : ℕ) (n : Items) (ns : List NewData) → OnlyBuckets n → OnlyBuckets (boxes m n ns)
+buckets-boxes m n [] o = o
+buckets-boxes m n (x ∷ ns) o = buckets-boxes m (bucket (new_header x) (weight_sum n) m n none) ns tt
+
+pub placed_boxes : (o : Option ℕ) (m : ℕ) (n : Items) (ns : List NewData) (b : ℕ) → next_up ns o ≡ Some b → FitsPlace (place_at o) (boxes m n ns)
+placed_boxes None m n [] b next = absurd cc
+placed_boxes None m n (x ∷ ns) b next = buckets-boxes m (bucket (new_header x) (weight_sum n) m n none) ns tt
+placed_boxes (Some c) m n ns b next = tt
+
+-- the lowest has room for one
+room-boxes : (b m : ℕ) (n : Items) (ns : List NewData) → bucket_room b n ≤ bucket_room b (boxes m n ns)
+room-boxes b m n [] = omega arith
+room-boxes b m n (x ∷ ns) = omega (arith, room-boxes b m (bucket (new_header x) (weight_sum n) m n none) ns)
+
+pub lowest_is : (ids : List ℕ) (ps : List StopData) (d : ℕ) (top : Option ℕ) → 0 < length ids → 0 < length ps → next_up (with_ids ids ps) top ≡ Some (get_or ids 0 d)
+lowest_is [] ps d top h g = absurd (omega (arith, h))
+lowest_is (i ∷ ids) [] d top h g = absurd (omega (arith, g))
+lowest_is (i ∷ ids) (p ∷ ps) d top h g = refl
+
+pub lowest_room : (ids : List ℕ) (ps : List StopData) (d : ℕ) → 0 < length ids → 0 < length ps → 0 < bucket_room (get_or ids 0 d) (boxes 1 none (with_ids ids ps))
+lowest_room [] ps d h g = absurd (omega (arith, h))
+lowest_room (i ∷ ids) [] d h g = absurd (omega (arith, g))
+lowest_room (i ∷ ids) (p ∷ ps) d h g =
+    let n : NewData = record { id = i; kind = p.kind; name = p.name } in
+    let own : ◌≡◌ {A = ℕ} (if i == i then 1 else 0) 1 = ap (λ b. if b then 1 else 0) (eq-eqb i i refl) in
+    omega (arith, own, room-boxes i 1 (bucket (new_header n) 0 1 none none) (with_ids ids ps))
+
+-- places that are the same
+same_is : (p q : Place) → same_place p q ≡ true → p ≡ q
+same_is (AtBucket a) (AtBucket b) e = ap AtBucket (eqb-true a b e)
+same_is (AtBucket a) Root e = absurd cc
+same_is (AtBucket a) Unplaced e = absurd cc
+same_is Root (AtBucket b) e = absurd cc
+same_is Root Root e = refl
+same_is Root Unplaced e = absurd cc
+same_is Unplaced (AtBucket b) e = absurd cc
+same_is Unplaced Root e = absurd cc
+same_is Unplaced Unplaced e = refl
+
+-- items keep their own room where they come
+pub room_kept : (f g : ForestData) (n : Items) (p q : Place) → room g p + one_if (same_place p q) ≡ room f p + room_in n p → 0 < room f q → 0 < room_in n p → 0 < room g p
+room_kept f g n p q e some own = ⊎_elim
+    (λ same. let here : 0 < room f p = subst (λ z. 0 < room f z) (sym (same_is p q same)) some in let one : one_if (same_place p q) ≡ 1 = ap one_if same in omega (arith, e, one, here, own))
+    (λ other. let no : one_if (same_place p q) ≡ 0 = ap one_if other in omega (arith, e, no, own))
+    (true_or_false (same_place p q))
+
+-- what receives is there
+pub place_there : (t : List Row) (ps : List StopData) (top : Option ℕ) → Leads t ps top → is_place t (place_at top) ≡ true
+place_there t ps top leads = by_top top (subst (λ o. IfSome o (λ b. is_there t (Bucket b) ≡ true)) (sym leads.receiver) (receiver_there t ps)) where
+  by_top : (o : Option ℕ) → IfSome o (λ b. is_there t (Bucket b) ≡ true) → is_place t (place_at o) ≡ true
+  by_top None h = refl
+  by_top (Some b) h = h
+
+any_top : (ns : List NewData) (top : Option ℕ) (b : ℕ) → next_up ns None ≡ Some b → next_up ns top ≡ Some b
+any_top [] top b e = absurd cc
+any_top (n ∷ ns) top b e = e
+
+nothing : {X : Type 0} (xs : List X) → length xs ≡ 0 → xs ≡ []
+nothing [] e = refl
+nothing (x ∷ xs) e = absurd (omega (arith, e))
+
+-- what holds of a result that is there
+pub of_ok : {X E : Type 0} (P Q : X → Type 0) (x : Result X E) → ((v : X) → P v → Q v) → IfOk x P → IfOk x Q
+of_ok P Q (Ok v) h p = h v p
+of_ok P Q (Err e) h p = p
+
+pub on_ok : {X E P Q : Type 0} (x : Result X E) → (P → Q) → OnOk x P → OnOk x Q
+on_ok (Ok v) h p = h p
+on_ok (Err e) h p = tt
+
+-- THE NEW STOPS of a route
+module _ (t : List Row) (l : List Pair) (xs : List Stop) (fresh : ℕ) (many : fresh ≡ length (fresh_stops t (stops_data l xs))) where
+  abbrev ps : List StopData
+  ps = stops_data l xs
+
+  count_is : fresh ≡ prefix_len (is_fresh t) ps
+  count_is = many ∙ length-take-le (prefix_len (is_fresh t) ps) ps (prefix_len-le-length (is_fresh t) ps)
+
+  pub fresh_are : stops_data l (take fresh xs) ≡ fresh_stops t (stops_data l xs)
+  fresh_are = stops-take l fresh xs ∙ ap (λ k. take k ps) count_is
+
+  pub fresh_within : fresh ≤ length xs
+  fresh_within = let few = prefix_len-le-length (is_fresh t) ps in let same = stops-length l xs in omega (arith, count_is)
+
+  pub fresh_forms : IsRoute t (stops_data l xs) → All IsStop (stops_data l (take fresh xs))
+  fresh_forms route = subst (All IsStop) (sym (stops-take l fresh xs)) (All-take IsStop fresh ps route.forms)
+
+  module _ (top : Option ℕ) (leads : Leads t (stops_data l xs) top) where
+    pub rows_are : rows top (new_boxes t (stops_data l (take fresh xs))) ≡ rows_made t (stops_data l xs)
+    rows_are = (λ j. rows (leads.receiver j) (new_boxes t (fresh_are j))) ∙ rows-empty 1 (new_buckets t ps) (receiver t ps)
+
+    pub next_is : (b : ℕ) → next_up (numbered t (stops_data l (take fresh xs))) None ≡ Some b → next_place t (stops_data l xs) ≡ Some b
+    next_is b e = any_top (new_buckets t ps) (receiver t ps) b (ap (λ z. next_up (numbered t z) None) (sym fresh_are) ∙ e)
+
+    -- where none is new the item comes into what receives
+    module _ (none : fresh ≤ 0) where
+      empty : fresh_stops t ps ≡ []
+      empty = nothing (fresh_stops t ps) (omega (arith, many, none))
+
+      pub next_receives : next_place t (stops_data l xs) ≡ top
+      next_receives = (none_new t ps empty).1 ∙ sym leads.receiver
+
+      pub none_made : t ≡ t ++ rows_made t (stops_data l xs)
+      none_made = sym (ap (λ z. t ++ z) (none_new t ps empty).0 ∙ append-nil t)
+
+      pub receives : top ≡ None → ⊥
+      receives e = let next = route_next t ps leads.route in let is : None ≡ Some next.0 = sym e ∙ sym next_receives ∙ next.1 in cc

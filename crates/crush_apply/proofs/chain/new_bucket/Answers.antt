@@ -1,0 +1,28 @@
+use Rattle.std.proofs.Common.{◌≡◌, ◌<◌, length, List, arith, ap, sym, subst, ◌∙◌}
+use Rattle.crush_table.specs.Items.{none, bucket}
+use Rattle.crush_edits.specs.declared.location.Pair.{Pair}
+use Rattle.crush_apply.specs.Stopped.{pair_name}
+use Rattle.crush_apply.proofs.Buckets.{pair_there, pair_name-get}
+use Rattle.std.specs.Prelude.{map}
+use Rattle.crush_nodes.specs.Seen.{shadow_data}
+use Rattle.crush_units.specs.declared.alg.Alg.TheVariants.{Straw2}
+use Rattle.crush_apply.proofs.chain.new_bucket.Goals as goal
+
+pub offset_bounds-pairs-stop : goal.offset_bounds-pairs-stop
+offset_bounds-pairs-stop g c =
+    let there = pair_there c.args.at.now c.args.stop.pair c.requires.name.some in
+    let few = c.pairs.ensures.forms.few in
+    omega arith
+
+pub bounds-pairs-stop : goal.bounds-pairs-stop
+bounds-pairs-stop g c =
+    subst (λ (l : List Pair). c.args.stop.pair < length l) (sym c.pairs.ensures.value) (pair_there c.args.at.now c.args.stop.pair c.requires.name.some)
+
+pub returns-in-Ok : goal.returns-in-Ok
+returns-in-Ok g c =
+    let name : c.in_ok-try_copy.field-0 ≡ pair_name c.args.at.now c.args.stop.pair =
+    c.in_ok-try_copy.ensures ∙ ap (λ (p : Pair). p.name) c.index-pairs-stop.is
+    ∙ sym (pair_name-get c.pairs.result.now c.args.stop.pair c.index-pairs-stop.result
+    (subst (λ (l : List Pair). c.args.stop.pair < length l) (sym c.pairs.ensures.value) (pair_there c.args.at.now c.args.stop.pair c.requires.name.some)))
+    ∙ ap (λ l. pair_name l c.args.stop.pair) c.pairs.ensures.value in
+    c.in-Ok.ensures.ok ∙ (λ j. bucket (record { id = c.args.id; kind = c.args.stop.kind; name = name j; alg = Straw2; class_ids = map shadow_data (c.new.ensures.items j) }) 0 1 none none)

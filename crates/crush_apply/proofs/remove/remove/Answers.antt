@@ -1,0 +1,18 @@
+use Rattle.std.proofs.Common.{◌≡◌, true, false, ◌∙◌}
+use Rattle.crush_table.specs.Columns.{table_without}
+use Rattle.crush_table.specs.Forest.{rows_of}
+use Rattle.crush_table.proofs.Stands.{stands_for_rows}
+use Rattle.crush_apply.proofs.Found.{there_by_name}
+use Rattle.crush_apply.proofs.Singles.{remove_done}
+use Rattle.crush_apply.proofs.remove.remove.Goals as goal
+
+pub unreachable-requires : goal.unreachable-requires
+unreachable-requires g c =
+    let st = stands_for_rows c.args.forest.now c.recall_invariant.ensures in
+    let there = there_by_name (rows_of c.args.forest.now) c.args.name.now c.in_ok-id.id (c.in_ok-id.ensures.can (rows_of c.args.forest.now) st).named in
+    let no : false ≡ true = c.in_default.ensures.there (rows_of c.args.forest.now) st ∙ there in cc
+
+pub returns-clause-done : goal.returns-clause-done
+returns-clause-done g c = λ t st.
+    let i = c.in_ok-id.id in
+    (table_without i t, remove_done c.args.setting.now t c.args.name.now i (c.in_ok-id.ensures.can t st), c.in-Some.ensures.stands t st)

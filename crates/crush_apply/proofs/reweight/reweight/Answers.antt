@@ -1,0 +1,40 @@
+use Rattle.std.proofs.Common.{◌≡◌, List, ap, ◌∙◌}
+use Rattle.crush_units.specs.declared.id.ItemId.TheVariants.{Device}
+use Rattle.crush_table.specs.Table.{Row}
+use Rattle.crush_table.specs.Columns.{set_weight}
+use Rattle.crush_table.specs.Forest.{rows_of}
+use Rattle.crush_table.specs.Stands.{Stands}
+use Rattle.crush_table.proofs.Stands.{stands_for_rows}
+use Rattle.crush_edits.specs.declared.edit.Edit.TheVariants.{Reweight}
+use Rattle.crush_edits.specs.declared.edit.Edit.{Edit}
+use Rattle.crush_edits.specs.Setting.{SettingData}
+use Rattle.crush_edits.specs.Answer.{done, refused}
+use Rattle.crush_edits.specs.Edit.{edit}
+use Rattle.crush_apply.proofs.Refused.{passed_on}
+use Rattle.crush_apply.proofs.Weights.{reweight_done, refused_edit, weight_changes, light_bound}
+use Rattle.crush_table.proofs.Columns.{Lawful-set_weight}
+use Rattle.crush_apply.proofs.reweight.reweight.Goals as goal
+
+pub returns-in_err-device-clause-refused : goal.returns-in_err-device-clause-refused
+returns-in_err-device-clause-refused g c =
+    let e : Edit = Reweight c.args.name.now c.args.weight in
+    passed_on (λ r. (s : SettingData) (t : List Row) → Stands c.args.forest.now t → edit s t e ≡ refused r) _ _ c.from_residual.ensures.1
+    (λ s t st. refused_edit s t e _ (c.in_err-device.ensures.refused s t st))
+
+pub set_weight-requires-clause-placed : goal.set_weight-requires-clause-placed
+set_weight-requires-clause-placed g c =
+    (c.in_ok-device.ensures.can (rows_of c.args.forest.now) (stands_for_rows c.args.forest.now c.recall_invariant.ensures)).placed
+
+pub set_weight-requires-clause-fits : goal.set_weight-requires-clause-fits
+set_weight-requires-clause-fits g c =
+    let can = c.in_ok-device.ensures.can (rows_of c.args.forest.now) (stands_for_rows c.args.forest.now c.recall_invariant.ensures) in
+    Lawful-set_weight (rows_of c.args.forest.now) c.in_ok-device.device c.args.weight c.recall_invariant.ensures.lawful can.placed (light_bound c.args.weight can.light) can.fits
+
+pub returns-clause-done : goal.returns-clause-done
+returns-clause-done g c = λ s t st.
+    let can = c.in_ok-device.ensures.can t st in
+    let d = c.in_ok-device.device in
+    let w = c.args.weight in
+    let u : List Row = set_weight (Device d) w t in
+    let changed = weight_changes t c.args.name.now w d can (st.lawful.ids (Device d)) c.weight.result (c.weight.ensures t st) c.ne-changed.result c.ne-changed.ensures in
+    (u, reweight_done s t c.args.name.now w d can ∙ ap (λ b. done b 0 u) changed, c.set_weight.ensures.stands t st)

@@ -1,0 +1,22 @@
+use Rattle.std.proofs.Common.{List, sym, ◌∙◌}
+use Rattle.crush_units.specs.declared.id.ItemId.TheVariants.{Bucket}
+use Rattle.crush_table.specs.Table.{Row}
+use Rattle.crush_table.specs.Forest.{rows_of}
+use Rattle.crush_table.proofs.Stands.{stands_for_rows}
+use Rattle.crush_apply.proofs.Found.{found_there}
+use Rattle.crush_apply.proofs.Names.{not_nested}
+use Rattle.crush_apply.proofs.swap.swapped.Goals as goal
+
+pub fits_swap-requires-clause-there_a : goal.fits_swap-requires-clause-there_a
+fits_swap-requires-clause-there_a g c = found_there c.args.forest.now c.as_str.result.now c.in-Some.one (Bucket c.in-Bucket.first) c.recall_invariant.ensures c.in-Some.ensures c.in-Bucket.is
+
+pub fits_swap-requires-clause-there_b : goal.fits_swap-requires-clause-there_b
+fits_swap-requires-clause-there_b g c = found_there c.args.forest.now c.as_str-2.result.now c.in-Some-id_of.other (Bucket c.in-Bucket-other.second) c.recall_invariant.ensures c.in-Some-id_of.ensures c.in-Bucket-other.is
+
+pub fits_swap-requires-clause-apart : goal.fits_swap-requires-clause-apart
+fits_swap-requires-clause-apart g c =
+    let t : List Row = rows_of c.args.forest.now in
+    let st = stands_for_rows c.args.forest.now c.recall_invariant.ensures in
+    let a = c.in-Bucket.first in
+    let b = c.in-Bucket-other.second in
+    not_nested t a b (sym (c.contains.ensures t st) ∙ c.if-contains.false) (sym (c.contains-2.ensures t st) ∙ c.if-contains-2.false)

@@ -1,0 +1,37 @@
+-- What edits of single rows need: a new name, an exchange, a row taken out, a bucket more.
+use Rattle.std.specs.Prelude.{◌≡◌, ℕ, ◌<◌, List, Some, false, ◌==◌}
+use Rattle.crush_units.specs.declared.id.ItemId.{ItemId}
+use Rattle.crush_units.specs.declared.id.ItemId.TheVariants.{Bucket}
+use Rattle.crush_units.specs.declared.limits.TheConstants.{MOST_BUCKETS}
+use Rattle.crush_table.specs.Table.{Row, id_named, is_named, are_nested, bucket_count}
+use Rattle.crush_table.specs.Columns.{swap_buckets}
+use Rattle.crush_table.specs.Lawful.{is_too_heavy}
+use Rattle.crush_edits.specs.Setting.{SettingData, kind_number}
+use Rattle.crush_edits.specs.Stops.{number_of}
+use Rattle.crush_edits.specs.Answer.{meets}
+use Rattle.crush_edits.specs.Making.{holds_items, is_taken_by_rule}
+
+-- the one name is that of the bucket b, and nothing has the other
+pub record CanRename (t : List Row) (from to : List ℕ) (b : ℕ) : Type 0 where
+  pub named : id_named t from ≡ Some (Bucket b)
+  pub free : is_named t to ≡ false
+
+-- the names are those of the buckets a and b, neither is the other or below it, and all sums are in range after the exchange
+pub record CanSwap (t : List Row) (m n : List ℕ) (a b : ℕ) : Type 0 where
+  pub first : id_named t m ≡ Some (Bucket a)
+  pub second : id_named t n ≡ Some (Bucket b)
+  pub apart : are_nested t a b ≡ false
+  pub fits : is_too_heavy (swap_buckets a b t) ≡ false
+
+-- the name is that of the item i, which is a device, or a bucket that holds nothing and that no rule takes
+pub record CanRemove (s : SettingData) (t : List Row) (n : List ℕ) (i : ItemId) : Type 0 where
+  pub named : id_named t n ≡ Some i
+  pub empty : meets (holds_items t) (number_of i) ≡ false
+  pub unused : meets (is_taken_by_rule s) (number_of i) ≡ false
+
+-- the type is that of number k, which isn't 0, nothing has the name, and there is room for a bucket
+pub record CanAddBucket (s : SettingData) (t : List Row) (n kind : List ℕ) (k : ℕ) : Type 0 where
+  pub known : kind_number s kind ≡ Some k
+  pub some : (k == 0) ≡ false
+  pub free : is_named t n ≡ false
+  pub room : bucket_count t < MOST_BUCKETS

@@ -1,0 +1,47 @@
+-- What is known of a route, and what an item needs to be put at its end.
+use Rattle.std.specs.Prelude.{◌≡◌, ℕ, List, Option, Some, None, false, length, bytes_eq}
+use Rattle.std.specs.List.{count_by}
+use Rattle.crush_units.specs.declared.id.ItemId.TheVariants.{Device}
+use Rattle.crush_table.specs.Items.{LeafData, Items, none}
+use Rattle.crush_table.specs.ItemRows.{device_row}
+use Rattle.crush_table.specs.Table.{Row, is_there, is_named, free_ids}
+use Rattle.crush_table.specs.Lawful.{IsRow, is_too_heavy, has_too_many}
+use Rattle.crush_nodes.specs.declared.place.Place.{Place}
+use Rattle.crush_nodes.specs.declared.place.Place.TheVariants.{Bucket as AtBucket, Root}
+use Rattle.crush_edits.specs.Boxes.{boxes}
+use Rattle.crush_edits.specs.LawPut.{IsApart}
+use Rattle.crush_edits.specs.New.{IsRoute}
+use Rattle.crush_edits.specs.Put.{NewData, with_ids, put}
+use Rattle.crush_edits.specs.Stops.{StopData, receiver}
+
+-- the place of what receives: a bucket, or among the roots
+abbrev pub place_at : Option ℕ → Place
+place_at None = Root
+place_at (Some b) = AtBucket b
+
+-- stops as new buckets with the free ids nearest to 0; as one item, each in the next, with room for one item each
+abbrev pub numbered : List Row → List StopData → List NewData
+numbered t ps = with_ids (free_ids t (length ps)) ps
+
+abbrev pub new_boxes : List Row → List StopData → Items
+new_boxes t ps = boxes 1 none (numbered t ps)
+
+-- the stops are a route, and this is what receives its new buckets, or the item where there are none
+pub record Leads (t : List Row) (ps : List StopData) (top : Option ℕ) : Type 0 where
+  pub route : IsRoute t ps
+  pub receiver : top ≡ receiver t ps
+
+-- the item of the row r can be put at the end of a route with the weight w
+pub record CanPut (t : List Row) (r : Row) (w : ℕ) (ps : List StopData) : Type 0 where
+  pub apart : IsApart t r.id ps
+  pub room : has_too_many (put t (record r { weight = w }) ps) ≡ false
+  pub light : is_too_heavy (put t (record r { weight = w }) ps) ≡ false
+
+-- a device that isn't there can be put at the end of a route
+pub record CanPutNew (t : List Row) (d : LeafData) (ps : List StopData) : Type 0 where
+  pub gone : is_there t (Device d.id) ≡ false
+  pub unnamed : is_named t d.name ≡ false
+  pub other : count_by (λ (p : StopData). bytes_eq p.name d.name) ps ≡ 0
+  pub form : (b : ℕ) → IsRow (device_row (Some b) d)
+  pub room : has_too_many (put t (device_row None d) ps) ≡ false
+  pub light : is_too_heavy (put t (device_row None d) ps) ≡ false

@@ -1,0 +1,118 @@
+//! A new bucket that no other holds.
+
+ghost use Rattle.std.specs.Prelude.{◌≡◌, List, Some, [], ◌∷◌, IfOk, IfErr, OnErr};
+ghost use Rattle.crush_table.specs.Items.{bucket, none};
+ghost use Rattle.crush_table.specs.Table.{Row, free_ids};
+ghost use Rattle.crush_table.specs.Forest.{rows_of};
+ghost use Rattle.crush_table.specs.Stands.{Stands};
+ghost use Rattle.crush_tree.specs.Seen.{items_of};
+ghost use Rattle.crush_tree.specs.Sameness.{IsSameForest};
+ghost use Rattle.crush_edits.specs.declared.edit.Edit.TheVariants.{AddBucket};
+ghost use Rattle.crush_edits.specs.declared.refusal.Refusal.{Refusal as DeclaredRefusal};
+ghost use Rattle.crush_edits.specs.Answer.{refused};
+ghost use Rattle.crush_edits.specs.Edit.{edit, refusal};
+ghost use Rattle.crush_edits.specs.Fits.{Fits};
+ghost use Rattle.crush_edits.specs.Outcome.{IsDone, IsChange};
+ghost use Rattle.crush_edits.specs.Put.{new_header};
+ghost use Rattle.crush_apply.specs.Alone.{CanAddBucket};
+
+use crush_edits::{Done, EditFault, Refusal, Setting};
+use crush_tree::{Forest, Header, Node, Place};
+use crush_units::limits::MOST_BUCKETS;
+use crush_units::{Alg, BucketId, Name, TypeId};
+use std::alloc::{AllocError, Allocator, Global};
+
+/// The type of the bucket that is to be made, or why it isn't.
+fn added_kind<A: Allocator>(
+    forest: &Forest<A>,
+    setting: &Setting,
+    name: &Name<Global>,
+    kind: &Name<Global>,
+) -> Result<TypeId, Refusal>
+    ensures can { IfOk result (λ k. (t : List Row) → Stands forest.now t
+        → CanAddBucket setting.now t name.now kind.now k) }
+    ensures refused { IfErr result (λ r. (t : List Row) → Stands forest.now t
+        → refusal setting.now t (AddBucket name.now kind.now) ≡ Some r) }
+{
+    let Some(number) = setting.kind_number(kind.as_bytes()) else {
+        return Err(Refusal::NoSuchType);
+    };
+    if forest.id_of(name.as_str()).is_some() {
+        return Err(Refusal::NameTaken);
+    }
+    if number.number() == 0 {
+        return Err(Refusal::WrongType);
+    }
+    if forest.counts().buckets >= MOST_BUCKETS {
+        return Err(Refusal::NoRoom);
+    }
+    Ok(number)
+}
+
+/// The free id nearest to 0.
+fn first_free<A: Allocator>(forest: &Forest<A>) -> BucketId
+    ensures { (t : List Row) → Stands forest.now t → free_ids t 1 ≡ result ∷ [] }
+{
+    let Some(some) = BucketId::below_zero(1) else {
+        unreachable!()
+    };
+    let mut ids = [some];
+    forest.free_ids(&mut ids);
+    ids[0]
+}
+
+/// A bucket without items, in memory of the allocator.
+fn empty_bucket<A: Allocator + Clone>(
+    alloc: &A,
+    id: BucketId,
+    kind: TypeId,
+    name: &Name<Global>,
+) -> Result<Node<A>, AllocError>
+    ensures { IfOk result (λ node. items_of (node ∷ []) ≡ bucket
+        (new_header (record { id = id; kind = kind; name = name.now })) 0 1 none none) }
+{
+    let header = Header {
+        id,
+        kind,
+        name: name.try_copy(alloc.clone()?)?,
+        alg: Alg::Straw2,
+        class_ids: Vec::new(alloc.clone()?),
+    };
+    match Node::bucket(alloc.clone()?, header) {
+        Ok(node) => Ok(node),
+        Err(_) => Err(AllocError),
+    }
+}
+
+/// Makes an empty bucket of this name and type that no other holds, or tells why it isn't made.
+pub(crate) fn add_bucket<A: Allocator + Clone>(
+    forest: &mut Forest<A>,
+    setting: &Setting,
+    name: &Name<Global>,
+    kind: &Name<Global>,
+) -> Result<Done, EditFault>
+    requires fits { Fits setting.now (rows_of forest.old) }
+    ensures done { IfOk result (λ d. (t : List Row) → Stands forest.old t
+        → IsDone (Stands forest.new) (edit setting.now t (AddBucket name.now kind.now)) d) }
+    ensures refused { (r : DeclaredRefusal) → result ≡ Err (EditFault.Refused r)
+        → (t : List Row) → Stands forest.old t
+        → edit setting.now t (AddBucket name.now kind.now) ≡ refused r }
+    ensures change { result ≡ Err EditFault.OutOfMemory
+        → (t : List Row) → Stands forest.old t
+        → IsChange (edit setting.now t (AddBucket name.now kind.now)) }
+    ensures unchanged { (r : DeclaredRefusal) → result ≡ Err (EditFault.Refused r)
+        → forest.new ≡ forest.old }
+    ensures kept { OnErr result (IsSameForest forest.new forest.old) }
+{
+    forest.recall_invariant();
+    let _form = name.as_bytes();
+    let number = added_kind(forest, setting, name, kind)?;
+    let id = first_free(forest);
+    let node = empty_bucket(forest.allocator(), id, number, name)?;
+    forest.reserve(Place::Root)?;
+    forest.attach(Place::Root, node);
+    Ok(Done {
+        changed: true,
+        made: 1,
+    })
+}

@@ -1,0 +1,145 @@
+//! One edit of the hierarchy, whichever it is.
+
+ghost use Rattle.std.specs.Prelude.{◌≡◌, List, IfOk, OnErr, true};
+ghost use Rattle.crush_table.specs.Table.{Row};
+ghost use Rattle.crush_table.specs.Forest.{rows_of};
+ghost use Rattle.crush_table.specs.Stands.{Stands};
+ghost use Rattle.crush_tree.specs.Sameness.{IsSameForest};
+ghost use Rattle.crush_edits.specs.declared.refusal.Refusal.{Refusal as DeclaredRefusal};
+ghost use Rattle.crush_edits.specs.Answer.{refused};
+ghost use Rattle.crush_edits.specs.Edit.{edit, takes_memory};
+ghost use Rattle.crush_edits.specs.Fits.{Fits};
+ghost use Rattle.crush_edits.specs.LawEdit.{IsEdit};
+ghost use Rattle.crush_edits.specs.Outcome.{IsDone, IsChange};
+
+use crate::add_bucket::add_bucket;
+use crate::create_or_move::create_or_move;
+use crate::insert::insert;
+use crate::relocate::relocate;
+use crate::remove::remove;
+use crate::rename::rename;
+use crate::reweight::reweight;
+use crate::subtree::reweight_subtree;
+use crate::swap::swap;
+use crate::update::update;
+use crush_edits::{Done, Edit, EditFault, Setting};
+use crush_tree::Forest;
+use std::alloc::Allocator;
+
+/// Makes the edit on the hierarchy, by the setting, or tells why it isn't made.
+///
+/// Where several refusals hold, the one of least number is told, and the hierarchy is as before.
+/// Want of memory is told only of an edit that takes memory, where nothing speaks against it and
+/// the hierarchy would be another after it: so never of new weights, of an exchange or of a removal.
+/// The hierarchy is then as before but for the room that it has.
+pub fn apply_edit<A: Allocator + Clone>(
+    forest: &mut Forest<A>,
+    setting: &Setting,
+    asked: &Edit,
+) -> Result<Done, EditFault>
+    requires fits { Fits setting.now (rows_of forest.old) }
+    ensures done { IfOk result (λ d. (t : List Row) → Stands forest.old t
+        → IsDone (Stands forest.new) (edit setting.now t asked.now) d) }
+    ensures refused { (r : DeclaredRefusal) → result ≡ Err (EditFault.Refused r)
+        → (t : List Row) → Stands forest.old t → edit setting.now t asked.now ≡ refused r }
+    ensures change { result ≡ Err EditFault.OutOfMemory
+        → (t : List Row) → Stands forest.old t
+        → IsChange (edit setting.now t asked.now) }
+    ensures memory { result ≡ Err EditFault.OutOfMemory → takes_memory asked.now ≡ true }
+    ensures unchanged { (r : DeclaredRefusal) → result ≡ Err (EditFault.Refused r)
+        → forest.new ≡ forest.old }
+    ensures kept { OnErr result (IsSameForest forest.new forest.old) }
+    ensures fits { Fits setting.now (rows_of forest.new) }
+{
+    forest.recall_invariant();
+    recall_forms(asked);
+    make(forest, setting, asked)
+}
+
+/// A law of each edit: its names are names, its ids are in range, and its location is one.
+fn recall_forms(asked: &Edit)
+    ensures { IsEdit asked.now }
+{
+    match asked {
+        Edit::Insert {
+            device,
+            name,
+            at,
+            ..
+        }
+        | Edit::CreateOrMove {
+            device,
+            name,
+            at,
+            ..
+        }
+        | Edit::Update {
+            device,
+            name,
+            at,
+            ..
+        } => {
+            let _number = device.number();
+            let _name = name.as_bytes();
+            let _pairs = at.pairs();
+        }
+        Edit::Move { at, .. } => {
+            let _pairs = at.pairs();
+        }
+        Edit::AddBucket { name, .. } => {
+            let _name = name.as_bytes();
+        }
+        Edit::Rename { to, .. } => {
+            let _name = to.as_bytes();
+        }
+        _ => {}
+    }
+}
+
+/// Makes the edit, or tells why it isn't made.
+fn make<A: Allocator + Clone>(
+    forest: &mut Forest<A>,
+    setting: &Setting,
+    asked: &Edit,
+) -> Result<Done, EditFault>
+    requires fits { Fits setting.now (rows_of forest.old) }
+    ensures done { IfOk result (λ d. (t : List Row) → Stands forest.old t
+        → IsDone (Stands forest.new) (edit setting.now t asked.now) d) }
+    ensures refused { (r : DeclaredRefusal) → result ≡ Err (EditFault.Refused r)
+        → (t : List Row) → Stands forest.old t → edit setting.now t asked.now ≡ refused r }
+    ensures change { result ≡ Err EditFault.OutOfMemory
+        → (t : List Row) → Stands forest.old t
+        → IsChange (edit setting.now t asked.now) }
+    ensures memory { result ≡ Err EditFault.OutOfMemory → takes_memory asked.now ≡ true }
+    ensures unchanged { (r : DeclaredRefusal) → result ≡ Err (EditFault.Refused r)
+        → forest.new ≡ forest.old }
+    ensures kept { OnErr result (IsSameForest forest.new forest.old) }
+{
+    match asked {
+        Edit::Insert {
+            device,
+            name,
+            weight,
+            at,
+        } => insert(forest, setting, *device, name, *weight, at),
+        Edit::CreateOrMove {
+            device,
+            name,
+            weight,
+            at,
+        } => create_or_move(forest, setting, *device, name, *weight, at),
+        Edit::Update {
+            device,
+            name,
+            weight,
+            at,
+        } => update(forest, setting, *device, name, *weight, at),
+        Edit::Move { name, at } => relocate(forest, setting, name, at),
+        Edit::Swap { a, b } => Ok(swap(forest, a, b)?),
+        Edit::Reweight { name, weight } => Ok(reweight(forest, name, *weight)?),
+        Edit::ReweightSubtree { name, weight } => Ok(reweight_subtree(forest, name, *weight)?),
+        Edit::Remove { name } => Ok(remove(forest, setting, name)?),
+        Edit::AddBucket { name, kind } => add_bucket(forest, setting, name, kind),
+        Edit::Rename { from, to } => rename(forest, from, to),
+    }
+}

@@ -1,0 +1,85 @@
+//! A device that is made, or moved with its own weight.
+
+ghost use Rattle.std.specs.Prelude.{◌≡◌, ◌≤◌, List, Err, IfOk, OnErr};
+ghost use Rattle.crush_units.specs.declared.limits.TheConstants.{HEAVIEST_DEVICE};
+ghost use Rattle.crush_table.specs.Table.{Row};
+ghost use Rattle.crush_table.specs.Forest.{rows_of};
+ghost use Rattle.crush_table.specs.Stands.{Stands};
+ghost use Rattle.crush_edits.specs.declared.edit.Edit.TheVariants.{CreateOrMove};
+ghost use Rattle.crush_edits.specs.declared.refusal.Refusal.{Refusal as DeclaredRefusal};
+ghost use Rattle.crush_edits.specs.declared.refusal.EditFault.TheVariants.{Refused, OutOfMemory};
+ghost use Rattle.crush_edits.specs.Answer.{refused};
+ghost use Rattle.crush_edits.specs.Edit.{edit};
+ghost use Rattle.crush_edits.specs.Fits.{Fits};
+ghost use Rattle.crush_edits.specs.Outcome.{IsDone, IsChange};
+ghost use Rattle.crush_edits.specs.Placing.{kept_weight};
+ghost use Rattle.crush_tree.specs.Sameness.{IsSameForest};
+
+use crate::held::is_held;
+use crate::plan::{device_route, planned, put_planned};
+use crush_edits::{Done, EditFault, Location, Setting};
+use crush_tree::Forest;
+use crush_units::{DeviceId, ItemId, Name, Weight};
+use std::alloc::{Allocator, Global};
+
+/// The own weight of a device that stands in a bucket, else the given one, of up to 2147483647
+/// units as well.
+fn kept_weight<A: Allocator>(forest: &Forest<A>, device: DeviceId, weight: Weight) -> Weight
+    requires { weight ≤ HEAVIEST_DEVICE }
+    ensures kept { (t : List Row) → Stands forest.now t → result ≡ kept_weight t device weight }
+    ensures light { result ≤ HEAVIEST_DEVICE }
+{
+    forest.recall_invariant();
+    if forest.parent(ItemId::Device(device)).is_none() {
+        return weight;
+    }
+    match forest.weight(ItemId::Device(device)) {
+        Some(own) => own,
+        None => weight,
+    }
+}
+
+/// Nothing, where the bucket of the location's lowest pair holds the device. Else puts a device that
+/// stands in a bucket at the end of the location's route with its own weight, and another with the
+/// given one, and makes the device where its id isn't there; or tells why it isn't put.
+///
+/// All memory is taken before the device moves. Where it lacks, the items are as before.
+pub(crate) fn create_or_move<A: Allocator + Clone>(
+    forest: &mut Forest<A>,
+    setting: &Setting,
+    device: DeviceId,
+    name: &Name<Global>,
+    weight: Weight,
+    at: &Location,
+) -> Result<Done, EditFault>
+    requires fits { Fits setting.now (rows_of forest.old) }
+    ensures done { IfOk result (λ d. (t : List Row) → Stands forest.old t
+        → IsDone (Stands forest.new)
+        (edit setting.now t (CreateOrMove device name.now weight at.now)) d) }
+    ensures refused { (r : DeclaredRefusal) → result ≡ Err (Refused r)
+        → (t : List Row) → Stands forest.old t
+        → edit setting.now t (CreateOrMove device name.now weight at.now) ≡ refused r }
+    ensures change { result ≡ Err OutOfMemory → (t : List Row) → Stands forest.old t
+        → IsChange (edit setting.now t (CreateOrMove device name.now weight at.now)) }
+    ensures unchanged { (r : DeclaredRefusal) → result ≡ Err (Refused r)
+        → forest.new ≡ forest.old }
+    ensures kept { OnErr result (IsSameForest forest.new forest.old) }
+{
+    forest.recall_invariant();
+    let route = device_route(forest, setting, device, name, weight, at)?;
+    let stops = route.stops();
+    if is_held(forest, ItemId::Device(device), at, stops) {
+        return Ok(Done {
+            changed: false,
+            made: 0,
+        });
+    }
+    let weight = kept_weight(forest, device, weight);
+    let plan = planned(forest, device, name, weight, at, stops)?;
+    let made = plan.fresh as u16;
+    put_planned(forest, device, name, weight, at, stops, plan)?;
+    Ok(Done {
+        changed: true,
+        made,
+    })
+}

@@ -1,0 +1,26 @@
+//! Edits made on the hierarchy of a map: each is the table's edit, for every table for which the
+//! hierarchy stands.
+#![tactic(auto)]
+
+mod add_bucket;
+mod apply;
+mod batch;
+mod chain;
+mod create_or_move;
+mod fits;
+mod held;
+mod insert;
+mod located;
+mod plan;
+mod put;
+mod relocate;
+mod remove;
+mod rename;
+mod reweight;
+mod route;
+mod subtree;
+mod swap;
+mod update;
+
+pub use apply::apply_edit;
+pub use batch::apply_batch;

@@ -1,0 +1,75 @@
+//! A device, or a bucket without items, that is taken out.
+
+ghost use Rattle.std.specs.Prelude.{◌≡◌, List, Some, IfOk, IfErr, OnErr};
+ghost use Rattle.crush_table.specs.Table.{Row};
+ghost use Rattle.crush_table.specs.Stands.{Stands};
+ghost use Rattle.crush_edits.specs.declared.edit.Edit.TheVariants.{Remove};
+ghost use Rattle.crush_edits.specs.Answer.{refused};
+ghost use Rattle.crush_edits.specs.Edit.{edit, refusal};
+ghost use Rattle.crush_edits.specs.Making.{holds_items};
+ghost use Rattle.crush_edits.specs.Outcome.{IsDone};
+ghost use Rattle.crush_apply.specs.Alone.{CanRemove};
+
+use crush_edits::{Done, Refusal, Setting};
+use crush_tree::Forest;
+use crush_units::{BucketId, ItemId, Name};
+use std::alloc::{Allocator, Global};
+
+/// Whether the bucket holds items.
+fn holds_items<A: Allocator>(forest: &Forest<A>, bucket: BucketId) -> bool
+    ensures { (t : List Row) → Stands forest.now t → result ≡ holds_items t bucket }
+{
+    match forest.items(bucket) {
+        Some(items) => !items.is_empty(),
+        None => false,
+    }
+}
+
+/// The item that is to be taken out, or why it isn't.
+fn removed<A: Allocator>(
+    forest: &Forest<A>,
+    setting: &Setting,
+    name: &Name<Global>,
+) -> Result<ItemId, Refusal>
+    ensures can { IfOk result (λ i. (t : List Row) → Stands forest.now t
+        → CanRemove setting.now t name.now i) }
+    ensures refused { IfErr result (λ r. (t : List Row) → Stands forest.now t
+        → refusal setting.now t (Remove name.now) ≡ Some r) }
+{
+    let Some(id) = forest.id_of(name.as_str()) else {
+        return Err(Refusal::NoSuchItem);
+    };
+    let ItemId::Bucket(bucket) = id else {
+        return Ok(id);
+    };
+    if holds_items(forest, bucket) {
+        return Err(Refusal::NotEmpty);
+    }
+    if setting.takes(bucket) {
+        return Err(Refusal::InUse);
+    }
+    Ok(id)
+}
+
+/// Takes the item of this name out, or tells why it doesn't.
+pub(crate) fn remove<A: Allocator>(
+    forest: &mut Forest<A>,
+    setting: &Setting,
+    name: &Name<Global>,
+) -> Result<Done, Refusal>
+    ensures done { IfOk result (λ d. (t : List Row) → Stands forest.old t
+        → IsDone (Stands forest.new) (edit setting.now t (Remove name.now)) d) }
+    ensures refused { IfErr result (λ r. (t : List Row) → Stands forest.old t
+        → edit setting.now t (Remove name.now) ≡ refused r) }
+    ensures kept { OnErr result (forest.new ≡ forest.old) }
+{
+    forest.recall_invariant();
+    let id = removed(forest, setting, name)?;
+    let Some(_) = forest.detach(id) else {
+        unreachable!()
+    };
+    Ok(Done {
+        changed: true,
+        made: 0,
+    })
+}

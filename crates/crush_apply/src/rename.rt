@@ -1,0 +1,71 @@
+//! A new name for a bucket.
+
+ghost use Rattle.std.specs.Prelude.{◌≡◌, List, Some, IfOk, IfErr, OnErr};
+ghost use Rattle.crush_table.specs.Table.{Row};
+ghost use Rattle.crush_table.specs.Stands.{Stands};
+ghost use Rattle.crush_edits.specs.Setting.{SettingData};
+ghost use Rattle.crush_edits.specs.declared.edit.Edit.TheVariants.{Rename};
+ghost use Rattle.crush_edits.specs.declared.refusal.Refusal.{Refusal as DeclaredRefusal};
+ghost use Rattle.crush_edits.specs.Answer.{refused};
+ghost use Rattle.crush_edits.specs.Edit.{edit, refusal};
+ghost use Rattle.crush_edits.specs.Outcome.{IsDone, IsChange};
+ghost use Rattle.crush_apply.specs.Alone.{CanRename};
+
+use crush_edits::{Done, EditFault, Refusal};
+use crush_tree::Forest;
+use crush_units::{BucketId, ItemId, Name};
+use std::alloc::{Allocator, Global};
+
+/// The bucket that is to have another name, or why it doesn't get it.
+fn renamed<A: Allocator>(
+    forest: &Forest<A>,
+    from: &Name<Global>,
+    to: &Name<Global>,
+) -> Result<BucketId, Refusal>
+    ensures can { IfOk result (λ b. (t : List Row) → Stands forest.now t
+        → CanRename t from.now to.now b) }
+    ensures refused { IfErr result (λ r. (s : SettingData) (t : List Row) → Stands forest.now t
+        → refusal s t (Rename from.now to.now) ≡ Some r) }
+{
+    let holder = forest.id_of(to.as_str());
+    let Some(id) = forest.id_of(from.as_str()) else {
+        if holder.is_some() {
+            return Err(Refusal::AlreadyRenamed);
+        }
+        return Err(Refusal::NoSuchItem);
+    };
+    if holder.is_some() {
+        return Err(Refusal::NameTaken);
+    }
+    let ItemId::Bucket(bucket) = id else {
+        return Err(Refusal::NotDirectory);
+    };
+    Ok(bucket)
+}
+
+/// Gives the bucket of the one name the other, or tells why it doesn't get it.
+pub(crate) fn rename<A: Allocator + Clone>(
+    forest: &mut Forest<A>,
+    from: &Name<Global>,
+    to: &Name<Global>,
+) -> Result<Done, EditFault>
+    ensures done { IfOk result (λ d. (s : SettingData) (t : List Row) → Stands forest.old t
+        → IsDone (Stands forest.new) (edit s t (Rename from.now to.now)) d) }
+    ensures refused { (r : DeclaredRefusal) → result ≡ Err (EditFault.Refused r)
+        → (s : SettingData) (t : List Row) → Stands forest.old t
+        → edit s t (Rename from.now to.now) ≡ refused r }
+    ensures change { result ≡ Err EditFault.OutOfMemory
+        → (s : SettingData) (t : List Row) → Stands forest.old t
+        → IsChange (edit s t (Rename from.now to.now)) }
+    ensures unchanged { OnErr result (forest.new ≡ forest.old) }
+{
+    forest.recall_invariant();
+    let bucket = renamed(forest, from, to)?;
+    let name = to.try_copy(forest.allocator().clone()?)?;
+    let _form = to.as_bytes();
+    forest.rename(ItemId::Bucket(bucket), name);
+    Ok(Done {
+        changed: true,
+        made: 0,
+    })
+}

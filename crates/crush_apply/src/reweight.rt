@@ -1,0 +1,65 @@
+//! A new weight for one device.
+
+ghost use Rattle.std.specs.Prelude.{◌≡◌, List, IfOk, IfErr, OnErr};
+ghost use Rattle.crush_table.specs.Table.{Row};
+ghost use Rattle.crush_table.specs.Stands.{Stands};
+ghost use Rattle.crush_edits.specs.Setting.{SettingData};
+ghost use Rattle.crush_edits.specs.declared.edit.Edit.TheVariants.{Reweight};
+ghost use Rattle.crush_edits.specs.Answer.{refused};
+ghost use Rattle.crush_edits.specs.Edit.{edit, refusal};
+ghost use Rattle.crush_edits.specs.Outcome.{IsDone};
+ghost use Rattle.crush_apply.specs.Weighed.{CanReweight};
+
+use crush_edits::{Done, Refusal};
+use crush_tree::Forest;
+use crush_units::{DeviceId, ItemId, Name, Weight};
+use std::alloc::{Allocator, Global};
+
+/// The device whose weight is to be set, or why it isn't.
+fn reweighted<A: Allocator>(
+    forest: &Forest<A>,
+    name: &Name<Global>,
+    weight: Weight,
+) -> Result<DeviceId, Refusal>
+    ensures can { IfOk result (λ d. (t : List Row) → Stands forest.now t
+        → CanReweight t name.now weight d) }
+    ensures refused { IfErr result (λ r. (s : SettingData) (t : List Row) → Stands forest.now t
+        → refusal s t (Reweight name.now weight) ≡ Some r) }
+{
+    forest.recall_invariant();
+    if !weight.is_device_weight() {
+        return Err(Refusal::WeightTooLarge);
+    }
+    let Some(id) = forest.id_of(name.as_str()) else {
+        return Err(Refusal::NoSuchItem);
+    };
+    let ItemId::Device(device) = id else {
+        return Err(Refusal::NotADevice);
+    };
+    if forest.parent(id).is_none() {
+        return Err(Refusal::NotPlaced);
+    }
+    if !forest.fits_weight(device, weight) {
+        return Err(Refusal::SumTooLarge);
+    }
+    Ok(device)
+}
+
+/// Sets the weight of the placed device of this name, or tells why it isn't set.
+pub(crate) fn reweight<A: Allocator>(
+    forest: &mut Forest<A>,
+    name: &Name<Global>,
+    weight: Weight,
+) -> Result<Done, Refusal>
+    ensures done { IfOk result (λ d. (s : SettingData) (t : List Row) → Stands forest.old t
+        → IsDone (Stands forest.new) (edit s t (Reweight name.now weight)) d) }
+    ensures refused { IfErr result (λ r. (s : SettingData) (t : List Row) → Stands forest.old t
+        → edit s t (Reweight name.now weight) ≡ refused r) }
+    ensures kept { OnErr result (forest.new ≡ forest.old) }
+{
+    forest.recall_invariant();
+    let device = reweighted(forest, name, weight)?;
+    let changed = forest.weight(ItemId::Device(device)) != Some(weight);
+    forest.set_weight(device, weight);
+    Ok(Done { changed, made: 0 })
+}

@@ -1,0 +1,73 @@
+//! Two buckets that exchange their items and names.
+
+ghost use Rattle.std.specs.Prelude.{◌≡◌, List, Some, IfOk, IfErr, OnErr};
+ghost use Rattle.crush_table.specs.Table.{Row};
+ghost use Rattle.crush_table.specs.Stands.{Stands};
+ghost use Rattle.crush_edits.specs.Setting.{SettingData};
+ghost use Rattle.crush_edits.specs.declared.edit.Edit.TheVariants.{Swap};
+ghost use Rattle.crush_edits.specs.Answer.{refused};
+ghost use Rattle.crush_edits.specs.Edit.{edit, refusal};
+ghost use Rattle.crush_edits.specs.Outcome.{IsDone};
+ghost use Rattle.crush_apply.specs.Alone.{CanSwap};
+
+use crush_edits::{Done, Refusal};
+use crush_tree::Forest;
+use crush_units::{BucketId, ItemId, Name};
+use std::alloc::{Allocator, Global};
+
+/// The two buckets that are to be exchanged, or why they aren't.
+fn swapped<A: Allocator>(
+    forest: &Forest<A>,
+    a: &Name<Global>,
+    b: &Name<Global>,
+) -> Result<(BucketId, BucketId), Refusal>
+    ensures can { IfOk result (λ pair. (t : List Row) → Stands forest.now t
+        → CanSwap t a.now b.now pair.0 pair.1) }
+    ensures refused { IfErr result (λ r. (s : SettingData) (t : List Row) → Stands forest.now t
+        → refusal s t (Swap a.now b.now) ≡ Some r) }
+{
+    forest.recall_invariant();
+    let Some(one) = forest.id_of(a.as_str()) else {
+        return Err(Refusal::NoSuchItem);
+    };
+    let Some(other) = forest.id_of(b.as_str()) else {
+        return Err(Refusal::NoSuchItem);
+    };
+    let ItemId::Bucket(first) = one else {
+        return Err(Refusal::NotABucket);
+    };
+    let ItemId::Bucket(second) = other else {
+        return Err(Refusal::NotABucket);
+    };
+    if forest.contains(first, other) {
+        return Err(Refusal::Nested);
+    }
+    if forest.contains(second, one) {
+        return Err(Refusal::Nested);
+    }
+    if !forest.fits_swap(first, second) {
+        return Err(Refusal::SumTooLarge);
+    }
+    Ok((first, second))
+}
+
+/// Exchanges the items and the names of the two buckets, or tells why it doesn't.
+pub(crate) fn swap<A: Allocator>(
+    forest: &mut Forest<A>,
+    a: &Name<Global>,
+    b: &Name<Global>,
+) -> Result<Done, Refusal>
+    ensures done { IfOk result (λ d. (s : SettingData) (t : List Row) → Stands forest.old t
+        → IsDone (Stands forest.new) (edit s t (Swap a.now b.now)) d) }
+    ensures refused { IfErr result (λ r. (s : SettingData) (t : List Row) → Stands forest.old t
+        → edit s t (Swap a.now b.now) ≡ refused r) }
+    ensures kept { OnErr result (forest.new ≡ forest.old) }
+{
+    forest.recall_invariant();
+    let (first, second) = swapped(forest, a, b)?;
+    forest.swap(first, second);
+    Ok(Done {
+        changed: true,
+        made: 0,
+    })
+}

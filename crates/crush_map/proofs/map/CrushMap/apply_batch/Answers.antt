@@ -1,0 +1,15 @@
+use Rattle.std.proofs.Common.{◌≡◌, List, ap, sym, subst, ◌∙◌}
+use Rattle.crush_table.specs.Table.{Row}
+use Rattle.crush_table.specs.Forest.{ForestData}
+use Rattle.crush_table.specs.Stands.{Stands}
+use Rattle.crush_edits.specs.Batch.{batch}
+use Rattle.crush_map.specs.MapData.{MapData}
+use Rattle.crush_map.proofs.map.CrushMap.apply_batch.Goals as goal
+
+-- a table of the map is one of its forest
+of_forest : (m n : MapData) (t : List Row) → m ≡ n → Stands n.forest t → Stands m.forest t
+of_forest m n t e st = subst (λ (f : ForestData). Stands f t) (sym (ap (λ (x : MapData). x.forest) e)) st
+
+pub returns-clause-refused : goal.returns-clause-refused
+returns-clause-refused g c = λ k r is t st.
+    ap (λ (m : MapData). batch m.setting t c.args.edits.now) (sym c.self.view_is) ∙ c.apply_batch.ensures.refused k r is t (of_forest _ _ t c.self.view_is st)

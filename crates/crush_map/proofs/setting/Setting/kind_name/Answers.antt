@@ -1,7 +1,0 @@
-use Rattle.std.proofs.Common.{ap, ◌∙◌}
-use Rattle.crush_table.specs.Setting.{kind_name}
-use Rattle.crush_map.proofs.KindLaws.{name_found}
-use Rattle.crush_map.proofs.setting.Setting.kind_name.Goals as goal
-
-pub returns : goal.returns
-returns c = c.name_of.ensures ∙ rw c.deref.ensures.value (name_found c.args.number c.self.inside.kinds.items) ∙ ap (λ s. kind_name s c.args.number) c.self.view_is
