@@ -1,91 +1,91 @@
 //! Batches on the plain example map.
 
-use crate::tests::asking::{
-    add_bucket, holds, insert, is_absent, is_numbered, relocate, remove, rename, reweight, weighs,
-};
+use crate::tests::asking::{Asked, Held, edits, holds, make_batch};
 use crate::tests::building::example_map;
 use crush_map::{BatchFault, Dones, Refusal};
+use std::alloc::Global;
+use std::process::Abort;
 use std::test::Fail;
 
-#[test]
-fn a_refused_batch_changes_nothing(rt: HostRuntime) -> Result<(), Fail> {
-    let alloc = rt.alloc();
-    let mut map = example_map(&rt, alloc, alloc)?;
+/// Asserts what a batch is answered on the plain example map, and what buckets hold then.
+fn makes_batch(
+    rt: &impl Abort,
+    alloc: Global,
+    asked: &[Asked],
+    told: Result<Dones, BatchFault>,
+    held: &[Held],
+) -> Result<(), Fail> {
+    let mut map = example_map(rt, alloc, alloc)?;
     let whole = map.try_copy()?;
-    let edits = [
-        insert(alloc, 3, 65536, &[("host", "h2")])?,
-        rename(alloc, "h1", "hq")?,
-        remove(alloc, "h2")?,
-    ];
-    let told = map.apply_batch(&edits);
-    assert!(rt; told == Err(BatchFault::Refused(2, Refusal::NotEmpty)));
-    assert!(rt; map.forest().is_same(whole.forest()));
+    let edits = edits(alloc, asked)?;
+    let answer = make_batch(rt, &mut map, edits.as_slice());
+    assert!(rt; answer == told, "{answer:?}");
+    assert!(rt; told.is_ok() || map.forest().is_same(whole.forest()));
+    for bucket in held {
+        assert!(rt; holds(&map, bucket), "{}", bucket.0);
+    }
     Ok(())
 }
 
+/// One that is refused at its third edit.
+const REFUSED: [Asked; 3] = [
+    Asked::Add(3, 65536, &[("host", "h2")]),
+    Asked::Rename("h1", "hq"),
+    Asked::Remove("h2"),
+];
+
+/// Edits of which each sees those before it.
+const MOVED: [Asked; 2] = [
+    Asked::AddBucket("h9", "host"),
+    Asked::Move("h9", &[("root", "default")]),
+];
+
+/// An id that is free again.
+const AGAIN: [Asked; 3] = [
+    Asked::Remove("osd.2"),
+    Asked::Remove("h2"),
+    Asked::Add(2, 32768, &[("host", "h2")]),
+];
+
 #[test]
-fn each_edit_sees_those_before_it(rt: HostRuntime) -> Result<(), Fail> {
+fn batches_are_made(rt: HostRuntime) -> Result<(), Fail> {
     let alloc = rt.alloc();
-    let mut map = example_map(&rt, alloc, alloc)?;
-    let edits = [
-        add_bucket(alloc, "h9", "host")?,
-        relocate(alloc, "h9", &[("root", "default")])?,
-    ];
-    let dones = Dones {
+    let refused = Err(BatchFault::Refused(2, Refusal::NotEmpty));
+    makes_batch(&rt, alloc, REFUSED.as_slice(), refused, &[])?;
+    let moved = Ok(Dones {
         edits: 2,
         changed: 2,
         made: 1,
-    };
-    assert!(rt; map.apply_batch(&edits) == Ok(dones));
-    is_numbered(&rt, &map, "h9", -4);
-    holds(&rt, &map, "default", &["h1", "h2", "h9"], 163840);
-    weighs(&rt, &map, "h9", 0);
-    let nothing = Dones {
-        edits: 0,
-        changed: 0,
-        made: 0,
-    };
-    assert!(rt; map.apply_batch(&[]) == Ok(nothing));
-    Ok(())
-}
-
-#[test]
-fn an_id_is_free_again(rt: HostRuntime) -> Result<(), Fail> {
-    let alloc = rt.alloc();
-    let mut map = example_map(&rt, alloc, alloc)?;
-    let edits = [
-        remove(alloc, "osd.2")?,
-        remove(alloc, "h2")?,
-        insert(alloc, 2, 32768, &[("host", "h2")])?,
-    ];
-    let dones = Dones {
+    });
+    let held: [Held; 1] = [("default", &["h1", "h2", "h9"], 163840)];
+    makes_batch(&rt, alloc, MOVED.as_slice(), moved, held.as_slice())?;
+    let again = Ok(Dones {
         edits: 3,
         changed: 3,
         made: 1,
-    };
-    assert!(rt; map.apply_batch(&edits) == Ok(dones));
-    is_numbered(&rt, &map, "h2", -3);
-    holds(&rt, &map, "h2", &["osd.2"], 32768);
-    holds(&rt, &map, "default", &["h1"], 131072);
-    is_absent(&rt, &map, "h3");
-    Ok(())
+    });
+    let held: [Held; 2] = [("h2", &["osd.2"], 32768), ("default", &["h1"], 131072)];
+    makes_batch(&rt, alloc, AGAIN.as_slice(), again, held.as_slice())?;
+    let nothing = Ok(Dones {
+        edits: 0,
+        changed: 0,
+        made: 0,
+    });
+    makes_batch(&rt, alloc, &[], nothing, &[])
 }
 
 #[test]
 fn as_many_edits_as_there_may_be(rt: HostRuntime) -> Result<(), Fail> {
     let alloc = rt.alloc();
-    let mut map = example_map(&rt, alloc, alloc)?;
-    let mut edits = Vec::new(alloc);
+    let mut asked = Vec::new(alloc);
     for number in 0..65536 {
-        edits.push(reweight(alloc, "osd.0", number)?)?;
+        asked.push(Asked::Reweight("osd.0", number))?;
     }
-    let dones = Dones {
+    let all = Ok(Dones {
         edits: 65536,
         changed: 65536,
         made: 0,
-    };
-    assert!(rt; map.apply_batch(edits.as_slice()) == Ok(dones));
-    weighs(&rt, &map, "osd.0", 65535);
-    weighs(&rt, &map, "default", 163839);
-    Ok(())
+    });
+    let held: [Held; 1] = [("default", &["h1", "h2"], 163839)];
+    makes_batch(&rt, alloc, asked.as_slice(), all, held.as_slice())
 }

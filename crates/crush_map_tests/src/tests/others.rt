@@ -1,128 +1,222 @@
 //! Edits without a location, on the plain example map.
 
-use crate::tests::asking::{
-    add_bucket, holds, is_absent, is_done, is_numbered, is_refused, remove, rename, reweight,
-    reweight_subtree, swap, weighs,
-};
+use crate::tests::asking::{Asked, CHANGED, Line, SAME, makes};
 use crate::tests::building::{example_map, map_with_spare};
-use crush_map::Refusal;
+use crush_map::{Done, Refusal};
 use std::test::Fail;
 
-#[test]
-fn two_buckets_exchange_names_and_items(rt: HostRuntime) -> Result<(), Fail> {
-    let alloc = rt.alloc();
-    let mut map = example_map(&rt, alloc, alloc)?;
-    is_done(&rt, &mut map, &swap(alloc, "h1", "h2")?, true, 0);
-    is_numbered(&rt, &map, "h2", -2);
-    is_numbered(&rt, &map, "h1", -3);
-    holds(&rt, &map, "h2", &["osd.2"], 32768);
-    holds(&rt, &map, "h1", &["osd.0", "osd.1"], 131072);
-    holds(&rt, &map, "default", &["h2", "h1"], 163840);
-    Ok(())
-}
+/// Two buckets exchange names and items.
+const SWAPPED: [Line; 5] = [
+    Line {
+        asked: Asked::Swap("h1", "default"),
+        told: Err(Refusal::Nested),
+        holds: &[],
+    },
+    Line {
+        asked: Asked::Swap("h1", "h1"),
+        told: Err(Refusal::Nested),
+        holds: &[],
+    },
+    Line {
+        asked: Asked::Swap("h1", "osd.2"),
+        told: Err(Refusal::NotABucket),
+        holds: &[],
+    },
+    Line {
+        asked: Asked::Swap("osd.2", "x"),
+        told: Err(Refusal::NoSuchItem),
+        holds: &[],
+    },
+    Line {
+        asked: Asked::Swap("h1", "h2"),
+        told: CHANGED,
+        holds: &[
+            ("h2", &["osd.2"], 32768),
+            ("h1", &["osd.0", "osd.1"], 131072),
+            ("default", &["h2", "h1"], 163840),
+        ],
+    },
+];
+
+/// Items are removed from the devices up.
+const REMOVED: [Line; 8] = [
+    Line {
+        asked: Asked::Remove("default"),
+        told: Err(Refusal::NotEmpty),
+        holds: &[],
+    },
+    Line {
+        asked: Asked::Remove("osd.0"),
+        told: CHANGED,
+        holds: &[],
+    },
+    Line {
+        asked: Asked::Remove("osd.1"),
+        told: CHANGED,
+        holds: &[],
+    },
+    Line {
+        asked: Asked::Remove("h1"),
+        told: CHANGED,
+        holds: &[],
+    },
+    Line {
+        asked: Asked::Remove("osd.2"),
+        told: CHANGED,
+        holds: &[],
+    },
+    Line {
+        asked: Asked::Remove("h2"),
+        told: CHANGED,
+        holds: &[],
+    },
+    Line {
+        asked: Asked::Remove("default"),
+        told: CHANGED,
+        holds: &[],
+    },
+    Line {
+        asked: Asked::Remove("default"),
+        told: Err(Refusal::NoSuchItem),
+        holds: &[],
+    },
+];
+
+/// An empty root is added.
+const ADDED: [Line; 4] = [
+    Line {
+        asked: Asked::AddBucket("h1", "host"),
+        told: Err(Refusal::NameTaken),
+        holds: &[],
+    },
+    Line {
+        asked: Asked::AddBucket("x", "osd"),
+        told: Err(Refusal::WrongType),
+        holds: &[],
+    },
+    Line {
+        asked: Asked::AddBucket("x", "pod"),
+        told: Err(Refusal::NoSuchType),
+        holds: &[],
+    },
+    Line {
+        asked: Asked::AddBucket("h9", "host"),
+        told: Ok(Done {
+            changed: true,
+            made: 1,
+        }),
+        holds: &[("h9", &[], 0)],
+    },
+];
+
+/// A bucket gets another name.
+const RENAMED: [Line; 7] = [
+    Line {
+        asked: Asked::Rename("x", "h1"),
+        told: Err(Refusal::AlreadyRenamed),
+        holds: &[],
+    },
+    Line {
+        asked: Asked::Rename("osd.0", "y"),
+        told: Err(Refusal::NotDirectory),
+        holds: &[],
+    },
+    Line {
+        asked: Asked::Rename("h1", "h2"),
+        told: Err(Refusal::NameTaken),
+        holds: &[],
+    },
+    Line {
+        asked: Asked::Rename("h1", "h1"),
+        told: Err(Refusal::NameTaken),
+        holds: &[],
+    },
+    Line {
+        asked: Asked::Rename("x", "y"),
+        told: Err(Refusal::NoSuchItem),
+        holds: &[],
+    },
+    Line {
+        asked: Asked::Rename("osd.0", "h1"),
+        told: Err(Refusal::NameTaken),
+        holds: &[],
+    },
+    Line {
+        asked: Asked::Rename("h1", "hq"),
+        told: CHANGED,
+        holds: &[
+            ("hq", &["osd.0", "osd.1"], 131072),
+            ("default", &["hq", "h2"], 163840),
+        ],
+    },
+];
+
+/// All devices below a bucket get a weight.
+const WEIGHED: [Line; 3] = [
+    Line {
+        asked: Asked::ReweightSubtree("h1", 16384),
+        told: CHANGED,
+        holds: &[
+            ("h1", &["osd.0", "osd.1"], 32768),
+            ("default", &["h1", "h2"], 65536),
+        ],
+    },
+    Line {
+        asked: Asked::ReweightSubtree("h1", 16384),
+        told: SAME,
+        holds: &[],
+    },
+    Line {
+        asked: Asked::ReweightSubtree("osd.0", 65536),
+        told: Err(Refusal::NotABucket),
+        holds: &[],
+    },
+];
+
+/// Weights that are refused, on a map with a spare device.
+const REFUSED: [Line; 4] = [
+    Line {
+        asked: Asked::Reweight("osd.0", 2147483648),
+        told: Err(Refusal::WeightTooLarge),
+        holds: &[],
+    },
+    Line {
+        asked: Asked::Reweight("x", 65536),
+        told: Err(Refusal::NoSuchItem),
+        holds: &[],
+    },
+    Line {
+        asked: Asked::Reweight("osd.9", 65536),
+        told: Err(Refusal::NotPlaced),
+        holds: &[],
+    },
+    Line {
+        asked: Asked::Reweight("h1", 65536),
+        told: Err(Refusal::NotADevice),
+        holds: &[],
+    },
+];
 
 #[test]
-fn buckets_that_are_not_exchanged(rt: HostRuntime) -> Result<(), Fail> {
+fn edits_are_made(rt: HostRuntime) -> Result<(), Fail> {
     let alloc = rt.alloc();
-    let mut map = example_map(&rt, alloc, alloc)?;
-    let refused = [
-        ("h1", "default", Refusal::Nested),
-        ("h1", "h1", Refusal::Nested),
-        ("h1", "osd.2", Refusal::NotABucket),
-        ("osd.2", "x", Refusal::NoSuchItem),
+    let all = [
+        SWAPPED.as_slice(),
+        REMOVED.as_slice(),
+        ADDED.as_slice(),
+        RENAMED.as_slice(),
+        WEIGHED.as_slice(),
     ];
-    for (a, b, refusal) in refused {
-        is_refused(&rt, &mut map, &swap(alloc, a, b)?, refusal)?;
+    for lines in all {
+        let mut map = example_map(&rt, alloc, alloc)?;
+        makes(&rt, alloc, &mut map, lines)?;
     }
     Ok(())
 }
 
 #[test]
-fn items_are_removed_from_the_devices_up(rt: HostRuntime) -> Result<(), Fail> {
-    let alloc = rt.alloc();
-    let mut map = example_map(&rt, alloc, alloc)?;
-    let root = remove(alloc, "default")?;
-    is_refused(&rt, &mut map, &root, Refusal::NotEmpty)?;
-    for item in ["osd.0", "osd.1", "h1", "osd.2", "h2"] {
-        is_done(&rt, &mut map, &remove(alloc, item)?, true, 0);
-        is_absent(&rt, &map, item);
-    }
-    holds(&rt, &map, "default", &[], 0);
-    is_done(&rt, &mut map, &root, true, 0);
-    assert_eq!(rt; map.counts().buckets, 0);
-    assert_eq!(rt; map.counts().devices, 0);
-    is_refused(&rt, &mut map, &root, Refusal::NoSuchItem)?;
-    Ok(())
-}
-
-#[test]
-fn an_empty_root_is_added(rt: HostRuntime) -> Result<(), Fail> {
-    let alloc = rt.alloc();
-    let mut map = example_map(&rt, alloc, alloc)?;
-    is_done(&rt, &mut map, &add_bucket(alloc, "h9", "host")?, true, 1);
-    is_numbered(&rt, &map, "h9", -4);
-    holds(&rt, &map, "h9", &[], 0);
-    let refused = [
-        ("h1", "host", Refusal::NameTaken),
-        ("x", "osd", Refusal::WrongType),
-        ("x", "pod", Refusal::NoSuchType),
-    ];
-    for (bucket, kind, refusal) in refused {
-        is_refused(&rt, &mut map, &add_bucket(alloc, bucket, kind)?, refusal)?;
-    }
-    Ok(())
-}
-
-#[test]
-fn buckets_are_renamed(rt: HostRuntime) -> Result<(), Fail> {
-    let alloc = rt.alloc();
-    let mut map = example_map(&rt, alloc, alloc)?;
-    let refused = [
-        ("x", "h1", Refusal::AlreadyRenamed),
-        ("osd.0", "y", Refusal::NotDirectory),
-        ("h1", "h2", Refusal::NameTaken),
-        ("h1", "h1", Refusal::NameTaken),
-        ("x", "y", Refusal::NoSuchItem),
-        ("osd.0", "h1", Refusal::NameTaken),
-    ];
-    for (from, to, refusal) in refused {
-        is_refused(&rt, &mut map, &rename(alloc, from, to)?, refusal)?;
-    }
-    is_done(&rt, &mut map, &rename(alloc, "h1", "hq")?, true, 0);
-    is_numbered(&rt, &map, "hq", -2);
-    is_absent(&rt, &map, "h1");
-    holds(&rt, &map, "hq", &["osd.0", "osd.1"], 131072);
-    Ok(())
-}
-
-#[test]
-fn all_devices_below_a_bucket_get_a_weight(rt: HostRuntime) -> Result<(), Fail> {
-    let alloc = rt.alloc();
-    let mut map = example_map(&rt, alloc, alloc)?;
-    let asked = reweight_subtree(alloc, "h1", 16384)?;
-    for changed in [true, false] {
-        is_done(&rt, &mut map, &asked, changed, 0);
-        holds(&rt, &map, "h1", &["osd.0", "osd.1"], 32768);
-        holds(&rt, &map, "default", &["h1", "h2"], 65536);
-    }
-    let device = reweight_subtree(alloc, "osd.0", 65536)?;
-    is_refused(&rt, &mut map, &device, Refusal::NotABucket)?;
-    Ok(())
-}
-
-#[test]
-fn weights_that_are_refused(rt: HostRuntime) -> Result<(), Fail> {
+fn weights_are_refused(rt: HostRuntime) -> Result<(), Fail> {
     let alloc = rt.alloc();
     let mut map = map_with_spare(&rt, alloc)?;
-    let refused = [
-        ("osd.0", 2147483648, Refusal::WeightTooLarge),
-        ("x", 65536, Refusal::NoSuchItem),
-        ("osd.9", 65536, Refusal::NotPlaced),
-        ("h1", 65536, Refusal::NotADevice),
-    ];
-    for (item, units, refusal) in refused {
-        is_refused(&rt, &mut map, &reweight(alloc, item, units)?, refusal)?;
-    }
-    weighs(&rt, &map, "default", 163840);
-    Ok(())
+    makes(&rt, alloc, &mut map, REFUSED.as_slice())
 }
