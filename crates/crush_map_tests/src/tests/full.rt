@@ -19,9 +19,9 @@ const LINES: [Line; 3] = [
         holds: &[],
     },
     Line {
-        asked: Asked::Add(3, 65536, &[("host", "h1")]),
+        asked: Asked::Add(3, 65536, &[("host", "h-1")]),
         told: CHANGED,
-        holds: &[("h1", &["osd.3"], 65536)],
+        holds: &[("h-1", &["osd.3"], 65536)],
     },
 ];
 
@@ -29,10 +29,10 @@ const LINES: [Line; 3] = [
 fn no_room_for_one_bucket_more(rt: HostRuntime) -> Result<(), Fail> {
     let alloc = rt.alloc();
     let mut builder = types_and_devices(&rt, alloc, alloc)?;
-    for number in 1..=4096 {
+    for number in -4096..0 {
         let host = format!(in alloc; "h{number}")?;
         begin_bucket(&rt, &mut builder, b"host", host.as_bytes())?;
-        open_bucket(&rt, &mut builder, -number)?;
+        open_bucket(&rt, &mut builder, number)?;
         end_bucket(&rt, &mut builder);
     }
     let mut map = finish(&rt, builder);
