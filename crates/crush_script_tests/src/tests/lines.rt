@@ -253,6 +253,7 @@ fn a_batch_has_at_most_65536_edits(rt: HostRuntime) -> Result<(), Fail> {
     let len = text.len();
     text.extend_from_slice(b"commit")?;
     let job = read_job(rt.alloc(), text.as_slice())?;
+    assert_eq!(rt; job.scripts.len(), 1);
     assert_eq!(rt; job.scripts[0].calls.len(), 1);
     text.truncate(len);
     text.extend_from_slice(b"rm x")?;

@@ -131,11 +131,10 @@ fn commands_are_printed_as_they_are_read(rt: HostRuntime) -> Result<(), Fail> {
         let mut text = Vec::from_slice(alloc, b"%operator a\n")?;
         text.extend_from_slice(line)?;
         let job = read_job(alloc, text.as_slice())?;
+        let script = job.scripts.first().ok_or("a script")?;
+        let call = script.calls.first().ok_or("a call")?;
         let mut held = Vec::new(alloc);
-        assert_eq!(rt;
-            write_entry(10, b"a", &job.scripts[0].calls[0], reply, &mut held),
-            Ok(())
-        );
+        assert_eq!(rt; write_entry(10, b"a", call, reply, &mut held), Ok(()));
         let mut expected = Vec::from_slice(alloc, b"# 10 a ")?;
         expected.extend_from_slice(printed)?;
         expected.extend_from_slice(b" = refused SumTooLarge 34\n")?;
@@ -150,7 +149,8 @@ fn devices_are_read_with_their_ids(rt: HostRuntime) -> Result<(), Fail> {
         rt.alloc(),
         b"%operator a\nadd osd.2147483647 1 host=h1 root=r\n",
     )?;
-    match &job.scripts[0].calls[0] {
+    let script = job.scripts.first().ok_or("a script")?;
+    match script.calls.first().ok_or("a call")? {
         Call::One(
             Edit::Insert {
                 device,
@@ -191,7 +191,9 @@ fn batches_are_lines(rt: HostRuntime) -> Result<(), Fail> {
         alloc,
         b"%operator a\nbegin\nadd osd.3 1 host=h2\nrename-bucket h1 hq\nrm h2\ncommit\nbegin\ncommit\n",
     )?;
-    let calls = &job.scripts[0].calls;
+    let script = job.scripts.first().ok_or("a script")?;
+    let calls = &script.calls;
+    assert_eq!(rt; calls.len(), 2);
     let mut held = Vec::new(alloc);
     let refused = Reply::BatchRefused(2, Refusal::NotEmpty);
     assert_eq!(rt; write_entry(1, b"a", &calls[0], refused, &mut held), Ok(()));
