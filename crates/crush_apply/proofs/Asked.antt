@@ -1,32 +1,30 @@
 -- The tests of an edit that puts a device, asked group by group.
 use Rattle.std.proofs.Common.{◌≡◌, ℕ, Bool, true, false, List, [], ◌∷◌, ◌++◌, ap, ◌∙◌}
-use Rattle.std.specs.Prelude.{Result, Ok, Err, IfOk, IfErr, if◌then◌else◌, Some, None, bytes_eq}
+use Rattle.std.specs.Prelude.{if◌then◌else◌, Some, None, bytes_eq}
 use Rattle.std.specs.List.{count_by}
 use Rattle.crush_units.specs.declared.id.ItemId.TheVariants.{Device}
+use Rattle.crush_table.specs.Columns.{set_weight}
+use Rattle.crush_table.specs.Lawful.{Lawful}
 use Rattle.crush_table.specs.Table.{Row, is_placed}
+use Rattle.crush_edits.specs.declared.edit.Edit.TheVariants.{Insert, CreateOrMove, Update}
 use Rattle.crush_edits.specs.declared.location.Pair.{Pair}
 use Rattle.crush_edits.specs.declared.refusal.Refusal.{Refusal}
 use Rattle.crush_edits.specs.declared.refusal.Refusal.TheVariants.{AlreadyPlaced}
-use Rattle.crush_edits.specs.Answer.{After, first_refusal, room_test, sum_test}
+use Rattle.crush_edits.specs.Answer.{After, answer, done, kept, first_refusal, room_test, sum_test}
+use Rattle.crush_edits.specs.Edit.{edit}
 use Rattle.crush_edits.specs.Located.{location_tests, device_tests, end_tests}
-use Rattle.crush_edits.specs.New.{IsRoute}
-use Rattle.crush_edits.specs.Placing.{insert_tests, device_put_tests}
+use Rattle.crush_edits.specs.Placing.{put_after, edited_device, kept_weight, insert_tests, device_put_tests, after_insert, after_create_or_move, after_update}
+use Rattle.crush_edits.specs.Put.{held}
 use Rattle.crush_edits.specs.Setting.{SettingData}
 use Rattle.crush_edits.specs.Stops.{StopData, stops}
 use Rattle.crush_edits.proofs.Order.{group_passes, group_refuses}
 use Rattle.crush_edits.proofs.Stops.{no_stop_named}
-use Rattle.crush_apply.specs.Planned.{CanCome, last_refusal}
+use Rattle.crush_apply.specs.Answered.{last_refusal, last_answer}
+use Rattle.crush_apply.specs.Coming.{CanCome}
+use Rattle.crush_apply.specs.Way.{WayData, Leads}
+use Rattle.crush_apply.proofs.Answered.{last_kept}
 use Rattle.crush_apply.proofs.Passed.{device_passes, location_nothing}
 use Rattle.crush_apply.proofs.Weights.{light_bound}
-
--- what holds of an Ok, and of an Err
-pub ok_both : {X E : Type 0} (P Q R : X → Type 0) (x : Result X E) → ((v : X) → P v → Q v → R v) → IfOk x P → IfOk x Q → IfOk x R
-ok_both P Q R (Ok v) f p q = f v p q
-ok_both P Q R (Err e) f p q = tt
-
-pub err_more : {X E : Type 0} (P Q : E → Type 0) (x : Result X E) → ((e : E) → P e → Q e) → IfErr x P → IfErr x Q
-err_more P Q (Ok v) f p = tt
-err_more P Q (Err e) f p = f e p
 
 -- a test that doesn't hold leaves it to the next
 next_test : (r : Refusal) (b : Bool) (qs : List (Refusal × Bool)) → b ≡ false → first_refusal ((r, b) ∷ qs) ≡ first_refusal qs
@@ -58,6 +56,9 @@ module _ (s : SettingData) (t : List Row) (d : ℕ) (n : List ℕ) (w : ℕ) (l 
   pub insert_last : (a : After) → first_refusal (device_tests s t d n w l) ≡ None → is_placed t (Device d) ≡ false → first_refusal (end_tests t (stops s l)) ≡ None → first_refusal (insert_tests s t d n w l a) ≡ last_refusal a
   insert_last a e free f = group_passes device (placed a) e ∙ next_test AlreadyPlaced (is_placed t (Device d)) (ends ++ last_tests a) free ∙ group_passes ends (last_tests a) f
 
+  pub insert_answer : first_refusal (device_tests s t d n w l) ≡ None → is_placed t (Device d) ≡ false → first_refusal (end_tests t (stops s l)) ≡ None → edit s t (Insert d n w l) ≡ last_answer t (put_after t (edited_device t d n w) (stops s l))
+  insert_answer e free f = let a = after_insert s t d n w l in ap (λ o. answer o t a) (insert_last a e free f)
+
   -- CREATE OR MOVE, UPDATE
   pub put_device : (r : Refusal) (a : After) → first_refusal (device_tests s t d n w l) ≡ Some r → first_refusal (device_put_tests s t d n w l a) ≡ Some r
   put_device r a e = group_refuses device (ends ++ last_tests a) r e
@@ -68,15 +69,29 @@ module _ (s : SettingData) (t : List Row) (d : ℕ) (n : List ℕ) (w : ℕ) (l 
   pub put_last : (a : After) → first_refusal (device_tests s t d n w l) ≡ None → first_refusal (end_tests t (stops s l)) ≡ None → first_refusal (device_put_tests s t d n w l a) ≡ last_refusal a
   put_last a e f = group_passes device (ends ++ last_tests a) e ∙ group_passes ends (last_tests a) f
 
+  -- where the device isn't held it is put
+  module _ (e : first_refusal (device_tests s t d n w l) ≡ None) (f : first_refusal (end_tests t (stops s l)) ≡ None) (free : held t (Device d) (stops s l) ≡ false) where
+    pub move_answer : edit s t (CreateOrMove d n w l) ≡ last_answer t (put_after t (edited_device t d n (kept_weight t d w)) (stops s l))
+    move_answer = let a = after_create_or_move s t d n w l in ap (λ o. answer o t a) (put_last a e f) ∙ ap (λ b. last_answer t (if b then kept t else put_after t (edited_device t d n (kept_weight t d w)) (stops s l))) free
+
+    pub update_answer : edit s t (Update d n w l) ≡ last_answer t (put_after t (edited_device t d n w) (stops s l))
+    update_answer = let a = after_update s t d n w l in ap (λ o. answer o t a) (put_last a e f) ∙ ap (λ b. last_answer t (if b then kept (set_weight (Device d) w t) else put_after t (edited_device t d n w) (stops s l))) free
+
+  -- where it is held it stays
+  pub held_answer : first_refusal (device_tests s t d n w l) ≡ None → first_refusal (end_tests t (stops s l)) ≡ None → held t (Device d) (stops s l) ≡ true → Lawful t → edit s t (CreateOrMove d n w l) ≡ done false 0 t
+  held_answer e f there lawful =
+      let a = after_create_or_move s t d n w l in
+      ap (λ o. answer o t a) (put_last a e f) ∙ ap (λ b. last_answer t (if b then kept t else put_after t (edited_device t d n (kept_weight t d w)) (stops s l))) there ∙ last_kept t lawful
+
   -- BOTH: the location passes, and the device can come
   pub located : first_refusal (device_tests s t d n w l) ≡ None → first_refusal (location_tests s l) ≡ None
   located e = location_nothing s l (device_passes s t d n w l e).location
 
-  pub can_come : (ps : List StopData) → first_refusal (device_tests s t d n w l) ≡ None → ps ≡ stops s l → IsRoute t ps → CanCome t d n w ps
-  can_come ps e are route =
+  pub can_come : (way : WayData) → first_refusal (device_tests s t d n w l) ≡ None → way.stops ≡ stops s l → Leads t way → CanCome t d n w way
+  can_come way e are leads =
       let passes = device_passes s t d n w l e in
       record {
-        route = route;
+        leads = leads;
         own = passes.own;
         other = ap (count_by (λ (p : StopData). bytes_eq p.name n)) are ∙ no_stop_named s l n passes.other;
         weight = light_bound w passes.light;

@@ -12,7 +12,7 @@ use Rattle.crush_units.specs.declared.limits.TheConstants.{DEVICE_IDS}
 use Rattle.crush_table.specs.Items.{LeafData}
 use Rattle.crush_table.specs.ItemRows.{device_row}
 use Rattle.crush_table.specs.Columns.{is_part}
-use Rattle.crush_table.specs.Table.{Row, row_of, id_named, is_named, is_there, name_of, class_of}
+use Rattle.crush_table.specs.Table.{Row, row_of, id_named, is_named, is_there, kind_of, name_of, class_of}
 use Rattle.crush_table.specs.Lawful.{Lawful, is_too_heavy, has_too_many}
 use Rattle.crush_table.proofs.Moved.{row_id}
 use Rattle.crush_table.proofs.Weighs.{or_left, or_right}
@@ -21,15 +21,18 @@ use Rattle.crush_edits.specs.Changed.{same_table}
 use Rattle.crush_edits.specs.LawPut.{IsApart}
 use Rattle.crush_edits.specs.Located.{is_taken}
 use Rattle.crush_edits.specs.New.{IsRoute}
-use Rattle.crush_edits.specs.Placing.{edited_device}
+use Rattle.crush_edits.specs.Placing.{put_after, edited_device}
 use Rattle.crush_edits.specs.Put.{put, held}
 use Rattle.crush_edits.specs.Stops.{StopData, receiver}
 use Rattle.crush_edits.proofs.PutLaws.{changes, changes_new}
 use Rattle.crush_edits.proofs.Routes.{named_there}
 use Rattle.crush_edits.proofs.Tails.{edited_is_own}
-use Rattle.crush_apply.specs.declared.plan.Plan.{Plan}
-use Rattle.crush_apply.specs.Placed.{CanPut, CanPutNew, Leads}
-use Rattle.crush_apply.specs.Planned.{IsPlan}
+use Rattle.crush_edits.proofs.Edits.{some_row}
+use Rattle.crush_apply.specs.Answered.{last_answer}
+use Rattle.crush_apply.specs.Coming.{CanMove, CanCome}
+use Rattle.crush_apply.specs.Placed.{CanPut, CanPutNew}
+use Rattle.crush_apply.specs.Way.{WayData}
+use Rattle.crush_apply.proofs.Answered.{IsPut, put_same}
 
 pub not_back : (b : Bool) → not b ≡ false → b ≡ true
 not_back true h = refl
@@ -76,30 +79,12 @@ new_name t i n own gone = by_id (id_named t n) (or_left (meets (λ j. not (same_
   by_id None e there = refl
   by_id (Some j) e there = absurd (let same : j ≡ i = same_id_equal j i (not_back (same_id j i) e) in let again : is_there t i ≡ true = ap (is_there t) (sym same) ∙ there in cc)
 
--- WHAT A PLAN GIVES: the device can be put, whether it is there or not
-pub plan_leads : (t : List Row) (d : ℕ) (n : List ℕ) (w : ℕ) (ps : List StopData) (p : Plan) → IsPlan t d n w ps p → Leads t ps p.receiver
-plan_leads t d n w ps p plan = record { route = plan.can.route; receiver = plan.receiver }
-
-pub plan_own : (t : List Row) (d : ℕ) (n : List ℕ) (w : ℕ) (ps : List StopData) (p : Plan) (r : Row) → Lawful t → IsPlan t d n w ps p → row_of t (Device d) ≡ Some r → CanPut t r w ps
-plan_own t d n w ps p r lawful plan found =
-    let same = own_put t d n w ps r lawful plan.can.own found in
-    record {
-      apart = device_apart t d r.id ps (row_id (Device d) t r found);
-      room = ap has_too_many (sym same) ∙ plan.room;
-      light = ap is_too_heavy (sym same) ∙ plan.light;
-    }
-
-pub plan_new : (t : List Row) (d : ℕ) (n : List ℕ) (w : ℕ) (ps : List StopData) (p : Plan) → IsPlan t d n w ps p → is_there t (Device d) ≡ false → d < DEVICE_IDS → IsName n → CanPutNew t (new_leaf d n w) ps
-plan_new t d n w ps p plan gone id name =
-    let same = new_put t d n w ps gone in
-    record {
-      gone = gone;
-      unnamed = new_name t (Device d) n plan.can.own gone;
-      other = plan.can.other;
-      form = λ b. record { name = name; form = record { id = id; kind = refl; light = plan.can.weight; unplaced = λ e. absurd cc; alg = refl; class_ids = refl; class = tt } };
-      room = ap has_too_many (sym same) ∙ plan.room;
-      light = ap is_too_heavy (sym same) ∙ plan.light;
-    }
+-- whether an item is there, told by its type
+pub kind_tells : (t : List Row) (i : ItemId) (o : Option ℕ) (b : Bool) → o ≡ kind_of t i → is_some o ≡ b → is_there t i ≡ b
+kind_tells t i o b is e = by_row (row_of t i) is where
+  by_row : (q : Option Row) → o ≡ option_map (λ (r : Row). r.kind) q → is_some q ≡ b
+  by_row None f = ap is_some (sym f) ∙ e
+  by_row (Some r) f = ap is_some (sym f) ∙ e
 
 -- another table comes of it, unless the device is held
 pub put_changes : (t : List Row) (d : ℕ) (n : List ℕ) (w : ℕ) (ps : List StopData) → Lawful t → IsRoute t ps → held t (Device d) ps ≡ false → same_table t (put t (edited_device t d n w) ps) ≡ false
@@ -107,3 +92,46 @@ put_changes t d n w ps lawful route free = by_there (is_there t (Device d)) refl
   by_there : (b : Bool) → is_there t (Device d) ≡ b → same_table t (put t (edited_device t d n w) ps) ≡ false
   by_there true there = changes t ps (edited_device t d n w) lawful route there free
   by_there false gone = ap (same_table t) (new_put t d n w ps gone) ∙ changes_new t ps (new_leaf d n w) lawful route gone
+
+-- A DEVICE THAT IS THERE can move, and it is put with its own row and the weight
+pub device_moves : (t : List Row) (d : ℕ) (n : List ℕ) (w : ℕ) (way : WayData) → CanCome t d n w way → is_there t (Device d) ≡ true → CanMove t (Device d) way
+device_moves t d n w way can there = record { leads = can.leads; there = there; apart = device_apart t d (Device d) way.stops refl }
+
+-- its row
+pub record OwnRow (t : List Row) (d : ℕ) (n : List ℕ) (w : ℕ) (way : WayData) : Type 0 where
+  pub row : Row
+  pub found : row_of t (Device d) ≡ Some row
+  pub own : row_of t row.id ≡ Some row
+  pub same : put t (edited_device t d n w) way.stops ≡ put t (record row { weight = w }) way.stops
+  pub put : IsPut t (last_answer t (put_after t (edited_device t d n w) way.stops)) (record row { weight = w }) way
+
+pub own_row : (t : List Row) (d : ℕ) (n : List ℕ) (w : ℕ) (way : WayData) → Lawful t → CanCome t d n w way → held t (Device d) way.stops ≡ false → is_there t (Device d) ≡ true → OwnRow t d n w way
+own_row t d n w way lawful can free there =
+    let found = some_row t (Device d) there in
+    let same = own_put t d n w way.stops found.0 lawful can.own found.1 in
+    record {
+      row = found.0;
+      found = found.1;
+      own = ap (row_of t) (row_id (Device d) t found.0 found.1) ∙ found.1;
+      same = same;
+      put = put_same t (edited_device t d n w) (record found.0 { weight = w }) way can.leads same (put_changes t d n w way.stops lawful can.leads.route free);
+    }
+
+pub put_own : (t : List Row) (d : ℕ) (w : ℕ) (way : WayData) (r : Row) → row_of t (Device d) ≡ Some r → has_too_many (put t (record r { weight = w }) way.stops) ≡ false → is_too_heavy (put t (record r { weight = w }) way.stops) ≡ false → CanPut t r w way.stops
+put_own t d w way r found room light = record { apart = device_apart t d r.id way.stops (row_id (Device d) t r found); room = room; light = light }
+
+-- A DEVICE THAT ISN'T THERE can be put
+pub device_put_new : (t : List Row) (d : ℕ) (n : List ℕ) (w : ℕ) (way : WayData) → CanCome t d n w way → is_there t (Device d) ≡ false → d < DEVICE_IDS → IsName n
+    → has_too_many (put t (device_row None (new_leaf d n w)) way.stops) ≡ false → is_too_heavy (put t (device_row None (new_leaf d n w)) way.stops) ≡ false → CanPutNew t (new_leaf d n w) way.stops
+device_put_new t d n w way can gone id name room light = record {
+  gone = gone;
+  unnamed = new_name t (Device d) n can.own gone;
+  other = can.other;
+  form = λ b. record { name = name; form = record { id = id; kind = refl; light = can.weight; unplaced = λ e. absurd cc; alg = refl; class_ids = refl; class = tt } };
+  room = room;
+  light = light;
+}
+
+-- THE NEW DEVICE is put
+pub new_is_put : (t : List Row) (d : ℕ) (n : List ℕ) (w : ℕ) (way : WayData) → Lawful t → CanCome t d n w way → held t (Device d) way.stops ≡ false → is_there t (Device d) ≡ false → IsPut t (last_answer t (put_after t (edited_device t d n w) way.stops)) (device_row None (new_leaf d n w)) way
+new_is_put t d n w way lawful can free gone = put_same t (edited_device t d n w) (device_row None (new_leaf d n w)) way can.leads (new_put t d n w way.stops gone) (put_changes t d n w way.stops lawful can.leads.route free)

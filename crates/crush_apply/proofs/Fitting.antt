@@ -1,5 +1,5 @@
 -- Sums and counts of tables with an item put.
-use Rattle.std.proofs.Common.{◌≡◌, ℕ, ◌+◌, ◌<◌, ◌≤◌, Bool, true, false, List, [], ◌∷◌, ◌++◌, length, ap, sym, subst, ◌∙◌, refl, arith}
+use Rattle.std.proofs.Common.{◌≡◌, ℕ, ◌+◌, ◌<◌, ◌≤◌, Bool, true, false, List, [], ◌∷◌, ◌++◌, ap, sym, subst, ◌∙◌, refl, arith}
 use Rattle.std.proofs.lemmas.Bool.Decides.{nat_tests}
 use Rattle.std.specs.Prelude.{Option, Some, None, IfSome, ◌||◌, nat_lt, nat_le, not}
 use Rattle.crush_units.specs.declared.id.ItemId.{ItemId}
@@ -7,55 +7,46 @@ use Rattle.crush_units.specs.declared.id.ItemId.TheVariants.{Device, Bucket}
 use Rattle.crush_table.specs.Columns.{table_without, part, is_part}
 use Rattle.crush_table.specs.Items.{LeafData, Items, none, device, bucket}
 use Rattle.crush_table.specs.ItemRows.{rows, device_row}
-use Rattle.crush_table.specs.Forest.{ForestData, rows_of}
-use Rattle.crush_table.specs.Stands.{Stands}
-use Rattle.crush_table.proofs.Changes.{is_part-same}
-use Rattle.crush_table.proofs.Reorder.{reordered-sym}
 use Rattle.crush_table.specs.Law.{IsOne}
 use Rattle.crush_table.specs.Lawful.{Lawful, is_too_heavy, has_too_many}
 use Rattle.crush_table.specs.Same.{Same}
 use Rattle.crush_table.specs.Stored.{weight_sum, StoresSums}
 use Rattle.crush_table.specs.Table.{Row, row_of, is_there, device_count, bucket_count}
 use Rattle.crush_table.proofs.Moved.{row_id}
-use Rattle.crush_nodes.specs.Ops.{CanCome, StoresUpTo, is_place}
+use Rattle.crush_nodes.specs.Ops.{CanCome, StoresUpTo}
 use Rattle.crush_nodes.specs.Room.{parent_at}
 use Rattle.crush_edits.specs.Boxes.{boxes}
 use Rattle.crush_edits.specs.LawPut.{route_boxes, OnceIds, IsApart}
-use Rattle.crush_edits.specs.New.{IsRoute}
 use Rattle.crush_edits.specs.Put.{NewData, new_header, new_buckets, put}
-use Rattle.crush_edits.specs.Stops.{StopData, fresh_stops, receiver}
+use Rattle.crush_edits.specs.Stops.{receiver}
 use Rattle.crush_edits.proofs.Boxes.{weight_sum-boxes, StoresSums-boxes}
 use Rattle.crush_edits.proofs.PutLaws.{boxed_item, boxed_device, boxed_new, counts_put, counts_new}
 use Rattle.crush_edits.proofs.Routes.{route_next}
-use Rattle.crush_apply.specs.Placed.{place_at, Leads}
+use Rattle.crush_apply.specs.Placed.{place_at}
+use Rattle.crush_apply.specs.Way.{WayData, Leads}
 use Rattle.crush_apply.proofs.Ways.{parent_of_place, placed_boxes}
 
 -- COUNTS: of an item that is there, of a device that isn't
 too_many : (d b e c k : ℕ) → e ≤ 65536 → d ≡ e → b ≡ c + k → nat_lt 4096 (c + k) ≡ (nat_lt 65536 d || nat_lt 4096 b)
 too_many d b e c k few same more = grind (arith, nat_tests)
 
-pub lacks_room_is : (t : List Row) (ps : List StopData) (r : Row) (w fresh buckets : ℕ) → Lawful t → IsRoute t ps → fresh ≡ length (fresh_stops t ps) → row_of t r.id ≡ Some r → buckets ≡ bucket_count t
-    → nat_lt 4096 (buckets + fresh) ≡ has_too_many (put t (record r { weight = w }) ps)
-lacks_room_is t ps r w fresh buckets l route many found counted =
-    let counts = counts_put t ps l route r w found in
-    too_many (device_count (put t (record r { weight = w }) ps)) (bucket_count (put t (record r { weight = w }) ps)) (device_count t) buckets fresh l.devices counts.0 (omega (arith, counts.1, many, counted))
+pub lacks_room_is : (t : List Row) (way : WayData) (r : Row) (w fresh buckets : ℕ) → Lawful t → Leads t way → fresh ≡ way.fresh → row_of t r.id ≡ Some r → buckets ≡ bucket_count t
+    → nat_lt 4096 (buckets + fresh) ≡ has_too_many (put t (record r { weight = w }) way.stops)
+lacks_room_is t way r w fresh buckets l leads many found counted =
+    let counts = counts_put t way.stops l leads.route r w found in
+    too_many (device_count (put t (record r { weight = w }) way.stops)) (bucket_count (put t (record r { weight = w }) way.stops)) (device_count t) buckets fresh l.devices counts.0 (omega (arith, counts.1, many, leads.fresh, counted))
 
-pub lacks_room_new : (t : List Row) (ps : List StopData) (d : LeafData) (fresh devices buckets : ℕ) → Lawful t → IsRoute t ps → fresh ≡ length (fresh_stops t ps) → is_there t (Device d.id) ≡ false → devices ≡ device_count t → buckets ≡ bucket_count t
-    → (nat_lt 65536 (devices + 1) || nat_lt 4096 (buckets + fresh)) ≡ has_too_many (put t (device_row None d) ps)
-lacks_room_new t ps d fresh devices buckets l route many gone counted_devices counted =
-    let counts = counts_new t ps l route d gone in
-    let more : devices + 1 ≡ device_count (put t (device_row None d) ps) = omega (arith, counts.0, counted_devices) in
-    let made : buckets + fresh ≡ bucket_count (put t (device_row None d) ps) = omega (arith, counts.1, many, counted) in
+pub lacks_room_new : (t : List Row) (way : WayData) (d : LeafData) (fresh devices buckets : ℕ) → Lawful t → Leads t way → fresh ≡ way.fresh → is_there t (Device d.id) ≡ false → devices ≡ device_count t → buckets ≡ bucket_count t
+    → (nat_lt 65536 (devices + 1) || nat_lt 4096 (buckets + fresh)) ≡ has_too_many (put t (device_row None d) way.stops)
+lacks_room_new t way d fresh devices buckets l leads many gone counted_devices counted =
+    let counts = counts_new t way.stops l leads.route d gone in
+    let more : devices + 1 ≡ device_count (put t (device_row None d) way.stops) = omega (arith, counts.0, counted_devices) in
+    let made : buckets + fresh ≡ bucket_count (put t (device_row None d) way.stops) = omega (arith, counts.1, many, leads.fresh, counted) in
     λ j. nat_lt 65536 (more j) || nat_lt 4096 (made j)
 
--- THE PLACE that receives, told as a place
-pub receiver_place : (t : List Row) (o : Option ℕ) → IfSome o (λ b. is_there t (Bucket b) ≡ true) → is_place t (place_at o) ≡ true
-receiver_place t None h = refl
-receiver_place t (Some b) h = h
-
-pub receiver_apart : (t : List Row) (i : ItemId) (o : Option ℕ) → IfSome o (λ b. is_part t i (Bucket b) ≡ false) → IfSome (parent_at (place_at o)) (λ b. is_part t i (Bucket b) ≡ false)
-receiver_apart t i None h = tt
-receiver_apart t i (Some b) h = h
+-- what receives is apart from the item
+pub receiver_apart : (t : List Row) (i : ItemId) (way : WayData) → Leads t way → IsApart t i way.stops → IfSome (parent_at (place_at way.receiver)) (λ b. is_part t i (Bucket b) ≡ false)
+receiver_apart t i way leads apart = subst (λ o. IfSome o (λ b. is_part t i (Bucket b) ≡ false)) (sym (parent_of_place way.receiver ∙ leads.receiver)) apart
 
 -- what boxes store is small where the item's weight is
 small-boxes : (m : ℕ) (n : Items) (ns : List NewData) → weight_sum n ≤ 4294967295 → StoresUpTo 4294967295 n → StoresUpTo 4294967295 (boxes m n ns)
@@ -63,70 +54,67 @@ small-boxes m n [] le s = s
 small-boxes m n (x ∷ ns) le s = small-boxes m (bucket (new_header x) (weight_sum n) m n none) ns (omega (arith, le)) (le, s, tt)
 
 -- THE TEST of sums, told of the new buckets with the item in them
-module _ (t : List Row) (l : Lawful t) (ps : List StopData) (o : Option ℕ) (leads : Leads t ps o) where
-  parent_is : receiver t ps ≡ parent_at (place_at o)
-  parent_is = sym (parent_of_place o ∙ leads.receiver)
+module _ (t : List Row) (l : Lawful t) (way : WayData) (leads : Leads t way) where
+  parent_is : receiver t way.stops ≡ parent_at (place_at way.receiver)
+  parent_is = sym (parent_of_place way.receiver ∙ leads.receiver)
 
-  come : (u : List Row) (n : Items) → OnceIds (u ++ rows (receiver t ps) (route_boxes 1 n t ps)) → StoresSums n → StoresUpTo 4294967295 n → weight_sum n ≤ 4294967295 → CanCome u (place_at o) (route_boxes 1 n t ps)
+  come : (u : List Row) (n : Items) → OnceIds (u ++ rows (receiver t way.stops) (route_boxes 1 n t way.stops)) → StoresSums n → StoresUpTo 4294967295 n → weight_sum n ≤ 4294967295 → CanCome u (place_at way.receiver) (route_boxes 1 n t way.stops)
   come u n once sums small light =
-      let next = route_next t ps leads.route in
+      let next = route_next t way.stops leads.route in
       record {
-        sums = StoresSums-boxes 1 n (new_buckets t ps) sums;
-        small = small-boxes 1 n (new_buckets t ps) light small;
-        kind = placed_boxes o 1 n (new_buckets t ps) next.0 (ap (λ q. Rattle.crush_edits.specs.Put.next_up (new_buckets t ps) q) leads.receiver ∙ next.1);
-        apart = subst (λ q. OnceIds (u ++ rows q (route_boxes 1 n t ps))) parent_is once;
+        sums = StoresSums-boxes 1 n (new_buckets t way.stops) sums;
+        small = small-boxes 1 n (new_buckets t way.stops) light small;
+        kind = placed_boxes way.receiver 1 n (new_buckets t way.stops) next.0 (ap (λ q. Rattle.crush_edits.specs.Put.next_up (new_buckets t way.stops) q) leads.receiver ∙ next.1);
+        apart = subst (λ q. OnceIds (u ++ rows q (route_boxes 1 n t way.stops))) parent_is once;
       }
 
   -- what a test tells that speaks of all items that can come
   told : (u : List Row) (n : Items) (v : List Row) (w : ℕ) (answer : Bool)
-      → OnceIds (u ++ rows (receiver t ps) (route_boxes 1 n t ps)) × (is_too_heavy (u ++ rows (receiver t ps) (route_boxes 1 n t ps)) ≡ is_too_heavy v)
+      → OnceIds (u ++ rows (receiver t way.stops) (route_boxes 1 n t way.stops)) × (is_too_heavy (u ++ rows (receiver t way.stops) (route_boxes 1 n t way.stops)) ≡ is_too_heavy v)
       → StoresSums n → StoresUpTo 4294967295 n → weight_sum n ≤ 4294967295 → weight_sum n ≡ w
-      → ((m : Items) → weight_sum m ≡ w → CanCome u (place_at o) m → answer ≡ not (is_too_heavy (u ++ rows (parent_at (place_at o)) m)))
+      → ((m : Items) → weight_sum m ≡ w → CanCome u (place_at way.receiver) m → answer ≡ not (is_too_heavy (u ++ rows (parent_at (place_at way.receiver)) m)))
       → answer ≡ not (is_too_heavy v)
   told u n v w answer both sums small light is test =
-      test (route_boxes 1 n t ps) (weight_sum-boxes 1 n (new_buckets t ps) ∙ is) (come u n both.0 sums small light)
-      ∙ ap (λ q. not (is_too_heavy (u ++ rows q (route_boxes 1 n t ps)))) (sym parent_is) ∙ ap not both.1
+      test (route_boxes 1 n t way.stops) (weight_sum-boxes 1 n (new_buckets t way.stops) ∙ is) (come u n both.0 sums small light)
+      ∙ ap (λ q. not (is_too_heavy (u ++ rows q (route_boxes 1 n t way.stops)))) (sym parent_is) ∙ ap not both.1
 
   -- an item as it is
-  pub item_told : (i : ItemId) (r : Row) (n : Items) (w : ℕ) (answer : Bool) → row_of t i ≡ Some r → IsApart t i ps → has_too_many (put t r ps) ≡ false
+  pub item_told : (i : ItemId) (r : Row) (n : Items) (w : ℕ) (answer : Bool) → row_of t i ≡ Some r → IsApart t i way.stops → has_too_many (put t r way.stops) ≡ false
       → IsOne n → Same (rows None n) (part i t) → StoresSums n → StoresUpTo 4294967295 n → weight_sum n ≤ 4294967295 → weight_sum n ≡ w
-      → ((m : Items) → weight_sum m ≡ w → CanCome (table_without i t) (place_at o) m → answer ≡ not (is_too_heavy (table_without i t ++ rows (parent_at (place_at o)) m)))
-      → answer ≡ not (is_too_heavy (put t r ps))
+      → ((m : Items) → weight_sum m ≡ w → CanCome (table_without i t) (place_at way.receiver) m → answer ≡ not (is_too_heavy (table_without i t ++ rows (parent_at (place_at way.receiver)) m)))
+      → answer ≡ not (is_too_heavy (put t r way.stops))
   item_told i r n w answer found apart room one whole sums small light is test =
       let own = row_id i t r found in
-      let both : OnceIds (table_without i t ++ rows (receiver t ps) (route_boxes 1 n t ps)) × (is_too_heavy (table_without i t ++ rows (receiver t ps) (route_boxes 1 n t ps)) ≡ is_too_heavy (put t r ps)) =
-      subst (λ j. OnceIds (table_without j t ++ rows (receiver t ps) (route_boxes 1 n t ps)) × (is_too_heavy (table_without j t ++ rows (receiver t ps) (route_boxes 1 n t ps)) ≡ is_too_heavy (put t r ps))) own
-      (boxed_item t ps l leads.route 1 r n (ap (row_of t) own ∙ found) (subst (λ j. IsApart t j ps) (sym own) apart) room one (subst (λ j. Same (rows None n) (part j t)) (sym own) whole)) in
-      told (table_without i t) n (put t r ps) w answer both sums small light is test
+      let both : OnceIds (table_without i t ++ rows (receiver t way.stops) (route_boxes 1 n t way.stops)) × (is_too_heavy (table_without i t ++ rows (receiver t way.stops) (route_boxes 1 n t way.stops)) ≡ is_too_heavy (put t r way.stops)) =
+      subst (λ j. OnceIds (table_without j t ++ rows (receiver t way.stops) (route_boxes 1 n t way.stops)) × (is_too_heavy (table_without j t ++ rows (receiver t way.stops) (route_boxes 1 n t way.stops)) ≡ is_too_heavy (put t r way.stops))) own
+      (boxed_item t way.stops l leads.route 1 r n (ap (row_of t) own ∙ found) (subst (λ j. IsApart t j way.stops) (sym own) apart) room one (subst (λ j. Same (rows None n) (part j t)) (sym own) whole)) in
+      told (table_without i t) n (put t r way.stops) w answer both sums small light is test
 
   -- a device with another weight
-  pub device_told : (i : ItemId) (r : Row) (d : LeafData) (w : ℕ) (answer : Bool) → row_of t i ≡ Some r → IsApart t i ps → has_too_many (put t (record r { weight = w }) ps) ≡ false
+  pub device_told : (i : ItemId) (r : Row) (d : LeafData) (w : ℕ) (answer : Bool) → row_of t i ≡ Some r → IsApart t i way.stops → has_too_many (put t (record r { weight = w }) way.stops) ≡ false
       → Same (rows None (device d none)) (part i t) → w ≤ 2147483647
-      → ((m : Items) → weight_sum m ≡ w → CanCome (table_without i t) (place_at o) m → answer ≡ not (is_too_heavy (table_without i t ++ rows (parent_at (place_at o)) m)))
-      → answer ≡ not (is_too_heavy (put t (record r { weight = w }) ps))
+      → ((m : Items) → weight_sum m ≡ w → CanCome (table_without i t) (place_at way.receiver) m → answer ≡ not (is_too_heavy (table_without i t ++ rows (parent_at (place_at way.receiver)) m)))
+      → answer ≡ not (is_too_heavy (put t (record r { weight = w }) way.stops))
   device_told i r d w answer found apart room whole light test =
       let own = row_id i t r found in
       let n : Items = device (record d { weight = w }) none in
       let after : Row = record r { weight = w } in
-      let both : OnceIds (table_without i t ++ rows (receiver t ps) (route_boxes 1 n t ps)) × (is_too_heavy (table_without i t ++ rows (receiver t ps) (route_boxes 1 n t ps)) ≡ is_too_heavy (put t after ps)) =
-      subst (λ j. OnceIds (table_without j t ++ rows (receiver t ps) (route_boxes 1 n t ps)) × (is_too_heavy (table_without j t ++ rows (receiver t ps) (route_boxes 1 n t ps)) ≡ is_too_heavy (put t after ps))) own
-      (boxed_device t ps l leads.route r w (ap (row_of t) own ∙ found) 1 (subst (λ j. IsApart t j ps) (sym own) apart) room d (subst (λ j. Same (rows None (device d none)) (part j t)) (sym own) whole)) in
-      told (table_without i t) n (put t after ps) w answer both tt tt (omega (arith, light)) (omega arith) test
+      let both : OnceIds (table_without i t ++ rows (receiver t way.stops) (route_boxes 1 n t way.stops)) × (is_too_heavy (table_without i t ++ rows (receiver t way.stops) (route_boxes 1 n t way.stops)) ≡ is_too_heavy (put t after way.stops)) =
+      subst (λ j. OnceIds (table_without j t ++ rows (receiver t way.stops) (route_boxes 1 n t way.stops)) × (is_too_heavy (table_without j t ++ rows (receiver t way.stops) (route_boxes 1 n t way.stops)) ≡ is_too_heavy (put t after way.stops))) own
+      (boxed_device t way.stops l leads.route r w (ap (row_of t) own ∙ found) 1 (subst (λ j. IsApart t j way.stops) (sym own) apart) room d (subst (λ j. Same (rows None (device d none)) (part j t)) (sym own) whole)) in
+      told (table_without i t) n (put t after way.stops) w answer both tt tt (omega (arith, light)) (omega arith) test
 
   -- a device that isn't there
   pub new_told : (d : LeafData) (w : ℕ) (answer : Bool) → is_there t (Device d.id) ≡ false → d.weight ≡ w → w ≤ 2147483647
-      → ((m : Items) → weight_sum m ≡ w → CanCome t (place_at o) m → answer ≡ not (is_too_heavy (t ++ rows (parent_at (place_at o)) m)))
-      → answer ≡ not (is_too_heavy (put t (device_row None d) ps))
+      → ((m : Items) → weight_sum m ≡ w → CanCome t (place_at way.receiver) m → answer ≡ not (is_too_heavy (t ++ rows (parent_at (place_at way.receiver)) m)))
+      → answer ≡ not (is_too_heavy (put t (device_row None d) way.stops))
   new_told d w answer gone is light test =
-      told t (device d none) (put t (device_row None d) ps) w answer (boxed_new t ps l leads.route d gone 1) tt tt (omega (arith, is, light)) (omega (arith, is)) test
+      told t (device d none) (put t (device_row None d) way.stops) w answer (boxed_new t way.stops l leads.route d gone 1) tt tt (omega (arith, is, light)) (omega (arith, is)) test
 
 -- nothing is part of a device but itself
 pub apart_from_device : (t : List Row) (d : ℕ) (o : Option ℕ) → IfSome o (λ b. is_part t (Device d) (Bucket b) ≡ false)
 apart_from_device t d None = tt
 apart_from_device t d (Some b) = refl
-
-pub device_apart : (t : List Row) (d : ℕ) (ps : List StopData) → IsApart t (Device d) ps
-device_apart t d ps = apart_from_device t d (receiver t ps)
 
 -- too many devices, or else as many buckets as there are
 pub full_of_devices : (d : ℕ) (b : Bool) → 65536 ≤ d → nat_le 65536 d ≡ (nat_lt 65536 (d + 1) || b)
@@ -134,10 +122,3 @@ full_of_devices d b h = let one : nat_le 65536 d ≡ true = grind (arith, nat_te
 
 pub room_for_devices : (d : ℕ) (b : Bool) → d < 65536 → b ≡ (nat_lt 65536 (d + 1) || b)
 room_for_devices d b h = let no : nat_lt 65536 (d + 1) ≡ false = grind (arith, nat_tests) in ap (λ z. z || b) (sym no)
-
--- what receives is apart from the item in each table for which the forest stands
-pub apart_in : (f : ForestData) (t : List Row) (i : ItemId) (ps : List StopData) (o : Option ℕ) → Stands f t → Leads t ps o → IfSome o (λ b. is_part (rows_of f) i (Bucket b) ≡ false) → IsApart t i ps
-apart_in f t i ps o st leads apart = subst (λ q. IfSome q (λ b. is_part t i (Bucket b) ≡ false)) leads.receiver (by_receiver o apart) where
-  by_receiver : (q : Option ℕ) → IfSome q (λ b. is_part (rows_of f) i (Bucket b) ≡ false) → IfSome q (λ b. is_part t i (Bucket b) ≡ false)
-  by_receiver None h = tt
-  by_receiver (Some b) h = is_part-same t (rows_of f) (reordered-sym st.same.rows) st.lawful.ids i (Bucket b) ∙ h

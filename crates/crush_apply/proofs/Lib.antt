@@ -1,3 +1,4 @@
+pub mod Answered
 pub mod Asked
 pub mod Buckets
 pub mod Devices
@@ -5,7 +6,6 @@ pub mod Done
 pub mod Fitting
 pub mod Moves
 pub mod Passed
-pub mod Plans
 pub mod Refused
 pub mod Steps
 pub mod Stopped
@@ -18,4 +18,3 @@ pub mod Found
 pub mod Names
 pub mod Singles
 pub mod Batching
-pub mod Arms

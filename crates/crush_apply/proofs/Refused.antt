@@ -1,10 +1,9 @@
 -- Faults that `?` passes on.
-use Rattle.std.proofs.Common.{◌≡◌, ap, sym, subst, ◌∙◌}
+use Rattle.std.proofs.Common.{◌≡◌, sym, subst, ◌∙◌}
 use Rattle.std.specs.Prelude.{Result, Ok, Err, IfErr, IsErrAnd}
 use Rattle.crush_edits.specs.declared.refusal.Refusal.{Refusal}
 use Rattle.crush_edits.specs.declared.refusal.EditFault.{EditFault}
 use Rattle.crush_edits.specs.declared.refusal.EditFault.TheVariants.{Refused, OutOfMemory}
-use Rattle.crush_edits.specs.Answer.{Answer, refused}
 
 -- what holds of an error holds of the one that is passed on
 pub passed_on : {X E : Type 0} (P : E → Type 0) (r : E) (x : Result X E) → IsErrAnd x (λ e. e ≡ r) → P r → IfErr x P
@@ -21,6 +20,7 @@ pub no_want : {X : Type 0} (q : Refusal) (x : Result X EditFault) → IsErrAnd x
 no_want q (Ok d) h is = elim h [ ]
 no_want q (Err e) h is = let one : e ≡ OutOfMemory = cc in let other : Refused q ≡ OutOfMemory = sym h ∙ one in cc
 
--- so a refusal that the table answers is the one that is told
-pub refused_by : {X : Type 0} (q : Refusal) (x : Result X EditFault) → IsErrAnd x (λ e. e ≡ Refused q) → (a : Answer) → a ≡ refused q → (r : Refusal) → x ≡ Err (Refused r) → a ≡ refused r
-refused_by q x h a is r told = is ∙ ap refused (same_refusal q r x h told)
+-- want of memory is no refusal
+pub no_refusal : {X : Type 0} (r : Refusal) (x : Result X EditFault) → IsErrAnd x (λ e. e ≡ OutOfMemory) → x ≡ Err (Refused r) → ⊥
+no_refusal r (Ok d) h is = elim h [ ]
+no_refusal r (Err e) h is = let one : e ≡ Refused r = cc in let other : OutOfMemory ≡ Refused r = sym h ∙ one in cc

@@ -18,19 +18,16 @@ use Rattle.crush_table.proofs.Passing.{lawful_room}
 use Rattle.crush_table.proofs.Weighs.{or_left}
 use Rattle.crush_edits.specs.declared.edit.Edit.TheVariants.{Reweight, Update}
 use Rattle.crush_edits.specs.declared.location.Pair.{Pair}
-use Rattle.crush_edits.specs.declared.refusal.Refusal.{Refusal}
 use Rattle.crush_edits.specs.declared.refusal.Refusal.TheVariants.{NoRoom, SumTooLarge}
-use Rattle.crush_edits.specs.Answer.{After, answer, done, kept, meets, first_refusal, is_heavy, sum_test}
-use Rattle.crush_edits.specs.Edit.{edit, refusal}
+use Rattle.crush_edits.specs.Answer.{After, answer, kept, meets, first_refusal, is_heavy, sum_test}
+use Rattle.crush_edits.specs.Edit.{edit}
 use Rattle.crush_edits.specs.Located.{is_taken}
 use Rattle.crush_edits.specs.Placing.{put_after, edited_device, device_put_tests, after_update}
-use Rattle.crush_edits.specs.Put.{put, is_id, held}
+use Rattle.crush_edits.specs.Put.{is_id, held}
 use Rattle.crush_edits.specs.Setting.{SettingData}
 use Rattle.crush_edits.specs.Stops.{StopData, stops}
-use Rattle.crush_apply.specs.declared.plan.Plan.{Plan}
-use Rattle.crush_apply.specs.Planned.{IsPlan, last_refusal}
+use Rattle.crush_apply.specs.Answered.{last_refusal}
 use Rattle.crush_apply.proofs.Devices.{own_name, not_back}
-use Rattle.crush_apply.proofs.Done.{put_done}
 
 -- what is held stands in a bucket
 pub held_placed : (t : List Row) (i : ItemId) (ps : List StopData) → held t i ps ≡ true → is_placed t i ≡ true
@@ -91,17 +88,3 @@ held_update s t d n w l lawful last own light there =
     ∙ ap (λ a. answer (last_refusal a) t a) stays
     ∙ ap (λ b. answer (if b then Some NoRoom else (if is_too_heavy u then Some SumTooLarge else None)) t (kept u)) few
     ∙ sym reweighed
-
--- THE DEVICE THAT IS PUT: where a plan is found, and where none is
-free_after : (s : SettingData) (t : List Row) (d : ℕ) (n : List ℕ) (w : ℕ) (l : List Pair) → held t (Device d) (stops s l) ≡ false → after_update s t d n w l ≡ put_after t (edited_device t d n w) (stops s l)
-free_after s t d n w l free = ap (λ b. if b then kept (set_weight (Device d) w t) else put_after t (edited_device t d n w) (stops s l)) free
-
-module _ (s : SettingData) (t : List Row) (d : ℕ) (n : List ℕ) (w : ℕ) (l : List Pair) (last : (a : After) → first_refusal (device_put_tests s t d n w l a) ≡ last_refusal a) (free : held t (Device d) (stops s l) ≡ false) where
-  pub put_refused : (r : Refusal) → last_refusal (put_after t (edited_device t d n w) (stops s l)) ≡ Some r → refusal s t (Update d n w l) ≡ Some r
-  put_refused r h = last (after_update s t d n w l) ∙ ap last_refusal (free_after s t d n w l free) ∙ h
-
-  pub update_done : (p : Plan) → Lawful t → IsPlan t d n w (stops s l) p → edit s t (Update d n w l) ≡ done true p.fresh (put t (edited_device t d n w) (stops s l))
-  update_done p lawful plan =
-      ap (λ o. answer o t (after_update s t d n w l)) (last (after_update s t d n w l))
-      ∙ ap (λ a. answer (last_refusal a) t a) (free_after s t d n w l free)
-      ∙ put_done t d n w (stops s l) p lawful plan free

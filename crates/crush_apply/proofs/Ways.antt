@@ -21,14 +21,15 @@ use Rattle.crush_nodes.specs.declared.place.Place.TheVariants.{Bucket as AtBucke
 use Rattle.crush_edits.specs.declared.location.Pair.{Pair}
 use Rattle.crush_edits.specs.Boxes.{boxes}
 use Rattle.crush_edits.specs.LawRoute.{rows_made}
-use Rattle.crush_edits.specs.New.{IsStop, IsRoute}
+use Rattle.crush_edits.specs.New.{IsStop}
 use Rattle.crush_edits.specs.Put.{NewData, with_ids, new_header, new_buckets, next_up, next_place}
 use Rattle.crush_edits.specs.Stops.{StopData, is_fresh, fresh_stops, receiver}
 use Rattle.crush_edits.proofs.Boxes.{rows-empty}
 use Rattle.crush_edits.proofs.Routes.{receiver_there, route_next}
 use Rattle.crush_edits.proofs.Tails.{none_new}
 use Rattle.crush_apply.specs.declared.route.Stop.{Stop}
-use Rattle.crush_apply.specs.Placed.{place_at, numbered, new_boxes, Leads}
+use Rattle.crush_apply.specs.Placed.{place_at, numbered, new_boxes}
+use Rattle.crush_apply.specs.Way.{WayData, Leads}
 use Rattle.crush_apply.specs.Stopped.{stop_data, stops_data}
 
 pub parent_of_place : (o : Option ℕ) → parent_at (place_at o) ≡ o
@@ -92,8 +93,8 @@ room_kept f g n p q e some own = ⊎_elim
     (true_or_false (same_place p q))
 
 -- what receives is there
-pub place_there : (t : List Row) (ps : List StopData) (top : Option ℕ) → Leads t ps top → is_place t (place_at top) ≡ true
-place_there t ps top leads = by_top top (subst (λ o. IfSome o (λ b. is_there t (Bucket b) ≡ true)) (sym leads.receiver) (receiver_there t ps)) where
+pub place_there : (t : List Row) (way : WayData) → Leads t way → is_place t (place_at way.receiver) ≡ true
+place_there t way leads = by_top way.receiver (subst (λ o. IfSome o (λ b. is_there t (Bucket b) ≡ true)) (sym leads.receiver) (receiver_there t way.stops)) where
   by_top : (o : Option ℕ) → IfSome o (λ b. is_there t (Bucket b) ≡ true) → is_place t (place_at o) ≡ true
   by_top None h = refl
   by_top (Some b) h = h
@@ -115,40 +116,48 @@ pub on_ok : {X E P Q : Type 0} (x : Result X E) → (P → Q) → OnOk x P → O
 on_ok (Ok v) h p = h p
 on_ok (Err e) h p = tt
 
--- THE NEW STOPS of a route
-module _ (t : List Row) (l : List Pair) (xs : List Stop) (fresh : ℕ) (many : fresh ≡ length (fresh_stops t (stops_data l xs))) where
-  abbrev ps : List StopData
-  ps = stops_data l xs
+-- THE NEW STOPS of a way, told of what it has inside
+module _ (t : List Row) (l : List Pair) (xs ys : List Stop) (fresh : ℕ) (top : Option ℕ) (way : WayData) (same : xs ≡ ys) (seen : ◌≡◌ {A = WayData} (record { stops = stops_data l ys; fresh = fresh; receiver = top }) way) (leads : Leads t way) where
+  stops_are : stops_data l xs ≡ way.stops
+  stops_are = ap (stops_data l) same ∙ ap (λ (w : WayData). w.stops) seen
 
-  count_is : fresh ≡ prefix_len (is_fresh t) ps
-  count_is = many ∙ length-take-le (prefix_len (is_fresh t) ps) ps (prefix_len-le-length (is_fresh t) ps)
+  many : fresh ≡ length (fresh_stops t way.stops)
+  many = ap (λ (w : WayData). w.fresh) seen ∙ leads.fresh
 
-  pub fresh_are : stops_data l (take fresh xs) ≡ fresh_stops t (stops_data l xs)
-  fresh_are = stops-take l fresh xs ∙ ap (λ k. take k ps) count_is
+  top_is : top ≡ receiver t way.stops
+  top_is = ap (λ (w : WayData). w.receiver) seen ∙ leads.receiver
+
+  count_is : fresh ≡ prefix_len (is_fresh t) way.stops
+  count_is = many ∙ length-take-le (prefix_len (is_fresh t) way.stops) way.stops (prefix_len-le-length (is_fresh t) way.stops)
+
+  first_are : stops_data l (take fresh xs) ≡ take fresh way.stops
+  first_are = stops-take l fresh xs ∙ ap (take fresh) stops_are
+
+  pub fresh_are : stops_data l (take fresh xs) ≡ fresh_stops t way.stops
+  fresh_are = first_are ∙ ap (λ k. take k way.stops) count_is
 
   pub fresh_within : fresh ≤ length xs
-  fresh_within = let few = prefix_len-le-length (is_fresh t) ps in let same = stops-length l xs in omega (arith, count_is)
+  fresh_within = let few = prefix_len-le-length (is_fresh t) way.stops in let as_many = sym (stops-length l xs) ∙ ap length stops_are in omega (arith, count_is)
 
-  pub fresh_forms : IsRoute t (stops_data l xs) → All IsStop (stops_data l (take fresh xs))
-  fresh_forms route = subst (All IsStop) (sym (stops-take l fresh xs)) (All-take IsStop fresh ps route.forms)
+  pub fresh_forms : All IsStop (stops_data l (take fresh xs))
+  fresh_forms = subst (All IsStop) (sym first_are) (All-take IsStop fresh way.stops leads.route.forms)
 
-  module _ (top : Option ℕ) (leads : Leads t (stops_data l xs) top) where
-    pub rows_are : rows top (new_boxes t (stops_data l (take fresh xs))) ≡ rows_made t (stops_data l xs)
-    rows_are = (λ j. rows (leads.receiver j) (new_boxes t (fresh_are j))) ∙ rows-empty 1 (new_buckets t ps) (receiver t ps)
+  pub rows_are : rows top (new_boxes t (stops_data l (take fresh xs))) ≡ rows_made t way.stops
+  rows_are = (λ j. rows (top_is j) (new_boxes t (fresh_are j))) ∙ rows-empty 1 (new_buckets t way.stops) (receiver t way.stops)
 
-    pub next_is : (b : ℕ) → next_up (numbered t (stops_data l (take fresh xs))) None ≡ Some b → next_place t (stops_data l xs) ≡ Some b
-    next_is b e = any_top (new_buckets t ps) (receiver t ps) b (ap (λ z. next_up (numbered t z) None) (sym fresh_are) ∙ e)
+  pub next_is : (b : ℕ) → next_up (numbered t (stops_data l (take fresh xs))) None ≡ Some b → next_place t way.stops ≡ Some b
+  next_is b e = any_top (new_buckets t way.stops) (receiver t way.stops) b (ap (λ z. next_up (numbered t z) None) (sym fresh_are) ∙ e)
 
-    -- where none is new the item comes into what receives
-    module _ (none : fresh ≤ 0) where
-      empty : fresh_stops t ps ≡ []
-      empty = nothing (fresh_stops t ps) (omega (arith, many, none))
+  -- where none is new the item comes into what receives
+  module _ (none : fresh ≤ 0) where
+    empty : fresh_stops t way.stops ≡ []
+    empty = nothing (fresh_stops t way.stops) (omega (arith, many, none))
 
-      pub next_receives : next_place t (stops_data l xs) ≡ top
-      next_receives = (none_new t ps empty).1 ∙ sym leads.receiver
+    pub next_receives : next_place t way.stops ≡ top
+    next_receives = (none_new t way.stops empty).1 ∙ sym top_is
 
-      pub none_made : t ≡ t ++ rows_made t (stops_data l xs)
-      none_made = sym (ap (λ z. t ++ z) (none_new t ps empty).0 ∙ append-nil t)
+    pub none_made : t ≡ t ++ rows_made t way.stops
+    none_made = sym (ap (λ z. t ++ z) (none_new t way.stops empty).0 ∙ append-nil t)
 
-      pub receives : top ≡ None → ⊥
-      receives e = let next = route_next t ps leads.route in let is : None ≡ Some next.0 = sym e ∙ sym next_receives ∙ next.1 in cc
+    pub receives : top ≡ None → ⊥
+    receives e = let next = route_next t way.stops leads.route in let is : None ≡ Some next.0 = sym e ∙ sym next_receives ∙ next.1 in cc

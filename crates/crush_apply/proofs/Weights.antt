@@ -6,13 +6,11 @@ use Rattle.std.specs.List.{list_all, list_any}
 use Rattle.std.specs.Option.{option_map, option_eq}
 use Rattle.crush_units.specs.declared.id.ItemId.{ItemId}
 use Rattle.crush_units.specs.declared.id.ItemId.TheVariants.{Device}
-use Rattle.crush_table.specs.Table.{Row, is_device, is_below, row_of, id_named, own_weight_of, weight_of, is_placed, item_weight}
+use Rattle.crush_table.specs.Table.{Row, is_device, is_below, row_of, own_weight_of, weight_of, is_placed, item_weight}
 use Rattle.crush_table.specs.Columns.{set_weight, set_subtree}
-use Rattle.crush_table.specs.Lawful.{is_too_heavy}
 use Rattle.crush_edits.specs.Setting.{SettingData}
 use Rattle.crush_table.proofs.Found.{times}
 use Rattle.crush_edits.specs.declared.refusal.Refusal.{Refusal}
-use Rattle.crush_edits.specs.declared.refusal.Refusal.TheVariants.{SumTooLarge}
 use Rattle.crush_edits.specs.declared.edit.Edit.{Edit}
 use Rattle.crush_edits.specs.declared.edit.Edit.TheVariants.{Reweight, ReweightSubtree}
 use Rattle.crush_edits.specs.Changed.{same_table}
@@ -22,11 +20,6 @@ use Rattle.crush_edits.specs.Answer.{is_heavy}
 use Rattle.crush_apply.specs.Weighed.{CanReweight, CanReweightSubtree}
 use Rattle.crush_edits.proofs.Changes.{same_weight, same_weights}
 
--- the last refusal
-pub reweight_too_heavy : (s : SettingData) (t : List Row) (n : List ℕ) (w d : ℕ) → is_heavy w ≡ false → id_named t n ≡ Some (Device d) → is_placed t (Device d) ≡ true → is_too_heavy (set_weight (Device d) w t) ≡ true →
-    refusal s t (Reweight n w) ≡ Some SumTooLarge
-reweight_too_heavy s t n w d light named placed heavy = rw (light, named, placed, heavy) refl
-
 -- no refusal
 pub can_reweight : (s : SettingData) (t : List Row) (n : List ℕ) (w d : ℕ) → CanReweight t n w d → refusal s t (Reweight n w) ≡ None
 can_reweight s t n w d c = rw (c.light, c.named, c.placed, c.fits) refl
@@ -35,10 +28,6 @@ can_reweight s t n w d c = rw (c.light, c.named, c.placed, c.fits) refl
 pub reweight_done : (s : SettingData) (t : List Row) (n : List ℕ) (w d : ℕ) → CanReweight t n w d →
     let u = set_weight (Device d) w t in edit s t (Reweight n w) ≡ done (not (same_table t u)) 0 u
 reweight_done s t n w d c = ap (λ r. answer r t (after s t (Reweight n w))) (can_reweight s t n w d c) ∙ rw c.named refl
-
-pub flip : (b c : Bool) → c ≡ not b → b ≡ not c
-flip true c h = ap not (sym h)
-flip false c h = ap not (sym h)
 
 -- a refusal is the table's answer
 pub refused_edit : (s : SettingData) (t : List Row) (e : Edit) (r : Refusal) → refusal s t e ≡ Some r → edit s t e ≡ refused r

@@ -1,6 +1,7 @@
+pub mod Way
 pub mod Placed
-pub mod Planned
-pub mod Relocated
+pub mod Coming
+pub mod Answered
 pub mod Stopped
 pub mod Weighed
 pub mod Alone

@@ -1,4 +1,4 @@
--- What is known of a route, and what an item needs to be put at its end.
+-- New buckets, and what an item needs to be put at the end of a route.
 use Rattle.std.specs.Prelude.{◌≡◌, ℕ, List, Option, Some, None, false, length, bytes_eq}
 use Rattle.std.specs.List.{count_by}
 use Rattle.crush_units.specs.declared.id.ItemId.TheVariants.{Device}
@@ -10,9 +10,8 @@ use Rattle.crush_nodes.specs.declared.place.Place.{Place}
 use Rattle.crush_nodes.specs.declared.place.Place.TheVariants.{Bucket as AtBucket, Root}
 use Rattle.crush_edits.specs.Boxes.{boxes}
 use Rattle.crush_edits.specs.LawPut.{IsApart}
-use Rattle.crush_edits.specs.New.{IsRoute}
 use Rattle.crush_edits.specs.Put.{NewData, with_ids, put}
-use Rattle.crush_edits.specs.Stops.{StopData, receiver}
+use Rattle.crush_edits.specs.Stops.{StopData}
 
 -- the place of what receives: a bucket, or among the roots
 abbrev pub place_at : Option ℕ → Place
@@ -25,11 +24,6 @@ numbered t ps = with_ids (free_ids t (length ps)) ps
 
 abbrev pub new_boxes : List Row → List StopData → Items
 new_boxes t ps = boxes 1 none (numbered t ps)
-
--- the stops are a route, and this is what receives its new buckets, or the item where there are none
-pub record Leads (t : List Row) (ps : List StopData) (top : Option ℕ) : Type 0 where
-  pub route : IsRoute t ps
-  pub receiver : top ≡ receiver t ps
 
 -- the item of the row r can be put at the end of a route with the weight w
 pub record CanPut (t : List Row) (r : Row) (w : ℕ) (ps : List StopData) : Type 0 where

@@ -1,20 +1,17 @@
 //! A new bucket that no other holds.
 
-ghost use Rattle.std.specs.Prelude.{◌≡◌, List, Some, [], ◌∷◌, IfOk, IfErr, OnErr};
+ghost use Rattle.std.specs.Prelude.{◌≡◌, List, Some, [], ◌∷◌, IfOk, IfErr};
 ghost use Rattle.crush_table.specs.Items.{bucket, none};
 ghost use Rattle.crush_table.specs.Table.{Row, free_ids};
 ghost use Rattle.crush_table.specs.Forest.{rows_of};
 ghost use Rattle.crush_table.specs.Stands.{Stands};
 ghost use Rattle.crush_tree.specs.Seen.{items_of};
-ghost use Rattle.crush_tree.specs.Sameness.{IsSameForest};
 ghost use Rattle.crush_edits.specs.declared.edit.Edit.TheVariants.{AddBucket};
-ghost use Rattle.crush_edits.specs.declared.refusal.Refusal.{Refusal as DeclaredRefusal};
-ghost use Rattle.crush_edits.specs.Answer.{refused};
 ghost use Rattle.crush_edits.specs.Edit.{edit, refusal};
 ghost use Rattle.crush_edits.specs.Fits.{Fits};
-ghost use Rattle.crush_edits.specs.Outcome.{IsDone, IsChange};
 ghost use Rattle.crush_edits.specs.Put.{new_header};
 ghost use Rattle.crush_apply.specs.Alone.{CanAddBucket};
+ghost use Rattle.crush_apply.specs.Answered.{AnswersAs};
 
 use crush_edits::{Done, EditFault, Refusal, Setting};
 use crush_tree::{Forest, Header, Node, Place};
@@ -91,18 +88,9 @@ pub(crate) fn add_bucket<A: Allocator + Clone>(
     name: &Name<Global>,
     kind: &Name<Global>,
 ) -> Result<Done, EditFault>
-    requires fits { Fits setting.now (rows_of forest.old) }
-    ensures done { IfOk result (λ d. (t : List Row) → Stands forest.old t
-        → IsDone (Stands forest.new) (edit setting.now t (AddBucket name.now kind.now)) d) }
-    ensures refused { (r : DeclaredRefusal) → result ≡ Err (EditFault.Refused r)
-        → (t : List Row) → Stands forest.old t
-        → edit setting.now t (AddBucket name.now kind.now) ≡ refused r }
-    ensures change { result ≡ Err EditFault.OutOfMemory
-        → (t : List Row) → Stands forest.old t
-        → IsChange (edit setting.now t (AddBucket name.now kind.now)) }
-    ensures unchanged { (r : DeclaredRefusal) → result ≡ Err (EditFault.Refused r)
-        → forest.new ≡ forest.old }
-    ensures kept { OnErr result (IsSameForest forest.new forest.old) }
+    requires { Fits setting.now (rows_of forest.old) }
+    ensures { AnswersAs (λ t. edit setting.now t (AddBucket name.now kind.now))
+        forest.old forest.new result }
 {
     forest.recall_invariant();
     let _form = name.as_bytes();

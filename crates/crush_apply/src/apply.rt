@@ -11,6 +11,7 @@ ghost use Rattle.crush_edits.specs.Edit.{edit, takes_memory};
 ghost use Rattle.crush_edits.specs.Fits.{Fits};
 ghost use Rattle.crush_edits.specs.LawEdit.{IsEdit};
 ghost use Rattle.crush_edits.specs.Outcome.{IsDone, IsChange};
+ghost use Rattle.crush_apply.specs.Answered.{AnswersAs};
 
 use crate::add_bucket::add_bucket;
 use crate::create_or_move::create_or_move;
@@ -102,18 +103,9 @@ fn make<A: Allocator + Clone>(
     setting: &Setting,
     asked: &Edit,
 ) -> Result<Done, EditFault>
-    requires fits { Fits setting.now (rows_of forest.old) }
-    ensures done { IfOk result (λ d. (t : List Row) → Stands forest.old t
-        → IsDone (Stands forest.new) (edit setting.now t asked.now) d) }
-    ensures refused { (r : DeclaredRefusal) → result ≡ Err (EditFault.Refused r)
-        → (t : List Row) → Stands forest.old t → edit setting.now t asked.now ≡ refused r }
-    ensures change { result ≡ Err EditFault.OutOfMemory
-        → (t : List Row) → Stands forest.old t
-        → IsChange (edit setting.now t asked.now) }
+    requires { Fits setting.now (rows_of forest.old) }
+    ensures made { AnswersAs (λ t. edit setting.now t asked.now) forest.old forest.new result }
     ensures memory { result ≡ Err EditFault.OutOfMemory → takes_memory asked.now ≡ true }
-    ensures unchanged { (r : DeclaredRefusal) → result ≡ Err (EditFault.Refused r)
-        → forest.new ≡ forest.old }
-    ensures kept { OnErr result (IsSameForest forest.new forest.old) }
 {
     match asked {
         Edit::Insert {

@@ -1,22 +1,19 @@
 //! A device that is made, or moved with its own weight.
 
-ghost use Rattle.std.specs.Prelude.{◌≡◌, ◌≤◌, List, Err, IfOk, OnErr};
+ghost use Rattle.std.specs.Prelude.{◌≡◌, ◌≤◌, List};
 ghost use Rattle.crush_units.specs.declared.limits.TheConstants.{HEAVIEST_DEVICE};
 ghost use Rattle.crush_table.specs.Table.{Row};
 ghost use Rattle.crush_table.specs.Forest.{rows_of};
 ghost use Rattle.crush_table.specs.Stands.{Stands};
 ghost use Rattle.crush_edits.specs.declared.edit.Edit.TheVariants.{CreateOrMove};
-ghost use Rattle.crush_edits.specs.declared.refusal.Refusal.{Refusal as DeclaredRefusal};
-ghost use Rattle.crush_edits.specs.declared.refusal.EditFault.TheVariants.{Refused, OutOfMemory};
-ghost use Rattle.crush_edits.specs.Answer.{refused};
 ghost use Rattle.crush_edits.specs.Edit.{edit};
 ghost use Rattle.crush_edits.specs.Fits.{Fits};
-ghost use Rattle.crush_edits.specs.Outcome.{IsDone, IsChange};
 ghost use Rattle.crush_edits.specs.Placing.{kept_weight};
-ghost use Rattle.crush_tree.specs.Sameness.{IsSameForest};
+ghost use Rattle.crush_apply.specs.Answered.{AnswersAs};
 
-use crate::held::is_held;
-use crate::plan::{device_route, planned, put_planned};
+use crate::located::check_device;
+use crate::place::place_device;
+use crate::way::{is_held, way_of};
 use crush_edits::{Done, EditFault, Location, Setting};
 use crush_tree::Forest;
 use crush_units::{DeviceId, ItemId, Name, Weight};
@@ -52,34 +49,19 @@ pub(crate) fn create_or_move<A: Allocator + Clone>(
     weight: Weight,
     at: &Location,
 ) -> Result<Done, EditFault>
-    requires fits { Fits setting.now (rows_of forest.old) }
-    ensures done { IfOk result (λ d. (t : List Row) → Stands forest.old t
-        → IsDone (Stands forest.new)
-        (edit setting.now t (CreateOrMove device name.now weight at.now)) d) }
-    ensures refused { (r : DeclaredRefusal) → result ≡ Err (Refused r)
-        → (t : List Row) → Stands forest.old t
-        → edit setting.now t (CreateOrMove device name.now weight at.now) ≡ refused r }
-    ensures change { result ≡ Err OutOfMemory → (t : List Row) → Stands forest.old t
-        → IsChange (edit setting.now t (CreateOrMove device name.now weight at.now)) }
-    ensures unchanged { (r : DeclaredRefusal) → result ≡ Err (Refused r)
-        → forest.new ≡ forest.old }
-    ensures kept { OnErr result (IsSameForest forest.new forest.old) }
+    requires { Fits setting.now (rows_of forest.old) }
+    ensures { AnswersAs (λ t. edit setting.now t (CreateOrMove device name.now weight at.now))
+        forest.old forest.new result }
 {
     forest.recall_invariant();
-    let route = device_route(forest, setting, device, name, weight, at)?;
-    let stops = route.stops();
-    if is_held(forest, ItemId::Device(device), at, stops) {
+    check_device(setting, forest, device, name, weight, at)?;
+    let way = way_of(setting, forest, at)?;
+    if is_held(forest, ItemId::Device(device), &way) {
         return Ok(Done {
             changed: false,
             made: 0,
         });
     }
     let weight = kept_weight(forest, device, weight);
-    let plan = planned(forest, device, name, weight, at, stops)?;
-    let made = plan.fresh as u16;
-    put_planned(forest, device, name, weight, at, stops, plan)?;
-    Ok(Done {
-        changed: true,
-        made,
-    })
+    place_device(forest, device, name, weight, &way)
 }

@@ -1,15 +1,13 @@
 //! A new name for a bucket.
 
-ghost use Rattle.std.specs.Prelude.{◌≡◌, List, Some, IfOk, IfErr, OnErr};
+ghost use Rattle.std.specs.Prelude.{◌≡◌, List, Some, IfOk, IfErr};
 ghost use Rattle.crush_table.specs.Table.{Row};
 ghost use Rattle.crush_table.specs.Stands.{Stands};
 ghost use Rattle.crush_edits.specs.Setting.{SettingData};
 ghost use Rattle.crush_edits.specs.declared.edit.Edit.TheVariants.{Rename};
-ghost use Rattle.crush_edits.specs.declared.refusal.Refusal.{Refusal as DeclaredRefusal};
-ghost use Rattle.crush_edits.specs.Answer.{refused};
 ghost use Rattle.crush_edits.specs.Edit.{edit, refusal};
-ghost use Rattle.crush_edits.specs.Outcome.{IsDone, IsChange};
 ghost use Rattle.crush_apply.specs.Alone.{CanRename};
+ghost use Rattle.crush_apply.specs.Answered.{AnswersAs};
 
 use crush_edits::{Done, EditFault, Refusal};
 use crush_tree::Forest;
@@ -49,15 +47,8 @@ pub(crate) fn rename<A: Allocator + Clone>(
     from: &Name<Global>,
     to: &Name<Global>,
 ) -> Result<Done, EditFault>
-    ensures done { IfOk result (λ d. (s : SettingData) (t : List Row) → Stands forest.old t
-        → IsDone (Stands forest.new) (edit s t (Rename from.now to.now)) d) }
-    ensures refused { (r : DeclaredRefusal) → result ≡ Err (EditFault.Refused r)
-        → (s : SettingData) (t : List Row) → Stands forest.old t
-        → edit s t (Rename from.now to.now) ≡ refused r }
-    ensures change { result ≡ Err EditFault.OutOfMemory
-        → (s : SettingData) (t : List Row) → Stands forest.old t
-        → IsChange (edit s t (Rename from.now to.now)) }
-    ensures unchanged { OnErr result (forest.new ≡ forest.old) }
+    ensures { (s : SettingData) → AnswersAs (λ t. edit s t (Rename from.now to.now))
+        forest.old forest.new result }
 {
     forest.recall_invariant();
     let bucket = renamed(forest, from, to)?;

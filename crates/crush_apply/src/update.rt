@@ -1,21 +1,15 @@
 //! A device that gets a weight, and is put at the end of a route where it isn't held there.
 
-ghost use Rattle.std.specs.Prelude.{◌≡◌, List, Err, IfOk, OnErr};
-ghost use Rattle.crush_table.specs.Table.{Row};
 ghost use Rattle.crush_table.specs.Forest.{rows_of};
-ghost use Rattle.crush_table.specs.Stands.{Stands};
 ghost use Rattle.crush_edits.specs.declared.edit.Edit.TheVariants.{Update};
-ghost use Rattle.crush_edits.specs.declared.refusal.Refusal.{Refusal as DeclaredRefusal};
-ghost use Rattle.crush_edits.specs.declared.refusal.EditFault.TheVariants.{Refused, OutOfMemory};
-ghost use Rattle.crush_edits.specs.Answer.{refused};
 ghost use Rattle.crush_edits.specs.Edit.{edit};
 ghost use Rattle.crush_edits.specs.Fits.{Fits};
-ghost use Rattle.crush_edits.specs.Outcome.{IsDone, IsChange};
-ghost use Rattle.crush_tree.specs.Sameness.{IsSameForest};
+ghost use Rattle.crush_apply.specs.Answered.{AnswersAs};
 
-use crate::held::is_held;
-use crate::plan::{device_route, planned, put_planned};
+use crate::located::check_device;
+use crate::place::place_device;
 use crate::reweight::reweight;
+use crate::way::{is_held, way_of};
 use crush_edits::{Done, EditFault, Location, Setting};
 use crush_tree::Forest;
 use crush_units::{DeviceId, ItemId, Name, Weight};
@@ -34,30 +28,15 @@ pub(crate) fn update<A: Allocator + Clone>(
     weight: Weight,
     at: &Location,
 ) -> Result<Done, EditFault>
-    requires fits { Fits setting.now (rows_of forest.old) }
-    ensures done { IfOk result (λ d. (t : List Row) → Stands forest.old t
-        → IsDone (Stands forest.new) (edit setting.now t (Update device name.now weight at.now)) d) }
-    ensures refused { (r : DeclaredRefusal) → result ≡ Err (Refused r)
-        → (t : List Row) → Stands forest.old t
-        → edit setting.now t (Update device name.now weight at.now) ≡ refused r }
-    ensures change { result ≡ Err OutOfMemory → (t : List Row) → Stands forest.old t
-        → IsChange (edit setting.now t (Update device name.now weight at.now)) }
-    ensures unchanged { (r : DeclaredRefusal) → result ≡ Err (Refused r)
-        → forest.new ≡ forest.old }
-    ensures kept { OnErr result (IsSameForest forest.new forest.old) }
+    requires { Fits setting.now (rows_of forest.old) }
+    ensures { AnswersAs (λ t. edit setting.now t (Update device name.now weight at.now))
+        forest.old forest.new result }
 {
     forest.recall_invariant();
-    let route = device_route(forest, setting, device, name, weight, at)?;
-    let stops = route.stops();
-    if is_held(forest, ItemId::Device(device), at, stops) {
-        let done = reweight(forest, name, weight)?;
-        return Ok(done);
+    check_device(setting, forest, device, name, weight, at)?;
+    let way = way_of(setting, forest, at)?;
+    if is_held(forest, ItemId::Device(device), &way) {
+        return Ok(reweight(forest, name, weight)?);
     }
-    let plan = planned(forest, device, name, weight, at, stops)?;
-    let made = plan.fresh as u16;
-    put_planned(forest, device, name, weight, at, stops, plan)?;
-    Ok(Done {
-        changed: true,
-        made,
-    })
+    place_device(forest, device, name, weight, &way)
 }

@@ -1,4 +1,4 @@
-use Rattle.std.proofs.Common.{List, [], ◌∷◌, ◌++◌, sym, subst}
+use Rattle.std.proofs.Common.{List, [], ◌∷◌, ◌++◌, sym, subst, refl}
 use Rattle.std.specs.Prelude.{None}
 use Rattle.crush_table.specs.Items.{Items}
 use Rattle.crush_table.specs.ItemRows.{rows, bucket_row}
@@ -7,28 +7,40 @@ use Rattle.crush_table.specs.Lawful.{Lawful}
 use Rattle.crush_table.specs.Forest.{rows_of}
 use Rattle.crush_table.specs.Stands.{Stands}
 use Rattle.crush_table.proofs.Stands.{stands_for_rows}
+use Rattle.crush_edits.specs.declared.edit.Edit.TheVariants.{AddBucket}
 use Rattle.crush_edits.specs.Put.{new_header}
+use Rattle.crush_apply.proofs.Answered.{when_done, when_refused, when_lacking}
 use Rattle.crush_apply.proofs.Singles.{add_bucket_done, add_bucket_lawful}
+use Rattle.crush_apply.proofs.Weights.{refused_edit}
 use Rattle.crush_apply.proofs.add_bucket.add_bucket.Goals as goal
 
-pub returns-in_err-node-clause-change : goal.returns-in_err-node-clause-change
-returns-in_err-node-clause-change g c = λ told t st.
-    (1, _, add_bucket_done c.args.setting.now t c.args.name.now c.args.kind.now c.in_ok-number.number c.first_free-id.result st.lawful (c.in_ok-number.ensures.can t st) (c.first_free-id.ensures t st))
+pub returns-in_err-number : goal.returns-in_err-number
+returns-in_err-number g c =
+    when_refused _ _ _ _ _ c.from_residual.ensures.1 refl
+    (λ t st. refused_edit c.args.setting.now t (AddBucket c.args.name.now c.args.kind.now) _ (c.in_err-number.ensures.refused t st))
 
-pub returns-in_err-reserve-clause-change : goal.returns-in_err-reserve-clause-change
-returns-in_err-reserve-clause-change g c = λ told t st.
-    (1, _, add_bucket_done c.args.setting.now t c.args.name.now c.args.kind.now c.in_ok-number.number c.first_free-id.result st.lawful (c.in_ok-number.ensures.can t st) (c.first_free-id.ensures t st))
+pub returns-in_err-node : goal.returns-in_err-node
+returns-in_err-node g c =
+    when_lacking _ _ _ _ c.from_residual-in_err-node.ensures.1 refl
+    (λ t st. (1, _, add_bucket_done c.args.setting.now t c.args.name.now c.args.kind.now c.in_ok-number.number c.first_free-id.result st.lawful (c.in_ok-number.ensures.can t st) (c.first_free-id.ensures t st)))
+
+pub returns-in_err-reserve : goal.returns-in_err-reserve
+returns-in_err-reserve g c =
+    when_lacking _ _ _ _ c.from_residual-in_err-reserve.ensures.1 c.reserve.ensures.same
+    (λ t st. (1, _, add_bucket_done c.args.setting.now t c.args.name.now c.args.kind.now c.in_ok-number.number c.first_free-id.result st.lawful (c.in_ok-number.ensures.can t st) (c.first_free-id.ensures t st)))
 
 pub attach-requires-clause-fits : goal.attach-requires-clause-fits
 attach-requires-clause-fits g c =
     let t : List Row = rows_of c.args.forest.now in
     let st = stands_for_rows c.args.forest.now c.recall_invariant.ensures in
-    let lawful = add_bucket_lawful c.args.setting.now t c.args.name.now c.args.kind.now c.in_ok-number.number c.first_free-id.result c.recall_invariant.ensures.lawful c.requires.fits c.as_bytes-form.ensures.name (c.in_ok-number.ensures.can t st) (c.first_free-id.ensures t st) in
+    let lawful = add_bucket_lawful c.args.setting.now t c.args.name.now c.args.kind.now c.in_ok-number.number c.first_free-id.result c.recall_invariant.ensures.lawful c.requires c.as_bytes-form.ensures.name (c.in_ok-number.ensures.can t st) (c.first_free-id.ensures t st) in
     subst (λ (n : Items). Lawful (rows_of c.reserve.new.self ++ rows None n)) (sym c.in_ok-node.ensures) (subst (λ (u : List Row). Lawful (u ++ bucket_row None (new_header (record { id = c.first_free-id.result; kind = c.in_ok-number.number; name = c.args.name.now })) ∷ [])) (sym c.reserve.ensures.rows) lawful)
 
-pub returns-clause-done : goal.returns-clause-done
-returns-clause-done g c = λ t st. (
-  t ++ bucket_row None (new_header (record { id = c.first_free-id.result; kind = c.in_ok-number.number; name = c.args.name.now })) ∷ [],
-  add_bucket_done c.args.setting.now t c.args.name.now c.args.kind.now c.in_ok-number.number c.first_free-id.result st.lawful (c.in_ok-number.ensures.can t st) (c.first_free-id.ensures t st),
-  subst (λ (n : Items). Stands c.attach.new.self (t ++ rows None n)) c.in_ok-node.ensures (c.attach.ensures.stands t (c.reserve.ensures.stands t st)),
-)
+pub returns : goal.returns
+returns g c =
+    when_done _ _ _ _
+    (λ t st. (
+      t ++ bucket_row None (new_header (record { id = c.first_free-id.result; kind = c.in_ok-number.number; name = c.args.name.now })) ∷ [],
+      add_bucket_done c.args.setting.now t c.args.name.now c.args.kind.now c.in_ok-number.number c.first_free-id.result st.lawful (c.in_ok-number.ensures.can t st) (c.first_free-id.ensures t st),
+      subst (λ (n : Items). Stands c.attach.new.self (t ++ rows None n)) c.in_ok-node.ensures (c.attach.ensures.stands t (c.reserve.ensures.stands t st)),
+    ))

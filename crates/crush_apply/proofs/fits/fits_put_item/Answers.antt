@@ -10,16 +10,26 @@ use Rattle.crush_table.specs.Stored.{weight_sum}
 use Rattle.crush_table.proofs.Stands.{stands_for_rows}
 use Rattle.crush_nodes.specs.Ops.{part_of, is_place, CanCome}
 use Rattle.crush_nodes.specs.Room.{parent_at}
-use Rattle.crush_edits.specs.LawPut.{IsApart}
-use Rattle.crush_apply.proofs.Fitting.{receiver_place, receiver_apart, item_told, apart_in}
+use Rattle.crush_apply.proofs.Fitting.{receiver_apart, item_told}
+use Rattle.crush_apply.proofs.Ways.{place_there}
 use Rattle.crush_apply.proofs.fits.fits_put_item.Goals as goal
 
+pub recall_part-requires : goal.recall_part-requires
+recall_part-requires g c =
+    let f = c.args.forest.now in
+    (c.requires (rows_of f) (stands_for_rows f c.recall_invariant.ensures)).there
+
 pub fits_move-requires-clause-place : goal.fits_move-requires-clause-place
-fits_move-requires-clause-place g c = subst (λ p. is_place (rows_of c.args.forest.now) p ≡ true) (sym c.place_of.ensures) (receiver_place (rows_of c.args.forest.now) c.args.receiver c.requires.receiver)
+fits_move-requires-clause-place g c =
+    let f = c.args.forest.now in
+    let can = c.requires (rows_of f) (stands_for_rows f c.recall_invariant.ensures) in
+    subst (λ p. is_place (rows_of f) p ≡ true) (sym c.place.ensures) (place_there (rows_of f) c.args.way.now can.leads)
 
 pub fits_move-requires-clause-apart : goal.fits_move-requires-clause-apart
 fits_move-requires-clause-apart g c =
-    subst (λ p. IfSome (parent_at p) (λ b. is_part (rows_of c.args.forest.now) c.args.id (Bucket b) ≡ false)) (sym c.place_of.ensures) (receiver_apart (rows_of c.args.forest.now) c.args.id c.args.receiver c.requires.apart)
+    let f = c.args.forest.now in
+    let can = c.requires (rows_of f) (stands_for_rows f c.recall_invariant.ensures) in
+    subst (λ p. IfSome (parent_at p) (λ b. is_part (rows_of f) c.args.id (Bucket b) ≡ false)) (sym c.place.ensures) (receiver_apart (rows_of f) c.args.id c.args.way.now can.leads can.apart)
 
 pub unreachable-requires : goal.unreachable-requires
 unreachable-requires g c =
@@ -32,12 +42,12 @@ unreachable-requires g c =
     cc
 
 pub returns : goal.returns
-returns g c = λ t ps r st leads found room.
+returns g c = λ t r st found room.
     let i = c.args.id in
-    let o = c.args.receiver in
+    let way = c.args.way.now in
     let w = c.in-Some.weight in
     let n : Items = part_of i (all_items c.args.forest.now) in
     let is : weight_sum n ≡ w = let both : Some (weight_sum n) ≡ Some w = sym (c.recall_part.ensures.weight t st) ∙ sym (c.in-Some.ensures t st) in cc in
-    let apart : IsApart t i ps = apart_in c.args.forest.now t i ps o st leads c.requires.apart in
-    item_told t st.lawful ps o leads i r n w c.fits_move.result found apart room c.recall_part.ensures.one (c.recall_part.ensures.rows t st) c.recall_part.ensures.sums c.recall_part.ensures.small c.recall_part.ensures.light is
-    (subst (λ p. (m : Items) → weight_sum m ≡ w → CanCome (table_without i t) p m → c.fits_move.result ≡ not (is_too_heavy (table_without i t ++ rows (parent_at p) m))) c.place_of.ensures (c.fits_move.ensures t st))
+    let can = c.requires t st in
+    item_told t st.lawful way can.leads i r n w c.fits_move.result found can.apart room c.recall_part.ensures.one (c.recall_part.ensures.rows t st) c.recall_part.ensures.sums c.recall_part.ensures.small c.recall_part.ensures.light is
+    (subst (λ p. (m : Items) → weight_sum m ≡ w → CanCome (table_without i t) p m → c.fits_move.result ≡ not (is_too_heavy (table_without i t ++ rows (parent_at p) m))) c.place.ensures (c.fits_move.ensures t st))

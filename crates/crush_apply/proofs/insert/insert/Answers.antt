@@ -1,60 +1,76 @@
-use Rattle.std.proofs.Common.{◌≡◌, List, ap, sym, subst, ◌∙◌}
-use Rattle.std.specs.Prelude.{Some}
-use Rattle.crush_table.specs.Stands.{Stands}
+use Rattle.std.proofs.Common.{◌≡◌, true, false, ap, sym, ◌∙◌, refl}
+use Rattle.std.specs.Prelude.{is_some}
+use Rattle.crush_units.specs.declared.id.ItemId.TheVariants.{Device}
+use Rattle.crush_table.specs.Forest.{rows_of}
+use Rattle.crush_table.specs.Table.{is_placed}
+use Rattle.crush_table.proofs.Stands.{stands_for_rows}
 use Rattle.crush_edits.specs.declared.edit.Edit.TheVariants.{Insert}
+use Rattle.crush_edits.specs.declared.refusal.Refusal.TheVariants.{AlreadyPlaced}
 use Rattle.crush_edits.specs.Placing.{put_after, edited_device, after_insert}
-use Rattle.crush_edits.specs.Put.{put}
-use Rattle.crush_edits.specs.Stops.{StopData, stops}
-use Rattle.crush_apply.specs.Planned.{IsPlan, last_refusal}
-use Rattle.crush_apply.specs.Stopped.{stops_data}
-use Rattle.crush_apply.proofs.Done.{insert_done}
-use Rattle.crush_apply.proofs.Refused.{same_refusal}
+use Rattle.crush_apply.specs.Answered.{last_answer}
+use Rattle.crush_apply.proofs.Answered.{when_refused, when_same}
+use Rattle.crush_apply.proofs.Asked.{insert_device, insert_placed, insert_end, insert_answer, located, can_come}
+use Rattle.crush_apply.proofs.Done.{unplaced_free}
 use Rattle.crush_apply.proofs.Weights.{refused_edit}
 use Rattle.crush_apply.proofs.insert.insert.Goals as goal
 
-pub returns-in_err-route-clause-refused : goal.returns-in_err-route-clause-refused
-returns-in_err-route-clause-refused g c = λ r is t st.
+pub returns-in_err-check_device : goal.returns-in_err-check_device
+returns-in_err-check_device g c =
     let s = c.args.setting.now in
     let d = c.args.device in
     let n = c.args.name.now in
     let w = c.args.weight in
     let l = c.args.at.now in
-    let same = same_refusal c.in_err-route.field-0.0 r c.from_residual.result c.from_residual.ensures.1 is in
-    refused_edit s t (Insert d n w l) r (c.in_err-route.ensures.refused t (after_insert s t d n w l) st ∙ ap Some same)
+    when_refused _ _ _ _ _ c.from_residual.ensures.1 refl
+    (λ t st. refused_edit s t (Insert d n w l) _ (insert_device s t d n w l _ (after_insert s t d n w l) (c.in_err-check_device.ensures.refused t st)))
 
-pub returns-in_err-plan-clause-refused : goal.returns-in_err-plan-clause-refused
-returns-in_err-plan-clause-refused g c = λ r is t st.
+pub returns-then-is_some : goal.returns-then-is_some
+returns-then-is_some g c =
     let s = c.args.setting.now in
     let d = c.args.device in
     let n = c.args.name.now in
     let w = c.args.weight in
     let l = c.args.at.now in
-    let same = same_refusal c.in_err-plan.field-0.0 r c.from_residual-in_err-plan.result c.from_residual-in_err-plan.ensures.1 is in
-    let are : stops_data l c.stops-stops.result.now ≡ stops s l = ap (stops_data l) c.stops-stops.ensures.value ∙ c.in_ok-route.ensures.stops in
-    refused_edit s t (Insert d n w l) r
-    (c.in_ok-route.ensures.last t (after_insert s t d n w l) st ∙ ap (λ ps. last_refusal (put_after t (edited_device t d n w) ps)) (sym are) ∙ c.in_err-plan.ensures.refused t st ∙ ap Some same)
+    when_refused _ _ _ AlreadyPlaced _ refl refl
+    (λ t st.
+    let placed : is_placed t (Device d) ≡ true = sym (c.is_some.ensures ∙ ap is_some (c.parent.ensures t st)) ∙ c.if-is_some.true in
+    refused_edit s t (Insert d n w l) _ (insert_placed s t d n w l (after_insert s t d n w l) (c.in_ok-check_device.ensures.passes t st) placed))
 
-pub returns-in_err-put_planned-clause-change : goal.returns-in_err-put_planned-clause-change
-returns-in_err-put_planned-clause-change g c = λ is t st.
-    let s = c.args.setting.now in
-    let d = c.args.device in
-    let n = c.args.name.now in
-    let w = c.args.weight in
-    let l = c.args.at.now in
-    let are : stops_data l c.stops-stops.result.now ≡ stops s l = ap (stops_data l) c.stops-stops.ensures.value ∙ c.in_ok-route.ensures.stops in
-    let plan : IsPlan t d n w (stops s l) c.in_ok-plan.plan = subst (λ (ps : List StopData). IsPlan t d n w ps c.in_ok-plan.plan) are (c.in_ok-plan.ensures.plan t st) in
-    (c.in_ok-plan.plan.fresh, put t (edited_device t d n w) (stops s l), insert_done s t d n w l c.in_ok-plan.plan st.lawful (λ a. c.in_ok-route.ensures.last t a st) (c.in_ok-route.ensures.free t st) plan)
+pub way_of-requires-clause-located : goal.way_of-requires-clause-located
+way_of-requires-clause-located g c =
+    let f = c.args.forest.now in
+    located c.args.setting.now (rows_of f) c.args.device c.args.name.now c.args.weight c.args.at.now (c.in_ok-check_device.ensures.passes (rows_of f) (stands_for_rows f c.recall_invariant.ensures))
 
-pub returns-clause-done : goal.returns-clause-done
-returns-clause-done g c = λ t st.
+pub returns-in_err-way : goal.returns-in_err-way
+returns-in_err-way g c =
     let s = c.args.setting.now in
     let d = c.args.device in
     let n = c.args.name.now in
     let w = c.args.weight in
     let l = c.args.at.now in
-    let are : stops_data l c.stops-stops.result.now ≡ stops s l = ap (stops_data l) c.stops-stops.ensures.value ∙ c.in_ok-route.ensures.stops in
-    let plan : IsPlan t d n w (stops s l) c.in_ok-plan.plan = subst (λ (ps : List StopData). IsPlan t d n w ps c.in_ok-plan.plan) are (c.in_ok-plan.ensures.plan t st) in (
-      put t (edited_device t d n w) (stops s l),
-      insert_done s t d n w l c.in_ok-plan.plan st.lawful (λ a. c.in_ok-route.ensures.last t a st) (c.in_ok-route.ensures.free t st) plan,
-      subst (λ (ps : List StopData). Stands c.put_planned.new.forest (put t (edited_device t d n w) ps)) are (c.in_ok-put_planned.ensures.stands t st),
-    )
+    when_refused _ _ _ _ _ c.from_residual-in_err-way.ensures.1 refl
+    (λ t st.
+    let free : is_placed t (Device d) ≡ false = sym (c.is_some.ensures ∙ ap is_some (c.parent.ensures t st)) ∙ c.if-is_some.false in
+    refused_edit s t (Insert d n w l) _ (insert_end s t d n w l _ (after_insert s t d n w l) (c.in_ok-check_device.ensures.passes t st) free (c.in_err-way.ensures.refused t st)))
+
+pub place_device-requires-clause-can : goal.place_device-requires-clause-can
+place_device-requires-clause-can g c = λ t st.
+    can_come c.args.setting.now t c.args.device c.args.name.now c.args.weight c.args.at.now c.in_ok-way.way (c.in_ok-check_device.ensures.passes t st) c.in_ok-way.ensures.stops (c.in_ok-way.ensures.leads t st)
+
+pub place_device-requires-clause-free : goal.place_device-requires-clause-free
+place_device-requires-clause-free g c = λ t st.
+    unplaced_free t (Device c.args.device) c.in_ok-way.way.stops (sym (c.is_some.ensures ∙ ap is_some (c.parent.ensures t st)) ∙ c.if-is_some.false)
+
+pub returns : goal.returns
+returns g c =
+    let s = c.args.setting.now in
+    let d = c.args.device in
+    let n = c.args.name.now in
+    let w = c.args.weight in
+    let l = c.args.at.now in
+    when_same _ _ _ _ _
+    (λ t st.
+    let free : is_placed t (Device d) ≡ false = sym (c.is_some.ensures ∙ ap is_some (c.parent.ensures t st)) ∙ c.if-is_some.false in
+    insert_answer s t d n w l (c.in_ok-check_device.ensures.passes t st) free (c.in_ok-way.ensures.passes t st)
+    ∙ ap (λ ps. last_answer t (put_after t (edited_device t d n w) ps)) (sym c.in_ok-way.ensures.stops))
+    c.place_device.ensures

@@ -1,4 +1,4 @@
-use Rattle.std.proofs.Common.{List, sym, subst}
+use Rattle.std.proofs.Common.{List, sym, subst, refl}
 use Rattle.crush_units.specs.declared.id.ItemId.TheVariants.{Bucket}
 use Rattle.crush_table.specs.Table.{Row}
 use Rattle.crush_table.specs.Columns.{set_name}
@@ -6,25 +6,26 @@ use Rattle.crush_table.specs.Lawful.{Lawful}
 use Rattle.crush_table.specs.Forest.{rows_of}
 use Rattle.crush_table.specs.Stands.{Stands}
 use Rattle.crush_table.proofs.Stands.{stands_for_rows}
-use Rattle.crush_edits.specs.declared.edit.Edit.{Edit}
 use Rattle.crush_edits.specs.declared.edit.Edit.TheVariants.{Rename}
-use Rattle.crush_edits.specs.Edit.{edit}
+use Rattle.crush_apply.proofs.Answered.{when_done, when_refused, when_lacking}
 use Rattle.crush_apply.proofs.Found.{there_by_name}
 use Rattle.crush_apply.proofs.Names.{rename_done, rename_lawful}
-use Rattle.crush_apply.proofs.Refused.{refused_by}
 use Rattle.crush_apply.proofs.Weights.{refused_edit}
 use Rattle.crush_apply.proofs.rename.rename.Goals as goal
 
-pub returns-in_err-bucket-clause-refused : goal.returns-in_err-bucket-clause-refused
-returns-in_err-bucket-clause-refused g c = λ r told s t st. let e : Edit = Rename c.args.from.now c.args.to.now in refused_by _ _ c.from_residual.ensures.1 (edit s t e) (refused_edit s t e _ (c.in_err-bucket.ensures.refused s t st)) r told
+pub returns-in_err-bucket : goal.returns-in_err-bucket
+returns-in_err-bucket g c = λ s.
+    when_refused _ _ _ _ _ c.from_residual.ensures.1 refl (λ t st. refused_edit s t (Rename c.args.from.now c.args.to.now) _ (c.in_err-bucket.ensures.refused s t st))
 
-pub returns-in_err-clone-clause-change : goal.returns-in_err-clone-clause-change
-returns-in_err-clone-clause-change g c = λ told s t st.
-    (0, set_name (Bucket c.in_ok-bucket.bucket) c.args.to.now t, rename_done s t c.args.from.now c.args.to.now c.in_ok-bucket.bucket st.lawful (c.in_ok-bucket.ensures.can t st))
+pub returns-in_err-clone : goal.returns-in_err-clone
+returns-in_err-clone g c = λ s.
+    when_lacking _ _ _ _ c.from_residual-in_err-clone.ensures.1 refl
+    (λ t st. (0, set_name (Bucket c.in_ok-bucket.bucket) c.args.to.now t, rename_done s t c.args.from.now c.args.to.now c.in_ok-bucket.bucket st.lawful (c.in_ok-bucket.ensures.can t st)))
 
-pub returns-in_err-name-clause-change : goal.returns-in_err-name-clause-change
-returns-in_err-name-clause-change g c = λ told s t st.
-    (0, set_name (Bucket c.in_ok-bucket.bucket) c.args.to.now t, rename_done s t c.args.from.now c.args.to.now c.in_ok-bucket.bucket st.lawful (c.in_ok-bucket.ensures.can t st))
+pub returns-in_err-name : goal.returns-in_err-name
+returns-in_err-name g c = λ s.
+    when_lacking _ _ _ _ c.from_residual-in_err-name.ensures.1 refl
+    (λ t st. (0, set_name (Bucket c.in_ok-bucket.bucket) c.args.to.now t, rename_done s t c.args.from.now c.args.to.now c.in_ok-bucket.bucket st.lawful (c.in_ok-bucket.ensures.can t st)))
 
 pub rename-requires-clause-there : goal.rename-requires-clause-there
 rename-requires-clause-there g c =
@@ -37,10 +38,12 @@ rename-requires-clause-fits g c =
     subst (λ n. Lawful (set_name (Bucket c.in_ok-bucket.bucket) n t)) (sym c.in_ok-name.ensures)
     (rename_lawful t c.args.from.now c.args.to.now c.in_ok-bucket.bucket c.recall_invariant.ensures.lawful c.as_bytes-form.ensures.name can)
 
-pub returns-clause-done : goal.returns-clause-done
-returns-clause-done g c = λ s t st.
-    let b = c.in_ok-bucket.bucket in (
+pub returns : goal.returns
+returns g c = λ s.
+    let b = c.in_ok-bucket.bucket in
+    when_done _ _ _ _
+    (λ t st. (
       set_name (Bucket b) c.args.to.now t,
       rename_done s t c.args.from.now c.args.to.now b st.lawful (c.in_ok-bucket.ensures.can t st),
       subst (λ n. Stands c.rename.new.self (set_name (Bucket b) n t)) c.in_ok-name.ensures (c.rename.ensures.stands t st),
-    )
+    ))

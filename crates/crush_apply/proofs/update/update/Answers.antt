@@ -1,94 +1,90 @@
-use Rattle.std.proofs.Common.{◌≡◌, List, ap, sym, subst, ◌∙◌, true, false}
-use Rattle.std.specs.Prelude.{Some}
+use Rattle.std.proofs.Common.{◌≡◌, true, false, ap, sym, subst, ◌∙◌, refl}
 use Rattle.crush_units.specs.declared.id.ItemId.TheVariants.{Device}
+use Rattle.crush_table.specs.Forest.{rows_of}
 use Rattle.crush_table.specs.Stands.{Stands}
-use Rattle.crush_edits.specs.declared.edit.Edit.TheVariants.{Reweight, Update}
-use Rattle.crush_edits.specs.Answer.{refused}
-use Rattle.crush_edits.specs.Edit.{edit}
-use Rattle.crush_edits.specs.Outcome.{IsDone}
+use Rattle.crush_table.proofs.Stands.{stands_for_rows}
+use Rattle.crush_edits.specs.declared.edit.Edit.TheVariants.{Update}
 use Rattle.crush_edits.specs.Placing.{put_after, edited_device, after_update}
-use Rattle.crush_edits.specs.Put.{put, held}
-use Rattle.crush_edits.specs.Stops.{StopData, stops}
-use Rattle.crush_apply.specs.Planned.{IsPlan, last_refusal}
-use Rattle.crush_apply.specs.Stopped.{stops_data}
-use Rattle.crush_apply.proofs.Refused.{same_refusal}
-use Rattle.crush_apply.proofs.Updates.{held_update, put_refused, update_done}
+use Rattle.crush_edits.specs.Put.{held}
+use Rattle.crush_edits.specs.Stops.{stops}
+use Rattle.crush_apply.specs.Answered.{last_answer}
+use Rattle.crush_edits.specs.Outcome.{IsDone}
+use Rattle.crush_apply.proofs.Answered.{when_done, when_refused, when_same}
+use Rattle.crush_apply.proofs.Updates.{held_update}
+use Rattle.crush_apply.proofs.Asked.{put_device, put_end, put_last, update_answer, located, can_come}
 use Rattle.crush_apply.proofs.Weights.{refused_edit}
 use Rattle.crush_apply.proofs.update.update.Goals as goal
 
-pub returns-in_err-route-clause-refused : goal.returns-in_err-route-clause-refused
-returns-in_err-route-clause-refused g c = λ r is t st.
+pub returns-in_err-check_device : goal.returns-in_err-check_device
+returns-in_err-check_device g c =
     let s = c.args.setting.now in
     let d = c.args.device in
     let n = c.args.name.now in
     let w = c.args.weight in
     let l = c.args.at.now in
-    let same = same_refusal c.in_err-route.field-0.0 r c.from_residual.result c.from_residual.ensures.1 is in
-    refused_edit s t (Update d n w l) r (c.in_err-route.ensures.refused t (after_update s t d n w l) st ∙ ap Some same)
+    when_refused _ _ _ _ _ c.from_residual.ensures.1 refl
+    (λ t st. refused_edit s t (Update d n w l) _ (put_device s t d n w l _ (after_update s t d n w l) (c.in_err-check_device.ensures.refused t st)))
 
-pub returns-in_err-done-clause-refused : goal.returns-in_err-done-clause-refused
-returns-in_err-done-clause-refused g c = λ r is t st.
-    let s = c.args.setting.now in
-    let d = c.args.device in
-    let n = c.args.name.now in
-    let w = c.args.weight in
-    let l = c.args.at.now in
-    let are : stops_data l c.stops-stops.result.now ≡ stops s l = ap (stops_data l) c.stops-stops.ensures.value ∙ c.in_ok-route.ensures.stops in
-    let can = c.in_ok-route.ensures.can t st in
-    let there : held t (Device d) (stops s l) ≡ true = ap (held t (Device d)) (sym are) ∙ sym (c.is_held.ensures t st) ∙ c.if-is_held.true in
-    let is_weight : edit s t (Update d n w l) ≡ edit s t (Reweight n w) = held_update s t d n w l st.lawful (λ a. c.in_ok-route.ensures.last t a st) can.own can.weight there in
-    let same = same_refusal c.in_err-done.field-0.0 r c.from_residual-in_err-done.result c.from_residual-in_err-done.ensures.1 is in
-    is_weight ∙ c.in_err-done.ensures.refused s t st ∙ ap refused same
+pub way_of-requires-clause-located : goal.way_of-requires-clause-located
+way_of-requires-clause-located g c =
+    let f = c.args.forest.now in
+    located c.args.setting.now (rows_of f) c.args.device c.args.name.now c.args.weight c.args.at.now (c.in_ok-check_device.ensures.passes (rows_of f) (stands_for_rows f c.recall_invariant.ensures))
 
-pub returns-then-is_held-clause-done : goal.returns-then-is_held-clause-done
-returns-then-is_held-clause-done g c = λ t st.
+pub returns-in_err-way : goal.returns-in_err-way
+returns-in_err-way g c =
     let s = c.args.setting.now in
     let d = c.args.device in
     let n = c.args.name.now in
     let w = c.args.weight in
     let l = c.args.at.now in
-    let are : stops_data l c.stops-stops.result.now ≡ stops s l = ap (stops_data l) c.stops-stops.ensures.value ∙ c.in_ok-route.ensures.stops in
-    let can = c.in_ok-route.ensures.can t st in
-    let there : held t (Device d) (stops s l) ≡ true = ap (held t (Device d)) (sym are) ∙ sym (c.is_held.ensures t st) ∙ c.if-is_held.true in
-    let is_weight : edit s t (Update d n w l) ≡ edit s t (Reweight n w) = held_update s t d n w l st.lawful (λ a. c.in_ok-route.ensures.last t a st) can.own can.weight there in
-    subst (λ a. IsDone (Stands c.reweight.new.forest) a c.in_ok-done.done) (sym is_weight) (c.in_ok-done.ensures.done s t st)
+    when_refused _ _ _ _ _ c.from_residual-in_err-way.ensures.1 refl
+    (λ t st. refused_edit s t (Update d n w l) _ (put_end s t d n w l _ (after_update s t d n w l) (c.in_ok-check_device.ensures.passes t st) (c.in_err-way.ensures.refused t st)))
 
-pub returns-in_err-plan-clause-refused : goal.returns-in_err-plan-clause-refused
-returns-in_err-plan-clause-refused g c = λ r is t st.
+pub returns-in_err-reweight : goal.returns-in_err-reweight
+returns-in_err-reweight g c =
     let s = c.args.setting.now in
     let d = c.args.device in
     let n = c.args.name.now in
     let w = c.args.weight in
     let l = c.args.at.now in
-    let are : stops_data l c.stops-stops.result.now ≡ stops s l = ap (stops_data l) c.stops-stops.ensures.value ∙ c.in_ok-route.ensures.stops in
-    let free : held t (Device d) (stops s l) ≡ false = ap (held t (Device d)) (sym are) ∙ sym (c.is_held.ensures t st) ∙ c.if-is_held.false in
-    let same = same_refusal c.in_err-plan.field-0.0 r c.from_residual-in_err-plan.result c.from_residual-in_err-plan.ensures.1 is in
-    refused_edit s t (Update d n w l) r
-    (put_refused s t d n w l (λ a. c.in_ok-route.ensures.last t a st) free r (ap (λ ps. last_refusal (put_after t (edited_device t d n w) ps)) (sym are) ∙ c.in_err-plan.ensures.refused t st ∙ ap Some same))
+    when_refused _ _ _ _ _ c.from_residual-in_err-reweight.ensures.1 c.in_err-reweight.ensures.kept
+    (λ t st.
+    let can = can_come s t d n w l c.in_ok-way.way (c.in_ok-check_device.ensures.passes t st) c.in_ok-way.ensures.stops (c.in_ok-way.ensures.leads t st) in
+    let there : held t (Device d) (stops s l) ≡ true = ap (held t (Device d)) (sym c.in_ok-way.ensures.stops) ∙ sym (c.is_held.ensures t st) ∙ c.if-is_held.true in
+    let is_weight = held_update s t d n w l st.lawful (λ a. put_last s t d n w l a (c.in_ok-check_device.ensures.passes t st) (c.in_ok-way.ensures.passes t st)) can.own can.weight there in
+    is_weight ∙ c.in_err-reweight.ensures.refused s t st)
 
-pub returns-in_err-put_planned-clause-change : goal.returns-in_err-put_planned-clause-change
-returns-in_err-put_planned-clause-change g c = λ is t st.
+pub returns-then-is_held : goal.returns-then-is_held
+returns-then-is_held g c =
     let s = c.args.setting.now in
     let d = c.args.device in
     let n = c.args.name.now in
     let w = c.args.weight in
     let l = c.args.at.now in
-    let are : stops_data l c.stops-stops.result.now ≡ stops s l = ap (stops_data l) c.stops-stops.ensures.value ∙ c.in_ok-route.ensures.stops in
-    let free : held t (Device d) (stops s l) ≡ false = ap (held t (Device d)) (sym are) ∙ sym (c.is_held.ensures t st) ∙ c.if-is_held.false in
-    let plan : IsPlan t d n w (stops s l) c.in_ok-plan.plan = subst (λ (ps : List StopData). IsPlan t d n w ps c.in_ok-plan.plan) are (c.in_ok-plan.ensures.plan t st) in
-    (c.in_ok-plan.plan.fresh, put t (edited_device t d n w) (stops s l), update_done s t d n w l (λ a. c.in_ok-route.ensures.last t a st) free c.in_ok-plan.plan st.lawful plan)
+    when_done _ _ _ _
+    (λ t st.
+    let can = can_come s t d n w l c.in_ok-way.way (c.in_ok-check_device.ensures.passes t st) c.in_ok-way.ensures.stops (c.in_ok-way.ensures.leads t st) in
+    let there : held t (Device d) (stops s l) ≡ true = ap (held t (Device d)) (sym c.in_ok-way.ensures.stops) ∙ sym (c.is_held.ensures t st) ∙ c.if-is_held.true in
+    let is_weight = held_update s t d n w l st.lawful (λ a. put_last s t d n w l a (c.in_ok-check_device.ensures.passes t st) (c.in_ok-way.ensures.passes t st)) can.own can.weight there in
+    subst (λ a. IsDone (Stands c.reweight.new.forest) a c.in_ok-reweight.field-0) (sym is_weight) (c.in_ok-reweight.ensures.done s t st))
 
-pub returns-clause-done : goal.returns-clause-done
-returns-clause-done g c = λ t st.
+pub place_device-requires-clause-can : goal.place_device-requires-clause-can
+place_device-requires-clause-can g c = λ t st.
+    can_come c.args.setting.now t c.args.device c.args.name.now c.args.weight c.args.at.now c.in_ok-way.way (c.in_ok-check_device.ensures.passes t st) c.in_ok-way.ensures.stops (c.in_ok-way.ensures.leads t st)
+
+pub place_device-requires-clause-free : goal.place_device-requires-clause-free
+place_device-requires-clause-free g c = λ t st. sym (c.is_held.ensures t st) ∙ c.if-is_held.false
+
+pub returns : goal.returns
+returns g c =
     let s = c.args.setting.now in
     let d = c.args.device in
     let n = c.args.name.now in
     let w = c.args.weight in
     let l = c.args.at.now in
-    let are : stops_data l c.stops-stops.result.now ≡ stops s l = ap (stops_data l) c.stops-stops.ensures.value ∙ c.in_ok-route.ensures.stops in
-    let free : held t (Device d) (stops s l) ≡ false = ap (held t (Device d)) (sym are) ∙ sym (c.is_held.ensures t st) ∙ c.if-is_held.false in
-    let plan : IsPlan t d n w (stops s l) c.in_ok-plan.plan = subst (λ (ps : List StopData). IsPlan t d n w ps c.in_ok-plan.plan) are (c.in_ok-plan.ensures.plan t st) in (
-      put t (edited_device t d n w) (stops s l),
-      update_done s t d n w l (λ a. c.in_ok-route.ensures.last t a st) free c.in_ok-plan.plan st.lawful plan,
-      subst (λ (ps : List StopData). Stands c.put_planned.new.forest (put t (edited_device t d n w) ps)) are (c.in_ok-put_planned.ensures.stands t st),
-    )
+    when_same _ _ _ _ _
+    (λ t st.
+    let free : held t (Device d) (stops s l) ≡ false = ap (held t (Device d)) (sym c.in_ok-way.ensures.stops) ∙ sym (c.is_held.ensures t st) ∙ c.if-is_held.false in
+    update_answer s t d n w l (c.in_ok-check_device.ensures.passes t st) (c.in_ok-way.ensures.passes t st) free
+    ∙ ap (λ ps. last_answer t (put_after t (edited_device t d n w) ps)) (sym c.in_ok-way.ensures.stops))
+    c.place_device.ensures

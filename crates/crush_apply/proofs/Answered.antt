@@ -1,0 +1,121 @@
+-- What is answered, by the way in which a call ends.
+use Rattle.std.proofs.Common.{◌≡◌, Bool, true, false, List, ap, sym, subst, ◌∙◌, refl}
+use Rattle.std.specs.Prelude.{not, length, Result, Ok, Err, IsErrAnd}
+use Rattle.crush_table.specs.Table.{Row}
+use Rattle.crush_table.specs.Forest.{ForestData}
+use Rattle.crush_table.specs.Stands.{Stands}
+use Rattle.crush_table.specs.Lawful.{Lawful, is_too_heavy, has_too_many}
+use Rattle.crush_table.proofs.Passing.{lawful_room}
+use Rattle.crush_table.proofs.Weighs.{lawful_light}
+use Rattle.crush_nodes.specs.Ops.{forest_without_capacity}
+use Rattle.crush_tree.specs.Sameness.{IsSameForest}
+use Rattle.crush_edits.specs.declared.refusal.Refusal.{Refusal}
+use Rattle.crush_edits.specs.declared.refusal.Refusal.TheVariants.{NoRoom, SumTooLarge}
+use Rattle.crush_edits.specs.declared.refusal.Done.{Done}
+use Rattle.crush_edits.specs.declared.refusal.EditFault.{EditFault}
+use Rattle.crush_edits.specs.declared.refusal.EditFault.TheVariants.{Refused, OutOfMemory}
+use Rattle.crush_edits.specs.Answer.{After, Answer, refused, done, kept}
+use Rattle.crush_edits.specs.Changed.{same_table}
+use Rattle.crush_edits.specs.Outcome.{IsDone, IsChange}
+use Rattle.crush_edits.specs.Placing.{put_after}
+use Rattle.crush_edits.specs.Put.{put}
+use Rattle.crush_edits.specs.Stops.{fresh_stops}
+use Rattle.crush_edits.proofs.Changes.{table_refl}
+use Rattle.crush_apply.specs.Answered.{AnswersAs, last_answer}
+use Rattle.crush_apply.specs.Way.{WayData, Leads}
+use Rattle.crush_apply.proofs.Refused.{same_refusal, no_want, no_refusal}
+
+-- THE WAYS to end: done, refused, or for want of memory
+pub when_done : (a : List Row → Answer) (f g : ForestData) (d : Done) → ((t : List Row) → Stands f t → IsDone (Stands g) (a t) d) → AnswersAs a f g (Ok d)
+when_done a f g d h = record { done = h; refused = λ r is. absurd cc; change = λ is. absurd cc; unchanged = λ r is. absurd cc; kept = tt }
+
+pub when_refused : (a : List Row → Answer) (f g : ForestData) (q : Refusal) (x : Result Done EditFault) → IsErrAnd x (λ e. e ≡ Refused q) → g ≡ f → ((t : List Row) → Stands f t → a t ≡ refused q) → AnswersAs a f g x
+when_refused a f g q (Ok d) h same told = elim h [ ]
+when_refused a f g q (Err e) h same told = record {
+  done = tt;
+  refused = λ r is t st. told t st ∙ ap refused (same_refusal q r (Err e) h is);
+  change = λ is. absurd (no_want q (Err e) h is);
+  unchanged = λ r is. same;
+  kept = ap forest_without_capacity same;
+}
+
+pub when_lacking : (a : List Row → Answer) (f g : ForestData) (x : Result Done EditFault) → IsErrAnd x (λ e. e ≡ OutOfMemory) → IsSameForest g f → ((t : List Row) → Stands f t → IsChange (a t)) → AnswersAs a f g x
+when_lacking a f g (Ok d) h same changes = elim h [ ]
+when_lacking a f g (Err e) h same changes = record {
+  done = tt;
+  refused = λ r is. absurd (no_refusal r (Err e) h is);
+  change = λ is. changes;
+  unchanged = λ r is. absurd (no_refusal r (Err e) h is);
+  kept = same;
+}
+
+-- what the table answers alike
+pub when_same : (a b : List Row → Answer) (f g : ForestData) (x : Result Done EditFault) → ((t : List Row) → Stands f t → a t ≡ b t) → AnswersAs b f g x → AnswersAs a f g x
+when_same a b f g (Ok d) same told = record {
+  done = λ t st. subst (λ z. IsDone (Stands g) z d) (sym (same t st)) (told.done t st);
+  refused = λ r is. absurd cc;
+  change = λ is. absurd cc;
+  unchanged = told.unchanged;
+  kept = told.kept;
+}
+when_same a b f g (Err e) same told = record {
+  done = tt;
+  refused = λ r is t st. same t st ∙ told.refused r is t st;
+  change = λ is t st. subst IsChange (sym (same t st)) (told.change is t st);
+  unchanged = told.unchanged;
+  kept = told.kept;
+}
+
+-- THE LAST ANSWER, where only the table after can refuse
+pub last_no_room : (t : List Row) (a : After) → has_too_many a.table ≡ true → last_answer t a ≡ refused NoRoom
+last_no_room t a many = rw many refl
+
+pub last_too_heavy : (t : List Row) (a : After) → has_too_many a.table ≡ false → is_too_heavy a.table ≡ true → last_answer t a ≡ refused SumTooLarge
+last_too_heavy t a few heavy = rw (few, heavy) refl
+
+pub last_made : (t : List Row) (a : After) → has_too_many a.table ≡ false → is_too_heavy a.table ≡ false → (b : _) → same_table t a.table ≡ b → last_answer t a ≡ done (not b) a.made a.table
+last_made t a few light b same = rw (few, light) (ap (λ z. done (not z) a.made a.table) same)
+
+-- where the row r is put, and another table comes of it
+pub record IsPut (t : List Row) (a : Answer) (r : Row) (way : WayData) : Type 0 where
+  pub leads : Leads t way
+  pub told : a ≡ last_answer t (put_after t r way.stops)
+  pub other : same_table t (put t r way.stops) ≡ false
+
+pub put_no_room : {t : List Row} {a : Answer} {r : Row} {way : WayData} → IsPut t a r way → has_too_many (put t r way.stops) ≡ true → a ≡ refused NoRoom
+put_no_room {t = t} {r = r} {way = way} p many = p.told ∙ last_no_room t (put_after t r way.stops) many
+
+pub put_too_heavy : {t : List Row} {a : Answer} {r : Row} {way : WayData} → IsPut t a r way → has_too_many (put t r way.stops) ≡ false → is_too_heavy (put t r way.stops) ≡ true → a ≡ refused SumTooLarge
+put_too_heavy {t = t} {r = r} {way = way} p few heavy = p.told ∙ last_too_heavy t (put_after t r way.stops) few heavy
+
+pub put_made : {t : List Row} {a : Answer} {r : Row} {way : WayData} → IsPut t a r way → has_too_many (put t r way.stops) ≡ false → is_too_heavy (put t r way.stops) ≡ false → a ≡ done true way.fresh (put t r way.stops)
+put_made {t = t} {r = r} {way = way} p few light = p.told ∙ last_made t (put_after t r way.stops) few light false p.other ∙ ap (λ k. done true k (put t r way.stops)) (sym p.leads.fresh)
+
+-- the same by what the two tests of a call answer: whether room lacks, and whether the sums fit
+pub from_not : (b c : Bool) → b ≡ not c → b ≡ false → c ≡ true
+from_not b true e f = refl
+from_not b false e f = absurd cc
+
+pub from_yes : (b c : Bool) → b ≡ not c → b ≡ true → c ≡ false
+from_yes b true e f = absurd cc
+from_yes b false e f = refl
+
+pub sums_fail : {t : List Row} {a : Answer} {r : Row} {way : WayData} {lacks fits : Bool} → IsPut t a r way → lacks ≡ has_too_many (put t r way.stops) → lacks ≡ false
+    → (has_too_many (put t r way.stops) ≡ false → fits ≡ not (is_too_heavy (put t r way.stops))) → fits ≡ false → a ≡ refused SumTooLarge
+sums_fail {t = t} {r = r} {way = way} {fits = fits} p is few test over = let room = sym is ∙ few in put_too_heavy p room (from_not fits (is_too_heavy (put t r way.stops)) (test room) over)
+
+pub both_pass : {t : List Row} {a : Answer} {r : Row} {way : WayData} {lacks fits : Bool} → IsPut t a r way → lacks ≡ has_too_many (put t r way.stops) → lacks ≡ false
+    → (has_too_many (put t r way.stops) ≡ false → fits ≡ not (is_too_heavy (put t r way.stops))) → fits ≡ true → a ≡ done true way.fresh (put t r way.stops)
+both_pass {t = t} {r = r} {way = way} {fits = fits} p is few test fit = let room = sym is ∙ few in put_made p room (from_yes fits (is_too_heavy (put t r way.stops)) (test room) fit)
+
+-- which row is put, told by what comes of it
+pub put_same : (t : List Row) (x y : Row) (way : WayData) → Leads t way → put t x way.stops ≡ put t y way.stops → same_table t (put t x way.stops) ≡ false → IsPut t (last_answer t (put_after t x way.stops)) y way
+put_same t x y way leads same other = record {
+  leads = leads;
+  told = ap (λ (u : List Row). last_answer t (record { table = u; made = length (fresh_stops t way.stops) })) same;
+  other = ap (same_table t) (sym same) ∙ other;
+}
+
+-- nothing is done
+pub last_kept : (t : List Row) → Lawful t → last_answer t (kept t) ≡ done false 0 t
+last_kept t lawful = last_made t (kept t) (lawful_room t lawful) (lawful_light t lawful) true (table_refl t)

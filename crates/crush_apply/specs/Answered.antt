@@ -1,0 +1,28 @@
+-- What a call answers of an edit, beside what the table answers.
+use Rattle.std.specs.Prelude.{◌≡◌, List, [], ◌∷◌, Option, Result, Err, IfOk, OnErr}
+use Rattle.crush_table.specs.Table.{Row}
+use Rattle.crush_table.specs.Forest.{ForestData}
+use Rattle.crush_table.specs.Stands.{Stands}
+use Rattle.crush_tree.specs.Sameness.{IsSameForest}
+use Rattle.crush_edits.specs.declared.refusal.Refusal.{Refusal}
+use Rattle.crush_edits.specs.declared.refusal.Done.{Done}
+use Rattle.crush_edits.specs.declared.refusal.EditFault.{EditFault}
+use Rattle.crush_edits.specs.declared.refusal.EditFault.TheVariants.{Refused, OutOfMemory}
+use Rattle.crush_edits.specs.Answer.{After, Answer, refused, answer, first_refusal, room_test, sum_test}
+use Rattle.crush_edits.specs.Outcome.{IsDone, IsChange}
+
+-- of each table for which the hierarchy f stood the call answers what the table answers, and leaves the hierarchy g: after a refusal f itself, and after want of memory f but for its room
+pub record AnswersAs (a : List Row → Answer) (f g : ForestData) (x : Result Done EditFault) : Type 0 where
+  pub done : IfOk x (λ d. (t : List Row) → Stands f t → IsDone (Stands g) (a t) d)
+  pub refused : (r : Refusal) → x ≡ Err (Refused r) → (t : List Row) → Stands f t → a t ≡ refused r
+  pub change : x ≡ Err OutOfMemory → (t : List Row) → Stands f t → IsChange (a t)
+  pub unchanged : (r : Refusal) → x ≡ Err (Refused r) → g ≡ f
+  pub kept : OnErr x (IsSameForest g f)
+
+-- the refusal of the table after, if there is one
+abbrev pub last_refusal : After → Option Refusal
+last_refusal a = first_refusal (room_test a ∷ (sum_test a ∷ []))
+
+-- the table's answer where only the table after can refuse
+abbrev pub last_answer : List Row → After → Answer
+last_answer t a = answer (last_refusal a) t a

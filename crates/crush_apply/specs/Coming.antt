@@ -1,0 +1,24 @@
+-- What is known of an item that is to come a way.
+use Rattle.std.specs.Prelude.{◌≡◌, ℕ, ◌≤◌, List, true, false, bytes_eq}
+use Rattle.std.specs.List.{count_by}
+use Rattle.crush_units.specs.declared.id.ItemId.{ItemId}
+use Rattle.crush_units.specs.declared.id.ItemId.TheVariants.{Device}
+use Rattle.crush_units.specs.declared.limits.TheConstants.{HEAVIEST_DEVICE}
+use Rattle.crush_table.specs.Table.{Row, is_there}
+use Rattle.crush_edits.specs.LawPut.{IsApart}
+use Rattle.crush_edits.specs.Located.{is_taken}
+use Rattle.crush_edits.specs.Stops.{StopData}
+use Rattle.crush_apply.specs.Way.{WayData, Leads}
+
+-- the item i is there, and what receives is neither the item nor below it
+pub record CanMove (t : List Row) (i : ItemId) (way : WayData) : Type 0 where
+  pub leads : Leads t way
+  pub there : is_there t i ≡ true
+  pub apart : IsApart t i way.stops
+
+-- the device d of the name n and the weight w, there or not: id and name belong together or are new, and no stop has the name
+pub record CanCome (t : List Row) (d : ℕ) (n : List ℕ) (w : ℕ) (way : WayData) : Type 0 where
+  pub leads : Leads t way
+  pub own : is_taken t (Device d) n ≡ false
+  pub other : count_by (λ (p : StopData). bytes_eq p.name n) way.stops ≡ 0
+  pub weight : w ≤ HEAVIEST_DEVICE
