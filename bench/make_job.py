@@ -1,12 +1,33 @@
-"""Prints a job: a map of so many devices, and one operator who sets the weight of the last one.
+"""Prints a job: a map of so many devices, and one operator who sets so many weights, by default that of the
+last device alone.
 
     python3 bench/make_job.py 10000 > big.job
+    python3 bench/make_job.py 10000 1000 --rules > bigger.job
     time crates/crushedit/out/crushedit < big.job > big.out
 
-Each host holds 20 devices of 1.0, each rack 20 hosts, and the root all racks.
+Each host holds 20 devices of 1.0, each rack 20 hosts, and the root all racks. With --rules the map has
+tunables and a rule too, as that of a cluster.
 """
 
 import sys
+
+TUNABLES = [
+    "tunable choose_local_tries 0",
+    "tunable choose_local_fallback_tries 0",
+    "tunable choose_total_tries 50",
+    "tunable chooseleaf_descend_once 1",
+]
+RULE = [
+    "rule replicated_rule {",
+    "\tid 0",
+    "\ttype replicated",
+    "\tmin_size 1",
+    "\tmax_size 10",
+    "\tstep take default",
+    "\tstep chooseleaf firstn 0 type host",
+    "\tstep emit",
+    "}",
+]
 
 
 def bucket(kind, name, number, items):
@@ -19,8 +40,9 @@ def grouped(things, size):
     return [things[start : start + size] for start in range(0, len(things), size)]
 
 
-def job(devices):
-    lines = [f"device {number} osd.{number}" for number in range(devices)]
+def map_text(devices, rules=False):
+    lines = TUNABLES if rules else []
+    lines = lines + [f"device {number} osd.{number}" for number in range(devices)]
     lines += ["type 0 osd", "type 1 host", "type 3 rack", "type 11 root"]
     number = 1
     level = [(f"osd.{device}", 1) for device in range(devices)]
@@ -33,9 +55,22 @@ def job(devices):
             buckets.append((name, sum(weight for _, weight in items)))
         level = buckets
     lines += bucket("root", "default", 1, level)
-    lines += ["%operator a", f"reweight osd.{devices - 1} 2.0"]
+    lines += RULE if rules else []
     return "\n".join(lines) + "\n"
 
 
+def script(devices, calls):
+    """The last device first, and then devices far from one another, each call with another weight than 1.0."""
+    lines = ["%operator a"]
+    lines += [f"reweight osd.{(devices - 1 + call * 7919) % devices} {2 + call % 5}.5" for call in range(calls)]
+    return "\n".join(lines) + "\n"
+
+
+def main():
+    numbers = [int(word) for word in sys.argv[1:] if word != "--rules"]
+    devices, calls = (numbers + [1])[:2]
+    sys.stdout.write(map_text(devices, "--rules" in sys.argv) + script(devices, calls))
+
+
 if __name__ == "__main__":
-    sys.stdout.write(job(int(sys.argv[1])))
+    main()

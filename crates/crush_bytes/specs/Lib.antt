@@ -1,3 +1,4 @@
 pub mod Lexer
+pub mod Numbers
 pub mod Words
 pub mod Writes

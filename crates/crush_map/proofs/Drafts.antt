@@ -1,11 +1,11 @@
 -- A builder that is at one draft is at each with the same table.
-use Rattle.std.proofs.Common.{◌≡◌, ℕ, ◌<◌, ◌≤◌, List, [], refl, sym, subst, ◌∙◌, arith}
-use Rattle.std.proofs.lemmas.List.Elements.{All-nil}
+use Rattle.std.proofs.Common.{◌≡◌, ℕ, ◌<◌, ◌≤◌, false, List, [], refl, sym, subst, ◌∙◌, arith}
+use Rattle.std.proofs.lemmas.List.Elements.{All-nil, All-weaker}
 use Rattle.crush_units.specs.declared.id.ItemId.TheVariants.{Bucket}
 use Rattle.crush_table.specs.Items.{ShadowData}
 use Rattle.crush_table.specs.Same.{Same}
 use Rattle.crush_table.specs.Lawful.{Lawful}
-use Rattle.crush_table.specs.Table.{Row}
+use Rattle.crush_table.specs.Table.{Row, member, used_ids}
 use Rattle.crush_table.specs.Forest.{ForestData, rows_of, IsSound}
 use Rattle.crush_table.specs.Stands.{Stands}
 use Rattle.crush_edits.specs.Setting.{SettingData}
@@ -32,7 +32,11 @@ CanNumber-same t u b cs e c = record {
   some = c.some;
   most = c.most;
   free = sym (used-same t u e.rows b) ∙ c.free;
+  form = c.form;
+  fresh = All-weaker (λ (x : ShadowData). member x.id (used_ids t) ≡ false) (λ (x : ShadowData). member x.id (used_ids u) ≡ false) (λ x h. sym (used-same t u e.rows x.id) ∙ h) cs c.fresh;
+  apart = c.apart;
   classes = c.classes;
+  few = c.few;
 }
 
 pub IsRoot-same : (t u : List Row) (b : ℕ) → Lawful t → Same t u → IsRoot t b → IsRoot u b

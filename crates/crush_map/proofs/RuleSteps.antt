@@ -9,8 +9,8 @@ use Rattle.std.specs.Prelude.{Option, Some, None, nat_le, ◌||◌, ◌==◌, by
 use Rattle.std.specs.List.{list_any}
 use Rattle.crush_units.specs.declared.id.ItemId.{ItemId}
 use Rattle.crush_units.specs.declared.id.ItemId.TheVariants.{Device, Bucket}
-use Rattle.crush_table.specs.Table.{Row, is_there, id_named}
-use Rattle.crush_edits.specs.Setting.{StepData, take, choose, set, emit, RuleData, SettingData, kind_number, bucket_taken, taken_buckets}
+use Rattle.crush_table.specs.Table.{id_named}
+use Rattle.crush_edits.specs.Setting.{StepData, take, choose, set, emit, RuleData, SettingData, kind_number, bucket_taken}
 use Rattle.crush_edits.specs.SettingSeen.{rule_data}
 use Rattle.crush_edits.specs.declared.setting.KeptRule.{KeptRule}
 use Rattle.crush_edits.specs.declared.rule.Rule.{Rule}
@@ -24,7 +24,7 @@ use Rattle.crush_map.specs.declared.fault.RulePart.{RulePart}
 use Rattle.crush_map.specs.declared.fault.RulePart.TheVariants.{Statement as AtStatement, Name as AtName, Id as AtId, Step as AtStep}
 use Rattle.crush_map.specs.Faults.{told}
 use Rattle.crush_map.specs.Built.{Draft, nothing}
-use Rattle.crush_map.specs.Building.{BuilderData, IsDraft, IsPending, closed_item, item_named, is_open}
+use Rattle.crush_map.specs.Building.{BuilderData, IsDraft, IsPending, closed_item, is_open}
 use Rattle.crush_map.specs.Rules.{IsStepForm, IsRuleForm, bucket_number, bucket_named, taken_number, kept_step, kept_rule, with_rule, has_rule_name, has_rule_id, is_full_of_rules, word_fault, step_fault, or_later, steps_fault, rule_fault, rule_told}
 use Rattle.crush_map.proofs.KindSteps.{count_one_more, less}
 use Rattle.crush_map.proofs.RowSteps.{named_there}

@@ -10,7 +10,7 @@ use Rattle.crush_table.specs.Count.{one_if}
 use Rattle.crush_table.specs.Table.{Row, is_device, sum_below}
 use Rattle.crush_table.specs.Columns.{without_row}
 use Rattle.crush_table.specs.ItemRows.{device_row, bucket_row}
-use Rattle.crush_edits.specs.Setting.{SettingData}
+use Rattle.crush_edits.specs.Setting.{RuleData, SettingData}
 
 -- what of a bucket was read before it is in the table, and then the bucket that is being filled
 pub data Pending : Type 0 where
@@ -38,6 +38,10 @@ with_kind d number name = record d { setting = record d.setting { kinds = d.sett
 abbrev pub with_tunable : Draft → List ℕ → ℕ → Draft
 with_tunable d name value = record d { setting = record d.setting { tunables = d.setting.tunables ++ record { name = name; value = value } ∷ [] } }
 
+-- a rule, as a map keeps it
+abbrev pub add_rule : Draft → RuleData → Draft
+add_rule d r = record d { setting = record d.setting { rules = d.setting.rules ++ r ∷ [] } }
+
 -- a device, for the time being in no bucket
 abbrev pub with_device : Draft → ℕ → List ℕ → Option (List ℕ) → Draft
 with_device d id name class = record d { table = d.table ++ device_row None (record { id = id; name = name; weight = 0; class = class }) ∷ [] }
@@ -54,6 +58,16 @@ pending_with_id (filling a) b = filling a
 
 abbrev pub with_id : Draft → ℕ → Draft
 with_id d b = record d { pending = pending_with_id d.pending b }
+
+-- one more class id
+abbrev pub pending_with_class_id : Pending → ShadowData → Pending
+pending_with_class_id nothing c = nothing
+pending_with_class_id (begun kind name) c = begun kind name
+pending_with_class_id (numbered kind name b class_ids) c = numbered kind name b (class_ids ++ c ∷ [])
+pending_with_class_id (filling b) c = filling b
+
+abbrev pub with_class_id : Draft → ℕ → List ℕ → Draft
+with_class_id d b class = record d { pending = pending_with_class_id d.pending (record { id = b; class = class }) }
 
 -- its algorithm: now its row stands in the table, as a root
 abbrev pub pending_row : Pending → Alg → List Row

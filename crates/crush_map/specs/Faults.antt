@@ -7,7 +7,7 @@ use Rattle.crush_table.specs.Lawful.{is_too_heavy}
 use Rattle.crush_map.specs.declared.fault.BuildFault.{BuildFault}
 use Rattle.crush_map.specs.declared.fault.BuildFault.TheVariants.{BadWeight, DuplicateId, DuplicateName, UnknownType, UnknownItem, SecondParent, UnknownBucketInRule, TooMany, SumTooLarge, OutOfMemory}
 use Rattle.crush_map.specs.Built.{Draft, with_item}
-use Rattle.crush_map.specs.Building.{is_open, has_kind_number, has_kind_name, has_tunable, has_name, has_bucket_id, is_bucket_kind, is_full_of_devices, is_full_of_buckets, is_full_of_kinds, is_full_of_tunables}
+use Rattle.crush_map.specs.Building.{is_open, has_kind_number, has_kind_name, has_tunable, has_name, has_bucket_id, has_class, names_bucket_kind, is_full_of_devices, is_full_of_buckets, is_full_of_class_ids, is_full_of_kinds, is_full_of_tunables}
 use Rattle.crush_units.specs.declared.limits.TheConstants.{HEAVIEST_DEVICE}
 
 -- the place in the order in which faults are told
@@ -41,7 +41,7 @@ abbrev pub first_fault : List (BuildFault × Bool) → Option BuildFault
 first_fault [] = None
 first_fault (p ∷ ps) = if p.1 then Some p.0 else first_fault ps
 
--- THE FAULTS of a type, a device, a bucket's first words, its id, an item: each with its test, in the order of their numbers
+-- THE FAULTS of a type, a tunable, a device, a bucket's first words with its type's name, its id, a class id, an item: each with its test, in the order of their numbers
 abbrev pub kind_fault : Draft → ℕ → List ℕ → Option BuildFault
 kind_fault d k n = first_fault ((DuplicateId, has_kind_number d.setting k) ∷ ((DuplicateName, has_kind_name d.setting n) ∷ ((TooMany, is_full_of_kinds d) ∷ [])))
 
@@ -51,11 +51,14 @@ tunable_fault d n = first_fault ((DuplicateName, has_tunable d.setting n) ∷ ((
 abbrev pub device_fault : Draft → ℕ → List ℕ → Option BuildFault
 device_fault d i n = first_fault ((DuplicateId, is_there d.table (Device i)) ∷ ((DuplicateName, has_name d n) ∷ ((TooMany, is_full_of_devices d) ∷ [])))
 
-abbrev pub begin_fault : Draft → ℕ → List ℕ → Option BuildFault
-begin_fault d k n = first_fault ((DuplicateName, has_name d n) ∷ ((UnknownType, not (is_bucket_kind d.setting k)) ∷ ((TooMany, is_full_of_buckets d) ∷ [])))
+abbrev pub begin_fault : Draft → List ℕ → List ℕ → Option BuildFault
+begin_fault d k n = first_fault ((DuplicateName, has_name d n) ∷ ((UnknownType, not (names_bucket_kind d.setting k)) ∷ ((TooMany, is_full_of_buckets d) ∷ [])))
 
 abbrev pub id_fault : Draft → ℕ → Option BuildFault
 id_fault d b = first_fault ((DuplicateId, has_bucket_id d b) ∷ [])
+
+abbrev pub class_id_fault : Draft → ℕ → List ℕ → Option BuildFault
+class_id_fault d b c = first_fault ((DuplicateId, has_bucket_id d b) ∷ ((DuplicateName, has_class d c) ∷ ((TooMany, is_full_of_class_ids d) ∷ [])))
 
 -- a written weight that no device has
 abbrev pub is_heavy : Option ℕ → Bool

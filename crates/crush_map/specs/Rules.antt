@@ -1,6 +1,6 @@
 -- A rule that a builder is given: its form, what speaks against it, and what is kept of it.
-use Rattle.std.specs.Prelude.{◌≡◌, ℕ, ◌+◌, ◌≤◌, List, [], ◌∷◌, ◌++◌, Option, Some, None, Bool, true, ◌==◌, if◌then◌else◌, IfSome, All, map, length, bytes_eq, codes, is_some, nat_eq, nat_le, option_and_then}
-use Rattle.std.specs.List.{list_any, starts_with}
+use Rattle.std.specs.Prelude.{ℕ, ◌+◌, ◌≤◌, List, [], ◌∷◌, Option, Some, None, Bool, ◌==◌, if◌then◌else◌, IfSome, All, map, length, bytes_eq, is_some, nat_le, option_and_then}
+use Rattle.std.specs.List.{list_any}
 use Rattle.crush_units.specs.declared.id.ItemId.{ItemId}
 use Rattle.crush_units.specs.declared.id.ItemId.TheVariants.{Device, Bucket}
 use Rattle.crush_units.specs.declared.limits.TheConstants.{MOST_RULES, MOST_STEPS}
@@ -15,7 +15,7 @@ use Rattle.crush_map.specs.declared.fault.BuildFault.TheVariants.{DuplicateId, D
 use Rattle.crush_map.specs.declared.fault.RuleFault.{RuleFault}
 use Rattle.crush_map.specs.declared.fault.RulePart.{RulePart}
 use Rattle.crush_map.specs.declared.fault.RulePart.TheVariants.{Statement as AtStatement, Name as AtName, Id as AtId, Step as AtStep}
-use Rattle.crush_map.specs.Built.{Draft}
+use Rattle.crush_map.specs.Built.{Draft, add_rule}
 use Rattle.crush_map.specs.Building.{item_named}
 use Rattle.crush_map.specs.Faults.{told}
 
@@ -57,7 +57,7 @@ abbrev pub kept_rule : Draft → Rule → RuleData
 kept_rule d r = record { name = r.name; id = r.id; kind = r.kind; min_size = r.min_size; max_size = r.max_size; steps = map (kept_step d) r.steps.items }
 
 abbrev pub with_rule : Draft → Rule → Draft
-with_rule d r = record d { setting = record d.setting { rules = d.setting.rules ++ kept_rule d r ∷ [] } }
+with_rule d r = add_rule d (kept_rule d r)
 
 -- THE FAULTS, each at its part, in the order of the parts
 abbrev pub has_rule_name : SettingData → List ℕ → Bool

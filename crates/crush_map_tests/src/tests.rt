@@ -12,4 +12,5 @@ mod others;
 mod placing;
 mod refusing;
 mod reweighting;
+mod rules;
 mod statements;

@@ -1,8 +1,9 @@
 -- Calls that are made one after the other, one call more and one script more.
-use Rattle.std.proofs.Common.{◌≡◌, ℕ, suc, ◌+◌, ◌<◌, List, [], ◌∷◌, ◌++◌, length, take, get_or, refl, sym, ap, ◌∙◌, append_assoc, arith}
-use Rattle.std.proofs.lemmas.List.{append-nil, take_more, map_push, length-take-le, length-map}
+use Rattle.std.proofs.Common.{◌≡◌, ℕ, suc, ◌+◌, ◌<◌, List, [], ◌∷◌, ◌++◌, length, take, drop, get_or, refl, sym, ap, ◌∙◌, append_assoc, arith}
+use Rattle.std.proofs.lemmas.List.{append-nil, map-append, take_more, take-append-drop, map_push, length-take-le, length-map}
 use Rattle.std.proofs.lemmas.List.Sums.{sum_by-append, sum_by-cons}
 use Rattle.std.specs.List.{sum_by}
+use Rattle.std.specs.Prelude.{Result, Ok, Err, OnErr}
 use Rattle.crush_table.specs.Table.{Row}
 use Rattle.crush_edits.specs.Setting.{SettingData}
 use Rattle.crush_script.specs.declared.call.Call.{Call}
@@ -122,3 +123,43 @@ count-take scripts i x h is =
     ap (λ xs. call_count (scripts_data xs)) (take_more scripts i x h) ∙ ap call_count (map_push script_data (take i scripts) (get_or scripts i x)) in
     let own : length (get_or scripts i x).calls.items ≡ length x.calls.items = ap (λ (z : Script). length z.calls.items) (sym is) in
     omega (arith, cut, own, sum_by-append f so_far (script_data (get_or scripts i x) ∷ []), sum_by-cons f (script_data (get_or scripts i x)) [])
+
+-- calls behind others, and scripts behind others, leave the entries before them
+turn-front : (s : SettingData) (t : List Row) (k : ℕ) (cs ds : List Call) → (rest : List EntryData) × (turn s t k (cs ++ ds) ≡ turn s t k cs ++ rest)
+unfolding turn
+turn-front s t k [] ds = (turn s t k ds, refl)
+turn-front s t k (c ∷ cs) ds =
+    let more = turn-front s (call_outcome s t c).table k cs ds in
+    (more.0, ap (λ (z : List EntryData). entry_on s t k c ∷ z) more.1)
+
+turns_from-front : (s : SettingData) (t : List Row) (k : ℕ) (xs ys : List ScriptData) → (rest : List EntryData) × (turns_from s t k (xs ++ ys) ≡ turns_from s t k xs ++ rest)
+unfolding turns_from
+turns_from-front s t k [] ys = (turns_from s t k ys, refl)
+turns_from-front s t k (x ∷ xs) ys =
+    let more = turns_from-front s (table_after s t (turn s t k x.calls)) (k + 1) xs ys in
+    (more.0, ap (λ (z : List EntryData). turn s t k x.calls ++ z) more.1 ∙ sym (append_assoc (turn s t k x.calls) (turns_from s (table_after s t (turn s t k x.calls)) (k + 1) xs) more.0))
+
+-- a front of the turns: the scripts up to one place, and some calls of the script there
+pub turns_front : (s : SettingData) (t : List Row) (scripts : List Script) (i made : ℕ) (x : Script) → i < length scripts → x ≡ get_or scripts i x
+    → (rest : List EntryData) × (turns s t (scripts_data scripts) ≡ (turns s t (scripts_data (take i scripts)) ++ turn s (table_after s t (turns s t (scripts_data (take i scripts)))) i (take made x.calls.items)) ++ rest)
+turns_front s t scripts i made x h is =
+    let so_far = turns s t (scripts_data (take i scripts)) in
+    let u = table_after s t so_far in
+    let own = turn-front s u i (take made x.calls.items) (drop made x.calls.items) in
+    let behind = turns_from-front s t 0 (scripts_data (take (i + 1) scripts)) (scripts_data (drop (i + 1) scripts)) in
+    let whole : turns s t (scripts_data scripts) ≡ turns s t (scripts_data (take (i + 1) scripts)) ++ behind.0 =
+    ap (λ zs. turns s t (scripts_data zs)) (sym (take-append-drop (i + 1) scripts)) ∙ ap (turns s t) (map-append script_data (take (i + 1) scripts) (drop (i + 1) scripts)) ∙ behind.1 in
+    let there : turns s t (scripts_data (take (i + 1) scripts)) ≡ so_far ++ turn s u i x.calls.items =
+    turns-take s t scripts i x h ∙ ap (λ (z : Script). so_far ++ turn s u i z.calls.items) (sym is) in
+    let parts : turn s u i x.calls.items ≡ turn s u i (take made x.calls.items) ++ own.0 =
+    ap (turn s u i) (sym (take-append-drop made x.calls.items)) ∙ own.1 in (
+      own.0 ++ behind.0,
+      whole
+          ∙ ap (λ (z : List EntryData). z ++ behind.0) (there ∙ ap (λ (z : List EntryData). so_far ++ z) parts ∙ sym (append_assoc so_far (turn s u i (take made x.calls.items)) own.0))
+          ∙ append_assoc (so_far ++ turn s u i (take made x.calls.items)) own.0 behind.0,
+    )
+
+-- what holds anyhow holds after an error
+pub on_err : {X E : Type 0} (P : Type 0) (x : Result X E) → P → OnErr x P
+on_err P (Ok d) p = tt
+on_err P (Err e) p = p

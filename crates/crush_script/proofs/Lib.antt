@@ -4,6 +4,7 @@ pub mod Writing
 pub mod Calls
 pub mod Few
 pub mod Histories
+pub mod SameForests
 pub mod InTurn
 pub mod EntryLines
 pub mod PrintedWords

@@ -21,7 +21,7 @@ use Rattle.crush_script.specs.declared.command.Command.TheVariants as says
 use Rattle.crush_script.specs.declared.command.Placing.{Placing}
 use Rattle.crush_script.specs.Lines.{line_words}
 use Rattle.crush_script.specs.Words.{equals_at, pair_of, device_named}
-use Rattle.crush_script.specs.Command.{name_at, weight_at, end_at, with_pair, with_pairs, location_at, placing_at, move_at, swap_at, reweight_at, subtree_at, remove_at, add_bucket_at, rename_at, keyword_of, edit_at, command}
+use Rattle.crush_script.specs.Command.{name_at, weight_at, end_at, with_pair, with_pairs, location_at, placing_at, located_at, one_name_at, two_names_at, weighed_at, keyword_of, edit_at, command}
 use Rattle.crush_script.specs.HistoryText.{pair_text, pairs_text, one_name, two_names, weighed, edit_text}
 use Rattle.crush_script.specs.Printed.{IsPlacing, IsSaid, PrintedIsRead}
 use Rattle.crush_script.proofs.Pairs.{pair_added}
@@ -150,33 +150,21 @@ placing_read : (d : ℕ) (n v : List ℕ) (w : ℕ) (l : List Pair) → IsName n
 unfolding placing_at name_at weight_at location_at
 placing_read d n v w l name device weight are few = let a = is_name_true n name in rw (a, device, weight, are.reads [] (omega arith)) refl
 
-move_read : (n : List ℕ) (l : List Pair) → IsName n → ArePairs l → length l ≤ 16 → move_at (n ∷ map pair_word l) ≡ Ok (Move n l)
-unfolding move_at name_at location_at
-move_read n l name are few = let a = is_name_true n name in rw (a, are.reads [] (omega arith)) refl
+located_read : (n : List ℕ) (l : List Pair) → IsName n → ArePairs l → length l ≤ 16 → located_at (n ∷ map pair_word l) ≡ Ok (n, l)
+unfolding located_at name_at location_at
+located_read n l name are few = let a = is_name_true n name in rw (a, are.reads [] (omega arith)) refl
 
-swap_read : (a b : List ℕ) → IsName a → IsName b → swap_at (a ∷ (b ∷ [])) ≡ Ok (Swap a b)
-unfolding swap_at name_at end_at
-swap_read a b first second = let x = is_name_true a first in let y = is_name_true b second in rw (x, y) refl
+one_name_read : (n : List ℕ) → IsName n → one_name_at (n ∷ []) ≡ Ok n
+unfolding one_name_at name_at end_at
+one_name_read n name = let x = is_name_true n name in rw x refl
 
-add_bucket_read : (a b : List ℕ) → IsName a → IsName b → add_bucket_at (a ∷ (b ∷ [])) ≡ Ok (AddBucket a b)
-unfolding add_bucket_at name_at end_at
-add_bucket_read a b first second = let x = is_name_true a first in let y = is_name_true b second in rw (x, y) refl
+two_names_read : (a b : List ℕ) → IsName a → IsName b → two_names_at (a ∷ (b ∷ [])) ≡ Ok (a, b)
+unfolding two_names_at name_at end_at
+two_names_read a b first second = let x = is_name_true a first in let y = is_name_true b second in rw (x, y) refl
 
-rename_read : (a b : List ℕ) → IsName a → IsName b → rename_at (a ∷ (b ∷ [])) ≡ Ok (Rename a b)
-unfolding rename_at name_at end_at
-rename_read a b first second = let x = is_name_true a first in let y = is_name_true b second in rw (x, y) refl
-
-remove_read : (n : List ℕ) → IsName n → remove_at (n ∷ []) ≡ Ok (Remove n)
-unfolding remove_at name_at end_at
-remove_read n name = let x = is_name_true n name in rw x refl
-
-reweight_read : (n v : List ℕ) (w : ℕ) → IsName n → weight_of_text v ≡ Ok w → reweight_at (n ∷ (v ∷ [])) ≡ Ok (Reweight n w)
-unfolding reweight_at name_at weight_at end_at
-reweight_read n v w name weight = let x = is_name_true n name in rw (x, weight) refl
-
-subtree_read : (n v : List ℕ) (w : ℕ) → IsName n → weight_of_text v ≡ Ok w → subtree_at (n ∷ (v ∷ [])) ≡ Ok (ReweightSubtree n w)
-unfolding subtree_at name_at weight_at end_at
-subtree_read n v w name weight = let x = is_name_true n name in rw (x, weight) refl
+weighed_read : (n v : List ℕ) (w : ℕ) → IsName n → weight_of_text v ≡ Ok w → weighed_at (n ∷ (v ∷ [])) ≡ Ok (n, w)
+unfolding weighed_at name_at weight_at end_at
+weighed_read n v w name weight = let x = is_name_true n name in rw (x, weight) refl
 
 -- a line of words says what the words say
 said : (text first : List ℕ) (words : List (List ℕ)) (e : Edit) → text ≡ joined first words → 0 < length first → list_all is_word_byte first ≡ true → AreWords words
@@ -200,23 +188,23 @@ printed_is_read (Update d n w l) is =
     said _ (codes "set") (n ∷ (weight_text w ∷ map pair_word l)) (Update d n w l) (placing-joined (codes "set") n (weight_text w) l) (omega arith) refl (name_word n is.name, (weight_word w is.weight, are.words)) (rw reads refl)
 printed_is_read (Move n l) is =
     let are = of_location l is.1 in
-    let reads = move_read n l is.0 are is.1.few in
+    let reads = located_read n l is.0 are is.1.few in
     said _ (codes "move") (n ∷ map pair_word l) (Move n l) (move-joined (codes "move") n l) (omega arith) refl (name_word n is.0, are.words) (rw reads refl)
 printed_is_read (Swap a b) is =
-    let reads = swap_read a b is.0 is.1 in
+    let reads = two_names_read a b is.0 is.1 in
     said _ (codes "swap-bucket") (a ∷ (b ∷ [])) (Swap a b) (two-joined (codes "swap-bucket") a b) (omega arith) refl (name_word a is.0, (name_word b is.1, tt)) (rw reads refl)
 printed_is_read (Reweight n w) is =
-    let reads = reweight_read n (weight_text w) w is.0 (read_again w is.1) in
+    let reads = weighed_read n (weight_text w) w is.0 (read_again w is.1) in
     said _ (codes "reweight") (n ∷ (weight_text w ∷ [])) (Reweight n w) (two-joined (codes "reweight") n (weight_text w)) (omega arith) refl (name_word n is.0, (weight_word w is.1, tt)) (rw reads refl)
 printed_is_read (ReweightSubtree n w) is =
-    let reads = subtree_read n (weight_text w) w is.0 (read_again w is.1) in
+    let reads = weighed_read n (weight_text w) w is.0 (read_again w is.1) in
     said _ (codes "reweight-subtree") (n ∷ (weight_text w ∷ [])) (ReweightSubtree n w) (two-joined (codes "reweight-subtree") n (weight_text w)) (omega arith) refl (name_word n is.0, (weight_word w is.1, tt)) (rw reads refl)
 printed_is_read (Remove n) is =
-    let reads = remove_read n is in
+    let reads = one_name_read n is in
     said _ (codes "rm") (n ∷ []) (Remove n) (one-joined (codes "rm") n) (omega arith) refl (name_word n is, tt) (rw reads refl)
 printed_is_read (AddBucket n kind) is =
-    let reads = add_bucket_read n kind is.0 is.1 in
+    let reads = two_names_read n kind is.0 is.1 in
     said _ (codes "add-bucket") (n ∷ (kind ∷ [])) (AddBucket n kind) (two-joined (codes "add-bucket") n kind) (omega arith) refl (name_word n is.0, (name_word kind is.1, tt)) (rw reads refl)
 printed_is_read (Rename from to) is =
-    let reads = rename_read from to is.0 is.1 in
+    let reads = two_names_read from to is.0 is.1 in
     said _ (codes "rename-bucket") (from ∷ (to ∷ [])) (Rename from to) (two-joined (codes "rename-bucket") from to) (omega arith) refl (name_word from is.0, (name_word to is.1, tt)) (rw reads refl)

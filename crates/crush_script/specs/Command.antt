@@ -74,49 +74,31 @@ placing_at words = do
   Ok (record { device = device; name = name.value; weight = weight.value; at = at })
 
 -- `NAME PAIR ..`
-unfoldable pub move_at : List (List ℕ) → Result Edit LineFault
-move_at words = do
+unfoldable pub located_at : List (List ℕ) → Result (List ℕ × List Pair) LineFault
+located_at words = do
   name ← name_at words
   at ← location_at name.rest
-  Ok (Move name.value at)
-
--- `NAME W`, of a device or of a bucket
-unfoldable pub reweight_at : List (List ℕ) → Result Edit LineFault
-reweight_at words = do
-  name ← name_at words
-  weight ← weight_at name.rest
-  end_at (Reweight name.value weight.value) weight.rest
-
-unfoldable pub subtree_at : List (List ℕ) → Result Edit LineFault
-subtree_at words = do
-  name ← name_at words
-  weight ← weight_at name.rest
-  end_at (ReweightSubtree name.value weight.value) weight.rest
+  Ok (name.value, at)
 
 -- `NAME`
-unfoldable pub remove_at : List (List ℕ) → Result Edit LineFault
-remove_at words = do
+unfoldable pub one_name_at : List (List ℕ) → Result (List ℕ) LineFault
+one_name_at words = do
   name ← name_at words
-  end_at (Remove name.value) name.rest
+  end_at name.value name.rest
 
 -- `NAME NAME`, `NAME TYPENAME`, `FROM TO`
-unfoldable pub swap_at : List (List ℕ) → Result Edit LineFault
-swap_at words = do
-  a ← name_at words
-  b ← name_at a.rest
-  end_at (Swap a.value b.value) b.rest
+unfoldable pub two_names_at : List (List ℕ) → Result (List ℕ × List ℕ) LineFault
+two_names_at words = do
+  first ← name_at words
+  second ← name_at first.rest
+  end_at (first.value, second.value) second.rest
 
-unfoldable pub add_bucket_at : List (List ℕ) → Result Edit LineFault
-add_bucket_at words = do
+-- `NAME W`, of a device or of a bucket
+unfoldable pub weighed_at : List (List ℕ) → Result (List ℕ × ℕ) LineFault
+weighed_at words = do
   name ← name_at words
-  kind ← name_at name.rest
-  end_at (AddBucket name.value kind.value) kind.rest
-
-unfoldable pub rename_at : List (List ℕ) → Result Edit LineFault
-rename_at words = do
-  from ← name_at words
-  to ← name_at from.rest
-  end_at (Rename from.value to.value) to.rest
+  weight ← weight_at name.rest
+  end_at (name.value, weight.value) weight.rest
 
 -- the command that a first word names
 unfoldable pub keyword_of : List ℕ → Option Keyword
@@ -138,13 +120,13 @@ abbrev pub edit_of : Keyword → List (List ℕ) → Result Edit LineFault
 edit_of word.Add rest = placing_at rest >>= λ p. Ok (Insert p.device p.name p.weight p.at)
 edit_of word.Set rest = placing_at rest >>= λ p. Ok (Update p.device p.name p.weight p.at)
 edit_of word.CreateOrMove rest = placing_at rest >>= λ p. Ok (CreateOrMove p.device p.name p.weight p.at)
-edit_of word.Move rest = move_at rest
-edit_of word.SwapBucket rest = swap_at rest
-edit_of word.Reweight rest = reweight_at rest
-edit_of word.ReweightSubtree rest = subtree_at rest
-edit_of word.Rm rest = remove_at rest
-edit_of word.AddBucket rest = add_bucket_at rest
-edit_of word.RenameBucket rest = rename_at rest
+edit_of word.Move rest = located_at rest >>= λ p. Ok (Move p.0 p.1)
+edit_of word.SwapBucket rest = two_names_at rest >>= λ p. Ok (Swap p.0 p.1)
+edit_of word.Reweight rest = weighed_at rest >>= λ p. Ok (Reweight p.0 p.1)
+edit_of word.ReweightSubtree rest = weighed_at rest >>= λ p. Ok (ReweightSubtree p.0 p.1)
+edit_of word.Rm rest = one_name_at rest >>= λ name. Ok (Remove name)
+edit_of word.AddBucket rest = two_names_at rest >>= λ p. Ok (AddBucket p.0 p.1)
+edit_of word.RenameBucket rest = two_names_at rest >>= λ p. Ok (Rename p.0 p.1)
 
 -- the same, where the first word may be no command
 abbrev pub edit_by : Option Keyword → List (List ℕ) → Result Edit LineFault

@@ -8,7 +8,7 @@ use Rattle.crush_edits.specs.declared.edit.Edit.TheVariants.{Insert, CreateOrMov
 use Rattle.crush_edits.specs.declared.refusal.Refusal.{Refusal}
 use Rattle.crush_edits.specs.Refusal.{refusal_name, refusal_error}
 use Rattle.crush_edits.specs.Setting.{SettingData}
-use Rattle.crush_text.specs.MapText.{map_text}
+use Rattle.crush_print.specs.MapText.{map_text}
 use Rattle.crush_script.specs.declared.call.Call.{Call}
 use Rattle.crush_script.specs.declared.call.Call.TheVariants.{One, Batch}
 use Rattle.crush_script.specs.declared.call.Reply.{Reply}

@@ -2,7 +2,7 @@
 
 ghost use Rattle.std.specs.Prelude.{◌≡◌};
 ghost use Rattle.crush_script.specs.AnswersAs.{AnswersAs, AnswersAndLeaves};
-ghost use Rattle.crush_script.specs.Command.{command, operator, name_at, weight_at, end_at, with_pair, location_at, placing_at, move_at, swap_at, reweight_at, subtree_at, remove_at, add_bucket_at, rename_at, keyword_of, edit_of, edit_at};
+ghost use Rattle.crush_script.specs.Command.{command, operator, name_at, weight_at, end_at, with_pair, location_at, placing_at, located_at, one_name_at, two_names_at, weighed_at, keyword_of, edit_of, edit_at};
 
 use crate::line::{LineWords, place_of};
 use crate::word::device_named;
@@ -147,73 +147,52 @@ fn read_placing(alloc: Global, words: &mut LineWords<'_>) -> Result<Placing, Lin
     })
 }
 
-/// The words behind `move`.
-#[tactic(auto, unfolding(crate::specs::Command::move_at))]
-fn read_move(alloc: Global, words: &mut LineWords<'_>) -> Result<Edit, LineFault>
-    ensures { AnswersAs result (move_at words.old) }
+/// A name and a location.
+#[tactic(auto, unfolding(crate::specs::Command::located_at))]
+fn read_located(
+    alloc: Global,
+    words: &mut LineWords<'_>,
+) -> Result<(Name<Global>, Location), LineFault>
+    ensures { AnswersAs result (located_at words.old) }
 {
     let name = read_name(alloc, words)?;
     let at = read_location(alloc, words)?;
-    Ok(Edit::Move { name, at })
+    Ok((name, at))
 }
 
-/// The words behind `swap-bucket`.
-#[tactic(auto, unfolding(crate::specs::Command::swap_at))]
-fn read_swap(alloc: Global, words: &mut LineWords<'_>) -> Result<Edit, LineFault>
-    ensures { AnswersAs result (swap_at words.old) }
+/// A name and nothing more.
+#[tactic(auto, unfolding(crate::specs::Command::one_name_at))]
+fn read_one_name(alloc: Global, words: &mut LineWords<'_>) -> Result<Name<Global>, LineFault>
+    ensures { AnswersAs result (one_name_at words.old) }
 {
-    let a = read_name(alloc, words)?;
-    let b = read_name(alloc, words)?;
-    read_end(Edit::Swap { a, b }, words)
+    let name = read_name(alloc, words)?;
+    read_end(name, words)
 }
 
-/// The words behind `reweight`.
-#[tactic(auto, unfolding(crate::specs::Command::reweight_at))]
-fn read_reweight(alloc: Global, words: &mut LineWords<'_>) -> Result<Edit, LineFault>
-    ensures { AnswersAs result (reweight_at words.old) }
+/// Two names and nothing more.
+#[tactic(auto, unfolding(crate::specs::Command::two_names_at))]
+fn read_two_names(
+    alloc: Global,
+    words: &mut LineWords<'_>,
+) -> Result<(Name<Global>, Name<Global>), LineFault>
+    ensures { AnswersAs result (two_names_at words.old) }
+{
+    let first = read_name(alloc, words)?;
+    let second = read_name(alloc, words)?;
+    read_end((first, second), words)
+}
+
+/// A name, a weight and nothing more.
+#[tactic(auto, unfolding(crate::specs::Command::weighed_at))]
+fn read_weighed(
+    alloc: Global,
+    words: &mut LineWords<'_>,
+) -> Result<(Name<Global>, Weight), LineFault>
+    ensures { AnswersAs result (weighed_at words.old) }
 {
     let name = read_name(alloc, words)?;
     let weight = read_weight(words)?;
-    read_end(Edit::Reweight { name, weight }, words)
-}
-
-/// The words behind `reweight-subtree`.
-#[tactic(auto, unfolding(crate::specs::Command::subtree_at))]
-fn read_subtree(alloc: Global, words: &mut LineWords<'_>) -> Result<Edit, LineFault>
-    ensures { AnswersAs result (subtree_at words.old) }
-{
-    let name = read_name(alloc, words)?;
-    let weight = read_weight(words)?;
-    read_end(Edit::ReweightSubtree { name, weight }, words)
-}
-
-/// The words behind `rm` and `remove`.
-#[tactic(auto, unfolding(crate::specs::Command::remove_at))]
-fn read_remove(alloc: Global, words: &mut LineWords<'_>) -> Result<Edit, LineFault>
-    ensures { AnswersAs result (remove_at words.old) }
-{
-    let name = read_name(alloc, words)?;
-    read_end(Edit::Remove { name }, words)
-}
-
-/// The words behind `add-bucket`.
-#[tactic(auto, unfolding(crate::specs::Command::add_bucket_at))]
-fn read_add_bucket(alloc: Global, words: &mut LineWords<'_>) -> Result<Edit, LineFault>
-    ensures { AnswersAs result (add_bucket_at words.old) }
-{
-    let name = read_name(alloc, words)?;
-    let kind = read_name(alloc, words)?;
-    read_end(Edit::AddBucket { name, kind }, words)
-}
-
-/// The words behind `rename-bucket`.
-#[tactic(auto, unfolding(crate::specs::Command::rename_at))]
-fn read_rename(alloc: Global, words: &mut LineWords<'_>) -> Result<Edit, LineFault>
-    ensures { AnswersAs result (rename_at words.old) }
-{
-    let from = read_name(alloc, words)?;
-    let to = read_name(alloc, words)?;
-    read_end(Edit::Rename { from, to }, words)
+    read_end((name, weight), words)
 }
 
 /// The command that a first word names.
@@ -246,7 +225,7 @@ fn keyword_of(first: &[u8]) -> Option<Keyword>
     }
 }
 
-/// The edit of a command that puts a device.
+/// The edit of a command, by the words behind its first.
 fn read_edit_of(
     alloc: Global,
     keyword: Keyword,
@@ -297,13 +276,34 @@ fn read_edit_of(
                 at,
             })
         }
-        Keyword::Move => read_move(alloc, words),
-        Keyword::SwapBucket => read_swap(alloc, words),
-        Keyword::Reweight => read_reweight(alloc, words),
-        Keyword::ReweightSubtree => read_subtree(alloc, words),
-        Keyword::Rm => read_remove(alloc, words),
-        Keyword::AddBucket => read_add_bucket(alloc, words),
-        Keyword::RenameBucket => read_rename(alloc, words),
+        Keyword::Move => {
+            let (name, at) = read_located(alloc, words)?;
+            Ok(Edit::Move { name, at })
+        }
+        Keyword::SwapBucket => {
+            let (a, b) = read_two_names(alloc, words)?;
+            Ok(Edit::Swap { a, b })
+        }
+        Keyword::Reweight => {
+            let (name, weight) = read_weighed(alloc, words)?;
+            Ok(Edit::Reweight { name, weight })
+        }
+        Keyword::ReweightSubtree => {
+            let (name, weight) = read_weighed(alloc, words)?;
+            Ok(Edit::ReweightSubtree { name, weight })
+        }
+        Keyword::Rm => {
+            let name = read_one_name(alloc, words)?;
+            Ok(Edit::Remove { name })
+        }
+        Keyword::AddBucket => {
+            let (name, kind) = read_two_names(alloc, words)?;
+            Ok(Edit::AddBucket { name, kind })
+        }
+        Keyword::RenameBucket => {
+            let (from, to) = read_two_names(alloc, words)?;
+            Ok(Edit::Rename { from, to })
+        }
     }
 }
 

@@ -1,6 +1,6 @@
 //! The scripts of a job, run one after the other.
 
-ghost use Rattle.std.specs.Prelude.{◌≡◌, ◌≤◌, ◌+◌, ◌++◌, List, IfOk, OnOk, length};
+ghost use Rattle.std.specs.Prelude.{◌≡◌, ◌≤◌, ◌+◌, ◌++◌, ℕ, List, IfOk, OnOk, OnErr, length, take};
 ghost use Rattle.crush_units.specs.declared.limits.TheConstants.{MOST_EDITS};
 ghost use Rattle.crush_table.specs.Table.{Row};
 ghost use Rattle.crush_edits.specs.Setting.{SettingData};
@@ -8,7 +8,7 @@ ghost use Rattle.crush_edits.specs.Edit.{edit};
 ghost use Rattle.crush_edits.specs.Batch.{batch};
 ghost use Rattle.crush_map.specs.MapData.{MapStands};
 ghost use Rattle.crush_script.specs.Sections.{scripts_data, call_count};
-ghost use Rattle.crush_script.specs.History.{table_after, turn, turns, call_outcome, edit_outcome, batch_outcome};
+ghost use Rattle.crush_script.specs.History.{EntryData, table_after, turn, turns, call_outcome, edit_outcome, batch_outcome};
 ghost use Rattle.crush_script.specs.Entries.{history_data};
 ghost use Rattle.crush_script.specs.Turns.{TurnsAreHistory};
 
@@ -21,9 +21,11 @@ use std::alloc::{AllocError, Global};
 
 /// Makes one edit.
 fn make_edit(map: &mut CrushMap<Global>, asked: &Edit) -> Result<Reply, AllocError>
-    ensures { IfOk result (λ reply. (s : SettingData) (t : List Row) → MapStands map.old s t
+    ensures made { IfOk result (λ reply. (s : SettingData) (t : List Row) → MapStands map.old s t
         → (reply ≡ (edit_outcome t (edit s t asked.now)).reply)
         × MapStands map.new s (edit_outcome t (edit s t asked.now)).table) }
+    ensures kept { OnErr result ((s : SettingData) (t : List Row) → MapStands map.old s t
+        → MapStands map.new s t) }
 {
     match map.apply(asked) {
         Ok(done) => Ok(Reply::Done(done)),
@@ -35,9 +37,11 @@ fn make_edit(map: &mut CrushMap<Global>, asked: &Edit) -> Result<Reply, AllocErr
 /// Makes a batch of at most 65,536 edits, or none of them.
 fn make_batch(map: &mut CrushMap<Global>, asked: &[Edit]) -> Result<Reply, AllocError>
     requires { length asked.now ≤ MOST_EDITS }
-    ensures { IfOk result (λ reply. (s : SettingData) (t : List Row) → MapStands map.old s t
+    ensures made { IfOk result (λ reply. (s : SettingData) (t : List Row) → MapStands map.old s t
         → (reply ≡ (batch_outcome t (batch s t asked.now)).reply)
         × MapStands map.new s (batch_outcome t (batch s t asked.now)).table) }
+    ensures kept { OnErr result ((s : SettingData) (t : List Row) → MapStands map.old s t
+        → MapStands map.new s t) }
 {
     match map.apply_batch(asked) {
         Ok(dones) => Ok(Reply::Dones(dones)),
@@ -48,9 +52,11 @@ fn make_batch(map: &mut CrushMap<Global>, asked: &[Edit]) -> Result<Reply, Alloc
 
 /// Makes one call.
 fn make_call(map: &mut CrushMap<Global>, call: &Call) -> Result<Reply, AllocError>
-    ensures { IfOk result (λ reply. (s : SettingData) (t : List Row) → MapStands map.old s t
+    ensures made { IfOk result (λ reply. (s : SettingData) (t : List Row) → MapStands map.old s t
         → (reply ≡ (call_outcome s t call.now).reply)
         × MapStands map.new s (call_outcome s t call.now).table) }
+    ensures kept { OnErr result ((s : SettingData) (t : List Row) → MapStands map.old s t
+        → MapStands map.new s t) }
 {
     match call {
         Call::One(edit) => make_edit(map, edit),
@@ -71,6 +77,9 @@ fn run_script<'a>(
         → (history_data entries.new.items
         ≡ history_data entries.old.items ++ turn s t operator calls.now)
         × MapStands map.new s (table_after s t (turn s t operator calls.now))) }
+    ensures begun { OnErr result ((s : SettingData) (t : List Row) → MapStands map.old s t
+        → (made : ℕ)
+        × MapStands map.new s (table_after s t (turn s t operator (take made calls.now)))) }
 {
     for call in calls {
         let reply = make_call(map, call)?;
@@ -100,6 +109,12 @@ pub fn run_in_turn<'a>(
         → MapStands map.old s t → history_data entries.items ≡ turns s t (scripts_data scripts.now)) }
     ensures map { OnOk result ((s : SettingData) (t : List Row) → MapStands map.old s t
         → MapStands map.new s (table_after s t (turns s t (scripts_data scripts.now)))) }
+
+    // Where memory lacks, the map stands for the table after a front of the turns.
+    ensures begun { OnErr result ((s : SettingData) (t : List Row) → MapStands map.old s t
+        → (front : List EntryData) × (rest : List EntryData)
+        × (turns s t (scripts_data scripts.now) ≡ front ++ rest)
+        × MapStands map.new s (table_after s t front)) }
 {
     let mut entries = Vec::new(alloc);
     for (operator, script) in scripts.iter().enumerate() {

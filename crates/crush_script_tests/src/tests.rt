@@ -3,4 +3,5 @@
 mod histories;
 mod jobs;
 mod lines;
+mod numbers;
 mod writing;

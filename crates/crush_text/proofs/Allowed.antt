@@ -1,11 +1,11 @@
 -- What a draft has before a line, told by the table and the setting with that line.
 use Rattle.std.proofs.Common.{◌≡◌, ℕ, ◌+◌, ◌<◌, ◌≤◌, Bool, true, false, List, [], ◌∷◌, ◌++◌, Option, Some, length, refl, sym, ap, subst, ◌∙◌, arith}
 use Rattle.std.proofs.lemmas.Bool.{le-ltb, lt-leb, eq-eqb}
-use Rattle.std.proofs.lemmas.List.{length-append}
+use Rattle.std.proofs.lemmas.List.{length-append, map-append}
 use Rattle.std.proofs.lemmas.List.Elements.{All-head, All-tail}
 use Rattle.std.proofs.lemmas.List.Sums.{sum_by-append, sum_by-cons}
 use Rattle.std.proofs.lemmas.Slice.Eq.{bytes_eq-Decides}
-use Rattle.std.specs.Prelude.{bytes_eq, ◌==◌, ◌||◌, is_some, unwrap_or, find, map, filter, All, if◌then◌else◌}
+use Rattle.std.specs.Prelude.{bytes_eq, ◌==◌, ◌||◌, nat_le, is_some, unwrap_or, find, map, filter, All, if◌then◌else◌}
 use Rattle.std.specs.Option.{option_map}
 use Rattle.std.specs.List.{count_by, list_any}
 use Rattle.crush_units.specs.declared.id.ItemId.{ItemId}
@@ -14,15 +14,18 @@ use Rattle.crush_units.specs.Id.{same_id, is_device_id}
 use Rattle.crush_units.proofs.Ids.{same_id_refl, same_id_equal}
 use Rattle.crush_units.specs.Name.{IsName}
 use Rattle.crush_units.specs.declared.limits.TheConstants.{DEVICE_IDS, HEAVIEST_DEVICE}
-use Rattle.crush_table.specs.Table.{Row, is_device, row_of, row_named, is_there, is_named, sum_below, total, device_count}
+use Rattle.crush_table.specs.Items.{ShadowData}
+use Rattle.crush_table.specs.Table.{Row, member, used_ids, is_device, row_of, row_named, is_there, is_named, sum_below, total, device_count}
 use Rattle.crush_table.specs.Columns.{without_row}
-use Rattle.crush_table.specs.Lawful.{Lawful, IsRow, IsRowOf, IsDeviceRow, is_over, is_too_heavy}
-use Rattle.crush_edits.specs.Setting.{KindData}
-use Rattle.crush_edits.specs.Fits.{IsKind, is_reserved}
+use Rattle.crush_table.specs.Lawful.{Lawful, IsShadowId, IsRow, IsRowOf, IsDeviceRow, is_over, is_too_heavy}
+use Rattle.crush_edits.specs.Setting.{KindData, TunableData, StepData, RuleData}
+use Rattle.crush_edits.specs.Fits.{IsKind, IsTunable, IsStep, IsRule, is_reserved}
 use Rattle.crush_table.proofs.Found.{times, row_of-absent}
-use Rattle.crush_map.specs.Built.{Draft, Pending, nothing, filling, with_kind, with_device, placed_row, put_below, table_with_item, with_item}
-use Rattle.crush_map.specs.Building.{has_name, has_pending_name, has_kind_number, has_kind_name, is_full_of_devices, is_full_of_kinds}
+use Rattle.crush_map.specs.Built.{Draft, Pending, nothing, filling, with_tunable, with_kind, with_device, add_rule, placed_row, put_below, table_with_item, with_item}
+use Rattle.crush_map.specs.Building.{CanNumber, own_ids, has_name, has_pending_name, has_kind_number, has_kind_name, has_tunable, is_full_of_devices, is_full_of_kinds, is_full_of_tunables}
+use Rattle.crush_map.specs.Rules.{has_rule_name, has_rule_id, is_full_of_rules}
 use Rattle.crush_map.proofs.RowSteps.{new_device}
+use Rattle.crush_text.specs.Grammar.{with_step}
 use Rattle.crush_text.specs.Document.{IsMap}
 
 -- one or none
@@ -83,6 +86,87 @@ kind_free d n x m =
       few = lt-leb 256 (length d.setting.kinds) (omega (arith, m.fits.setting.few_kinds, length-append d.setting.kinds (kind ∷ [])));
       kind = last_of IsKind d.setting.kinds kind m.fits.setting.kinds;
     }
+
+-- before a tunable
+pub record TunableFree (d : Draft) (x : List ℕ) (v : ℕ) : Type 0 where
+  pub name : has_tunable d.setting x ≡ false
+  pub few : is_full_of_tunables d ≡ false
+  pub tunable : IsTunable (record { name = x; value = v })
+
+-- the tunable that comes last is free before its line
+pub tunable_free : (d : Draft) (x : List ℕ) (v : ℕ) → IsMap (with_tunable d x v) → TunableFree d x v
+tunable_free d x v m =
+    let new : TunableData = record { name = x; value = v } in
+    record {
+      name = any_none (λ (k : TunableData). bytes_eq k.name x) d.setting.tunables (none_before (λ (k : TunableData). bytes_eq k.name x) d.setting.tunables new (same_bytes x) (m.fits.setting.tunable_names x));
+      few = lt-leb 64 (length d.setting.tunables) (omega (arith, m.fits.setting.few_tunables, length-append d.setting.tunables (new ∷ [])));
+      tunable = last_of IsTunable d.setting.tunables new m.fits.setting.tunables;
+    }
+
+-- before a rule
+pub record RuleFree (d : Draft) (r : RuleData) : Type 0 where
+  pub name : has_rule_name d.setting r.name ≡ false
+  pub id : has_rule_id d.setting r.id ≡ false
+  pub few : is_full_of_rules d ≡ false
+  pub rule : IsRule (add_rule d r).setting r
+
+-- the rule that comes last is free before its lines
+pub rule_free : (d : Draft) (r : RuleData) → IsMap (add_rule d r) → RuleFree d r
+rule_free d r m = record {
+  name = any_none (λ (x : RuleData). bytes_eq x.name r.name) d.setting.rules (none_before (λ (x : RuleData). bytes_eq x.name r.name) d.setting.rules r (same_bytes r.name) (m.fits.setting.rule_names r.name));
+  id = any_none (λ (x : RuleData). x.id == r.id) d.setting.rules (none_before (λ (x : RuleData). x.id == r.id) d.setting.rules r (eq-eqb r.id r.id refl) (m.fits.setting.rule_ids r.id));
+  few = lt-leb 256 (length d.setting.rules) (omega (arith, m.fits.setting.few_rules, length-append d.setting.rules (r ∷ [])));
+  rule = last_of (IsRule (add_rule d r).setting) d.setting.rules r m.fits.setting.rules;
+}
+
+-- before its last step
+pub record StepFree (d : Draft) (r : RuleData) (s : StepData) : Type 0 where
+  pub few : nat_le 64 (length r.steps) ≡ false
+  pub step : IsStep (add_rule d (with_step r s)).setting s
+
+pub step_free : (d : Draft) (r : RuleData) (s : StepData) → IsMap (add_rule d (with_step r s)) → StepFree d r s
+step_free d r s m =
+    let f = rule_free d (with_step r s) m in
+    record {
+      few = lt-leb 64 (length r.steps) (omega (arith, f.rule.few, length-append r.steps (s ∷ [])));
+      step = last_of (IsStep (add_rule d (with_step r s)).setting) r.steps s f.rule.steps;
+    }
+
+-- before a class id
+pub record ClassFree (t : List Row) (b : ℕ) (cs : List ShadowData) (c : ShadowData) : Type 0 where
+  pub few : nat_le 16 (length cs) ≡ false
+  pub form : IsShadowId c
+  pub fresh : member c.id (used_ids t) ≡ false
+  pub other : member c.id (own_ids b cs) ≡ false
+  pub class : list_any (λ (x : ShadowData). bytes_eq x.class c.class) cs ≡ false
+
+-- what is among others is any of them
+member_any : (k : ℕ) (xs : List ℕ) → member k xs ≡ list_any (λ u. u == k) xs
+member_any k [] = refl
+member_any k (x ∷ xs) = ap (λ b. (x == k) || b) (member_any k xs)
+
+-- the class id that comes last is free before its line
+pub class_free : (t : List Row) (b : ℕ) (cs : List ShadowData) (c : ShadowData) → CanNumber t b (cs ++ c ∷ []) → ClassFree t b cs c
+class_free t b cs c n =
+    let own : own_ids b (cs ++ c ∷ []) ≡ own_ids b cs ++ c.id ∷ [] = ap (λ (xs : List ℕ). b ∷ xs) (map-append (λ (x : ShadowData). x.id) cs (c ∷ [])) in
+    let once : count_by (λ u. u == c.id) (own_ids b cs ++ c.id ∷ []) ≤ 1 = subst (λ (xs : List ℕ). count_by (λ u. u == c.id) xs ≤ 1) own (n.apart c.id) in
+    record {
+      few = lt-leb 16 (length cs) (omega (arith, n.few, length-append cs (c ∷ [])));
+      form = last_of IsShadowId cs c n.form;
+      fresh = last_of (λ (x : ShadowData). member x.id (used_ids t) ≡ false) cs c n.fresh;
+      other = member_any c.id (own_ids b cs) ∙ any_none (λ u. u == c.id) (own_ids b cs) (none_before (λ u. u == c.id) (own_ids b cs) c.id (eq-eqb c.id c.id refl) once);
+      class = any_none (λ (x : ShadowData). bytes_eq x.class c.class) cs (none_before (λ (x : ShadowData). bytes_eq x.class c.class) cs c (same_bytes c.class) (n.classes c.class));
+    }
+
+-- the name of a type is a name
+pub kind_form : (kinds : List KindData) (k : List ℕ) → All IsKind kinds → is_some (option_map (λ (x : KindData). x.number) (find (λ (x : KindData). bytes_eq x.name k) kinds)) ≡ true → IsName k
+kind_form [] k all some = absurd cc
+kind_form (x ∷ kinds) k all some = by_test (bytes_eq x.name k) refl some (kind_form kinds k (All-tail IsKind x kinds all))
+  where
+    by_test : (b : Bool) → bytes_eq x.name k ≡ b → is_some (option_map (λ (y : KindData). y.number) (if b then Some x else find (λ (y : KindData). bytes_eq y.name k) kinds)) ≡ true
+        → (is_some (option_map (λ (y : KindData). y.number) (find (λ (y : KindData). bytes_eq y.name k) kinds)) ≡ true → IsName k) → IsName k
+    by_test true e some ih = subst IsName ((bytes_eq-Decides x.name k).0 e) (All-head IsKind x kinds all).name
+    by_test false e some ih = ih some
 
 -- what the name of a type of buckets is: a name, and none of the grammar's words
 pub record NamesType (k : List ℕ) : Type 0 where

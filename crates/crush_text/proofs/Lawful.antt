@@ -10,20 +10,28 @@ use Rattle.crush_units.specs.declared.id.ItemId.TheVariants.{Device, Bucket}
 use Rattle.crush_units.specs.Id.{same_id}
 use Rattle.crush_units.specs.Name.{IsName}
 use Rattle.crush_units.proofs.Ids.{same_id_refl, same_id_equal}
-use Rattle.crush_table.specs.Table.{Row, sum_below, is_device, is_device_id, row_of, row_named, id_named, is_there, member, used_ids}
+use Rattle.crush_table.specs.Table.{Row, is_device, is_device_id, row_of, row_named, id_named, is_there, member, used_ids}
 use Rattle.crush_table.specs.Columns.{is_part, without_row}
 use Rattle.crush_table.specs.Lawful.{Lawful, is_too_heavy}
 use Rattle.crush_edits.specs.Setting.{KindData}
 use Rattle.crush_edits.specs.Fits.{IsKind, Fits, is_reserved}
 use Rattle.crush_table.proofs.Appended.{row_of-append, unused_fresh}
 use Rattle.crush_table.proofs.Removed.{row_of-only}
-use Rattle.crush_map.specs.Built.{Draft, Pending, nothing, begun, numbered, filling, with_kind, with_device, placed_row, put_below, table_with_item, with_item}
-use Rattle.crush_map.specs.Building.{IsRoot, is_open, has_name, closed_item, item_named, has_kind_number, has_kind_name, is_full_of_devices, is_full_of_kinds}
+use Rattle.crush_map.specs.Built.{Draft, Pending, nothing, begun, numbered, filling, with_kind, with_device, with_tunable, placed_row, put_below, table_with_item, device_weight, with_item}
+use Rattle.crush_map.specs.Building.{IsRoot, is_open, has_name, closed_item, item_named, has_kind_number, has_kind_name, has_tunable, is_full_of_devices, is_full_of_kinds, is_full_of_tunables}
 use Rattle.crush_map.proofs.KindSteps.{Fits-with_kind}
+use Rattle.crush_map.proofs.TunableSteps.{Fits-with_tunable}
 use Rattle.crush_map.proofs.RowSteps.{new_device, device_lawful}
 use Rattle.crush_edits.proofs.FitLaws.{Fits-push}
 use Rattle.crush_map.proofs.ItemSteps.{is_no_part, item_lawful, put_fits}
 use Rattle.crush_text.specs.Document.{IsMap}
+
+-- a tunable more
+pub map_with_tunable : (d : Draft) (x : List ℕ) (v : ℕ) → IsMap d → IsName x → v ≤ 4294967295 → has_tunable d.setting x ≡ false → is_full_of_tunables d ≡ false → IsMap (with_tunable d x v)
+map_with_tunable d x v m form most free few = record {
+  lawful = m.lawful;
+  fits = Fits-with_tunable d.setting d.table (record { name = x; value = v }) m.fits (record { name = form; value = most }) free few;
+}
 
 -- a type more
 pub map_with_kind : (d : Draft) (n : ℕ) (x : List ℕ) → IsMap d → n ≤ 65535 → IsName x → (0 < n → is_reserved x ≡ false) → has_kind_number d.setting n ≡ false → has_kind_name d.setting x ≡ false → is_full_of_kinds d ≡ false → IsMap (with_kind d n x)
@@ -120,19 +128,9 @@ root_kept t i b w root other =
     record { there = ap is_some found ∙ root.there; root = ap (option_and_then (λ (r : Row). r.parent)) found ∙ root.root }
 
 -- a device's weight is in its range, and a bucket's may be any
-abbrev IsLight : ItemId → ℕ → Type 0
+abbrev pub IsLight : ItemId → ℕ → Type 0
 IsLight (Device n) w = w ≤ 2147483647
 IsLight (Bucket x) w = Unit {0}
-
--- the weight that may stand behind an item: of a bucket its sum
-abbrev pub IsWeightOf : Draft → ItemId → ℕ → Type 0
-IsWeightOf d (Device n) w = w ≤ 2147483647
-IsWeightOf d (Bucket b) w = w ≡ sum_below d.table b
-
--- a weight that may stand behind an item is in its range
-light_weight : (d : Draft) (i : ItemId) (w : ℕ) → IsWeightOf d i w → IsLight i w
-light_weight d (Device n) w h = h
-light_weight d (Bucket x) w h = tt
 
 -- the table with the item in its bucket is lawful
 lawful_below : (t : List Row) (i : ItemId) (b w : ℕ) → Lawful t → IsLight i w → is_there t i ≡ true → is_there t (Bucket b) ≡ true → is_part t i (Bucket b) ≡ false → is_too_heavy (put_below b i w t) ≡ false → Lawful (put_below b i w t)
@@ -142,22 +140,23 @@ lawful_below t (Bucket x) b w l small there stands far h =
     subst Lawful same (item_lawful t (Bucket x) b 0 l there stands far (λ _. omega arith) (ap is_too_heavy same ∙ h))
 
 -- an item more
-pub record ItemMade (d : Draft) (i : ItemId) (w b : ℕ) : Type 0 where
-  pub map : IsMap (with_item d i (Some w))
-  pub root : IsRoot (with_item d i (Some w)).table b
+pub record ItemMade (d : Draft) (i : ItemId) (w : Option ℕ) (b : ℕ) : Type 0 where
+  pub map : IsMap (with_item d i w)
+  pub root : IsRoot (with_item d i w).table b
 
 -- an item's line makes it
-pub map_with_item : (d : Draft) (x : List ℕ) (i : ItemId) (w b : ℕ) → IsMap d → d.pending ≡ filling b → IsRoot d.table b → item_named d x ≡ Some i → IsWeightOf d i w → is_too_heavy (with_item d i (Some w)).table ≡ false → ItemMade d i w b
+pub map_with_item : (d : Draft) (x : List ℕ) (i : ItemId) (w : Option ℕ) (b : ℕ) → IsMap d → d.pending ≡ filling b → IsRoot d.table b → item_named d x ≡ Some i → IsLight i (device_weight w) → is_too_heavy (with_item d i w).table ≡ false → ItemMade d i w b
 map_with_item d x i w b m p root named weight light =
     let l = listable d x i named in
-    let is : (with_item d i (Some w)).table ≡ put_below b i w d.table = ap (λ (q : Pending). table_with_item q i w d.table) p in
+    let v : ℕ = device_weight w in
+    let is : (with_item d i w).table ≡ put_below b i v d.table = ap (λ (q : Pending). table_with_item q i v d.table) p in
     let other : same_id (Bucket b) i ≡ false = ap (λ (q : Pending). is_open q i) (sym p) ∙ l.closed in
     let far = is_no_part d.table m.lawful i b root other in
-    let h : is_too_heavy (put_below b i w d.table) ≡ false = ap is_too_heavy (sym is) ∙ light in
+    let h : is_too_heavy (put_below b i v d.table) ≡ false = ap is_too_heavy (sym is) ∙ light in
     record {
       map = record {
-        lawful = subst Lawful (sym is) (lawful_below d.table i b w m.lawful (light_weight d i w weight) l.there root.there far h);
-        fits = subst (Fits d.setting) (sym is) (put_fits d.setting d.table i b w m.lawful l.there m.fits);
+        lawful = subst Lawful (sym is) (lawful_below d.table i b v m.lawful weight l.there root.there far h);
+        fits = subst (Fits d.setting) (sym is) (put_fits d.setting d.table i b v m.lawful l.there m.fits);
       };
-      root = subst (λ (t : List Row). IsRoot t b) (sym is) (root_kept d.table i b w root other);
+      root = subst (λ (t : List Row). IsRoot t b) (sym is) (root_kept d.table i b v root other);
     }

@@ -9,7 +9,7 @@ use Rattle.crush_text.specs.declared.fault.TextFaultKind.TheVariants.{BadWord, E
 use Rattle.crush_text.specs.declared.fault.TextFault.{TextFault}
 use Rattle.crush_text.specs.Fault.{fault_number}
 use Rattle.crush_text.specs.Role.{Role, El, value}
-use Rattle.crush_text.specs.Form.{Form, done, word, optional}
+use Rattle.crush_text.specs.Form.{Form, done, word, optional, ahead}
 use Rattle.crush_text.specs.Grammar.{next}
 use Rattle.crush_text.specs.Tests.{tests, word_for}
 use Rattle.crush_text.specs.Rows.{IsFault, IsRight}
@@ -79,6 +79,7 @@ take_ok d (word r more) w rest m e = by_it (word_for d r w) refl e
     by_it (Err f) k e = absurd cc
 take_ok d (done x) w rest m e = absurd cc
 take_ok d (optional k f g) w rest m e = absurd cc
+take_ok d (ahead k f g) w rest m e = absurd cc
 
 take_err : (d : Draft) (g : Form) (w : List ℕ) (rest : List Word) (f : TextFaultKind) → take d g w rest ≡ Err f → FaultyForm f d g w
 take_err d (word r more) w rest f e = by_it (word_for d r w) refl e
@@ -88,16 +89,19 @@ take_err d (word r more) w rest f e = by_it (word_for d r w) refl e
     by_it (Err x) k e = let is : x ≡ f = cc in word_fault d r w f (k ∙ ap (λ y. Err y) is)
 take_err d (done x) w rest f e = cc
 take_err d (optional k x y) w rest f e = cc
+take_err d (ahead k x y) w rest f e = cc
 
 spells_take : (d : Draft) (g : Form) (w : List ℕ) (rest : List Word) (m : State) → SpellsForm d g w rest m → take d g w rest ≡ Ok m
 spells_take d (word r more) w rest m h = ap (λ j. j >>= λ v. Ok (arrive d rest (more v))) (right_word d r w h.0) ∙ ap (λ x. Ok x) (sym h.1)
 spells_take d (done x) w rest m h = absurd h
 spells_take d (optional k x y) w rest m h = absurd h
+spells_take d (ahead k x y) w rest m h = absurd h
 
 faulty_take : (d : Draft) (g : Form) (w : List ℕ) (rest : List Word) (f : TextFaultKind) → FaultyForm f d g w → take d g w rest ≡ Err f
 faulty_take d (word r more) w rest f h = ap (λ j. j >>= λ v. Ok (arrive d rest (more v))) (fault_word d r w f h)
 faulty_take d (done x) w rest f h = ap (λ y. Err y) (sym h)
 faulty_take d (optional k x y) w rest f h = ap (λ z. Err z) (sym h)
+faulty_take d (ahead k x y) w rest f h = ap (λ z. Err z) (sym h)
 
 step_ok : (s : State) (w : List ℕ) (rest : List Word) (m : State) → step s w rest ≡ Ok m → SpellsNext s w rest m
 unfolding step

@@ -1,9 +1,9 @@
 pub mod Admitted
 pub mod Allowed
+pub mod BuiltLines
+pub mod BuiltRules
 pub mod Digits
 pub mod FirstWords
-pub mod InOrder
-pub mod ItemLines
 pub mod Judged
 pub mod Keeps
 pub mod Lawful
@@ -11,11 +11,8 @@ pub mod LawfulTexts
 pub mod Laws
 pub mod LineByLine
 pub mod OneOfBoth
-pub mod PrintedMaps
-pub mod SameText
-pub mod Sorting
-pub mod TakenNames
+pub mod Ruled
+pub mod Steps
 pub mod TheTable
-pub mod Told
 pub mod Weighed
 pub mod Whole

@@ -1,5 +1,6 @@
 -- What comes of a line and of the text behind it.
 use Rattle.std.proofs.Common.{◌≡◌, Bool, true, false, cond, List, [], ◌∷◌, Result, Ok, Err, refl, sym, ap, ◌∙◌, inl, inr}
+use Rattle.std.specs.Prelude.{drop}
 use Rattle.crush_map.specs.Built.{Draft}
 use Rattle.crush_map.specs.Building.{BuilderData}
 use Rattle.crush_bytes.specs.Words.{Word, Stop, ended, bad, Text, begins_with_key}
@@ -7,11 +8,17 @@ use Rattle.crush_text.specs.declared.fault.TextFaultKind.{TextFaultKind}
 use Rattle.crush_text.specs.declared.fault.TextFaultKind.TheVariants.{Ended}
 use Rattle.crush_text.specs.declared.fault.TextFault.{TextFault}
 use Rattle.crush_text.specs.Role.{El}
-use Rattle.crush_text.specs.Form.{Mode, first, at, Form, done, word, optional}
+use Rattle.crush_text.specs.Form.{Mode, first, at, Form, done, word, optional, ahead}
 use Rattle.crush_text.specs.Grammar.{lines}
 use Rattle.crush_text.specs.Tests.{word_for}
 use Rattle.crush_text.specs.Flow.{◌>>=◌, placed, between, amid, arrive, step, is_idle, run, outcome}
 use Rattle.crush_text.specs.Reads.{next_at, word_at, and_rest, line_at, then_on, Fails, ReadsOn}
+
+-- one of two forms goes on
+either_goes : (b : Bool) (d : Draft) (f g : Form) (t : Text) → run (arrive d t.words f) t.words t.stop ≡ then_on (line_at d f t) → run (arrive d t.words g) t.words t.stop ≡ then_on (line_at d g t)
+    → run (cond b (arrive d t.words f) (arrive d t.words g)) t.words t.stop ≡ then_on (cond b (line_at d f t) (line_at d g t))
+either_goes true d f g t x y = x
+either_goes false d f g t x y = y
 
 -- a line, and what is behind it
 line_goes : (d : Draft) (f : Form) (ws : List Word) (stop : Stop) → run (arrive d ws f) ws stop ≡ then_on (line_at d f (record { words = ws; stop = stop }))
@@ -25,12 +32,8 @@ line_goes d (word r more) (w ∷ ws) stop = by_it (word_for d r w.text) (λ v. l
         → (placed w.place (j >>= λ v. Ok (arrive d ws (more v))) >>= λ m. run m ws stop) ≡ then_on ((placed w.place j >>= and_rest (record { words = ws; stop = stop })) >>= λ x. line_at d (more x.0) x.1)
     by_it (Ok v) go = go v
     by_it (Err f) go = refl
-line_goes d (optional k f g) ws stop = by_it (begins_with_key k ws) (line_goes d f ws stop) (line_goes d g ws stop)
-  where
-    by_it : (b : Bool) → run (arrive d ws f) ws stop ≡ then_on (line_at d f (record { words = ws; stop = stop })) → run (arrive d ws g) ws stop ≡ then_on (line_at d g (record { words = ws; stop = stop }))
-        → run (cond b (arrive d ws f) (arrive d ws g)) ws stop ≡ then_on (cond b (line_at d f (record { words = ws; stop = stop })) (line_at d g (record { words = ws; stop = stop })))
-    by_it true x y = x
-    by_it false x y = y
+line_goes d (optional k f g) ws stop = either_goes (begins_with_key k ws) d f g (record { words = ws; stop = stop }) (line_goes d f ws stop) (line_goes d g ws stop)
+line_goes d (ahead k f g) ws stop = either_goes (begins_with_key k (drop 1 ws)) d f g (record { words = ws; stop = stop }) (line_goes d f ws stop) (line_goes d g ws stop)
 
 -- each line begins with a word
 begins_so : (d : Draft) (m : Mode) (ws : List Word) → arrive d ws (lines d m) ≡ amid d (lines d m)

@@ -1,60 +1,63 @@
--- The weight of an item, before it is put into the bucket and with it.
-use Rattle.std.proofs.Common.{◌≡◌, ℕ, Bool, true, false, cond, List, Option, None, Result, Ok, Err, refl, sym, ap, ◌∙◌, inl, inr}
-use Rattle.std.specs.Prelude.{not, Some, if◌then◌else◌}
+-- An item of a bucket, with a weight or without: its words, and what comes of its line.
+use Rattle.std.proofs.Common.{◌≡◌, ℕ, Bool, true, false, cond, List, [], ◌∷◌, Option, None, Result, Ok, Err, refl, sym, ap, ◌∙◌, inl, inr}
+use Rattle.std.specs.Prelude.{not, codes, is_some, Some, if◌then◌else◌}
 use Rattle.std.specs.Option.{ok_or}
 use Rattle.crush_units.specs.declared.id.ItemId.{ItemId}
 use Rattle.crush_units.specs.Weight.{weight_of_text}
+use Rattle.crush_table.specs.Table.{is_placed}
 use Rattle.crush_table.specs.Lawful.{is_too_heavy}
 use Rattle.crush_map.specs.Built.{Draft, with_item}
-use Rattle.crush_map.specs.Building.{BuilderData}
+use Rattle.crush_map.specs.Building.{BuilderData, item_named}
 use Rattle.crush_map.specs.declared.fault.BuildFault.{BuildFault}
 use Rattle.crush_map.specs.declared.fault.BuildFault.TheVariants as build
-use Rattle.crush_bytes.specs.Words.{Word, Text, is_brace_word}
-use Rattle.crush_text.specs.declared.fault.TextFaultKind.TheVariants.{Unexpected, BadWeight, LeftOut, SumTooLarge}
+use Rattle.crush_bytes.specs.Words.{Word, Stop, ended, bad, Text, is_brace_word, begins, past}
+use Rattle.crush_text.specs.declared.fault.TextFaultKind.{TextFaultKind}
+use Rattle.crush_text.specs.declared.fault.TextFaultKind.TheVariants.{Unexpected, BadWeight, UnknownItem, SecondParent, SumTooLarge}
 use Rattle.crush_text.specs.declared.fault.TextFault.{TextFault}
-use Rattle.crush_text.specs.Role.{units, item, item_or_end, weight_key, weight}
+use Rattle.crush_text.specs.Role.{item_of, units, key, item, lone_item, item_or_end, weight}
 use Rattle.crush_text.specs.Form.{filling, Progress, at, done, word}
-use Rattle.crush_text.specs.Grammar.{item_weight, item_line, item_or_brace, lines}
-use Rattle.crush_text.specs.Tests.{is_weight_for, is_other_sum, word_for}
+use Rattle.crush_text.specs.Grammar.{item_weight, weighed_item, weightless_item, item_line, item_or_brace, lines}
+use Rattle.crush_text.specs.Tests.{is_weight_for, word_for}
 use Rattle.crush_text.specs.Flow.{◌>>=◌, placed}
-use Rattle.crush_text.specs.Reads.{own_weight, and_rest, next_at, word_at, line_at, Fails, Adds, Reads}
+use Rattle.crush_text.specs.Reads.{own_weight, unless_heavy, and_rest, next_of, next_at, word_at, line_at, Fails, Adds, Reads}
 
--- a fault that it has before is its fault
-pub own_err : (p : ℕ) (d : Draft) (i : ItemId) (w : List ℕ) (f : TextFault) → Err f ≡ placed p (own_weight d i w) → placed p (word_for d (weight i) w) ≡ Err f
-own_err p d i w f e = by_tests (is_brace_word w) (not (is_weight_for i (weight_of_text w))) (is_other_sum d i (units w)) e
-  where
-    by_tests : (a b c : Bool) → Err f ≡ placed p (cond a (Err Unexpected) (cond b (Err BadWeight) (cond c (Err LeftOut) (Ok (units w)))))
-        → placed p (cond a (Err Unexpected) (cond b (Err BadWeight) (cond c (Err LeftOut) (cond (is_too_heavy (with_item d i (Some (units w))).table) (Err SumTooLarge) (Ok (units w)))))) ≡ Err f
-    by_tests true b c e = sym e
-    by_tests false true c e = sym e
-    by_tests false false true e = sym e
-    by_tests false false false e = absurd cc
+-- what comes of a weight that was told, with the item in its bucket
+abbrev with_weight : Draft → ItemId → Result ℕ TextFaultKind → Result ℕ TextFaultKind
+with_weight d i r = r >>= λ x. if is_too_heavy (with_item d i (Some x)).table then Err SumTooLarge else Ok x
 
--- without one it is the weight, where nothing is too heavy with it
-pub own_ok : (p : ℕ) (d : Draft) (i : ItemId) (w : List ℕ) (x : ℕ) → Ok x ≡ placed p (own_weight d i w) → is_too_heavy (with_item d i (Some x)).table ≡ false → placed p (word_for d (weight i) w) ≡ Ok x
-own_ok p d i w x e light = by_tests (is_brace_word w) (not (is_weight_for i (weight_of_text w))) (is_other_sum d i (units w)) e
+-- a weight's word is judged before it is put into the bucket, and then with it
+own_then : (d : Draft) (i : ItemId) (w : List ℕ) → word_for d (weight i) w ≡ with_weight d i (own_weight d i w)
+own_then d i w = by_tests (is_brace_word w) (not (is_weight_for i (weight_of_text w)))
   where
-    by_tests : (a b c : Bool) → Ok x ≡ placed p (cond a (Err Unexpected) (cond b (Err BadWeight) (cond c (Err LeftOut) (Ok (units w)))))
-        → placed p (cond a (Err Unexpected) (cond b (Err BadWeight) (cond c (Err LeftOut) (cond (is_too_heavy (with_item d i (Some (units w))).table) (Err SumTooLarge) (Ok (units w)))))) ≡ Ok x
-    by_tests true b c e = absurd cc
-    by_tests false true c e = absurd cc
-    by_tests false false true e = absurd cc
-    by_tests false false false e =
-        let k : x ≡ units w = cc in
-        ap (λ n. placed p (cond (is_too_heavy (with_item d i (Some n)).table) (Err SumTooLarge) (Ok n))) (sym k) ∙ ap (λ b. placed p (cond b (Err SumTooLarge) (Ok x))) light
+    by_tests : (a b : Bool) → cond a (Err Unexpected) (cond b (Err BadWeight) (cond (is_too_heavy (with_item d i (Some (units w))).table) (Err SumTooLarge) (Ok (units w)))) ≡ with_weight d i (cond a (Err Unexpected) (cond b (Err BadWeight) (Ok (units w))))
+    by_tests true b = refl
+    by_tests false true = refl
+    by_tests false false = refl
 
--- and a fault where something is
-pub own_heavy : (p : ℕ) (d : Draft) (i : ItemId) (w : List ℕ) (x : ℕ) → Ok x ≡ placed p (own_weight d i w) → is_too_heavy (with_item d i (Some x)).table ≡ true → placed p (word_for d (weight i) w) ≡ Err (record { kind = SumTooLarge; place = p })
-own_heavy p d i w x e heavy = by_tests (is_brace_word w) (not (is_weight_for i (weight_of_text w))) (is_other_sum d i (units w)) e
+-- what comes of an item that was told, without a weight
+abbrev without_weight : Draft → Result ItemId TextFaultKind → Result ItemId TextFaultKind
+without_weight d r = r >>= λ i. if is_too_heavy (with_item d i None).table then Err SumTooLarge else Ok i
+
+-- the name of an item without a weight is judged as any item's, and then with the item in its bucket
+lone_then : (d : Draft) (w : List ℕ) → word_for d lone_item w ≡ without_weight d (word_for d item w)
+lone_then d w = by_tests (is_brace_word w) (not (is_some (item_named d w))) (is_placed d.table (item_of d w))
   where
-    by_tests : (a b c : Bool) → Ok x ≡ placed p (cond a (Err Unexpected) (cond b (Err BadWeight) (cond c (Err LeftOut) (Ok (units w)))))
-        → placed p (cond a (Err Unexpected) (cond b (Err BadWeight) (cond c (Err LeftOut) (cond (is_too_heavy (with_item d i (Some (units w))).table) (Err SumTooLarge) (Ok (units w)))))) ≡ Err (record { kind = SumTooLarge; place = p })
-    by_tests true b c e = absurd cc
-    by_tests false true c e = absurd cc
-    by_tests false false true e = absurd cc
-    by_tests false false false e =
-        let k : x ≡ units w = cc in
-        ap (λ n. placed p (cond (is_too_heavy (with_item d i (Some n)).table) (Err SumTooLarge) (Ok n))) (sym k) ∙ ap (λ b. placed p (cond b (Err SumTooLarge) (Ok x))) heavy
+    by_tests : (a b c : Bool) → cond a (Err Unexpected) (cond b (Err UnknownItem) (cond c (Err SecondParent) (cond (is_too_heavy (with_item d (item_of d w) None).table) (Err SumTooLarge) (Ok (item_of d w)))))
+        ≡ without_weight d (cond a (Err Unexpected) (cond b (Err UnknownItem) (cond c (Err SecondParent) (Ok (item_of d w)))))
+    by_tests true b c = refl
+    by_tests false true c = refl
+    by_tests false false true = refl
+    by_tests false false false = refl
+
+-- what was told at a place without a fault was told so
+told_ok : {A : Type 0} (p : ℕ) (x : A) (r : Result A TextFaultKind) → Ok x ≡ placed p r → r ≡ Ok x
+told_ok {A = A} p x (Ok y) e = let k : x ≡ y = cc in ap (λ (z : A). Ok z) (sym k)
+told_ok p x (Err f) e = absurd cc
+
+-- a fault at a place is the fault of what goes on from there
+told_err : {A B : Type 0} (p : ℕ) (f : TextFault) (r : Result A TextFaultKind) (go : A → Result B TextFaultKind) → Err f ≡ placed p r → placed p (r >>= go) ≡ Err f
+told_err p f (Ok y) go e = absurd cc
+told_err p f (Err g) go e = let k : f ≡ record { kind = g; place = p } = cc in ap (λ (x : TextFault). Err x) (sym k)
 
 -- of the four tests that the builder makes the last is that of the weights
 abbrev pub last_test : Bool → Bool → Bool → Bool → Option BuildFault
@@ -85,32 +88,133 @@ pub none_named : (o : Option ItemId) (f : BuildFault) → Err f ≡ ok_or o buil
 none_named (Some j) f e = absurd (let no : ◌≡◌ {A = Result ItemId BuildFault} (Err f) (Ok j) = e in cc)
 none_named None f e = refl
 
--- THE LINE of an item: its name and the key, and then its weight
-pub item_goes : (d : Draft) (i : ItemId) (t one two : Text) → word_at d item t ≡ Ok (i, one) → word_at d weight_key one ≡ Ok (tt, two) → line_at d (item_line d) t ≡ line_at d (item_weight d i) two
-unfolding line_at
-item_goes d i t one two named key = ap (λ q. q >>= λ x. line_at d (word weight_key (λ _. item_weight d x.0)) x.1) named ∙ ap (λ q. q >>= λ x. line_at d (item_weight d i) x.1) key
-
--- no weight comes
-pub weight_err : (d : Draft) (i : ItemId) (t : Text) (f : TextFault) → Fails f (next_at t) → Fails f (line_at d (item_weight d i) t)
-unfolding line_at word_at
-weight_err d i t f (inl h) = inl h
-weight_err d i t f (inr h) = inr (ap (λ q. (q >>= λ x. placed x.0.place (word_for d (weight i) x.0.text) >>= and_rest x.1) >>= λ x. line_at d (done (at (filling true) (with_item d i (Some x.0)))) x.1) h)
-
--- the weight that comes is the item's
-pub weight_goes : (d : Draft) (i : ItemId) (t rest : Text) (w : Word) → next_at t ≡ Ok (w, rest) → line_at d (item_weight d i) t ≡ (placed w.place (word_for d (weight i) w.text) >>= λ x. Ok (at (filling true) (with_item d i (Some x)), rest))
-unfolding line_at word_at
-weight_goes d i t rest w n = ap (λ q. (q >>= λ x. placed x.0.place (word_for d (weight i) x.0.text) >>= and_rest x.1) >>= λ x. line_at d (done (at (filling true) (with_item d i (Some x.0)))) x.1) n ∙ by_it (placed w.place (word_for d (weight i) w.text))
+-- THE NEXT WORD and what is behind it
+pub past_word : (t rest : Text) (w : Word) → next_at t ≡ Ok (w, rest) → past t ≡ rest
+unfolding next_at
+past_word t rest w e = by_words t.words t.stop e
   where
-    by_it : (q : Result ℕ TextFault) → ((q >>= and_rest rest) >>= λ x. line_at d (done (at (filling true) (with_item d i (Some x.0)))) x.1) ≡ (q >>= λ x. Ok (at (filling true) (with_item d i (Some x)), rest))
+    by_words : (ws : List Word) (stop : Stop) → next_of ws stop ≡ Ok (w, rest) → past (record { words = ws; stop = stop }) ≡ rest
+    by_words [] (ended p) e = absurd cc
+    by_words [] (bad p) e = absurd cc
+    by_words (v ∷ ws) stop e = let k : (let x : Word × Text = (v, record { words = ws; stop = stop }) in x) ≡ (w, rest) = cc in ap (λ (x : Word × Text). x.1) k
+
+-- where there is none, a line that begins with a word has none
+form_err : (d : Draft) (r : _) (more : _) (t : Text) (f : TextFault) → Fails f (next_at t) → Fails f (line_at d (word r more) t)
+unfolding line_at word_at
+form_err d r more t f (inl h) = inl h
+form_err d r more t f (inr h) = inr (ap (λ q. (q >>= λ x. placed x.0.place (word_for d r x.0.text) >>= and_rest x.1) >>= λ x. line_at d (more x.0) x.1) h)
+
+-- a line that begins with a word goes on as that word says
+form_goes : (d : Draft) (r : _) (more : _) (t rest : Text) (w : Word) → next_at t ≡ Ok (w, rest) → line_at d (word r more) t ≡ (placed w.place (word_for d r w.text) >>= λ x. line_at d (more x) rest)
+unfolding line_at word_at
+form_goes d r more t rest w n = ap (λ q. (q >>= λ x. placed x.0.place (word_for d r x.0.text) >>= and_rest x.1) >>= λ x. line_at d (more x.0) x.1) n ∙ by_it (placed w.place (word_for d r w.text))
+  where
+    by_it : (q : Result _ TextFault) → ((q >>= and_rest rest) >>= λ x. line_at d (more x.0) x.1) ≡ (q >>= λ x. line_at d (more x) rest)
     by_it (Ok x) = refl
     by_it (Err f) = refl
 
--- an item that was weighed ends its line
-pub weight_reads : (d : Draft) (i : ItemId) (t rest : Text) (w : Word) (r : Result (Unit {0}) TextFault) (b : BuilderData) (all : Result (Progress × Text) TextFault) → next_at t ≡ Ok (w, rest) → all ≡ line_at d (item_weight d i) t
-    → Adds r b d i (placed w.place (word_for d (weight i) w.text)) → Reads (filling true) r b rest all
-weight_reads d i t rest w (Ok x) b all n so k = (with_item d i (Some k.0), k.1, so ∙ weight_goes d i t rest w n ∙ ap (λ q. q >>= λ y. Ok (at (filling true) (with_item d i (Some y)), rest)) k.2)
-weight_reads d i t rest w (Err f) b all n so (inl k) = inl k
-weight_reads d i t rest w (Err f) b all n so (inr k) = inr (so ∙ weight_goes d i t rest w n ∙ ap (λ q. q >>= λ y. Ok (at (filling true) (with_item d i (Some y)), rest)) k)
+-- which of the two lines of an item it is
+item_is : (d : Draft) (t : Text) (b : Bool) → begins (codes "weight") (past t) ≡ b → line_at d (item_line d) t ≡ (if b then line_at d (weighed_item d) t else line_at d (weightless_item d) t)
+unfolding line_at
+item_is d t b e = ap (λ c. if c then line_at d (weighed_item d) t else line_at d (weightless_item d) t) e
+
+-- whether a weight is behind the name
+behind_name : (t rest : Text) (w : Word) (b : Bool) → next_at t ≡ Ok (w, rest) → b ≡ begins (codes "weight") rest → begins (codes "weight") (past t) ≡ b
+behind_name t rest w b n e = ap (begins (codes "weight")) (past_word t rest w n) ∙ sym e
+
+-- a fault of both lines is that of the item's
+both_err : (d : Draft) (t : Text) (f : TextFault) → Fails f (line_at d (weighed_item d) t) → Fails f (line_at d (weightless_item d) t) → Fails f (line_at d (item_line d) t)
+both_err d t f (inl h) y = inl h
+both_err d t f x (inl h) = inl h
+both_err d t f (inr x) (inr y) = inr (by_it (begins (codes "weight") (past t)) refl)
+  where
+    by_it : (b : Bool) → begins (codes "weight") (past t) ≡ b → line_at d (item_line d) t ≡ Err f
+    by_it true e = item_is d t true e ∙ x
+    by_it false e = item_is d t false e ∙ y
+
+-- THE LINE of an item, behind its first word: no name comes
+pub item_err : (d : Draft) (t : Text) (f : TextFault) → Fails f (next_at t) → Fails f (line_at d (item_line d) t)
+item_err d t f h = both_err d t f (form_err d item _ t f h) (form_err d lone_item _ t f h)
+
+-- a name that is at fault
+pub item_fault : (d : Draft) (t rest : Text) (w : Word) (f : TextFault) → next_at t ≡ Ok (w, rest) → Err f ≡ placed w.place (word_for d item w.text) → Fails f (line_at d (item_line d) t)
+item_fault d t rest w f n e = both_err d t f
+    (inr (form_goes d item (λ j. word (key (codes "weight")) (λ _. item_weight d j)) t rest w n ∙ ap (λ q. q >>= λ i. line_at d (word (key (codes "weight")) (λ _. item_weight d i)) rest) (sym e)))
+    (inr (form_goes d lone_item (λ j. done (at (filling true) (with_item d j None))) t rest w n ∙ ap (λ q. placed w.place q >>= λ i. line_at d (done (at (filling true) (with_item d i None))) rest) (lone_then d w.text)
+    ∙ ap (λ q. q >>= λ i. line_at d (done (at (filling true) (with_item d i None))) rest) (told_err w.place f (word_for d item w.text) _ e)))
+
+-- `weight` follows the name
+weighed_goes : (d : Draft) (t rest : Text) (w : Word) (i : ItemId) → next_at t ≡ Ok (w, rest) → true ≡ begins (codes "weight") rest → Ok i ≡ placed w.place (word_for d item w.text)
+    → line_at d (item_line d) t ≡ line_at d (word (key (codes "weight")) (λ _. item_weight d i)) rest
+weighed_goes d t rest w i n b e =
+    item_is d t true (behind_name t rest w true n b) ∙ form_goes d item (λ j. word (key (codes "weight")) (λ _. item_weight d j)) t rest w n ∙ ap (λ q. q >>= λ j. line_at d (word (key (codes "weight")) (λ _. item_weight d j)) rest) (sym e)
+
+-- and is at fault
+pub weight_key_err : (d : Draft) (t rest : Text) (w : Word) (i : ItemId) (f : TextFault) → next_at t ≡ Ok (w, rest) → true ≡ begins (codes "weight") rest → Ok i ≡ placed w.place (word_for d item w.text)
+    → Fails f (word_at d (key (codes "weight")) rest) → Fails f (line_at d (item_line d) t)
+unfolding line_at
+weight_key_err d t rest w i f n b e (inl h) = inl h
+weight_key_err d t rest w i f n b e (inr h) = inr (weighed_goes d t rest w i n b e ∙ ap (λ q. q >>= λ x. line_at d (item_weight d i) x.1) h)
+
+-- or isn't
+pub weight_key_goes : (d : Draft) (t rest two : Text) (w : Word) (i : ItemId) → next_at t ≡ Ok (w, rest) → true ≡ begins (codes "weight") rest → Ok i ≡ placed w.place (word_for d item w.text)
+    → word_at d (key (codes "weight")) rest ≡ Ok (tt, two) → line_at d (item_line d) t ≡ line_at d (item_weight d i) two
+unfolding line_at
+weight_key_goes d t rest two w i n b e h = weighed_goes d t rest w i n b e ∙ ap (λ q. q >>= λ x. line_at d (item_weight d i) x.1) h
+
+-- what was read of the line behind a part of it was read of the line
+pub reads_so : (m : _) (r : Result (Unit {0}) TextFault) (b : BuilderData) (rest : Text) (all mid : Result (Progress × Text) TextFault) → all ≡ mid → Reads m r b rest mid → Reads m r b rest all
+reads_so m (Ok x) b rest all mid e h = (h.0, h.1, e ∙ h.2)
+reads_so m (Err f) b rest all mid e (inl h) = inl h
+reads_so m (Err f) b rest all mid e (inr h) = inr (e ∙ h)
+
+-- an item that was put into the bucket ends its line
+added : (d : Draft) (i : ItemId) (w : Option ℕ) (p : ℕ) (rest : Text) (r : Result (Unit {0}) TextFault) (b : BuilderData) → Adds r b (with_item d i w) (placed p (unless_heavy (with_item d i w)))
+    → Reads (filling true) r b rest (placed p (unless_heavy (with_item d i w)) >>= λ e. Ok (at (filling true) e, rest))
+added d i w p rest (Ok x) b h = (with_item d i w, h.0, ap (λ q. q >>= λ e. Ok (at (filling true) e, rest)) h.1)
+added d i w p rest (Err f) b (inl h) = inl h
+added d i w p rest (Err f) b (inr h) = inr (ap (λ q. q >>= λ e. Ok (at (filling true) e, rest)) h)
+
+-- an item without a weight
+pub lone_reads : (d : Draft) (t rest : Text) (w : Word) (i : ItemId) (r : Result (Unit {0}) TextFault) (b : BuilderData) → next_at t ≡ Ok (w, rest) → false ≡ begins (codes "weight") rest → Ok i ≡ placed w.place (word_for d item w.text)
+    → Adds r b (with_item d i None) (placed w.place (unless_heavy (with_item d i None))) → Reads (filling true) r b rest (line_at d (item_line d) t)
+unfolding line_at
+lone_reads d t rest w i r b n none e h =
+    reads_so (filling true) r b rest (line_at d (item_line d) t) _
+    (item_is d t false (behind_name t rest w false n none) ∙ form_goes d lone_item (λ j. done (at (filling true) (with_item d j None))) t rest w n
+    ∙ ap (λ q. placed w.place q >>= λ j. line_at d (done (at (filling true) (with_item d j None))) rest) (lone_then d w.text ∙ ap (without_weight d) (told_ok w.place i (word_for d item w.text) e))
+    ∙ by_it (is_too_heavy (with_item d i None).table))
+    (added d i None w.place rest r b h)
+  where
+    by_it : (c : Bool) → (placed w.place (if c then Err SumTooLarge else Ok i) >>= λ j. line_at d (done (at (filling true) (with_item d j None))) rest) ≡ (placed w.place (if c then Err SumTooLarge else Ok (with_item d i None)) >>= λ e. Ok (at (filling true) e, rest))
+    by_it true = refl
+    by_it false = refl
+
+-- THE WEIGHT of an item: none comes
+pub weight_err : (d : Draft) (i : ItemId) (t : Text) (f : TextFault) → Fails f (next_at t) → Fails f (line_at d (item_weight d i) t)
+weight_err d i t f h = form_err d (weight i) _ t f h
+
+-- one that is at fault
+pub weight_fault : (d : Draft) (i : ItemId) (t rest : Text) (w : Word) (f : TextFault) → next_at t ≡ Ok (w, rest) → Err f ≡ placed w.place (own_weight d i w.text) → Fails f (line_at d (item_weight d i) t)
+weight_fault d i t rest w f n e = inr (
+    form_goes d (weight i) (λ x. done (at (filling true) (with_item d i (Some x)))) t rest w n ∙ ap (λ q. placed w.place q >>= λ x. line_at d (done (at (filling true) (with_item d i (Some x)))) rest) (own_then d i w.text)
+    ∙ ap (λ q. q >>= λ x. line_at d (done (at (filling true) (with_item d i (Some x)))) rest) (told_err w.place f (own_weight d i w.text) _ e)
+    )
+
+-- one with which the item is put into the bucket
+pub weight_reads : (d : Draft) (i : ItemId) (t rest : Text) (w : Word) (x : ℕ) (r : Result (Unit {0}) TextFault) (b : BuilderData) → next_at t ≡ Ok (w, rest) → Ok x ≡ placed w.place (own_weight d i w.text)
+    → Adds r b (with_item d i (Some x)) (placed w.place (unless_heavy (with_item d i (Some x)))) → Reads (filling true) r b rest (line_at d (item_weight d i) t)
+unfolding line_at
+weight_reads d i t rest w x r b n e h =
+    reads_so (filling true) r b rest (line_at d (item_weight d i) t) _
+    (form_goes d (weight i) (λ x. done (at (filling true) (with_item d i (Some x)))) t rest w n
+    ∙ ap (λ q. placed w.place q >>= λ y. line_at d (done (at (filling true) (with_item d i (Some y)))) rest) (own_then d i w.text ∙ ap (with_weight d i) (told_ok w.place x (own_weight d i w.text) e))
+    ∙ by_it (is_too_heavy (with_item d i (Some x)).table))
+    (added d i (Some x) w.place rest r b h)
+  where
+    by_it : (c : Bool) → (placed w.place (if c then Err SumTooLarge else Ok x) >>= λ y. line_at d (done (at (filling true) (with_item d i (Some y)))) rest) ≡ (placed w.place (if c then Err SumTooLarge else Ok (with_item d i (Some x))) >>= λ e. Ok (at (filling true) e, rest))
+    by_it true = refl
+    by_it false = refl
 
 -- a line of the items by its first word
 pub item_or_end_goes : (d : Draft) (any more : Bool) (t rest : Text) → word_at d (item_or_end any) t ≡ Ok (more, rest) → line_at d (lines d (filling any)) t ≡ line_at d (item_or_brace d more) rest

@@ -32,11 +32,11 @@ module _ (bytes : List ℕ) (t : Text) (is : t ≡ words 0 bytes) where
   no_map f s u n (inr h) m = let k = sym (outcome_of (words 0 bytes) m.draft m.document) ∙ same h in absurd cc
 
   -- a draft is a map that is spelled
-  pub is_map : (d : Draft) → outcome start t ≡ Ok d → IsMapText bytes d.setting d.table 0
-  is_map d h = record { draft = d; document = document_of (words 0 bytes) d (same h); setting = refl; table = refl; none = refl }
+  pub is_map : (d : Draft) → outcome start t ≡ Ok d → IsMapText bytes d.setting d.table d.adjusted
+  is_map d h = record { draft = d; document = document_of (words 0 bytes) d (same h); setting = refl; table = refl; count = refl }
 
   -- and no other is
-  pub only_map : (d : Draft) (s : SettingData) (u : List Row) (n : ℕ) → outcome start t ≡ Ok d → IsMapText bytes s u n → (d.setting ≡ s) × (d.table ≡ u) × (0 ≡ n)
+  pub only_map : (d : Draft) (s : SettingData) (u : List Row) (n : ℕ) → outcome start t ≡ Ok d → IsMapText bytes s u n → (d.setting ≡ s) × (d.table ≡ u) × (d.adjusted ≡ n)
   only_map d s u n h m =
       let k : d ≡ m.draft = one_draft d m.draft (words 0 bytes) (same h) (outcome_of (words 0 bytes) m.draft m.document) in
-      (ap (λ (e : Draft). e.setting) k ∙ m.setting, ap (λ (e : Draft). e.table) k ∙ m.table, sym m.none)
+      (ap (λ (e : Draft). e.setting) k ∙ m.setting, ap (λ (e : Draft). e.table) k ∙ m.table, ap (λ (e : Draft). e.adjusted) k ∙ m.count)

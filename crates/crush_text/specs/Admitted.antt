@@ -1,18 +1,18 @@
 -- WHICH TEXTS ARE LAWFUL: each word is of the form that is due, and line by line a map is built. No fault is spoken of.
-use Rattle.std.specs.Prelude.{◌≡◌, ◌⊎◌, ℕ, ◌<◌, Bool, true, false, List, [], ◌∷◌, Some, Ok, codes, drop, slice_index}
-use Rattle.std.specs.Str.Parse.{digits_value}
+use Rattle.std.specs.Prelude.{◌≡◌, ◌⊎◌, ℕ, ◌<◌, Bool, true, false, nat_eq, List, [], ◌∷◌, Some, Ok, codes, drop, slice_index}
+use Rattle.std.specs.List.{starts_with}
 use Rattle.crush_units.specs.declared.alg.Alg.{Alg}
-use Rattle.crush_units.specs.declared.id.ItemId.{ItemId}
-use Rattle.crush_units.specs.declared.id.ItemId.TheVariants.{Device, Bucket}
 use Rattle.crush_units.specs.Alg.{alg_text}
 use Rattle.crush_units.specs.Weight.{are_digits, weight_of_text}
-use Rattle.crush_table.specs.Table.{Row, is_placed, sum_below}
+use Rattle.crush_table.specs.Table.{Row, is_placed}
 use Rattle.crush_edits.specs.Setting.{SettingData}
-use Rattle.crush_map.specs.Built.{Draft}
+use Rattle.crush_map.specs.Built.{Draft, add_rule}
 use Rattle.crush_map.specs.Building.{IsPending, item_named}
+use Rattle.crush_map.specs.Rules.{bucket_named}
 use Rattle.crush_bytes.specs.Words.{Word, ended, words}
-use Rattle.crush_text.specs.Role.{Role, value, number_of, item_of, units, key, opening, type_number, type_name, device_id, new_name, class_name, bucket_id, alg_key, algorithm, hash_number, item_or_end, item, weight_key, weight}
-use Rattle.crush_text.specs.Form.{Form, done, word, optional}
+use Rattle.crush_text.specs.Forms.{is_number, is_signed}
+use Rattle.crush_text.specs.Role.{Role, value, number_of, item_of, bucket_of, units, key, any_word, number, opening, tunable_name, type_number, type_name, device_id, new_name, bucket_id, id_or_alg, id_class, algorithm, item_or_end, item, lone_item, weight, rule_name, rule_id_key, rule_id, step_or_end, step_word, taken_bucket, step_order, step_count, step_type}
+use Rattle.crush_text.specs.Form.{Mode, first, second, begun, numbered, filling, ruled, Form, done, word, optional, ahead}
 use Rattle.crush_text.specs.Grammar.{next}
 use Rattle.crush_text.specs.Flow.{State, between, amid, arrive}
 use Rattle.crush_text.specs.Document.{IsMap, IsWhole, start}
@@ -22,48 +22,74 @@ pub record IsLawfulDraft (d : Draft) : Type 0 where
   pub map : IsMap d
   pub pending : IsPending d.setting d.table d.pending
 
--- types and devices stand before the buckets, and a bucket begins with the name of its type, which isn't type 0
+-- tunables, types and devices stand before buckets and rules; a rule begins so, and a bucket with the name of its type, which
+-- isn't type 0
 abbrev pub BeginsStatement : Draft → Bool → List ℕ → Type 0
-BeginsStatement d late w = ((late ≡ false) × ((w ≡ codes "type") ⊎ (w ≡ codes "device"))) ⊎ (0 < number_of d w)
+BeginsStatement d late w = ((late ≡ false) × ((w ≡ codes "tunable") ⊎ ((w ≡ codes "device") ⊎ (w ≡ codes "type")))) ⊎ ((w ≡ codes "rule") ⊎ (0 < number_of d w))
 
--- behind a device any weight may stand, behind a bucket its sum
-abbrev pub MayWeigh : Draft → ItemId → ℕ → Type 0
-MayWeigh d (Device n) w = Unit {0}
-MayWeigh d (Bucket b) w = w ≡ sum_below d.table b
+-- the words with which a step begins
+abbrev pub BeginsStep : List ℕ → Type 0
+BeginsStep w = (w ≡ codes "take") ⊎ ((w ≡ codes "choose") ⊎ ((w ≡ codes "chooseleaf") ⊎ ((w ≡ codes "emit") ⊎ (starts_with nat_eq w (codes "set_") ≡ true))))
+
+-- an item that is there, closed and in no bucket
+abbrev pub IsFree : Draft → List ℕ → Type 0
+IsFree d w = (item_named d w ≡ Some (item_of d w)) × (is_placed d.table (item_of d w) ≡ false)
 
 -- a word is of the form of what it is for: a word of the grammar, digits, `-` and digits, an item that is there, closed and in
--- no bucket, a weight. All limits, the forms of names and what is in use already are told by the map that the line builds
+-- no bucket, a closed bucket, a weight. All limits, the forms of names and what is in use already are told by the map that the
+-- line builds
 abbrev pub IsFor : Draft → Role → List ℕ → Type 0
 IsFor d (key k) w = w ≡ k
+IsFor d any_word w = Unit {0}
+IsFor d (number most) w = is_number most w ≡ true
 IsFor d (opening late) w = BeginsStatement d late w
+IsFor d tunable_name w = Unit {0}
 IsFor d type_number w = are_digits 10 w ≡ true
 IsFor d (type_name n) w = Unit {0}
 IsFor d device_id w = are_digits 10 w ≡ true
 IsFor d new_name w = Unit {0}
-IsFor d class_name w = Unit {0}
 IsFor d bucket_id w = (slice_index w 0 ≡ 45) × (are_digits 10 (drop 1 w) ≡ true)
-IsFor d alg_key w = w ≡ codes "alg"
+IsFor d id_or_alg w = (w ≡ codes "id") ⊎ (w ≡ codes "alg")
+IsFor d id_class w = Unit {0}
 IsFor d algorithm w = (a : Alg) × (w ≡ alg_text a)
-IsFor d hash_number w = (are_digits 10 w ≡ true) × (digits_value 10 w ≡ 0)
 IsFor d (item_or_end any) w = (w ≡ codes "item") ⊎ (w ≡ codes "}")
-IsFor d item w = (item_named d w ≡ Some (item_of d w)) × (is_placed d.table (item_of d w) ≡ false)
-IsFor d weight_key w = w ≡ codes "weight"
-IsFor d (weight i) w = (weight_of_text w ≡ Ok (units w)) × MayWeigh d i (units w)
+IsFor d item w = IsFree d w
+IsFor d lone_item w = IsFree d w
+IsFor d (weight i) w = weight_of_text w ≡ Ok (units w)
+IsFor d rule_name w = Unit {0}
+IsFor d rule_id_key w = (w ≡ codes "id") ⊎ (w ≡ codes "ruleset")
+IsFor d rule_id w = are_digits 10 w ≡ true
+IsFor d (step_or_end k) w = (w ≡ codes "step") ⊎ (w ≡ codes "}")
+IsFor d step_word w = BeginsStep w
+IsFor d taken_bucket w = bucket_named d w ≡ Some (bucket_of d w)
+IsFor d step_order w = (w ≡ codes "firstn") ⊎ (w ≡ codes "indep")
+IsFor d step_count w = is_signed w ≡ true
+IsFor d step_type w = Unit {0}
 
 -- a word where a form is due leads on, as its value says
 abbrev pub LeadsFrom : Draft → Form → List ℕ → List Word → State → Type 0
 LeadsFrom d (word r more) w rest m = IsFor d r w × (m ≡ arrive d rest (more (value d r w)))
 LeadsFrom d (done p) w rest m = ⊥
 LeadsFrom d (optional k f g) w rest m = ⊥
+LeadsFrom d (ahead k f g) w rest m = ⊥
 
 -- between two lines the next one is due
 abbrev pub Leads : State → List ℕ → List Word → State → Type 0
 Leads (between p) w rest m = LeadsFrom p.draft (next p) w rest m
 Leads (amid d f) w rest m = LeadsFrom d f w rest m
 
+-- in the middle of a rule, the map with the rule that was read so far
+abbrev pub IsLawfulMode : Draft → Mode → Type 0
+IsLawfulMode d first = Unit {0}
+IsLawfulMode d second = Unit {0}
+IsLawfulMode d begun = Unit {0}
+IsLawfulMode d numbered = Unit {0}
+IsLawfulMode d (filling any) = Unit {0}
+IsLawfulMode d (ruled r) = IsMap (add_rule d r)
+
 -- where a line ends, what was built so far is lawful
 abbrev pub IsLawfulState : State → Type 0
-IsLawfulState (between p) = IsLawfulDraft p.draft
+IsLawfulState (between p) = IsLawfulDraft p.draft × IsLawfulMode p.draft p.mode
 IsLawfulState (amid d f) = Unit {0}
 
 -- WORDS BUILD a map, line by line, from a state on
@@ -71,11 +97,11 @@ abbrev pub Build : State → List Word → Draft → Type 0
 Build s [] d = IsWhole s d
 Build s (w ∷ ws) d = (u : State) × Leads s w.text ws u × IsLawfulState u × Build u ws d
 
--- A LAWFUL TEXT: its words build this setting and this table of nothing. No weight is adjusted
+-- A LAWFUL TEXT: its words build this setting and this table of nothing, and adjust so many weights
 pub record IsLawfulText (bytes : List ℕ) (s : SettingData) (t : List Row) (adjusted : ℕ) : Type 0 where
   pub draft : Draft
   pub built : Build start (words 0 bytes).words draft
   pub end : (place : ℕ) × ((words 0 bytes).stop ≡ ended place)
   pub setting : draft.setting ≡ s
   pub table : draft.table ≡ t
-  pub none : adjusted ≡ 0
+  pub count : draft.adjusted ≡ adjusted

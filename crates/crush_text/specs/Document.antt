@@ -7,7 +7,7 @@ use Rattle.crush_table.specs.Lawful.{Lawful}
 use Rattle.crush_map.specs.Built.{Draft, empty_draft}
 use Rattle.crush_bytes.specs.Words.{Word, Text, ended, words}
 use Rattle.crush_text.specs.Role.{value}
-use Rattle.crush_text.specs.Form.{first, at, Form, done, word, optional}
+use Rattle.crush_text.specs.Form.{first, at, Form, done, word, optional, ahead}
 use Rattle.crush_text.specs.Grammar.{next}
 use Rattle.crush_text.specs.Rows.{IsRight}
 use Rattle.crush_text.specs.Flow.{State, between, amid, arrive, is_idle}
@@ -17,6 +17,7 @@ abbrev pub SpellsForm : Draft → Form → List ℕ → List Word → State → 
 SpellsForm d (word r more) w rest m = IsRight d r w × (m ≡ arrive d rest (more (value d r w)))
 SpellsForm d (done p) w rest m = ⊥
 SpellsForm d (optional k f g) w rest m = ⊥
+SpellsForm d (ahead k f g) w rest m = ⊥
 
 -- between two lines the next one is due
 abbrev pub SpellsNext : State → List ℕ → List Word → State → Type 0
@@ -49,11 +50,11 @@ pub record IsMap (d : Draft) : Type 0 where
   pub lawful : Lawful d.table
   pub fits : Fits d.setting d.table
 
--- THE MAP of a text: the bytes spell a document with this setting and this table. All of its weights are the sums that they
--- have to be, so that none is adjusted
+-- THE MAP of a text: the bytes spell a document with this setting and this table, in which so many written weights of buckets
+-- aren't their sums
 pub record IsMapText (bytes : List ℕ) (s : SettingData) (t : List Row) (adjusted : ℕ) : Type 0 where
   pub draft : Draft
   pub document : IsDocument (words 0 bytes) draft
   pub setting : draft.setting ≡ s
   pub table : draft.table ≡ t
-  pub none : adjusted ≡ 0
+  pub count : draft.adjusted ≡ adjusted

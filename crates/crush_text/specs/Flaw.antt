@@ -5,7 +5,7 @@ use Rattle.crush_text.specs.declared.fault.TextFaultKind.{TextFaultKind}
 use Rattle.crush_text.specs.declared.fault.TextFaultKind.TheVariants.{BadWord, Ended, OutOfMemory, Unexpected}
 use Rattle.crush_text.specs.declared.fault.TextFault.{TextFault}
 use Rattle.crush_bytes.specs.Words.{Word, Stop, ended, bad, Text, words}
-use Rattle.crush_text.specs.Form.{Form, done, word, optional}
+use Rattle.crush_text.specs.Form.{Form, done, word, optional, ahead}
 use Rattle.crush_text.specs.Grammar.{next}
 use Rattle.crush_text.specs.Rows.{IsFault}
 use Rattle.crush_text.specs.Flow.{State, between, amid, is_idle}
@@ -16,6 +16,7 @@ abbrev pub FaultyForm : TextFaultKind → Draft → Form → List ℕ → Type 0
 FaultyForm f d (word r more) w = IsFault f d r w
 FaultyForm f d (done p) w = f ≡ Unexpected
 FaultyForm f d (optional k g h) w = f ≡ Unexpected
+FaultyForm f d (ahead k g h) w = f ≡ Unexpected
 
 -- between two lines the next one is due
 abbrev pub FaultyNext : TextFaultKind → State → List ℕ → Type 0

@@ -1,11 +1,11 @@
 -- Word by word: what comes of each, and of them all.
-use Rattle.std.specs.Prelude.{ℕ, Bool, true, false, List, [], ◌∷◌, Result, Ok, Err, if◌then◌else◌}
+use Rattle.std.specs.Prelude.{ℕ, Bool, true, false, List, [], ◌∷◌, drop, Result, Ok, Err, if◌then◌else◌}
 use Rattle.crush_map.specs.Built.{Draft}
 use Rattle.crush_bytes.specs.Words.{Word, Stop, ended, bad, Text, begins_with_key}
 use Rattle.crush_text.specs.declared.fault.TextFaultKind.{TextFaultKind}
 use Rattle.crush_text.specs.declared.fault.TextFaultKind.TheVariants.{BadWord, Ended, Unexpected}
 use Rattle.crush_text.specs.declared.fault.TextFault.{TextFault}
-use Rattle.crush_text.specs.Form.{Mode, first, second, Progress, Form, done, word, optional}
+use Rattle.crush_text.specs.Form.{Mode, first, second, Progress, Form, done, word, optional, ahead}
 use Rattle.crush_text.specs.Grammar.{next}
 use Rattle.crush_text.specs.Tests.{word_for}
 
@@ -25,13 +25,15 @@ abbrev pub arrive : Draft → List Word → Form → State
 arrive d rest (done p) = between p
 arrive d rest (word r more) = amid d (word r more)
 arrive d rest (optional k f g) = if begins_with_key k rest then arrive d rest f else arrive d rest g
+arrive d rest (ahead k f g) = if begins_with_key k (drop 1 rest) then arrive d rest f else arrive d rest g
 
 -- a word where a form is due
 abbrev pub take : Draft → Form → List ℕ → List Word → Result State TextFaultKind
 take d (word r more) w rest = word_for d r w >>= λ v. Ok (arrive d rest (more v))
 take d f w rest = Err Unexpected
 
--- a further word, which others follow: an optional part is decided at the word before it
+-- a further word, which others follow: an optional part is decided at the word before it, and what the word behind the next
+-- one tells is told there too
 unfoldable pub step : State → List ℕ → List Word → Result State TextFaultKind
 step (between p) w rest = take p.draft (next p) w rest
 step (amid d f) w rest = take d f w rest

@@ -1,5 +1,5 @@
 -- Which words spell numbers.
-use Rattle.std.specs.Prelude.{ℕ, Bool, ◌&&◌, ◌==◌, nat_lt, nat_le, List, drop, slice_index}
+use Rattle.std.specs.Prelude.{ℕ, ℤ, pos, neg_ℤ, Bool, ◌&&◌, ◌==◌, nat_lt, nat_le, List, drop, slice_index, if◌then◌else◌}
 use Rattle.std.specs.Str.Parse.{digits_value}
 use Rattle.crush_units.specs.Weight.{are_digits}
 use Rattle.crush_units.specs.declared.limits.TheConstants.{FARTHEST_BUCKET_ID}
@@ -11,3 +11,11 @@ is_number most text = are_digits 10 text && nat_le (digits_value 10 text) most
 -- `-` and 1 to 10 digits, a value from -1 to -2147483648
 abbrev pub is_negative : List ℕ → Bool
 is_negative text = (slice_index text 0 == 45) && is_number FARTHEST_BUCKET_ID (drop 1 text) && nat_lt 0 (digits_value 10 (drop 1 text))
+
+-- an optional `-` and 1 to 10 digits, a value from -2147483648 to 2147483647
+abbrev pub is_signed : List ℕ → Bool
+is_signed text = if slice_index text 0 == 45 then is_number 2147483648 (drop 1 text) else is_number 2147483647 text
+
+-- its value
+abbrev pub signed_value : List ℕ → ℤ
+signed_value text = if slice_index text 0 == 45 then neg_ℤ (pos (digits_value 10 (drop 1 text))) else pos (digits_value 10 text)

@@ -1,11 +1,19 @@
--- THE GRAMMAR, line by line. A line ends where the map grows by it.
-use Rattle.std.specs.Prelude.{ℕ, Bool, List, true, false, codes, if◌then◌else◌, Some, None}
+-- THE GRAMMAR, line by line. A line ends where the map grows by it, or the rule that is read.
+use Rattle.std.specs.Prelude.{ℕ, Bool, List, [], ◌∷◌, ◌++◌, Option, true, false, codes, length, if◌then◌else◌, Some, None}
 use Rattle.crush_units.specs.declared.id.ItemId.{ItemId}
-use Rattle.crush_map.specs.Built.{Draft, with_kind, with_device, begun_bucket, with_id, with_alg, with_item, with_end}
+use Rattle.crush_edits.specs.Setting.{StepData, take, choose, set, emit, RuleData}
+use Rattle.crush_map.specs.Built.{Draft, with_tunable, with_kind, with_device, begun_bucket, with_id, with_class_id, with_alg, with_item, with_end, add_rule}
 use Rattle.crush_text.specs.declared.reader.statement.Opening.{Opening}
 use Rattle.crush_text.specs.declared.reader.statement.Opening.TheVariants as openings
-use Rattle.crush_text.specs.Role.{key, opening, type_number, type_name, device_id, new_name, class_name, bucket_id, alg_key, algorithm, hash_number, item_or_end, item, weight_key, weight}
-use Rattle.crush_text.specs.Form.{Mode, first, second, begun, numbered, filling, Progress, at, Form, done, optional, ◌>>=◌, ◌>>◌}
+use Rattle.crush_text.specs.Role.{key, any_word, number, opening, tunable_name, type_number, type_name, device_id, new_name, bucket_id, id_or_alg, id_class, algorithm, item_or_end, item, lone_item, weight, rule_name, rule_id_key, rule_id, step_or_end, step_word, StepWord, takes, chooses, sets, emits, taken_bucket, step_order, step_count, step_type}
+use Rattle.crush_text.specs.Form.{Mode, first, second, begun, numbered, filling, ruled, Progress, at, Form, done, optional, ahead, ◌>>=◌, ◌>>◌}
+
+-- `tunable` NAME N
+abbrev pub tunable_line : Draft → Form
+tunable_line d = do
+  x ← tunable_name
+  n ← number 4294967295
+  done (at first (with_tunable d x n))
 
 -- `type` N NAME
 abbrev pub type_line : Draft → Form
@@ -19,7 +27,7 @@ abbrev pub device_class : Draft → ℕ → List ℕ → Form
 device_class d n x = optional (codes "class")
     (do
       key (codes "class")
-      c ← class_name
+      c ← any_word
       done (at first (with_device d n x (Some c))))
     (done (at first (with_device d n x None)))
 
@@ -44,17 +52,28 @@ id_line d = do
   b ← bucket_id
   done (at numbered (with_id d b))
 
--- `alg` ALG [`hash` `0`]; class ids aren't read
+-- NEG `class` CLASS, behind `id`
+abbrev pub class_id_line : Draft → Form
+class_id_line d = do
+  b ← bucket_id
+  key (codes "class")
+  c ← id_class
+  done (at numbered (with_class_id d b c))
+
+-- ALG [`hash` `0`], behind `alg`
 abbrev pub alg_line : Draft → Form
 alg_line d = do
-  alg_key
   a ← algorithm
   optional (codes "hash")
       (do
         key (codes "hash")
-        hash_number
+        number 0
         done (at (filling false) (with_alg d a)))
       (done (at (filling false) (with_alg d a)))
+
+-- a class id, or the algorithm
+abbrev pub id_or_alg_line : Draft → Bool → Form
+id_or_alg_line d more = if more then class_id_line d else alg_line d
 
 -- WEIGHT
 abbrev pub item_weight : Draft → ItemId → Form
@@ -62,30 +81,120 @@ item_weight d i = do
   w ← weight i
   done (at (filling true) (with_item d i (Some w)))
 
--- `item` NAME `weight` WEIGHT
-abbrev pub item_line : Draft → Form
-item_line d = do
+-- NAME `weight` WEIGHT
+abbrev pub weighed_item : Draft → Form
+weighed_item d = do
   i ← item
-  weight_key
+  key (codes "weight")
   item_weight d i
 
--- a statement by what its first word opens
-abbrev pub statement : Draft → Opening → Form
-statement d openings.Type = type_line d
-statement d openings.Device = device_line d
-statement d (openings.Bucket k) = bucket_line d k
+-- NAME
+abbrev pub weightless_item : Draft → Form
+weightless_item d = do
+  i ← lone_item
+  done (at (filling true) (with_item d i None))
+
+-- NAME [`weight` WEIGHT], behind `item`
+abbrev pub item_line : Draft → Form
+item_line d = ahead (codes "weight") (weighed_item d) (weightless_item d)
 
 -- an item, or the bucket's end
 abbrev pub item_or_brace : Draft → Bool → Form
 item_or_brace d more = if more then item_line d else done (at second (with_end d))
+
+-- a rule that has no steps yet
+abbrev pub new_rule : List ℕ → ℕ → List ℕ → Option ℕ → Option ℕ → RuleData
+new_rule x n k least most = record { name = x; id = n; kind = k; min_size = least; max_size = most; steps = [] }
+
+-- [`max_size` N]
+abbrev pub max_size : Draft → List ℕ → ℕ → List ℕ → Option ℕ → Form
+max_size d x n k least = optional (codes "max_size")
+    (do
+      key (codes "max_size")
+      most ← number 2147483647
+      done (at (ruled (new_rule x n k least (Some most))) d))
+    (done (at (ruled (new_rule x n k least None)) d))
+
+-- [`min_size` N] [`max_size` N]
+abbrev pub sizes : Draft → List ℕ → ℕ → List ℕ → Form
+sizes d x n k = optional (codes "min_size")
+    (do
+      key (codes "min_size")
+      least ← number 2147483647
+      max_size d x n k (Some least))
+    (max_size d x n k None)
+
+-- `rule` NAME `{` (`id` | `ruleset`) N `type` WORD [`min_size` N] [`max_size` N]
+abbrev pub rule_line : Draft → Form
+rule_line d = do
+  x ← rule_name
+  key (codes "{")
+  rule_id_key
+  n ← rule_id
+  key (codes "type")
+  k ← any_word
+  sizes d x n k
+
+-- the rule with one more step
+abbrev pub with_step : RuleData → StepData → RuleData
+with_step r s = record r { steps = r.steps ++ s ∷ [] }
+
+abbrev pub step_done : Draft → RuleData → StepData → Form
+step_done d r s = done (at (ruled (with_step r s)) d)
+
+-- NAME [`class` CLASS]
+abbrev pub take_step : Draft → RuleData → Form
+take_step d r = do
+  b ← taken_bucket
+  optional (codes "class")
+      (do
+        key (codes "class")
+        c ← any_word
+        step_done d r (take b (Some c)))
+      (step_done d r (take b None))
+
+-- (`firstn` | `indep`) INT `type` TYPE
+abbrev pub choose_step : Draft → RuleData → Bool → Form
+choose_step d r leaf = do
+  firstn ← step_order
+  n ← step_count
+  key (codes "type")
+  k ← step_type
+  step_done d r (choose leaf firstn n k)
+
+-- N
+abbrev pub set_step : Draft → RuleData → List ℕ → Form
+set_step d r x = do
+  n ← number 2147483647
+  step_done d r (set x n)
+
+-- a step by its first word
+abbrev pub step_behind : Draft → RuleData → StepWord → Form
+step_behind d r takes = take_step d r
+step_behind d r (chooses leaf) = choose_step d r leaf
+step_behind d r (sets x) = set_step d r x
+step_behind d r emits = step_done d r emit
+
+-- a step, or the rule's end
+abbrev pub step_or_brace : Draft → RuleData → Bool → Form
+step_or_brace d r more = if more then step_word >>= step_behind d r else done (at second (add_rule d r))
+
+-- a statement by what its first word opens
+abbrev pub statement : Draft → Opening → Form
+statement d openings.Tunable = tunable_line d
+statement d openings.Type = type_line d
+statement d openings.Device = device_line d
+statement d (openings.Bucket k) = bucket_line d k
+statement d openings.Rule = rule_line d
 
 -- which lines may come
 abbrev pub lines : Draft → Mode → Form
 lines d first = opening false >>= statement d
 lines d second = opening true >>= statement d
 lines d begun = id_line d
-lines d numbered = alg_line d
+lines d numbered = id_or_alg >>= id_or_alg_line d
 lines d (filling any) = item_or_end any >>= item_or_brace d
+lines d (ruled r) = step_or_end (length r.steps) >>= step_or_brace d r
 
 -- the line that comes next
 abbrev pub next : Progress → Form

@@ -6,12 +6,8 @@ pub mod Flow
 pub mod Form
 pub mod Forms
 pub mod Grammar
-pub mod ItemsText
-pub mod Lines
 pub mod MapOrFlaw
-pub mod MapText
 pub mod Reads
 pub mod Role
-pub mod RuleLines
 pub mod Rows
 pub mod Tests

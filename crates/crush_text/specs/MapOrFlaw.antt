@@ -1,5 +1,5 @@
 -- What bytes can be: the text of one map, or bytes with one flaw.
-use Rattle.std.specs.Prelude.{◌≡◌, ◌⊎◌, ◌↔◌, ℕ, List, ◌∷◌, ◌++◌, Err}
+use Rattle.std.specs.Prelude.{◌≡◌, ◌⊎◌, ◌↔◌, ℕ, List, ◌∷◌, ◌++◌, Err, codes}
 use Rattle.crush_table.specs.Table.{Row}
 use Rattle.crush_edits.specs.Setting.{SettingData}
 use Rattle.crush_edits.specs.Fits.{Fits}
@@ -7,7 +7,7 @@ use Rattle.crush_table.specs.Lawful.{Lawful}
 use Rattle.crush_map.specs.Built.{Draft}
 use Rattle.crush_text.specs.declared.fault.TextFaultKind.{TextFaultKind}
 use Rattle.crush_text.specs.declared.fault.TextFault.{TextFault}
-use Rattle.crush_bytes.specs.Words.{Word, words}
+use Rattle.crush_bytes.specs.Words.{Word, words, begins_with_key}
 use Rattle.crush_text.specs.Document.{IsMapText}
 use Rattle.crush_text.specs.Admitted.{IsLawfulText}
 use Rattle.crush_text.specs.Role.{Role}
@@ -23,9 +23,10 @@ AFlawExcludesTheMap = (bytes : List ℕ) (f : TextFault) (s : SettingData) (t : 
 abbrev pub AtMostOneFlaw : Type 0
 AtMostOneFlaw = (bytes : List ℕ) (f g : TextFault) → IsMapFlaw bytes f → IsMapFlaw bytes g → f ≡ g
 
--- nor does what follows the fault's word change it: bytes with the same words up to that word have the same flaw
+-- nor does what follows the fault's word change it, but that an item has a weight or none: bytes with the same words up to that
+-- word, behind which `weight` follows or doesn't as before, have the same flaw
 abbrev pub SameWordsSameFlaw : Type 0
-SameWordsSameFlaw = (bytes others : List ℕ) (f : TextFault) (x : IsMapFlaw bytes f) (w : Word) (next more : List Word) → x.next ≡ w ∷ next → (words 0 others).words ≡ x.before ++ w ∷ more → IsMapFlaw others f
+SameWordsSameFlaw = (bytes others : List ℕ) (f : TextFault) (x : IsMapFlaw bytes f) (w : Word) (next more : List Word) → x.next ≡ w ∷ next → (words 0 others).words ≡ x.before ++ w ∷ more → begins_with_key (codes "weight") next ≡ begins_with_key (codes "weight") more → IsMapFlaw others f
 
 -- the text of a map is that of no other one
 abbrev pub AtMostOneMap : Type 0

@@ -1,19 +1,27 @@
 -- What the functions of the reader promise.
-use Rattle.std.specs.Prelude.{◌≡◌, ◌⊎◌, ℕ, ◌<◌, List, [], ◌∷◌, Bool, true, false, Option, Some, None, Result, Ok, Err, length, if◌then◌else◌}
+use Rattle.std.specs.Prelude.{◌≡◌, ◌⊎◌, ℕ, ◌<◌, List, [], ◌∷◌, Bool, true, false, Option, Some, None, Result, Ok, Err, length, bytes_eq, nat_eq, codes, if◌then◌else◌}
+use Rattle.std.specs.List.{starts_with}
 use Rattle.crush_units.specs.declared.id.ItemId.{ItemId}
-use Rattle.crush_map.specs.Built.{Draft, Pending, nothing, with_item}
-use Rattle.crush_map.specs.Building.{BuilderData, IsDraft, is_filling, is_full_of_devices, is_full_of_buckets, is_full_of_kinds, is_bucket_kind}
+use Rattle.crush_units.specs.Name.{IsName}
+use Rattle.crush_table.specs.Lawful.{is_too_heavy}
+use Rattle.crush_edits.specs.declared.rule.Step.{Step}
+use Rattle.crush_edits.specs.Setting.{RuleData, kind_number}
+use Rattle.crush_map.specs.Built.{Draft, Pending, nothing, add_rule}
+use Rattle.crush_map.specs.Building.{BuilderData, IsDraft, is_numbered, is_filling}
+use Rattle.crush_map.specs.Rules.{kept_step}
 use Rattle.crush_text.specs.declared.fault.TextFaultKind.{TextFaultKind}
-use Rattle.crush_text.specs.declared.fault.TextFaultKind.TheVariants.{BadWord, Ended, OutOfMemory}
+use Rattle.crush_text.specs.declared.fault.TextFaultKind.TheVariants.{BadWord, Ended, SumTooLarge, OutOfMemory}
 use Rattle.crush_text.specs.declared.fault.TextFault.{TextFault}
-use Rattle.crush_bytes.specs.Words.{Word, Stop, ended, bad, Text, begins}
+use Rattle.crush_bytes.specs.Words.{Word, Stop, ended, bad, Text, begins, past}
 use Rattle.crush_text.specs.declared.reader.word.PlacedWord.{PlacedWord}
+use Rattle.crush_text.specs.declared.reader.step.FirstOfStep.{FirstOfStep}
+use Rattle.crush_text.specs.declared.reader.step.FirstOfStep.TheVariants as steps
 use Rattle.crush_text.specs.declared.reader.statement.Opening.{Opening}
 use Rattle.crush_text.specs.declared.reader.statement.Opening.TheVariants as openings
-use Rattle.crush_text.specs.Role.{Role, El, units}
-use Rattle.crush_text.specs.Form.{Mode, first, second, filling, Progress, at, Form, done, word, optional}
+use Rattle.crush_text.specs.Role.{Role, El, units, key, number, StepWord, takes, chooses, sets, emits}
+use Rattle.crush_text.specs.Form.{Mode, first, second, numbered, filling, ruled, Progress, at, Form, done, word, optional, ahead}
 use Rattle.crush_text.specs.Tests.{unless, weight_tests, word_for}
-use Rattle.crush_text.specs.Grammar.{statement}
+use Rattle.crush_text.specs.Grammar.{with_step}
 use Rattle.crush_text.specs.Flow.{◌>>=◌, placed, between, outcome}
 
 -- a value, and the rest of the text
@@ -39,6 +47,7 @@ unfoldable pub line_at : Draft → Form → Text → Result (Progress × Text) T
 line_at d (done p) t = Ok (p, t)
 line_at d (word r more) t = word_at d r t >>= λ x. line_at d (more x.0) x.1
 line_at d (optional k f g) t = if begins k t then line_at d f t else line_at d g t
+line_at d (ahead k f g) t = if begins k (past t) then line_at d f t else line_at d g t
 
 -- what comes of the text behind a line
 abbrev pub then_on : Result (Progress × Text) TextFault → Result Draft TextFault
@@ -48,6 +57,36 @@ then_on r = r >>= λ x. outcome (between x.0) x.1
 abbrev pub own_weight : Draft → ItemId → List ℕ → Result ℕ TextFaultKind
 own_weight d i w = unless (weight_tests d i w) (units w)
 
+-- what comes of an item with which the map is this one
+abbrev pub unless_heavy : Draft → Result Draft TextFaultKind
+unless_heavy e = if is_too_heavy e.table then Err SumTooLarge else Ok e
+
+-- a number that a key may announce, and what follows then
+abbrev pub number_behind : List ℕ → (Option ℕ → Form) → Form
+number_behind k more = optional k (word (key k) (λ _. word (number 2147483647) (λ n. more (Some n)))) (more None)
+
+-- whether a word begins a step
+abbrev pub is_step : List ℕ → Bool
+is_step w = bytes_eq w (codes "step")
+
+-- what the first word of a step says
+abbrev pub first_of_step : FirstOfStep → StepWord
+first_of_step steps.Take = takes
+first_of_step (steps.Choose leaf) = chooses leaf
+first_of_step (steps.Set w) = sets w.text.now
+first_of_step steps.Emit = emits
+
+-- and it has the form of what it sets
+abbrev pub IsFirstOfStep : FirstOfStep → Type 0
+IsFirstOfStep steps.Take = Unit {0}
+IsFirstOfStep (steps.Choose leaf) = Unit {0}
+IsFirstOfStep (steps.Set w) = IsName w.text.now × (starts_with nat_eq w.text.now (codes "set_") ≡ true)
+IsFirstOfStep steps.Emit = Unit {0}
+
+-- a rule with one more step, as a map keeps it
+abbrev pub behind_step : Draft → RuleData → Step → Progress
+behind_step d r s = at (ruled (with_step r (kept_step d s))) d
+
 -- a fault is that of reading, unless memory was refused
 abbrev pub Fails : {Y : Type 0} → TextFault → Result Y TextFault → Type 0
 Fails f read = (f.kind ≡ OutOfMemory) ⊎ (read ≡ Err f)
@@ -56,6 +95,11 @@ Fails f read = (f.kind ≡ OutOfMemory) ⊎ (read ≡ Err f)
 abbrev pub Gives : {X Y : Type 0} → (X → Y) → Result X TextFault → Result Y TextFault → Type 0
 Gives view (Ok x) read = read ≡ Ok (view x)
 Gives view (Err f) read = Fails f read
+
+-- or the rest of a line is what reading gives
+abbrev pub GivesOn : {X Y : Type 0} → (X → Result Y TextFault) → Result X TextFault → Result Y TextFault → Type 0
+GivesOn go (Ok x) read = read ≡ go x
+GivesOn go (Err f) read = Fails f read
 
 -- a word that was read
 abbrev pub word_of : PlacedWord → Word
@@ -76,30 +120,51 @@ abbrev pub Reads : Mode → Result (Unit {0}) TextFault → BuilderData → Text
 Reads m (Ok x) builder rest line = (e : Draft) × IsDraft builder e × (line ≡ Ok (at m e, rest))
 Reads m (Err f) builder rest line = Fails f line
 
+-- behind which lines of one kind or another may come, by what it was
+abbrev pub ReadsLine : (Bool → Mode) → Result Bool TextFault → BuilderData → Text → Result (Progress × Text) TextFault → Type 0
+ReadsLine mode (Ok more) builder rest line = (e : Draft) × IsDraft builder e × (line ≡ Ok (at (mode more) e, rest))
+ReadsLine mode (Err f) builder rest line = Fails f line
+
+-- a class id was read, or the algorithm
+abbrev pub behind_id : Bool → Mode
+behind_id more = if more then numbered else filling false
+
+-- and the builder waits for the algorithm still, or fills the bucket
+abbrev pub IsBehindId : Bool → BuilderData → Type 0
+IsBehindId true b = IsAmid is_numbered b
+IsBehindId false b = IsAmid is_filling b
+
 -- an item was read, or the bucket's end
 abbrev pub behind_item : Bool → Mode
 behind_item more = if more then filling true else second
-
-abbrev pub ReadsItem : Result Bool TextFault → BuilderData → Text → Result (Progress × Text) TextFault → Type 0
-ReadsItem (Ok more) builder rest line = (e : Draft) × IsDraft builder e × (line ≡ Ok (at (behind_item more) e, rest))
-ReadsItem (Err f) builder rest line = Fails f line
 
 -- and the builder fills the bucket still, or is between two statements
 abbrev pub IsBehindItem : Bool → BuilderData → Type 0
 IsBehindItem true b = IsAmid is_filling b
 IsBehindItem false b = IsIdle b
 
--- an item is added with the weight that its word says
-abbrev pub Adds : Result (Unit {0}) TextFault → BuilderData → Draft → ItemId → Result ℕ TextFault → Type 0
-Adds (Ok x) builder d i weight = (w : ℕ) × IsDraft builder (with_item d i (Some w)) × (weight ≡ Ok w)
-Adds (Err f) builder d i weight = Fails f weight
+-- an item is added, and the map is what was to come of it
+abbrev pub Adds : Result (Unit {0}) TextFault → BuilderData → Draft → Result Draft TextFault → Type 0
+Adds (Ok x) builder e read = IsDraft builder e × (read ≡ Ok e)
+Adds (Err f) builder e read = Fails f read
 
 -- lines were read: what comes of the rest is what came of all
 abbrev pub ReadsOn : Mode → Result (Unit {0}) TextFault → BuilderData → Text → Result Draft TextFault → Type 0
 ReadsOn m (Ok x) builder rest all = (e : Draft) × IsDraft builder e × (all ≡ outcome (between (at m e)) rest)
 ReadsOn m (Err f) builder rest all = Fails f all
 
--- a statement was read, behind which only buckets may come, or all may
+-- a step of a rule was read, with which it is this one, or its brace
+abbrev pub ReadsStep : Result (Option ℕ) TextFault → Draft → RuleData → Text → Result (Progress × Text) TextFault → Type 0
+ReadsStep (Ok None) d r rest line = line ≡ Ok (at (ruled r) d, rest)
+ReadsStep (Ok (Some place)) d r rest line = line ≡ Ok (at second (add_rule d r), rest)
+ReadsStep (Err f) d r rest line = Fails f line
+
+-- all steps of a rule were read, with which it is this one, and its brace
+abbrev pub ReadsSteps : Result ℕ TextFault → Draft → RuleData → Text → Result Draft TextFault → Type 0
+ReadsSteps (Ok place) d r rest all = all ≡ outcome (between (at second (add_rule d r))) rest
+ReadsSteps (Err f) d r rest all = Fails f all
+
+-- a statement was read, behind which only buckets and rules may come, or all may
 abbrev pub behind : Bool → Mode
 behind late = if late then second else first
 
@@ -107,25 +172,24 @@ abbrev pub ReadsTo : Result Bool TextFault → BuilderData → Text → Result D
 ReadsTo (Ok late) builder rest all = (e : Draft) × IsDraft builder e × (all ≡ outcome (between (at (behind late) e)) rest)
 ReadsTo (Err f) builder rest all = Fails f all
 
--- and to the end of the text
+-- or the text is whole
+abbrev pub ReadsNext : Result (Option Bool) TextFault → BuilderData → Text → Result Draft TextFault → Type 0
+ReadsNext (Ok None) builder rest all = (e : Draft) × IsDraft builder e × (all ≡ Ok e)
+ReadsNext (Ok (Some late)) builder rest all = (e : Draft) × IsDraft builder e × (all ≡ outcome (between (at (behind late) e)) rest)
+ReadsNext (Err f) builder rest all = Fails f all
+
+-- statements were read to the end of the text
 abbrev pub ReadsAll : Result (Unit {0}) TextFault → BuilderData → Result Draft TextFault → Type 0
 ReadsAll (Ok x) builder all = (e : Draft) × IsDraft builder e × (all ≡ Ok e)
 ReadsAll (Err f) builder all = Fails f all
 
--- what a builder asks of a draft at which a statement is opened
-abbrev pub HasRoom : Opening → Draft → Type 0
-HasRoom openings.Type d = is_full_of_kinds d ≡ false
-HasRoom openings.Device d = is_full_of_devices d ≡ false
-HasRoom (openings.Bucket k) d = (is_bucket_kind d.setting k ≡ true) × (is_full_of_buckets d ≡ false)
+-- a first word that opens a bucket is the name of its type
+abbrev pub IsKnown : Draft → Opening → List ℕ → Type 0
+IsKnown d (openings.Bucket k) w = kind_number d.setting w ≡ Some k
+IsKnown d o w = Unit {0}
 
--- the first word of a statement was read, for which there is room, or the text is whole
-abbrev pub Opens : Result (Option Opening) TextFault → Draft → Bool → Text → Text → Type 0
-Opens (Ok None) d late old new = outcome (between (at (behind late) d)) old ≡ Ok d
-Opens (Ok (Some o)) d late old new = (outcome (between (at (behind late) d)) old ≡ then_on (line_at d (statement d o) new)) × HasRoom o d
-Opens (Err f) d late old new = Fails f (outcome (between (at (behind late) d)) old)
-
--- words are used up where a statement is opened
-abbrev pub Shortens : Result (Option Opening) TextFault → Text → Text → Type 0
+-- words are used up where a statement is read
+abbrev pub Shortens : Result (Option Bool) TextFault → Text → Text → Type 0
 Shortens (Ok None) old new = Unit {0}
-Shortens (Ok (Some o)) old new = length new.words < length old.words
+Shortens (Ok (Some late)) old new = length new.words < length old.words
 Shortens (Err f) old new = Unit {0}

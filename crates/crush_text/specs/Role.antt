@@ -1,5 +1,5 @@
 -- What a word may be for, and what value it has then.
-use Rattle.std.specs.Prelude.{ℕ, Bool, List, Result, Ok, Err, bytes_eq, codes, drop, unwrap_or, if◌then◌else◌}
+use Rattle.std.specs.Prelude.{ℕ, ℤ, Bool, true, false, List, Result, Ok, Err, bytes_eq, codes, drop, unwrap_or, if◌then◌else◌}
 use Rattle.std.specs.Str.Parse.{digits_value}
 use Rattle.crush_units.specs.declared.alg.Alg.{Alg}
 use Rattle.crush_units.specs.declared.alg.Alg.TheVariants.{Straw2}
@@ -11,44 +11,78 @@ use Rattle.crush_units.specs.Weight.{weight_of_text}
 use Rattle.crush_edits.specs.Setting.{kind_number}
 use Rattle.crush_map.specs.Built.{Draft}
 use Rattle.crush_map.specs.Building.{item_named}
+use Rattle.crush_map.specs.Rules.{bucket_named}
 use Rattle.crush_text.specs.declared.reader.statement.Opening.{Opening}
 use Rattle.crush_text.specs.declared.reader.statement.Opening.TheVariants as openings
+use Rattle.crush_text.specs.Forms.{signed_value}
 
--- what a word is for. The Bool of `opening` says that a bucket stands before it, that of `item_or_end` that an item does
+-- what a word is for. The Bool of `opening` says that a bucket or a rule stands before it, that of `item_or_end` that an item
+-- does; the number of `number` is the greatest one, that of `type_name` the type's, that of `step_or_end` says how many steps
+-- stand before it. An item with a weight behind it is an `item`, one without a `lone_item`
 pub data Role : Type 0 where
   key : List ℕ → Role
+  any_word : Role
+  number : ℕ → Role
   opening : Bool → Role
+  tunable_name : Role
   type_number : Role
   type_name : ℕ → Role
   device_id : Role
   new_name : Role
-  class_name : Role
   bucket_id : Role
-  alg_key : Role
+  id_or_alg : Role
+  id_class : Role
   algorithm : Role
-  hash_number : Role
   item_or_end : Bool → Role
   item : Role
-  weight_key : Role
+  lone_item : Role
   weight : ItemId → Role
+  rule_name : Role
+  rule_id_key : Role
+  rule_id : Role
+  step_or_end : ℕ → Role
+  step_word : Role
+  taken_bucket : Role
+  step_order : Role
+  step_count : Role
+  step_type : Role
+
+-- what the first word of a step says: it takes a bucket; chooses, among the items or among the devices below them; sets what
+-- the word names; or hands out
+pub data StepWord : Type 0 where
+  takes : StepWord
+  chooses : Bool → StepWord
+  sets : List ℕ → StepWord
+  emits : StepWord
 
 -- the type of its value
 abbrev pub El : Role → Type 0
 El (key k) = Unit {0}
+El any_word = List ℕ
+El (number most) = ℕ
 El (opening late) = Opening
+El tunable_name = List ℕ
 El type_number = ℕ
 El (type_name n) = List ℕ
 El device_id = ℕ
 El new_name = List ℕ
-El class_name = List ℕ
 El bucket_id = ℕ
-El alg_key = Unit {0}
+El id_or_alg = Bool
+El id_class = List ℕ
 El algorithm = Alg
-El hash_number = ℕ
 El (item_or_end any) = Bool
 El item = ItemId
-El weight_key = Unit {0}
+El lone_item = ItemId
 El (weight i) = ℕ
+El rule_name = List ℕ
+El rule_id_key = Unit {0}
+El rule_id = ℕ
+El (step_or_end k) = Bool
+El step_word = StepWord
+El taken_bucket = ℕ
+El step_order = Bool
+El step_count = ℤ
+El step_type = List ℕ
 
 -- the number of a type's name, or 0 where it is none
 abbrev pub number_of : Draft → List ℕ → ℕ
@@ -58,6 +92,10 @@ number_of d w = unwrap_or (kind_number d.setting w) 0
 abbrev pub item_of : Draft → List ℕ → ItemId
 item_of d w = unwrap_or (item_named d w) (Device 0)
 
+-- the bucket of a name
+abbrev pub bucket_of : Draft → List ℕ → ℕ
+bucket_of d w = unwrap_or (bucket_named d w) 0
+
 -- the units of a weight's text
 abbrev pub units_or_none : Result ℕ WeightFault → ℕ
 units_or_none (Ok w) = w
@@ -66,23 +104,49 @@ units_or_none (Err f) = 0
 abbrev pub units : List ℕ → ℕ
 units w = units_or_none (weight_of_text w)
 
+-- what a statement's first word opens
+abbrev pub opened : Draft → List ℕ → Opening
+opened d w =
+    if bytes_eq w (codes "tunable") then openings.Tunable
+    else (if bytes_eq w (codes "device") then openings.Device
+    else (if bytes_eq w (codes "type") then openings.Type
+    else (if bytes_eq w (codes "rule") then openings.Rule
+    else openings.Bucket (number_of d w))))
+
+-- what a step's first word says
+abbrev pub step_said : List ℕ → StepWord
+step_said w =
+    if bytes_eq w (codes "take") then takes
+    else (if bytes_eq w (codes "choose") then chooses false
+    else (if bytes_eq w (codes "chooseleaf") then chooses true
+    else (if bytes_eq w (codes "emit") then emits
+    else sets w)))
+
 -- its value
 abbrev pub value : Draft → (r : Role) → List ℕ → El r
 value d (key k) w = tt
-value d (opening late) w =
-    if bytes_eq w (codes "type") then openings.Type
-    else (if bytes_eq w (codes "device") then openings.Device
-    else openings.Bucket (number_of d w))
+value d any_word w = w
+value d (number most) w = digits_value 10 w
+value d (opening late) w = opened d w
+value d tunable_name w = w
 value d type_number w = digits_value 10 w
 value d (type_name n) w = w
 value d device_id w = digits_value 10 w
 value d new_name w = w
-value d class_name w = w
 value d bucket_id w = digits_value 10 (drop 1 w)
-value d alg_key w = tt
+value d id_or_alg w = bytes_eq w (codes "id")
+value d id_class w = w
 value d algorithm w = unwrap_or (alg_of_text w) Straw2
-value d hash_number w = digits_value 10 w
 value d (item_or_end any) w = bytes_eq w (codes "item")
 value d item w = item_of d w
-value d weight_key w = tt
+value d lone_item w = item_of d w
 value d (weight i) w = units w
+value d rule_name w = w
+value d rule_id_key w = tt
+value d rule_id w = digits_value 10 w
+value d (step_or_end k) w = bytes_eq w (codes "step")
+value d step_word w = step_said w
+value d taken_bucket w = bucket_of d w
+value d step_order w = bytes_eq w (codes "firstn")
+value d step_count w = signed_value w
+value d step_type w = w

@@ -1,23 +1,26 @@
 -- THE TABLE OF FAULTS, row by row: when a word has which fault where it stands for this.
-use Rattle.std.specs.Prelude.{◌≡◌, ◌≢◌, ◌<◌, ◌⊎◌, ℕ, true, false, List, Result, Ok, Err, None, codes, drop, Some}
+use Rattle.std.specs.Prelude.{◌≡◌, ◌≢◌, ◌<◌, ◌≤◌, ◌⊎◌, ℕ, true, false, nat_eq, List, Result, Ok, Err, None, codes, drop, Some}
+use Rattle.std.specs.List.{starts_with}
 use Rattle.std.specs.Str.Parse.{digits_value}
 use Rattle.crush_units.specs.declared.id.ItemId.{ItemId}
 use Rattle.crush_units.specs.declared.id.ItemId.TheVariants.{Device, Bucket}
 use Rattle.crush_units.specs.declared.weight.WeightFault.{WeightFault}
 use Rattle.crush_units.specs.Alg.{alg_of_text}
 use Rattle.crush_units.specs.Weight.{weight_of_text}
-use Rattle.crush_table.specs.Table.{is_there, is_placed, sum_below}
+use Rattle.crush_table.specs.Table.{is_there, is_placed}
 use Rattle.crush_table.specs.Lawful.{is_too_heavy}
+use Rattle.crush_edits.specs.Setting.{kind_number}
 use Rattle.crush_edits.specs.Fits.{is_reserved}
 use Rattle.crush_map.specs.Built.{Draft, with_item}
-use Rattle.crush_map.specs.Building.{has_name, has_bucket_id, item_named, is_bucket_kind, has_kind_number, has_kind_name}
+use Rattle.crush_map.specs.Building.{has_name, has_bucket_id, has_class, item_named, is_bucket_kind, has_kind_number, has_kind_name, has_tunable, is_full_of_class_ids}
+use Rattle.crush_map.specs.Rules.{bucket_named, has_rule_name, has_rule_id}
 use Rattle.crush_text.specs.declared.fault.TextFaultKind.{TextFaultKind}
-use Rattle.crush_text.specs.declared.fault.TextFaultKind.TheVariants.{Unexpected, BadNumber, BadWeight, DuplicateId, DuplicateName, UnknownType, UnknownItem, SecondParent, OtherAlgorithm, LeftOut, TooMany, SumTooLarge}
+use Rattle.crush_text.specs.declared.fault.TextFaultKind.TheVariants.{Unexpected, BadNumber, BadWeight, DuplicateId, DuplicateName, UnknownType, UnknownItem, SecondParent, OtherAlgorithm, LeftOut, UnknownBucketInRule, TooMany, SumTooLarge}
 use Rattle.crush_text.specs.Fault.{fault_number}
-use Rattle.crush_text.specs.Forms.{is_number, is_negative}
-use Rattle.crush_text.specs.Role.{Role, number_of, item_of, units, key, opening, type_number, type_name, device_id, new_name, bucket_id, alg_key, algorithm, hash_number, item_or_end, item, weight_key, weight}
+use Rattle.crush_text.specs.Forms.{is_number, is_negative, is_signed}
+use Rattle.crush_text.specs.Role.{Role, number_of, item_of, units, key, number, opening, tunable_name, type_number, type_name, device_id, new_name, bucket_id, id_or_alg, id_class, algorithm, item_or_end, item, lone_item, weight, rule_name, rule_id_key, rule_id, step_or_end, step_word, taken_bucket, step_order, step_count, step_type}
 use Rattle.crush_text.specs.Tests.{is_full}
-use Rattle.crush_units.specs.declared.limits.TheConstants.{HEAVIEST_DEVICE, LAST_DEVICE_ID, LAST_TYPE}
+use Rattle.crush_units.specs.declared.limits.TheConstants.{HEAVIEST_DEVICE, LAST_DEVICE_ID, LAST_TYPE, MOST_STEPS}
 
 -- `{` or `}`
 abbrev pub IsBrace : List ℕ → Type 0
@@ -27,22 +30,35 @@ IsBrace w = (w ≡ codes "{") ⊎ (w ≡ codes "}")
 abbrev pub ComesFirst : List ℕ → Type 0
 ComesFirst w = (w ≡ codes "tunable") ⊎ ((w ≡ codes "device") ⊎ (w ≡ codes "type"))
 
+-- neither of two words
+abbrev pub IsNeither : List ℕ → List ℕ → List ℕ → Type 0
+IsNeither w k l = (w ≢ k) × (w ≢ l)
+
+-- no word with which a step begins
+abbrev pub IsNoStepWord : List ℕ → Type 0
+IsNoStepWord w = (w ≢ codes "take") × IsNeither w (codes "choose") (codes "chooseleaf") × (w ≢ codes "emit") × (starts_with nat_eq w (codes "set_") ≡ false) × (w ≢ codes "choosemsr")
+
 -- a word or a brace that the grammar doesn't have there; a type's forbidden name
 abbrev pub IsUnexpected : Role → List ℕ → Type 0
 IsUnexpected (key k) w = w ≢ k
 IsUnexpected (opening late) w = IsBrace w ⊎ ((w ≡ codes "class") ⊎ ((late ≡ true) × ComesFirst w))
 IsUnexpected (type_name n) w = IsBrace w ⊎ ((is_reserved w ≡ true) × (n ≢ 0))
-IsUnexpected alg_key w = (w ≢ codes "alg") × (w ≢ codes "id")
+IsUnexpected id_or_alg w = IsNeither w (codes "id") (codes "alg")
 IsUnexpected (item_or_end any) w = (w ≢ codes "item") × (w ≢ codes "}") × (any ≡ true → w ≢ codes "pos")
-IsUnexpected weight_key w = ⊥
+IsUnexpected rule_id_key w = IsNeither w (codes "id") (codes "ruleset")
+IsUnexpected (step_or_end k) w = IsNeither w (codes "step") (codes "}")
+IsUnexpected step_word w = IsNoStepWord w
+IsUnexpected step_order w = IsNeither w (codes "firstn") (codes "indep")
 IsUnexpected r w = IsBrace w
 
 -- no number of the form or the range that is due
 abbrev pub IsBadNumber : Role → List ℕ → Type 0
+IsBadNumber (number most) w = is_number most w ≡ false
 IsBadNumber type_number w = is_number LAST_TYPE w ≡ false
 IsBadNumber device_id w = is_number LAST_DEVICE_ID w ≡ false
 IsBadNumber bucket_id w = is_negative w ≡ false
-IsBadNumber hash_number w = is_number 0 w ≡ false
+IsBadNumber rule_id w = is_number 2147483647 w ≡ false
+IsBadNumber step_count w = is_signed w ≡ false
 IsBadNumber r w = ⊥
 
 -- no weight, or one above 2147483647 units for a device
@@ -60,27 +76,34 @@ abbrev pub IsDuplicateId : Draft → Role → List ℕ → Type 0
 IsDuplicateId d type_number w = has_kind_number d.setting (digits_value 10 w) ≡ true
 IsDuplicateId d device_id w = is_there d.table (Device (digits_value 10 w)) ≡ true
 IsDuplicateId d bucket_id w = has_bucket_id d (digits_value 10 (drop 1 w)) ≡ true
+IsDuplicateId d rule_id w = has_rule_id d.setting (digits_value 10 w) ≡ true
 IsDuplicateId d r w = ⊥
 
--- a name that an earlier line has
+-- a name that an earlier line has, a class that an earlier line of the bucket has
 abbrev pub IsDuplicateName : Draft → Role → List ℕ → Type 0
+IsDuplicateName d tunable_name w = has_tunable d.setting w ≡ true
 IsDuplicateName d (type_name n) w = has_kind_name d.setting w ≡ true
 IsDuplicateName d new_name w = has_name d w ≡ true
+IsDuplicateName d id_class w = has_class d w ≡ true
+IsDuplicateName d rule_name w = has_rule_name d.setting w ≡ true
 IsDuplicateName d r w = ⊥
 
--- a first word that names no type, or type 0, and that begins nothing else
+-- a first word that names no type, or type 0, and that begins nothing else; a step's type that isn't declared
 abbrev pub IsUnknownType : Draft → Role → List ℕ → Type 0
 IsUnknownType d (opening late) w = (is_bucket_kind d.setting (number_of d w) ≡ false) × (w ≢ codes "tunable") × (w ≢ codes "device") × (w ≢ codes "type") × (w ≢ codes "rule") × (w ≢ codes "choose_args")
+IsUnknownType d step_type w = kind_number d.setting w ≡ None
 IsUnknownType d r w = ⊥
 
 -- no declared device and no closed bucket
 abbrev pub IsUnknownItem : Draft → Role → List ℕ → Type 0
 IsUnknownItem d item w = item_named d w ≡ None
+IsUnknownItem d lone_item w = item_named d w ≡ None
 IsUnknownItem d r w = ⊥
 
 -- an item that a bucket holds already
 abbrev pub IsSecondParent : Draft → Role → List ℕ → Type 0
 IsSecondParent d item w = is_placed d.table (item_of d w) ≡ true
+IsSecondParent d lone_item w = is_placed d.table (item_of d w) ≡ true
 IsSecondParent d r w = ⊥
 
 -- another algorithm
@@ -88,27 +111,28 @@ abbrev pub IsOtherAlgorithm : Role → List ℕ → Type 0
 IsOtherAlgorithm algorithm w = alg_of_text w ≡ None
 IsOtherAlgorithm r w = ⊥
 
--- another weight than the sum of a bucket
-abbrev pub IsOtherSum : Draft → ItemId → ℕ → Type 0
-IsOtherSum d (Device n) w = ⊥
-IsOtherSum d (Bucket b) w = w ≢ sum_below d.table b
+-- what isn't read
+abbrev pub IsLeftOut : Role → List ℕ → Type 0
+IsLeftOut (opening late) w = w ≡ codes "choose_args"
+IsLeftOut (item_or_end any) w = w ≡ codes "pos"
+IsLeftOut step_word w = w ≡ codes "choosemsr"
+IsLeftOut r w = ⊥
 
--- what isn't read here
-abbrev pub IsLeftOut : Draft → Role → List ℕ → Type 0
-IsLeftOut d (opening late) w = (w ≡ codes "tunable") ⊎ ((w ≡ codes "rule") ⊎ (w ≡ codes "choose_args"))
-IsLeftOut d alg_key w = w ≡ codes "id"
-IsLeftOut d (item_or_end any) w = w ≡ codes "pos"
-IsLeftOut d weight_key w = w ≢ codes "weight"
-IsLeftOut d (weight i) w = IsOtherSum d i (units w)
-IsLeftOut d r w = ⊥
+-- a step takes what is no closed bucket
+abbrev pub IsUnknownBucketInRule : Draft → Role → List ℕ → Type 0
+IsUnknownBucketInRule d taken_bucket w = bucket_named d w ≡ None
+IsUnknownBucketInRule d r w = ⊥
 
--- one more type, device or bucket than a map may have
+-- one more tunable, type, device, bucket, class id, rule or step than a map may have
 abbrev pub IsTooMany : Draft → Role → List ℕ → Type 0
 IsTooMany d (opening late) w = is_full d w ≡ true
+IsTooMany d id_or_alg w = (w ≡ codes "id") × (is_full_of_class_ids d ≡ true)
+IsTooMany d (step_or_end k) w = (w ≡ codes "step") × (MOST_STEPS ≤ k)
 IsTooMany d r w = ⊥
 
 -- an item with which a bucket's sum or the total is out of range
 abbrev pub IsSumTooLarge : Draft → Role → List ℕ → Type 0
+IsSumTooLarge d lone_item w = is_too_heavy (with_item d (item_of d w) None).table ≡ true
 IsSumTooLarge d (weight i) w = is_too_heavy (with_item d i (Some (units w))).table ≡ true
 IsSumTooLarge d r w = ⊥
 
@@ -123,7 +147,8 @@ Holds UnknownType d r w = IsUnknownType d r w
 Holds UnknownItem d r w = IsUnknownItem d r w
 Holds SecondParent d r w = IsSecondParent d r w
 Holds OtherAlgorithm d r w = IsOtherAlgorithm r w
-Holds LeftOut d r w = IsLeftOut d r w
+Holds LeftOut d r w = IsLeftOut r w
+Holds UnknownBucketInRule d r w = IsUnknownBucketInRule d r w
 Holds TooMany d r w = IsTooMany d r w
 Holds SumTooLarge d r w = IsSumTooLarge d r w
 Holds f d r w = ⊥

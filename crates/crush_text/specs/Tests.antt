@@ -1,22 +1,25 @@
 -- How a word is judged: the faults that it may have where it stands, by their numbers.
-use Rattle.std.specs.Prelude.{ℕ, Bool, true, false, not, ◌&&◌, ◌||◌, ◌==◌, nat_le, List, [], ◌∷◌, Result, Ok, Err, is_some, bytes_eq, codes, drop, if◌then◌else◌, Some}
+use Rattle.std.specs.Prelude.{ℕ, Bool, true, false, not, ◌&&◌, ◌||◌, ◌==◌, nat_eq, nat_le, List, [], ◌∷◌, Result, Ok, Err, is_some, bytes_eq, codes, drop, if◌then◌else◌, None, Some}
+use Rattle.std.specs.List.{starts_with}
 use Rattle.std.specs.Str.Parse.{digits_value}
 use Rattle.crush_units.specs.declared.id.ItemId.{ItemId}
 use Rattle.crush_units.specs.declared.id.ItemId.TheVariants.{Device, Bucket}
 use Rattle.crush_units.specs.declared.weight.WeightFault.{WeightFault}
 use Rattle.crush_units.specs.Alg.{alg_of_text}
 use Rattle.crush_units.specs.Weight.{weight_of_text}
-use Rattle.crush_table.specs.Table.{is_there, is_placed, sum_below}
+use Rattle.crush_table.specs.Table.{is_there, is_placed}
 use Rattle.crush_table.specs.Lawful.{is_too_heavy}
+use Rattle.crush_edits.specs.Setting.{kind_number}
 use Rattle.crush_edits.specs.Fits.{is_reserved}
 use Rattle.crush_map.specs.Built.{Draft, with_item}
-use Rattle.crush_map.specs.Building.{has_name, has_bucket_id, item_named, has_kind_number, has_kind_name, is_bucket_kind, is_full_of_devices, is_full_of_buckets, is_full_of_kinds}
+use Rattle.crush_map.specs.Building.{has_name, has_bucket_id, has_class, item_named, has_kind_number, has_kind_name, has_tunable, is_bucket_kind, is_full_of_devices, is_full_of_buckets, is_full_of_kinds, is_full_of_tunables, is_full_of_class_ids}
+use Rattle.crush_map.specs.Rules.{bucket_named, has_rule_name, has_rule_id, is_full_of_rules}
 use Rattle.crush_text.specs.declared.fault.TextFaultKind.{TextFaultKind}
-use Rattle.crush_text.specs.declared.fault.TextFaultKind.TheVariants.{Unexpected, BadNumber, BadWeight, DuplicateId, DuplicateName, UnknownType, UnknownItem, SecondParent, OtherAlgorithm, LeftOut, TooMany, SumTooLarge}
+use Rattle.crush_text.specs.declared.fault.TextFaultKind.TheVariants.{Unexpected, BadNumber, BadWeight, DuplicateId, DuplicateName, UnknownType, UnknownItem, SecondParent, OtherAlgorithm, LeftOut, UnknownBucketInRule, TooMany, SumTooLarge}
 use Rattle.crush_bytes.specs.Words.{is_brace_word}
-use Rattle.crush_text.specs.Forms.{is_number, is_negative}
-use Rattle.crush_text.specs.Role.{Role, El, value, number_of, item_of, units, key, opening, type_number, type_name, device_id, new_name, class_name, bucket_id, alg_key, algorithm, hash_number, item_or_end, item, weight_key, weight}
-use Rattle.crush_units.specs.declared.limits.TheConstants.{HEAVIEST_DEVICE, LAST_DEVICE_ID, LAST_TYPE}
+use Rattle.crush_text.specs.Forms.{is_number, is_negative, is_signed}
+use Rattle.crush_text.specs.Role.{Role, El, value, number_of, item_of, units, key, any_word, number, opening, tunable_name, type_number, type_name, device_id, new_name, bucket_id, id_or_alg, id_class, algorithm, item_or_end, item, lone_item, weight, rule_name, rule_id_key, rule_id, step_or_end, step_word, taken_bucket, step_order, step_count, step_type}
+use Rattle.crush_units.specs.declared.limits.TheConstants.{HEAVIEST_DEVICE, LAST_DEVICE_ID, LAST_TYPE, MOST_STEPS}
 
 -- a fault, and whether the word has it
 pub data Test : Type 0 where
@@ -35,21 +38,26 @@ a_number most w more = a_word w ((BadNumber when not (is_number most w)) ∷ mor
 abbrev pub is_either : List ℕ → List ℕ → List ℕ → Bool
 is_either w k l = bytes_eq w k || bytes_eq w l
 
--- whether a word begins no statement here: types, devices and tunables come before the buckets
-abbrev pub is_out_of_place : Bool → List ℕ → Bool
-is_out_of_place late w = is_brace_word w || (bytes_eq w (codes "class") || (late && (bytes_eq w (codes "tunable") || is_either w (codes "device") (codes "type"))))
+-- whether a word begins a tunable, a device or a type
+abbrev pub comes_first : List ℕ → Bool
+comes_first w = bytes_eq w (codes "tunable") || is_either w (codes "device") (codes "type")
 
--- whether it begins a statement that isn't read here
-abbrev pub is_left_out : List ℕ → Bool
-is_left_out w = bytes_eq w (codes "tunable") || is_either w (codes "rule") (codes "choose_args")
+-- whether a word begins no statement here: types, devices and tunables come before the buckets and the rules
+abbrev pub is_out_of_place : Bool → List ℕ → Bool
+is_out_of_place late w = is_brace_word w || (bytes_eq w (codes "class") || (late && comes_first w))
 
 -- whether it begins a statement by itself
 abbrev pub is_known : Draft → List ℕ → Bool
-is_known d w = is_left_out w || (is_either w (codes "device") (codes "type") || is_bucket_kind d.setting (number_of d w))
+is_known d w = comes_first w || (is_either w (codes "rule") (codes "choose_args") || is_bucket_kind d.setting (number_of d w))
 
 -- whether there is no room for one more of its statement
 abbrev pub is_full : Draft → List ℕ → Bool
-is_full d w = if bytes_eq w (codes "type") then is_full_of_kinds d else (if bytes_eq w (codes "device") then is_full_of_devices d else is_full_of_buckets d)
+is_full d w =
+    if bytes_eq w (codes "tunable") then is_full_of_tunables d
+    else (if bytes_eq w (codes "device") then is_full_of_devices d
+    else (if bytes_eq w (codes "type") then is_full_of_kinds d
+    else (if bytes_eq w (codes "rule") then is_full_of_rules d
+    else is_full_of_buckets d)))
 
 -- whether a text is a weight that an item may have
 abbrev pub is_weight_for : ItemId → Result ℕ WeightFault → Bool
@@ -57,32 +65,46 @@ is_weight_for i (Err f) = false
 is_weight_for (Device n) (Ok w) = nat_le w HEAVIEST_DEVICE
 is_weight_for (Bucket b) (Ok w) = true
 
--- whether it is another than the sum of a bucket
-abbrev pub is_other_sum : Draft → ItemId → ℕ → Bool
-is_other_sum d (Device n) w = false
-is_other_sum d (Bucket b) w = not (w == sum_below d.table b)
-
 -- the tests of a weight before it is put into the bucket
 abbrev pub weight_tests : Draft → ItemId → List ℕ → List Test
-weight_tests d i w = a_word w ((BadWeight when not (is_weight_for i (weight_of_text w))) ∷ (LeftOut when is_other_sum d i (units w)) ∷ [])
+weight_tests d i w = a_word w ((BadWeight when not (is_weight_for i (weight_of_text w))) ∷ [])
+
+-- those of an item's name, and then others
+abbrev pub item_tests : Draft → List ℕ → List Test → List Test
+item_tests d w more = a_word w ((UnknownItem when not (is_some (item_named d w))) ∷ (SecondParent when is_placed d.table (item_of d w)) ∷ more)
+
+-- whether a word begins a step
+abbrev pub is_step_word : List ℕ → Bool
+is_step_word w = bytes_eq w (codes "take") || (is_either w (codes "choose") (codes "chooseleaf") || (bytes_eq w (codes "emit") || starts_with nat_eq w (codes "set_")))
 
 -- the tests of each kind of word
 abbrev pub tests : Draft → Role → List ℕ → List Test
 tests d (key k) w = (Unexpected when not (bytes_eq w k)) ∷ []
-tests d (opening late) w = (Unexpected when is_out_of_place late w) ∷ (UnknownType when not (is_known d w)) ∷ (LeftOut when is_left_out w) ∷ (TooMany when is_full d w) ∷ []
+tests d any_word w = a_word w []
+tests d (number most) w = a_number most w []
+tests d (opening late) w = (Unexpected when is_out_of_place late w) ∷ (UnknownType when not (is_known d w)) ∷ (LeftOut when bytes_eq w (codes "choose_args")) ∷ (TooMany when is_full d w) ∷ []
+tests d tunable_name w = a_word w ((DuplicateName when has_tunable d.setting w) ∷ [])
 tests d type_number w = a_number LAST_TYPE w ((DuplicateId when has_kind_number d.setting (digits_value 10 w)) ∷ [])
 tests d (type_name n) w = (Unexpected when is_brace_word w || (is_reserved w && not (n == 0))) ∷ (DuplicateName when has_kind_name d.setting w) ∷ []
 tests d device_id w = a_number LAST_DEVICE_ID w ((DuplicateId when is_there d.table (Device (digits_value 10 w))) ∷ [])
 tests d new_name w = a_word w ((DuplicateName when has_name d w) ∷ [])
-tests d class_name w = a_word w []
 tests d bucket_id w = a_word w ((BadNumber when not (is_negative w)) ∷ (DuplicateId when has_bucket_id d (digits_value 10 (drop 1 w))) ∷ [])
-tests d alg_key w = (Unexpected when not (is_either w (codes "alg") (codes "id"))) ∷ (LeftOut when bytes_eq w (codes "id")) ∷ []
+tests d id_or_alg w = (Unexpected when not (is_either w (codes "id") (codes "alg"))) ∷ (TooMany when bytes_eq w (codes "id") && is_full_of_class_ids d) ∷ []
+tests d id_class w = a_word w ((DuplicateName when has_class d w) ∷ [])
 tests d algorithm w = a_word w ((OtherAlgorithm when not (is_some (alg_of_text w))) ∷ [])
-tests d hash_number w = a_number 0 w []
 tests d (item_or_end any) w = (Unexpected when not (is_either w (codes "item") (codes "}") || (any && bytes_eq w (codes "pos")))) ∷ (LeftOut when bytes_eq w (codes "pos")) ∷ []
-tests d item w = a_word w ((UnknownItem when not (is_some (item_named d w))) ∷ (SecondParent when is_placed d.table (item_of d w)) ∷ [])
-tests d weight_key w = (LeftOut when not (bytes_eq w (codes "weight"))) ∷ []
-tests d (weight i) w = a_word w ((BadWeight when not (is_weight_for i (weight_of_text w))) ∷ (LeftOut when is_other_sum d i (units w)) ∷ (SumTooLarge when is_too_heavy (with_item d i (Some (units w))).table) ∷ [])
+tests d item w = item_tests d w []
+tests d lone_item w = item_tests d w ((SumTooLarge when is_too_heavy (with_item d (item_of d w) None).table) ∷ [])
+tests d (weight i) w = a_word w ((BadWeight when not (is_weight_for i (weight_of_text w))) ∷ (SumTooLarge when is_too_heavy (with_item d i (Some (units w))).table) ∷ [])
+tests d rule_name w = a_word w ((DuplicateName when has_rule_name d.setting w) ∷ [])
+tests d rule_id_key w = (Unexpected when not (is_either w (codes "id") (codes "ruleset"))) ∷ []
+tests d rule_id w = a_number 2147483647 w ((DuplicateId when has_rule_id d.setting (digits_value 10 w)) ∷ [])
+tests d (step_or_end k) w = (Unexpected when not (is_either w (codes "step") (codes "}"))) ∷ (TooMany when bytes_eq w (codes "step") && nat_le MOST_STEPS k) ∷ []
+tests d step_word w = (Unexpected when not (is_step_word w || bytes_eq w (codes "choosemsr"))) ∷ (LeftOut when bytes_eq w (codes "choosemsr")) ∷ []
+tests d taken_bucket w = a_word w ((UnknownBucketInRule when not (is_some (bucket_named d w))) ∷ [])
+tests d step_order w = (Unexpected when not (is_either w (codes "firstn") (codes "indep"))) ∷ []
+tests d step_count w = a_word w ((BadNumber when not (is_signed w)) ∷ [])
+tests d step_type w = a_word w ((UnknownType when not (is_some (kind_number d.setting w))) ∷ [])
 
 -- a value, unless one of the tests holds: then the first one that does
 abbrev pub unless : {A : Type 0} → List Test → A → Result A TextFaultKind

@@ -2,11 +2,9 @@
 #![tactic(auto)]
 
 mod fault;
-mod lines;
-mod printer;
 mod reader;
 
 pub use crush_bytes::{Reader, Token, WriteFault, put, put_all};
+pub use crush_print::{same_tables_print_alike, taken_buckets_are_named, write_map};
 pub use fault::{TextFault, TextFaultKind};
-pub use printer::{same_tables_print_alike, taken_buckets_are_named, write_map};
 pub use reader::{a_text_has_one_map_or_one_flaw, read_map, read_map_in};

@@ -13,8 +13,12 @@ ghost use Rattle.crush_text.specs.MapOrFlaw.{WordsAreJudgedByTheTable, AFlawExcl
 
 mod bucket;
 mod device;
+mod items;
 mod roles;
+mod rule;
 mod statement;
+mod step;
+mod tunable;
 mod type_line;
 mod word;
 
@@ -26,10 +30,11 @@ use std::alloc::{Allocator, Global};
 
 /// Reads the text of a map, as `crushtool` prints it.
 ///
-/// The second value counts the items that are buckets and whose weight in the text wasn't their
-/// sum; since such a text is refused as [`TextFaultKind::LeftOut`], it is 0. Refused so too are
-/// tunables, rules and weight sets, classes of ids, items without a weight, and the positions of
-/// items. docs/FORMATS.md has the grammar, and each fault with its place.
+/// The second value counts the items that are buckets and whose weight in the text wasn't the sum
+/// over the devices below them; the map has the sum. Refused as [`TextFaultKind::LeftOut`] are
+/// weight sets (`choose_args`), the steps of MSR rules (`choosemsr`) and the positions of items
+/// (`pos`), and as [`TextFaultKind::OtherAlgorithm`] uniform and tree buckets. docs/FORMATS.md has
+/// the grammar, and each fault with its place.
 pub fn read_map(alloc: Global, text: &[u8]) -> Result<(CrushMap<Global>, u32), TextFault>
     // What is read is a map that the text spells.
     ensures map { IfOk result (λ m. (t : List Row)
@@ -45,8 +50,8 @@ pub fn read_map(alloc: Global, text: &[u8]) -> Result<(CrushMap<Global>, u32), T
     read_map_in(alloc, alloc, text)
 }
 
-/// Reads the text of a map, as [`read_map`] does. Its types are kept in the machine's memory, all
-/// else in that of the allocator.
+/// Reads the text of a map, as [`read_map`] does. Its types, tunables and rules are kept in the
+/// machine's memory, all else in that of the allocator.
 pub fn read_map_in<A: Allocator + Clone>(
     machine: Global,
     alloc: A,
@@ -70,8 +75,9 @@ pub fn read_map_in<A: Allocator + Clone>(
             place: 0,
         });
     };
-    read_statements(&mut reader, &mut builder)?;
-    Ok((builder.finish(), 0))
+    read_statements(&mut reader, &mut builder, machine)?;
+    let adjusted = builder.adjusted();
+    Ok((builder.finish(), adjusted))
 }
 
 /// Bytes are the text of one map or have one flaw, and never both: where there is a flaw no map is

@@ -5,11 +5,14 @@ mod heaps;
 mod limits;
 mod printing;
 mod reading;
+mod rules;
+mod statements;
 mod words;
 mod writing;
 
 use crush_text::{TextFault, TextFaultKind, read_map, write_map};
 use std::alloc::Global;
+use std::process::Abort;
 use std::test::Fail;
 
 /// The plain example map: two hosts below a root, without tunables and rules.
@@ -66,6 +69,31 @@ fn plain_example_map(alloc: Global) -> Result<Vec<u8>, Fail> {
     Ok(text)
 }
 
+/// The rule of the example map.
+const RULE: &[u8] =
+    b"rule replicated_rule {\n\tid 0\n\ttype replicated\n\tstep take default\n\tstep chooseleaf firstn 0 type host\n\tstep emit\n}\n";
+
+/// The text of the example map, which has a tunable and a rule, with such a weight of h1.
+fn example_map(alloc: Global, weight: &[u8]) -> Result<Vec<u8>, Fail> {
+    let mut text = Vec::new(alloc);
+    for line in PLAIN_EXAMPLE_MAP {
+        if *line == b"\titem h1 weight 2.00000\n".as_slice() {
+            text.extend_from_slice(b"\titem h1")?;
+            text.extend_from_slice(weight)?;
+            text.extend_from_slice(b"\n")?;
+        } else {
+            text.extend_from_slice(line)?;
+        }
+        if *line == b"# begin crush map\n".as_slice() {
+            text.extend_from_slice(b"tunable choose_total_tries 50\n")?;
+        }
+        if *line == b"# rules\n".as_slice() {
+            text.extend_from_slice(RULE)?;
+        }
+    }
+    Ok(text)
+}
+
 /// What is wrong with the text where these two types and this device stand before it, in 36 bytes,
 /// or `None` where nothing is.
 fn fault_of(alloc: Global, line: &[u8]) -> Result<Option<TextFault>, Fail> {
@@ -73,6 +101,22 @@ fn fault_of(alloc: Global, line: &[u8]) -> Result<Option<TextFault>, Fail> {
     text.extend_from_slice(b"type 1 host\ntype 11 root\ndevice 0 d\n")?;
     text.extend_from_slice(line)?;
     Ok(read_map(alloc, text.as_slice()).err())
+}
+
+/// Each text is refused behind these types and this device, for the fault and at the place beside it.
+fn are_refused_so(
+    rt: &impl Abort,
+    alloc: Global,
+    rows: &[(TextFaultKind, &[u8], usize)],
+) -> Result<(), Fail> {
+    for (kind, text, place) in rows {
+        let Some(fault) = fault_of(alloc, *text)? else {
+            return Err("a text is read".into());
+        };
+        assert!(rt; fault.kind == *kind, "{kind}, and not {fault}");
+        assert_eq!(rt; fault.place, *place, "{kind}");
+    }
+    Ok(())
 }
 
 /// Whether the text is refused for this at this place.

@@ -1,8 +1,8 @@
 //! The command line.
 
-ghost use Rattle.std.specs.Prelude.{◌≡◌, IfOk, codes, not, option_map};
-ghost use Rattle.clap.specs.Words.{first_value, found_of, kind_of, one_text};
-ghost use Rattle.crushedit.specs.Options.{IsFlag, IsFaultOf};
+ghost use Rattle.std.specs.Prelude.{◌≡◌, IfErr, IfOk, codes, false, map, not, option_map};
+ghost use Rattle.clap.specs.Words.{app_of, fault_of, first_value, found_of, kind_of, one_text, rule_of};
+ghost use Rattle.crushedit.specs.Options.{IsAsked, IsFaultIn, IsFaultOf, IsFlag, file, flag, program};
 
 use crate::options::{Options, OptionsFault};
 use crate::run::Mode;
@@ -48,27 +48,41 @@ Exit status:
     4    there was no memory, and nothing was written
 ";
 
-/// The flags and the file that the program takes.
-fn command<'a>(alloc: Global) -> Result<Command<'a>, AllocError> {
-    let in_turn = Arg::new(alloc, "in-turn")
-        .long("in-turn")
+/// A flag `--NAME`.
+fn flag<'a>(alloc: Global, name: &'a str, help: &'a str) -> Arg<'a>
+    ensures rule { rule_of result ≡ flag name.entry.now }
+    ensures own { result.global ≡ false }
+{
+    Arg::new(alloc, name)
+        .long(name)
         .action(ArgAction::SetTrue)
-        .help("Run the scripts one after the other, in the order of their sections");
-    let no_history = Arg::new(alloc, "no-history")
-        .long("no-history")
-        .action(ArgAction::SetTrue)
-        .help("Write no line for each command behind the map");
-    let file = Arg::new(alloc, "FILE")
+        .help(help)
+}
+
+/// The file that a job is read from.
+fn file<'a>(alloc: Global) -> Arg<'a>
+    ensures rule { rule_of result ≡ file }
+    ensures own { result.global ≡ false }
+{
+    Arg::new(alloc, "FILE")
         .action(ArgAction::Set)
-        .help("The job; without FILE it is read from standard input");
+        .help("The job; without FILE it is read from standard input")
+}
+
+/// The flags and the file that the program takes.
+fn command<'a>(alloc: Global) -> Result<Command<'a>, AllocError>
+    ensures { IfOk result (λ command. app_of command ≡ program) }
+{
+    let in_turn = "Run the scripts one after the other, in the order of their sections";
+    let no_history = "Write no line for each command behind the map";
     Command::new(alloc, "crushedit")
         .no_binary_name(true)
         .version("0.1.0")
         .about(ABOUT)
         .after_help(MORE)
-        .arg(in_turn)?
-        .arg(no_history)?
-        .arg(file)
+        .arg(flag(alloc, "in-turn", in_turn))?
+        .arg(flag(alloc, "no-history", no_history))?
+        .arg(file(alloc))
 }
 
 /// The options that a parsed command line has.
@@ -107,7 +121,10 @@ fn fault_of(alloc: Global, error: &Error) -> OptionsFault
 
 /// Reads the words of a command line behind the program's name: `[--in-turn] [--no-history]
 /// [FILE]`, in any order. Each word is one of these or refused: none is ignored.
-pub fn options<S: AsStr>(alloc: Global, words: &[S]) -> Result<Options, OptionsFault> {
+pub fn options<S: AsStr>(alloc: Global, words: &[S]) -> Result<Options, OptionsFault>
+    ensures asked { IfOk result (IsAsked (map S.text words.now)) }
+    ensures fault { IfErr result (IsFaultIn (fault_of program (map S.text words.now))) }
+{
     let command = command(alloc)?;
     match command.try_get_matches_from(words) {
         Ok(matches) => Ok(options_of(alloc, &matches)?),

@@ -4,7 +4,7 @@ ghost use Rattle.std.specs.Prelude.{◌≡◌, ◌≢◌, ◌≤◌, ◌++◌, �
 ghost use Rattle.std.specs.Io.KnownBytes.{Keeps};
 ghost use Rattle.crush_table.specs.Stands.{Stands};
 ghost use Rattle.crush_table.specs.Table.{Row};
-ghost use Rattle.crush_text.specs.MapText.{map_text};
+ghost use Rattle.crush_print.specs.MapText.{map_text};
 ghost use Rattle.crush_bytes.specs.Writes.{Writes};
 ghost use Rattle.crush_script.specs.Entries.{history_data};
 ghost use Rattle.crush_script.specs.HistoryText.{names_of};

@@ -6,12 +6,14 @@ use crate::run::{Mode, Summary};
 use std::test::Fail;
 
 mod command_line;
+mod examples;
 mod failing;
 mod limits;
 mod refusals;
 mod replies;
 mod reports;
 mod runs;
+mod whole;
 mod worked;
 
 /// The plain example map, with nothing behind it.

@@ -1,6 +1,6 @@
 //! The tests that tell whether a call of the builder may be made.
 
-ghost use Rattle.std.specs.Prelude.{◌≡◌, ◌↔◌, IsTrue, IfSome, IfOk, bytes_eq, true, false};
+ghost use Rattle.std.specs.Prelude.{◌≡◌, ◌==◌, ◌↔◌, IsTrue, IfSome, IfOk, map, bytes_eq, true, false};
 ghost use Rattle.std.specs.Option.{ok_or};
 ghost use Rattle.crush_map.specs.declared.fault.BuildFault.TheVariants.{UnknownItem};
 ghost use Rattle.crush_units.specs.declared.id.ItemId.TheVariants.{Device, Bucket};
@@ -11,13 +11,19 @@ ghost use Rattle.crush_map.specs.Building.{IsDraft, is_begun, is_numbered, is_fi
 ghost use Rattle.crush_map.specs.Building.{has_kind_number, has_kind_name, has_name, has_bucket_id};
 ghost use Rattle.crush_map.specs.Building.{is_bucket_kind, item_named, is_full_of_devices};
 ghost use Rattle.crush_map.specs.Building.{is_full_of_buckets, is_full_of_kinds};
-ghost use Rattle.crush_map.specs.Building.{has_tunable, is_full_of_tunables};
+ghost use Rattle.crush_map.specs.Building.{has_tunable, is_full_of_tunables, has_class};
+ghost use Rattle.crush_map.specs.Building.{is_full_of_class_ids, names_bucket_kind};
+ghost use Rattle.crush_map.specs.Building.{has_pending_id, pending_class_ids};
+ghost use Rattle.crush_nodes.specs.Seen.{shadow_data};
+ghost use Rattle.crush_nodes.specs.declared.node.ShadowId.{ShadowId as DeclaredShadow};
 ghost use Rattle.std.specs.List.{list_any};
 ghost use Rattle.crush_edits.specs.declared.setting.Tunable.{Tunable as DeclaredTunable};
 
 use super::{MapBuilder, Pending};
 use crate::fault::BuildFault;
 use crush_edits::Tunable;
+use crush_tree::ShadowId;
+use crush_units::limits::MOST_CLASS_IDS;
 use crush_units::{BucketId, DeviceId, ItemId, TypeId, Weight};
 use std::alloc::Allocator;
 
@@ -61,11 +67,21 @@ impl<A: Allocator> MapBuilder<A> {
     pub fn has_bucket_id(&self, id: BucketId) -> bool
         ensures { (d : Draft) → IsDraft self.now d → result ≡ has_bucket_id d id }
     {
-        let pending = match &self.pending {
-            Pending::Numbered(_, _, own) => *own == id,
-            _ => false,
-        };
-        self.forest.is_used(id) || pending
+        self.forest.is_used(id) || self.has_pending_id(id)
+    }
+
+    /// Whether the bucket that waits for its algorithm has a class id of this class.
+    pub fn has_class(&self, class: &[u8]) -> bool
+        ensures { (d : Draft) → IsDraft self.now d → result ≡ has_class d class.now }
+    {
+        names_class(self.class_ids(), class)
+    }
+
+    /// Whether the bucket that waits for its algorithm has 16 class ids.
+    pub fn is_full_of_class_ids(&self) -> bool
+        ensures { (d : Draft) → IsDraft self.now d → result ≡ is_full_of_class_ids d }
+    {
+        self.class_ids().len() >= MOST_CLASS_IDS
     }
 
     /// Whether an item has this name, also the bucket that isn't complete.
@@ -74,7 +90,7 @@ impl<A: Allocator> MapBuilder<A> {
     {
         let pending = match &self.pending {
             Pending::Begun(_, own) => own.is(name),
-            Pending::Numbered(_, own, _) => own.is(name),
+            Pending::Numbered(_, own, _, _) => own.is(name),
             _ => false,
         };
         self.forest.id_of_bytes(name).is_some() || pending
@@ -106,6 +122,17 @@ impl<A: Allocator> MapBuilder<A> {
         ensures { (d : Draft) → IsDraft self.now d → result ≡ is_bucket_kind d.setting number }
     {
         number.number() > 0 && self.has_kind_number(number)
+    }
+
+    /// Whether buckets can have the type of this name.
+    pub(super) fn names_bucket_kind(&self, name: &[u8]) -> bool
+        ensures { (d : Draft) → IsDraft self.now d
+            → result ≡ names_bucket_kind d.setting name.now }
+    {
+        match self.kind_number(name) {
+            Some(number) => number.number() > 0,
+            None => false,
+        }
     }
 
     /// The number of the type of this name, or `None` where the map has no such type.
@@ -195,6 +222,26 @@ impl<A: Allocator> MapBuilder<A> {
         self.setting.tunables().len() >= 64
     }
 
+    /// Whether the bucket that waits for its algorithm, or one of its class ids, has the id.
+    fn has_pending_id(&self, id: BucketId) -> bool
+        ensures { result ≡ has_pending_id self.now.pending id }
+    {
+        match &self.pending {
+            Pending::Numbered(_, _, own, _) => *own == id || numbers_class_id(self.class_ids(), id),
+            _ => false,
+        }
+    }
+
+    /// The class ids of the bucket that waits for its algorithm, or none where none does.
+    fn class_ids(&self) -> &[ShadowId<A>]
+        ensures { map shadow_data result.now ≡ pending_class_ids self.now.pending }
+    {
+        match &self.pending {
+            Pending::Numbered(_, _, _, Some(class_ids)) => class_ids.as_slice(),
+            _ => &[],
+        }
+    }
+
     /// Whether the bucket is the one that is being filled.
     pub(super) fn fills(&self, id: BucketId) -> bool
         ensures { result ≡ is_open self.now.pending (Bucket id) }
@@ -204,6 +251,21 @@ impl<A: Allocator> MapBuilder<A> {
             _ => false,
         }
     }
+}
+
+/// Whether one of the class ids has the id.
+fn numbers_class_id<A: Allocator>(class_ids: &[ShadowId<A>], id: BucketId) -> bool
+    ensures { result ≡ list_any (λ (c : DeclaredShadow _). c.id == id) class_ids.now }
+{
+    class_ids.iter().any(|class_id| class_id.id == id)
+}
+
+/// Whether one of the class ids has the class.
+fn names_class<A: Allocator>(class_ids: &[ShadowId<A>], class: &[u8]) -> bool
+    ensures { result
+        ≡ list_any (λ (c : DeclaredShadow _). bytes_eq c.class class.now) class_ids.now }
+{
+    class_ids.iter().any(|class_id| class_id.class.is(class))
 }
 
 /// Whether one of the tunables has the name.

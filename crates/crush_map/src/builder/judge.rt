@@ -9,7 +9,7 @@ ghost use Rattle.crush_nodes.specs.Ops.{part_of};
 ghost use Rattle.crush_map.specs.Built.{Draft, filling, adjustment, table_with_item};
 ghost use Rattle.crush_map.specs.Building.{IsDraft};
 ghost use Rattle.crush_map.specs.Faults.{kind_fault, device_fault, begin_fault, item_fault};
-ghost use Rattle.crush_map.specs.Faults.{is_closed, is_heavy_device, tunable_fault};
+ghost use Rattle.crush_map.specs.Faults.{is_closed, is_heavy_device, tunable_fault, class_id_fault};
 ghost use Rattle.crush_map.specs.Pending.{with_first_weight};
 
 use super::{MapBuilder, device_weight};
@@ -65,16 +65,32 @@ impl<A: Allocator> MapBuilder<A> {
     }
 
     /// What speaks against one more bucket.
-    pub(super) fn begin_fault(&self, kind: TypeId, name: &[u8]) -> Option<BuildFault>
-        ensures { (d : Draft) → IsDraft self.now d → result ≡ begin_fault d kind name.now }
+    pub(super) fn begin_fault(&self, kind: &[u8], name: &[u8]) -> Option<BuildFault>
+        ensures { (d : Draft) → IsDraft self.now d → result ≡ begin_fault d kind.now name.now }
     {
         if self.has_name(name) {
             return Some(BuildFault::DuplicateName);
         }
-        if !self.is_bucket_kind(kind) {
+        if !self.names_bucket_kind(kind) {
             return Some(BuildFault::UnknownType);
         }
         if self.is_full_of_buckets() {
+            return Some(BuildFault::TooMany);
+        }
+        None
+    }
+
+    /// What speaks against one more class id.
+    pub(super) fn class_id_fault(&self, id: BucketId, class: &[u8]) -> Option<BuildFault>
+        ensures { (d : Draft) → IsDraft self.now d → result ≡ class_id_fault d id class.now }
+    {
+        if self.has_bucket_id(id) {
+            return Some(BuildFault::DuplicateId);
+        }
+        if self.has_class(class) {
+            return Some(BuildFault::DuplicateName);
+        }
+        if self.is_full_of_class_ids() {
             return Some(BuildFault::TooMany);
         }
         None

@@ -137,7 +137,7 @@ impl<A: Allocator> MapBuilder<A> {
     }
 
     /// The complete bucket of this name, or `None` where there is none.
-    fn bucket_named(&self, name: &[u8]) -> Option<BucketId>
+    pub fn bucket_named(&self, name: &[u8]) -> Option<BucketId>
         ensures { (d : Draft) → IsDraft self.now d → result ≡ bucket_named d name.now }
     {
         match self.closed_item(name)? {

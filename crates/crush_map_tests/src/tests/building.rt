@@ -27,7 +27,7 @@ pub fn types_and_devices<A: Allocator + Clone>(
 }
 
 /// The buckets of the plain example map, but for the last brace.
-fn add_buckets<A: Allocator + Clone>(
+pub fn add_buckets<A: Allocator + Clone>(
     rt: &impl Abort,
     builder: &mut MapBuilder<A>,
 ) -> Result<(), BuildFault> {
@@ -168,7 +168,7 @@ fn device(rt: &impl Abort, number: i32) -> DeviceId {
 }
 
 /// The bucket of this number.
-fn bucket(rt: &impl Abort, number: i32) -> BucketId {
+pub fn bucket(rt: &impl Abort, number: i32) -> BucketId {
     BucketId::new(number).expect(rt, "a bucket")
 }
 

@@ -3,10 +3,10 @@
 use crate::tests::building::types_and_devices;
 use crate::tests::statements::{
     add_device, add_device_of_class, add_item, add_item_as_it_is, add_type, begin_bucket,
-    begin_of_type, end_bucket, finish, open_bucket,
+    end_bucket, finish, open_bucket,
 };
 use crush_map::BuildFault;
-use crush_units::{BucketId, TypeId};
+use crush_units::BucketId;
 use std::test::Fail;
 
 /// The faults in the order of their numbers.
@@ -40,8 +40,8 @@ fn names_and_numbers_that_are_taken(rt: HostRuntime) -> Result<(), Fail> {
     assert!(rt; add_device(&rt, &mut builder, 2, b"osd.9") == id);
     assert!(rt; add_device(&rt, &mut builder, 9, b"osd.2") == name);
     assert!(rt; begin_bucket(&rt, &mut builder, b"osd", b"osd.2") == name);
-    for number in [0, 2] {
-        let told = begin_of_type(&rt, &mut builder, TypeId::new(number), b"h1");
+    for kind in [b"osd".as_slice(), b"row".as_slice()] {
+        let told = begin_bucket(&rt, &mut builder, kind, b"h1");
         assert!(rt; told == Err(BuildFault::UnknownType));
     }
     begin_bucket(&rt, &mut builder, b"host", b"h1")?;

@@ -53,20 +53,54 @@ pub fn begin_bucket<A: Allocator + Clone>(
     kind: &[u8],
     name: &[u8],
 ) -> Result<(), BuildFault> {
-    let kind = builder.kind_number(kind).expect(rt, "a type");
-    begin_of_type(rt, builder, kind, name)
-}
-
-/// `TYPE NAME {`, with the type by its number.
-pub fn begin_of_type<A: Allocator + Clone>(
-    rt: &impl Abort,
-    builder: &mut MapBuilder<A>,
-    kind: TypeId,
-    name: &[u8],
-) -> Result<(), BuildFault> {
     assert!(rt; builder.is_idle());
     assert!(rt; is_name(name));
     builder.begin(kind, name)
+}
+
+/// `tunable NAME VALUE`
+pub fn add_tunable<A: Allocator + Clone>(
+    rt: &impl Abort,
+    builder: &mut MapBuilder<A>,
+    name: &[u8],
+    value: u32,
+) -> Result<(), BuildFault> {
+    assert!(rt; builder.is_idle());
+    assert!(rt; is_name(name));
+    builder.tunable(name, value)
+}
+
+/// `id NUMBER`
+pub fn number_bucket<A: Allocator + Clone>(
+    rt: &impl Abort,
+    builder: &mut MapBuilder<A>,
+    number: i32,
+) -> Result<(), BuildFault> {
+    let id = BucketId::new(number).expect(rt, "a bucket");
+    assert!(rt; builder.is_begun());
+    builder.id(id)
+}
+
+/// `id NUMBER class CLASS`
+pub fn add_class_id<A: Allocator + Clone>(
+    rt: &impl Abort,
+    builder: &mut MapBuilder<A>,
+    number: i32,
+    class: &[u8],
+) -> Result<(), BuildFault> {
+    let id = BucketId::new(number).expect(rt, "a class id");
+    assert!(rt; builder.is_numbered());
+    assert!(rt; is_name(class));
+    builder.class_id(id, class)
+}
+
+/// `alg straw2`
+pub fn fill_bucket<A: Allocator + Clone>(
+    rt: &impl Abort,
+    builder: &mut MapBuilder<A>,
+) -> Result<(), BuildFault> {
+    assert!(rt; builder.is_numbered());
+    builder.alg(Alg::Straw2)
 }
 
 /// `id NUMBER`, and `alg straw2`
@@ -75,11 +109,8 @@ pub fn open_bucket<A: Allocator + Clone>(
     builder: &mut MapBuilder<A>,
     number: i32,
 ) -> Result<(), BuildFault> {
-    let id = BucketId::new(number).expect(rt, "a bucket");
-    assert!(rt; builder.is_begun());
-    builder.id(id)?;
-    assert!(rt; builder.is_numbered());
-    builder.alg(Alg::Straw2)
+    number_bucket(rt, builder, number)?;
+    fill_bucket(rt, builder)
 }
 
 /// `item NAME weight WEIGHT`, with the weight in units

@@ -1,45 +1,48 @@
-//! The lines of a bucket.
+//! The first lines of a bucket.
 
-ghost use Rattle.std.specs.Prelude.{◌≡◌, ◌≤◌, ◌<◌, length, true, false, IfOk, OnOk};
-ghost use Rattle.crush_table.specs.Table.{is_there, is_placed};
+ghost use Rattle.std.specs.Prelude.{◌≡◌, ◌≤◌, ◌<◌, length, false, IfOk, OnOk, Some, None, drop, if◌then◌else◌, ℕ};
+ghost use Rattle.std.specs.Str.Parse.{digits_value};
+ghost use Rattle.crush_units.specs.Name.{IsName};
+ghost use Rattle.crush_edits.specs.Setting.{kind_number};
 ghost use Rattle.crush_map.specs.Built.{Draft};
-ghost use Rattle.crush_map.specs.Building.{IsDraft, is_bucket_kind, is_begun, is_numbered, is_filling, is_open, is_full_of_buckets};
+ghost use Rattle.crush_map.specs.Building.{IsDraft, is_begun, is_numbered, is_filling};
+ghost use Rattle.crush_text.specs.Forms.{is_negative};
+ghost use Rattle.crush_text.specs.Role.{bucket_id, id_or_alg, id_class, algorithm};
 ghost use Rattle.crush_text.specs.Form.{second, begun, numbered, filling, at};
-ghost use Rattle.crush_text.specs.Grammar.{bucket_line, id_line, alg_line, item_line, lines};
-ghost use Rattle.crush_text.specs.Flow.{between, outcome, placed};
-ghost use Rattle.crush_text.specs.Role.{weight};
-ghost use Rattle.crush_text.specs.Tests.{word_for};
-ghost use Rattle.crush_text.specs.Reads.{IsIdle, IsAmid, IsBehindItem, Reads, ReadsItem, ReadsOn, Adds, own_weight, then_on, line_at};
+ghost use Rattle.crush_text.specs.Grammar.{bucket_line, id_line, class_id_line, alg_line, lines};
+ghost use Rattle.crush_text.specs.Flow.{between, outcome};
+ghost use Rattle.crush_text.specs.Reads.{IsIdle, IsAmid, IsBehindId, behind_id, Gives, Reads, ReadsLine, ReadsOn, then_on, word_at, line_at};
 
 use crate::fault::{TextFault, TextFaultKind};
-use crate::reader::roles::{
-    read_alg_key, read_algorithm, read_bucket_id, read_hash_number, read_item_name,
-    read_item_or_end, read_key, read_new_name, read_weight_key,
-};
+use crate::reader::items::read_items;
+use crate::reader::roles::{read_key, read_new_name, read_number};
 use crate::reader::word::{PlacedWord, next_word};
 use crush_bytes::Reader;
-use crush_map::{BuildFault, MapBuilder};
-use crush_units::{ItemId, TypeId, Weight};
+use crush_bytes::number::number_up_to;
+use crush_map::MapBuilder;
+use crush_units::limits::FARTHEST_BUCKET_ID;
+use crush_units::{Alg, BucketId};
 use std::alloc::Allocator;
 
 /// A bucket, behind the name of its type.
 pub(crate) fn read_bucket<A: Allocator + Clone>(
     reader: &mut Reader<'_>,
     builder: &mut MapBuilder<A>,
-    kind: TypeId,
+    kind: &[u8],
 ) -> Result<(), TextFault>
     requires idle { IsIdle builder.old }
-    requires kind { (d : Draft) → IsDraft builder.old d → is_bucket_kind d.setting kind ≡ true }
-    requires room { (d : Draft) → IsDraft builder.old d → is_full_of_buckets d ≡ false }
+    requires known { (d : Draft) → IsDraft builder.old d
+        → (k : ℕ) × (kind_number d.setting kind.now ≡ Some k) }
     ensures idle { OnOk result (IsIdle builder.new) }
-    ensures reads { (d : Draft) → IsDraft builder.old d
+    ensures reads { (d : Draft) (k : ℕ) → IsDraft builder.old d
+        → kind_number d.setting kind.now ≡ Some k
         → ReadsOn second result builder.new reader.new
-        (then_on (line_at d (bucket_line d kind) reader.old)) }
+        (then_on (line_at d (bucket_line d k) reader.old)) }
     ensures shorter { OnOk result (length reader.new.words ≤ length reader.old.words) }
 {
     read_name(reader, builder, kind)?;
     read_id(reader, builder)?;
-    read_alg(reader, builder)?;
+    read_class_ids(reader, builder)?;
     read_items(reader, builder)
 }
 
@@ -48,14 +51,15 @@ pub(crate) fn read_bucket<A: Allocator + Clone>(
 fn read_name<A: Allocator + Clone>(
     reader: &mut Reader<'_>,
     builder: &mut MapBuilder<A>,
-    kind: TypeId,
+    kind: &[u8],
 ) -> Result<(), TextFault>
     requires idle { IsIdle builder.old }
-    requires kind { (d : Draft) → IsDraft builder.old d → is_bucket_kind d.setting kind ≡ true }
-    requires room { (d : Draft) → IsDraft builder.old d → is_full_of_buckets d ≡ false }
+    requires known { (d : Draft) → IsDraft builder.old d
+        → (k : ℕ) × (kind_number d.setting kind.now ≡ Some k) }
     ensures begun { OnOk result (IsAmid is_begun builder.new) }
-    ensures reads { (d : Draft) → IsDraft builder.old d
-        → Reads begun result builder.new reader.new (line_at d (bucket_line d kind) reader.old) }
+    ensures reads { (d : Draft) (k : ℕ) → IsDraft builder.old d
+        → kind_number d.setting kind.now ≡ Some k
+        → Reads begun result builder.new reader.new (line_at d (bucket_line d k) reader.old) }
     ensures shorter { OnOk result (length reader.new.words ≤ length reader.old.words) }
 {
     let name = read_new_name(reader, builder)?;
@@ -79,14 +83,80 @@ fn read_id<A: Allocator>(
 {
     read_key(reader, b"{")?;
     read_key(reader, b"id")?;
-    let id = read_bucket_id(reader, builder)?;
+    let (id, place) = read_bucket_id(reader, builder)?;
     let Ok(()) = builder.id(id) else {
-        unreachable!()
+        return Err(TextFault {
+            kind: TextFaultKind::OutOfMemory,
+            place,
+        });
     };
     Ok(())
 }
 
-/// The algorithm of a bucket, and its hash where that is given. A class id isn't read.
+/// The class ids of a bucket, and its algorithm.
+fn read_class_ids<A: Allocator + Clone>(
+    reader: &mut Reader<'_>,
+    builder: &mut MapBuilder<A>,
+) -> Result<(), TextFault>
+    requires numbered { IsAmid is_numbered builder.old }
+    ensures filling { OnOk result (IsAmid is_filling builder.new) }
+    ensures reads { (d : Draft) → IsDraft builder.old d
+        → ReadsOn (filling false) result builder.new reader.new
+        (outcome (between (at numbered d)) reader.old) }
+    ensures shorter { OnOk result (length reader.new.words ≤ length reader.old.words) }
+{
+    'ids: loop {
+        let more = read_id_line(reader, builder)?;
+        if !more {
+            return Ok(());
+        }
+    }
+}
+
+/// A class id or the algorithm of a bucket, and whether it was a class id.
+#[tactic(auto, unfolding(crate::specs::Reads::line_at))]
+fn read_id_line<A: Allocator + Clone>(
+    reader: &mut Reader<'_>,
+    builder: &mut MapBuilder<A>,
+) -> Result<bool, TextFault>
+    requires numbered { IsAmid is_numbered builder.old }
+    ensures after { IfOk result (λ more. IsBehindId more builder.new) }
+    ensures reads { (d : Draft) → IsDraft builder.old d
+        → ReadsLine behind_id result builder.new reader.new
+        (line_at d (lines d numbered) reader.old) }
+    ensures shorter { OnOk result (length reader.new.words < length reader.old.words) }
+{
+    let more = read_id_or_alg(reader, builder)?;
+    if !more {
+        read_alg(reader, builder)?;
+        return Ok(false);
+    }
+    read_class_id(reader, builder)?;
+    Ok(true)
+}
+
+/// A class id of a bucket, behind the word `id`.
+#[tactic(auto, unfolding(crate::specs::Reads::line_at))]
+fn read_class_id<A: Allocator + Clone>(
+    reader: &mut Reader<'_>,
+    builder: &mut MapBuilder<A>,
+) -> Result<(), TextFault>
+    requires numbered { IsAmid is_numbered builder.old }
+    ensures numbered { OnOk result (IsAmid is_numbered builder.new) }
+    ensures reads { (d : Draft) → IsDraft builder.old d
+        → Reads numbered result builder.new reader.new (line_at d (class_id_line d) reader.old) }
+    ensures shorter { OnOk result (length reader.new.words ≤ length reader.old.words) }
+{
+    let (id, _) = read_bucket_id(reader, builder)?;
+    read_key(reader, b"class")?;
+    let class = read_id_class(reader, builder)?;
+    let Ok(()) = builder.class_id(id, class.text) else {
+        return Err(class.fault(TextFaultKind::OutOfMemory));
+    };
+    Ok(())
+}
+
+/// The algorithm of a bucket, and its hash where that is given, behind the word `alg`.
 #[tactic(auto, unfolding(crate::specs::Reads::line_at))]
 fn read_alg<A: Allocator + Clone>(
     reader: &mut Reader<'_>,
@@ -98,11 +168,10 @@ fn read_alg<A: Allocator + Clone>(
         → Reads (filling false) result builder.new reader.new (line_at d (alg_line d) reader.old) }
     ensures shorter { OnOk result (length reader.new.words ≤ length reader.old.words) }
 {
-    read_alg_key(reader)?;
     let (alg, place) = read_algorithm(reader)?;
     if reader.is_next(b"hash") {
         read_key(reader, b"hash")?;
-        read_hash_number(reader)?;
+        read_number(reader, 0)?;
     }
     let Ok(()) = builder.alg(alg) else {
         return Err(TextFault {
@@ -113,119 +182,97 @@ fn read_alg<A: Allocator + Clone>(
     Ok(())
 }
 
-/// The items of a bucket and its closing brace.
-fn read_items<A: Allocator>(
+/// A bucket's id that is free, `-` and a number from 1 to 2147483648, and its place.
+#[tactic(auto, unfolding(crate::specs::Reads::word_at))]
+fn read_bucket_id<A: Allocator>(
     reader: &mut Reader<'_>,
-    builder: &mut MapBuilder<A>,
-) -> Result<(), TextFault>
-    requires filling { IsAmid is_filling builder.old }
-    ensures idle { OnOk result (IsIdle builder.new) }
-    ensures reads { (d : Draft) → IsDraft builder.old d
-        → ReadsOn second result builder.new reader.new
-        (outcome (between (at (filling false) d)) reader.old) }
-    ensures shorter { OnOk result (length reader.new.words ≤ length reader.old.words) }
-{
-    let mut any = false;
-    'items: loop {
-        let more = read_item_line(reader, builder, any)?;
-        if !more {
-            return Ok(());
-        }
-        any = true;
-    }
-}
-
-/// An item or the closing brace of a bucket, and whether it was an item.
-#[tactic(auto, unfolding(crate::specs::Reads::line_at))]
-fn read_item_line<A: Allocator>(
-    reader: &mut Reader<'_>,
-    builder: &mut MapBuilder<A>,
-    any: bool,
-) -> Result<bool, TextFault>
-    requires filling { IsAmid is_filling builder.old }
-    ensures after { IfOk result (λ more. IsBehindItem more builder.new) }
-    ensures reads { (d : Draft) → IsDraft builder.old d
-        → ReadsItem result builder.new reader.new (line_at d (lines d (filling any)) reader.old) }
+    builder: &MapBuilder<A>,
+) -> Result<(BucketId, usize), TextFault>
+    ensures gives { (d : Draft) → IsDraft builder.now d
+        → Gives (λ x. (x.0, reader.new)) result (word_at d bucket_id reader.old) }
     ensures shorter { OnOk result (length reader.new.words < length reader.old.words) }
 {
-    let more = read_item_or_end(reader, any)?;
-    if !more {
-        builder.end();
-        return Ok(false);
-    }
-    read_item(reader, builder)?;
-    Ok(true)
-}
-
-/// An item of a bucket, behind the word `item`.
-#[tactic(auto, unfolding(crate::specs::Reads::line_at))]
-fn read_item<A: Allocator>(
-    reader: &mut Reader<'_>,
-    builder: &mut MapBuilder<A>,
-) -> Result<(), TextFault>
-    requires filling { IsAmid is_filling builder.old }
-    ensures filling { OnOk result (IsAmid is_filling builder.new) }
-    ensures reads { (d : Draft) → IsDraft builder.old d
-        → Reads (filling true) result builder.new reader.new (line_at d (item_line d) reader.old) }
-    ensures shorter { OnOk result (length reader.new.words ≤ length reader.old.words) }
-{
-    let item = read_item_name(reader, builder)?;
-    read_weight_key(reader)?;
     let word = next_word(reader)?;
-    add_item(word, item, builder)
-}
-
-/// Puts an item with the weight that the word says into the bucket.
-fn add_item<A: Allocator>(
-    word: PlacedWord<'_>,
-    item: ItemId,
-    builder: &mut MapBuilder<A>,
-) -> Result<(), TextFault>
-    requires filling { IsAmid is_filling builder.old }
-    requires closed { is_open builder.old.pending item ≡ false }
-    requires there { (d : Draft) → IsDraft builder.old d → is_there d.table item ≡ true }
-    requires free { (d : Draft) → IsDraft builder.old d → is_placed d.table item ≡ false }
-    ensures filling { OnOk result (IsAmid is_filling builder.new) }
-    ensures adds { (d : Draft) → IsDraft builder.old d
-        → Adds result builder.new d item
-        (placed word.entry.place (word_for d (weight item) word.entry.text.now)) }
-{
-    let weight = own_weight(word, &item, builder)?;
-    match builder.item(item, Some(weight)) {
-        Ok(()) => Ok(()),
-        Err(BuildFault::SumTooLarge) => Err(word.fault(TextFaultKind::SumTooLarge)),
-        Err(_) => Err(word.fault(TextFaultKind::OutOfMemory)),
-    }
-}
-
-/// The weight of an item: a device's is at most 2147483647 units, a bucket's is its sum.
-fn own_weight<A: Allocator>(
-    word: PlacedWord<'_>,
-    item: &ItemId,
-    builder: &MapBuilder<A>,
-) -> Result<Weight, TextFault>
-    requires { (d : Draft) → IsDraft builder.now d → is_there d.table item.now ≡ true }
-    ensures { (d : Draft) → IsDraft builder.now d
-        → result ≡ placed word.entry.place (own_weight d item.now word.entry.text.now) }
-{
     if word.is_brace() {
         return Err(word.fault(TextFaultKind::Unexpected));
     }
-    let Ok(weight) = Weight::read_bytes(word.text) else {
-        return Err(word.fault(TextFaultKind::BadWeight));
+    let Some(id) = below_zero(word.text) else {
+        return Err(word.fault(TextFaultKind::BadNumber));
     };
-    match *item {
-        ItemId::Device(_) => {
-            if weight.is_device_weight() {
-                Ok(weight)
-            } else {
-                Err(word.fault(TextFaultKind::BadWeight))
-            }
+    if builder.has_bucket_id(id) {
+        return Err(word.fault(TextFaultKind::DuplicateId));
+    }
+    Ok((id, word.place))
+}
+
+/// The id of a bucket, if the bytes spell one.
+fn below_zero(text: &[u8]) -> Option<BucketId>
+    ensures { result ≡ (if is_negative text.now
+        then Some (digits_value 10 (drop 1 text.now)) else None) }
+{
+    let [b'-', digits @ ..] = text else {
+        return None;
+    };
+    number_up_to(FARTHEST_BUCKET_ID, digits).and_then(BucketId::below_zero)
+}
+
+/// Whether one more class id follows, or the algorithm.
+#[tactic(auto, unfolding(crate::specs::Reads::word_at))]
+fn read_id_or_alg<A: Allocator>(
+    reader: &mut Reader<'_>,
+    builder: &MapBuilder<A>,
+) -> Result<bool, TextFault>
+    ensures gives { (d : Draft) → IsDraft builder.now d
+        → Gives (λ x. (x, reader.new)) result (word_at d id_or_alg reader.old) }
+    ensures shorter { OnOk result (length reader.new.words < length reader.old.words) }
+{
+    let word = next_word(reader)?;
+    if word.text == b"id".as_slice() {
+        if builder.is_full_of_class_ids() {
+            return Err(word.fault(TextFaultKind::TooMany));
         }
-        ItemId::Bucket(bucket) => match builder.weight_of(ItemId::Bucket(bucket)) {
-            Some(sum) if sum.units() == weight.units() => Ok(weight),
-            Some(_) => Err(word.fault(TextFaultKind::LeftOut)),
-            None => Err(word.fault(TextFaultKind::LeftOut)),
-        },
+        return Ok(true);
+    }
+    if word.text == b"alg".as_slice() {
+        return Ok(false);
+    }
+    Err(word.fault(TextFaultKind::Unexpected))
+}
+
+/// The class of a class id, which no other one of the bucket has.
+#[tactic(auto, unfolding(crate::specs::Reads::word_at))]
+fn read_id_class<'a, A: Allocator>(
+    reader: &mut Reader<'a>,
+    builder: &MapBuilder<A>,
+) -> Result<PlacedWord<'a>, TextFault>
+    ensures gives { (d : Draft) → IsDraft builder.now d
+        → Gives (λ x. (x.text.now, reader.new)) result (word_at d id_class reader.old) }
+    ensures named { IfOk result (λ x. IsName x.text.now) }
+    ensures shorter { OnOk result (length reader.new.words < length reader.old.words) }
+{
+    let word = next_word(reader)?;
+    if word.is_brace() {
+        return Err(word.fault(TextFaultKind::Unexpected));
+    }
+    if builder.has_class(word.text) {
+        return Err(word.fault(TextFaultKind::DuplicateName));
+    }
+    Ok(word)
+}
+
+/// An algorithm, and the place of its word.
+#[tactic(auto, unfolding(crate::specs::Reads::word_at))]
+fn read_algorithm(reader: &mut Reader<'_>) -> Result<(Alg, usize), TextFault>
+    ensures gives { (d : Draft)
+        → Gives (λ x. (x.0, reader.new)) result (word_at d algorithm reader.old) }
+    ensures shorter { OnOk result (length reader.new.words < length reader.old.words) }
+{
+    let word = next_word(reader)?;
+    if word.is_brace() {
+        return Err(word.fault(TextFaultKind::Unexpected));
+    }
+    match Alg::read(word.text) {
+        Some(alg) => Ok((alg, word.place)),
+        None => Err(word.fault(TextFaultKind::OtherAlgorithm)),
     }
 }

@@ -1,16 +1,21 @@
 //! The line of a device.
 
-ghost use Rattle.std.specs.Prelude.{◌≡◌, ◌≤◌, length, false, OnOk};
+ghost use Rattle.std.specs.Prelude.{◌≡◌, ◌≤◌, ◌<◌, length, OnOk};
 ghost use Rattle.crush_map.specs.Built.{Draft};
-ghost use Rattle.crush_map.specs.Building.{IsDraft, is_full_of_devices};
+ghost use Rattle.crush_map.specs.Building.{IsDraft};
+ghost use Rattle.crush_text.specs.Role.{device_id};
 ghost use Rattle.crush_text.specs.Form.{first};
 ghost use Rattle.crush_text.specs.Grammar.{device_line};
-ghost use Rattle.crush_text.specs.Reads.{IsIdle, Reads, line_at};
+ghost use Rattle.crush_text.specs.Reads.{IsIdle, Gives, Reads, word_at, line_at};
 
 use crate::fault::{TextFault, TextFaultKind};
-use crate::reader::roles::{read_class_name, read_device_id, read_key, read_new_name};
+use crate::reader::roles::{read_key, read_new_name, read_word};
+use crate::reader::word::next_word;
 use crush_bytes::Reader;
+use crush_bytes::number::number_up_to;
 use crush_map::MapBuilder;
+use crush_units::DeviceId;
+use crush_units::limits::LAST_DEVICE_ID;
 use std::alloc::Allocator;
 
 /// A device, behind the word `device`, and its class where that is given.
@@ -20,7 +25,6 @@ pub(crate) fn read_device<A: Allocator + Clone>(
     builder: &mut MapBuilder<A>,
 ) -> Result<(), TextFault>
     requires idle { IsIdle builder.old }
-    requires room { (d : Draft) → IsDraft builder.old d → is_full_of_devices d ≡ false }
     ensures idle { OnOk result (IsIdle builder.new) }
     ensures reads { (d : Draft) → IsDraft builder.old d
         → Reads first result builder.new reader.new (line_at d (device_line d) reader.old) }
@@ -30,7 +34,7 @@ pub(crate) fn read_device<A: Allocator + Clone>(
     let name = read_new_name(reader, builder)?;
     if reader.is_next(b"class") {
         read_key(reader, b"class")?;
-        let class = read_class_name(reader)?;
+        let class = read_word(reader)?;
         let Ok(()) = builder.device(id, name.text, Some(class.text)) else {
             return Err(class.fault(TextFaultKind::OutOfMemory));
         };
@@ -40,4 +44,27 @@ pub(crate) fn read_device<A: Allocator + Clone>(
         return Err(name.fault(TextFaultKind::OutOfMemory));
     };
     Ok(())
+}
+
+/// The id of a device that isn't there.
+#[tactic(auto, unfolding(crate::specs::Reads::word_at))]
+fn read_device_id<A: Allocator>(
+    reader: &mut Reader<'_>,
+    builder: &MapBuilder<A>,
+) -> Result<DeviceId, TextFault>
+    ensures gives { (d : Draft) → IsDraft builder.now d
+        → Gives (λ x. (x, reader.new)) result (word_at d device_id reader.old) }
+    ensures shorter { OnOk result (length reader.new.words < length reader.old.words) }
+{
+    let word = next_word(reader)?;
+    if word.is_brace() {
+        return Err(word.fault(TextFaultKind::Unexpected));
+    }
+    let Some(id) = number_up_to(LAST_DEVICE_ID, word.text).and_then(DeviceId::from_number) else {
+        return Err(word.fault(TextFaultKind::BadNumber));
+    };
+    if builder.has_device(id) {
+        return Err(word.fault(TextFaultKind::DuplicateId));
+    }
+    Ok(id)
 }

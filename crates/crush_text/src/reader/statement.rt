@@ -8,35 +8,42 @@ ghost use Rattle.crush_text.specs.declared.fault.TextFaultKind.TheVariants.{TooM
 ghost use Rattle.crush_text.specs.Role.{opening};
 ghost use Rattle.crush_text.specs.Form.{first, at};
 ghost use Rattle.crush_text.specs.Grammar.{statement};
-ghost use Rattle.crush_text.specs.Tests.{is_out_of_place, is_left_out, is_either, word_for};
+ghost use Rattle.crush_text.specs.Tests.{is_out_of_place, comes_first, word_for};
 ghost use Rattle.crush_text.specs.Flow.{between, outcome, placed};
-ghost use Rattle.crush_text.specs.Reads.{IsIdle, HasRoom, Opens, Shortens, ReadsTo, ReadsAll, then_on, line_at};
+ghost use Rattle.crush_text.specs.Reads.{IsIdle, IsKnown, Shortens, behind, ReadsTo, ReadsNext, ReadsAll, then_on, line_at};
 
 use crate::fault::{TextFault, TextFaultKind};
 use crate::reader::bucket::read_bucket;
 use crate::reader::device::read_device;
+use crate::reader::rule::read_rule;
+use crate::reader::tunable::read_tunable;
 use crate::reader::type_line::read_type;
 use crate::reader::word::PlacedWord;
 use crush_bytes::{Reader, Token};
 use crush_map::MapBuilder;
 use crush_units::TypeId;
-use std::alloc::Allocator;
+use std::alloc::{Allocator, Global};
 
 /// What the first word of a statement says.
 #[derive(Clone, Copy)]
 pub(crate) enum Opening {
-    /// `type`.
-    Type,
+    /// `tunable`.
+    Tunable,
     /// `device`.
     Device,
+    /// `type`.
+    Type,
     /// The name of a type of buckets.
     Bucket(TypeId),
+    /// `rule`.
+    Rule,
 }
 
 /// All statements up to the end of the text.
 pub(crate) fn read_statements<A: Allocator + Clone>(
     reader: &mut Reader<'_>,
     builder: &mut MapBuilder<A>,
+    machine: Global,
 ) -> Result<(), TextFault>
     requires { IsIdle builder.old }
     ensures idle { OnOk result (IsIdle builder.new) }
@@ -45,58 +52,33 @@ pub(crate) fn read_statements<A: Allocator + Clone>(
 {
     let mut late = false;
     'statements: loop {
-        let first = read_opening(reader, builder, late)?;
-        let Some(opening) = first else {
+        let more = read_next(reader, builder, machine, late)?;
+        let Some(more) = more else {
             return Ok(());
         };
-        late = read_statement(opening, reader, builder)?;
+        late = more;
     }
 }
 
-/// A statement behind its first word, and whether only buckets may follow it.
-fn read_statement<A: Allocator + Clone>(
-    opening: Opening,
+/// The next statement, and whether only buckets and rules may follow it; `None` where the text ends.
+fn read_next<A: Allocator + Clone>(
     reader: &mut Reader<'_>,
     builder: &mut MapBuilder<A>,
-) -> Result<bool, TextFault>
-    requires idle { IsIdle builder.old }
-    requires room { (d : Draft) → IsDraft builder.old d → HasRoom opening d }
-    ensures idle { OnOk result (IsIdle builder.new) }
-    ensures reads { (d : Draft) (all : Result Draft DeclaredFault) → IsDraft builder.old d
-        → all ≡ then_on (line_at d (statement d opening) reader.old)
-        → ReadsTo result builder.new reader.new all }
-    ensures shorter { OnOk result (length reader.new.words ≤ length reader.old.words) }
-{
-    match opening {
-        Opening::Type => {
-            read_type(reader, builder)?;
-            Ok(false)
-        }
-        Opening::Device => {
-            read_device(reader, builder)?;
-            Ok(false)
-        }
-        Opening::Bucket(kind) => {
-            read_bucket(reader, builder, kind)?;
-            Ok(true)
-        }
-    }
-}
-
-/// The first word of a statement, or `None` where the text ends.
-fn read_opening<A: Allocator>(
-    reader: &mut Reader<'_>,
-    builder: &MapBuilder<A>,
+    machine: Global,
     late: bool,
-) -> Result<Option<Opening>, TextFault>
-    ensures opens { (d : Draft) → IsDraft builder.now d
-        → Opens result d late reader.old reader.new }
+) -> Result<Option<bool>, TextFault>
+    requires { IsIdle builder.old }
+    ensures idle { OnOk result (IsIdle builder.new) }
+    ensures reads { (d : Draft) → IsDraft builder.old d
+        → ReadsNext result builder.new reader.new
+        (outcome (between (at (behind late) d)) reader.old) }
     ensures shorter { Shortens result reader.old reader.new }
 {
     match reader.next() {
         Token::Word { place, text } => {
             let opening = opening_of(PlacedWord { place, text }, builder, late)?;
-            Ok(Some(opening))
+            let late = read_statement(opening, text, reader, builder, machine)?;
+            Ok(Some(late))
         }
         Token::End { .. } => Ok(None),
         Token::Bad { place } => Err(TextFault {
@@ -106,7 +88,48 @@ fn read_opening<A: Allocator>(
     }
 }
 
-/// What a statement's first word opens, before the first bucket or behind it.
+/// A statement behind its first word, and whether only buckets and rules may follow it.
+fn read_statement<A: Allocator + Clone>(
+    opening: Opening,
+    word: &[u8],
+    reader: &mut Reader<'_>,
+    builder: &mut MapBuilder<A>,
+    machine: Global,
+) -> Result<bool, TextFault>
+    requires idle { IsIdle builder.old }
+    requires known { (d : Draft) → IsDraft builder.old d
+        → IsKnown d opening word.now }
+    ensures idle { OnOk result (IsIdle builder.new) }
+    ensures reads { (d : Draft) (all : Result Draft DeclaredFault) → IsDraft builder.old d
+        → all ≡ then_on (line_at d (statement d opening) reader.old)
+        → ReadsTo result builder.new reader.new all }
+    ensures shorter { OnOk result (length reader.new.words ≤ length reader.old.words) }
+{
+    match opening {
+        Opening::Tunable => {
+            read_tunable(reader, builder)?;
+            Ok(false)
+        }
+        Opening::Device => {
+            read_device(reader, builder)?;
+            Ok(false)
+        }
+        Opening::Type => {
+            read_type(reader, builder)?;
+            Ok(false)
+        }
+        Opening::Bucket(_) => {
+            read_bucket(reader, builder, word)?;
+            Ok(true)
+        }
+        Opening::Rule => {
+            read_rule(reader, builder, machine)?;
+            Ok(true)
+        }
+    }
+}
+
+/// What a statement's first word opens, before the first bucket or rule or behind it.
 fn opening_of<A: Allocator>(
     word: PlacedWord<'_>,
     builder: &MapBuilder<A>,
@@ -114,50 +137,52 @@ fn opening_of<A: Allocator>(
 ) -> Result<Opening, TextFault>
     ensures opens { (d : Draft) → IsDraft builder.now d
         → result ≡ placed word.entry.place (word_for d (opening late) word.entry.text.now) }
-    ensures room { (d : Draft) → IsDraft builder.now d → IfOk result (λ o. HasRoom o d) }
+    ensures known { (d : Draft) → IsDraft builder.now d
+        → IfOk result (λ o. IsKnown d o word.entry.text.now) }
 {
     let text = word.text;
     if is_out_of_place(text, late) {
         return Err(word.fault(TextFaultKind::Unexpected));
     }
-    let kind = builder.kind_number(text).unwrap_or(TypeId::new(0));
-    if !is_left_out(text) && !is_declaration(text) && !builder.is_bucket_kind(kind) {
-        return Err(word.fault(TextFaultKind::UnknownType));
-    }
-    if is_left_out(text) {
-        return Err(word.fault(TextFaultKind::LeftOut));
-    }
-    if text == b"type".as_slice() {
-        return with_room(word, Opening::Type, builder.is_full_of_kinds());
+    if text == b"tunable".as_slice() {
+        return with_room(word, Opening::Tunable, builder.is_full_of_tunables());
     }
     if text == b"device".as_slice() {
         return with_room(word, Opening::Device, builder.is_full_of_devices());
     }
-    with_room(word, Opening::Bucket(kind), builder.is_full_of_buckets())
+    if text == b"type".as_slice() {
+        return with_room(word, Opening::Type, builder.is_full_of_kinds());
+    }
+    if text == b"rule".as_slice() {
+        return with_room(word, Opening::Rule, builder.is_full_of_rules());
+    }
+    if text == b"choose_args".as_slice() {
+        return Err(word.fault(TextFaultKind::LeftOut));
+    }
+    match builder.kind_number(text) {
+        Some(kind) if builder.is_bucket_kind(kind) => {
+            with_room(word, Opening::Bucket(kind), builder.is_full_of_buckets())
+        }
+        _ => Err(word.fault(TextFaultKind::UnknownType)),
+    }
 }
 
-/// Whether a first word may not stand here: types, devices and tunables come before the buckets.
+/// Whether a first word may not stand here: tunables, devices and types come before the buckets and
+/// the rules.
 fn is_out_of_place(text: &[u8], late: bool) -> bool
     ensures { result ≡ is_out_of_place late text.now }
 {
     text == b"{".as_slice()
         || text == b"}".as_slice()
         || text == b"class".as_slice()
-        || (late && (text == b"tunable".as_slice() || is_declaration(text)))
+        || (late && comes_first(text))
 }
 
-/// Whether a first word begins what isn't read here.
-fn is_left_out(text: &[u8]) -> bool
-    ensures { result ≡ is_left_out text.now }
+/// Whether a first word begins a tunable, a device or a type.
+fn comes_first(text: &[u8]) -> bool
+    ensures { result ≡ comes_first text.now }
 {
-    text == b"tunable".as_slice() || text == b"rule".as_slice() || text == b"choose_args".as_slice()
-}
-
-/// Whether a first word begins a device or a type.
-fn is_declaration(text: &[u8]) -> bool
-    ensures { result ≡ is_either text.now (codes "device") (codes "type") }
-{
-    text == b"device".as_slice() || text == b"type".as_slice()
+    text == b"tunable".as_slice() || text == b"device".as_slice() || text == b"type".as_slice()
 }
 
 /// What is opened, unless there is no room for one more.

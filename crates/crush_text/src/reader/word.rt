@@ -1,16 +1,15 @@
 //! One word of a map's text.
 
-ghost use Rattle.std.specs.Prelude.{◌≡◌, ◌<◌, ◌≤◌, ◌||◌, if◌then◌else◌, length, true, IfOk, OnOk, Some, None};
-ghost use Rattle.std.specs.List.{list_all};
-ghost use Rattle.std.specs.Char.{is_ascii_digit};
-ghost use Rattle.std.specs.Str.Parse.{digits_value};
-ghost use Rattle.crush_units.specs.Name.{is_name};
+ghost use Rattle.std.specs.Prelude.{◌≡◌, ◌<◌, ◌||◌, if◌then◌else◌, length, true, IfOk, IfErr, OnOk, Ok, Err};
+ghost use Rattle.crush_units.specs.Name.{is_name, IsName};
 ghost use Rattle.crush_bytes.specs.Words.{is_brace_word};
-ghost use Rattle.crush_text.specs.Forms.{is_number};
+ghost use Rattle.crush_text.specs.declared.fault.TextFaultKind.TheVariants.{Unexpected, OutOfMemory};
 ghost use Rattle.crush_text.specs.Reads.{Gives, word_of, next_at};
 
 use crate::fault::{TextFault, TextFaultKind};
 use crush_bytes::{Reader, Token};
+use crush_units::Name;
+use std::alloc::Global;
 
 /// A word of a text, and the place of its first byte.
 #[derive(Clone, Copy)]
@@ -39,44 +38,6 @@ pub(crate) fn next_word<'a>(reader: &mut Reader<'a>) -> Result<PlacedWord<'a>, T
     }
 }
 
-fn all_digits(text: &[u8]) -> bool
-    ensures { result ≡ list_all is_ascii_digit text.now }
-{
-    for byte in text {
-        if !byte.is_ascii_digit() {
-            return false;
-        }
-    }
-    true
-}
-
-/// The number that at most ten digits write.
-fn value_of(digits: &[u8]) -> u64
-    requires digits { list_all is_ascii_digit digits.now ≡ true }
-    requires few { length digits.now ≤ 10 }
-    ensures { result ≡ digits_value 10 digits.now }
-{
-    let mut value: u64 = 0;
-    for digit in digits {
-        value = value * 10 + (*digit - 48) as u64;
-    }
-    value
-}
-
-/// The number that 1 to 10 digits write, where it is at most `most`.
-pub(crate) fn number_up_to(most: u32, text: &[u8]) -> Option<u32>
-    ensures { result ≡ (if is_number most text.now then Some (digits_value 10 text.now) else None) }
-{
-    if text.is_empty() || text.len() > 10 || !all_digits(text) {
-        return None;
-    }
-    let value = value_of(text);
-    if value > most as u64 {
-        return None;
-    }
-    Some(value as u32)
-}
-
 impl<'a> PlacedWord<'a> {
     /// A fault at the word.
     pub(crate) fn fault(self, kind: TextFaultKind) -> TextFault
@@ -93,5 +54,17 @@ impl<'a> PlacedWord<'a> {
         ensures { result ≡ is_brace_word self.entry.text.now }
     {
         self.text == b"{".as_slice() || self.text == b"}".as_slice()
+    }
+
+    /// The word as a name in memory of its own, or `OutOfMemory` at the word.
+    pub(crate) fn own_name(self, machine: Global) -> Result<Name<Global>, TextFault>
+        requires { IsName self.text.now }
+        ensures name { IfOk result (λ name. name ≡ self.entry.text.now) }
+        ensures memory { IfErr result (λ f. f.kind ≡ OutOfMemory) }
+    {
+        match Name::read(machine, self.text) {
+            Ok(name) => Ok(name),
+            Err(_) => Err(self.fault(TextFaultKind::OutOfMemory)),
+        }
     }
 }

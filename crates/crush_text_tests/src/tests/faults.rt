@@ -277,30 +277,6 @@ fn other_algorithms(rt: HostRuntime) -> Result<(), Fail> {
 }
 
 #[test]
-fn what_is_not_read_here(rt: HostRuntime) -> Result<(), Fail> {
-    are_refused(
-        &rt,
-        rt.alloc(),
-        TextFaultKind::LeftOut,
-        &[
-            (b"tunable choose_total_tries 50", 36),
-            (b"rule x { id 0 }", 36),
-            (b"host a { id -1 alg straw2 }\nrule x { id 0 }", 64),
-            (b"choose_args 0 { }", 36),
-            (b"host a { id -1 id -2 class ssd alg straw2 }", 51),
-            (b"host a { id -1 alg straw2 item d }", 69),
-            (b"host a { id -1 alg straw2 item d item d }", 69),
-            (b"host a { id -1 alg straw2 item d pos 0 weight 1 }", 69),
-            (b"host a { id -1 alg straw2 item d weight 1 pos 0 }", 78),
-            (
-                b"host a { id -1 alg straw2 item d weight 1 }\nroot r { id -2 alg straw2 item a weight 2 }",
-                120,
-            ),
-        ],
-    )
-}
-
-#[test]
 fn a_bucket_that_is_too_heavy(rt: HostRuntime) -> Result<(), Fail> {
     are_refused(
         &rt,

@@ -1,4 +1,5 @@
-//! As many types, devices and buckets as a map can have, and as heavy as it can be, and one more.
+//! As many types, devices, buckets, tunables, class ids, rules and steps as a map can have, and as heavy
+//! as it can be, and one more.
 
 use crate::tests::{is_refused, printed};
 use crush_text::{TextFaultKind, read_map};
@@ -75,6 +76,61 @@ fn printed_chain(alloc: Global) -> Result<Vec<u8>, Fail> {
     }
     text.extend_from_slice(b"\n# rules\n\n# end crush map\n")?;
     Ok(text)
+}
+
+/// Adds so many lines with a number between the parts, in both places the same, counted from 2.
+fn add_numbered(
+    alloc: Global,
+    text: &mut Vec<u8>,
+    parts: [&str; 3],
+    count: u32,
+) -> Result<(), Fail> {
+    let [first, second, third] = parts;
+    for number in 2..count.saturating_add(2) {
+        let line = format!(in alloc; "{first}{number}{second}{number}{third}")?;
+        text.extend_from_slice(line.as_bytes())?;
+    }
+    Ok(())
+}
+
+/// That many lines are read between the two texts, and one more is refused at its first word.
+fn is_limit(
+    alloc: Global,
+    front: &[u8],
+    parts: [&str; 3],
+    most: u32,
+    back: &[u8],
+) -> Result<bool, Fail> {
+    let mut text = Vec::new(alloc);
+    text.extend_from_slice(front)?;
+    add_numbered(alloc, &mut text, parts, most)?;
+    let place = text.len();
+    text.extend_from_slice(back)?;
+    let is_read = read_map(alloc, text.as_slice()).is_ok();
+    let mut more = Vec::new(alloc);
+    more.extend_from_slice(front)?;
+    add_numbered(alloc, &mut more, parts, most.saturating_add(1))?;
+    Ok(is_read && is_refused(alloc, more.as_slice(), TextFaultKind::TooMany, place))
+}
+
+#[test]
+fn tunables_rules_steps_and_class_ids(rt: HostRuntime) -> Result<(), Fail> {
+    let alloc = rt.alloc();
+    assert!(rt; is_limit(alloc, b"", ["tunable t", " ", "\n"], 64, b"")?);
+    assert!(rt; is_limit(alloc, b"", ["rule r", " { id ", " type x }\n"], 256, b"")?);
+    let rule: &[u8] = b"rule x { id 0 type replicated\n";
+    assert!(rt; is_limit(alloc, rule, ["step set_x", " ", "\n"], 64, b"}")?);
+    let bucket: &[u8] = b"type 1 host\nhost a { id -1\n";
+    assert!(rt;
+        is_limit(
+            alloc,
+            bucket,
+            ["id -", " class c", "\n"],
+            16,
+            b"alg straw2 }"
+        )?
+    );
+    Ok(())
 }
 
 #[test]

@@ -1,5 +1,5 @@
 use crate::tests::writing::Slow;
-use crate::tests::{plain_example_map, printed};
+use crate::tests::{example_map, plain_example_map, printed};
 use crush_bytes::WriteFault;
 use crush_text::{read_map, write_map};
 use std::test::Fail;
@@ -66,6 +66,27 @@ fn the_plain_example_map_is_printed_as_it_stands(rt: HostRuntime) -> Result<(), 
     let text = plain_example_map(rt.alloc())?;
     let out = printed(rt.alloc(), text.as_slice())?;
     assert!(rt; out.as_slice() == text.as_slice());
+    Ok(())
+}
+
+/// It has the weight of h1 that its sum is, also where another one is written or none.
+#[test]
+fn the_example_map_is_printed_as_it_stands(rt: HostRuntime) -> Result<(), Fail> {
+    let text = example_map(rt.alloc(), b" weight 2.00000")?;
+    let weights: [(&[u8], u32); 4] = [
+        (b" weight 2.00000", 0),
+        (b" weight 2", 0),
+        (b" weight 9.000", 1),
+        (b"", 0),
+    ];
+    for (weight, count) in weights {
+        let written = example_map(rt.alloc(), weight)?;
+        let (map, adjusted) = read_map(rt.alloc(), written.as_slice())?;
+        assert_eq!(rt; adjusted, count);
+        let mut out = Vec::new(rt.alloc());
+        write_map(rt.alloc(), &map, &mut out)?;
+        assert!(rt; out.as_slice() == text.as_slice());
+    }
     Ok(())
 }
 

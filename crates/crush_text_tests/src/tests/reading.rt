@@ -36,7 +36,7 @@ fn the_empty_text_is_a_map(rt: HostRuntime) -> Result<(), Fail> {
 
 #[test]
 fn lines_at_the_edges_of_the_grammar_are_read(rt: HostRuntime) -> Result<(), Fail> {
-    let lines: [&[u8]; 15] = [
+    let lines: [&[u8]; 27] = [
         b"type 0 rule",
         b"type 00002 rack",
         b"type 65535 rack",
@@ -51,6 +51,18 @@ fn lines_at_the_edges_of_the_grammar_are_read(rt: HostRuntime) -> Result<(), Fai
         b"host a{id -2147483648 alg list hash 000}",
         b"host a { id -0000000001 alg straw2 item d weight 32767.99998 }",
         b"host a { id -1 alg straw2 }\nhost b { id -2 alg straw2 item a weight 0.0 }",
+        b"host a { id -1 alg straw2 item d weight 1 }\nroot r { id -2 alg straw2 item a weight 9 }",
+        b"host a { id -1 alg straw2 item d }",
+        b"tunable t 4294967295",
+        b"tunable type 0000000001",
+        b"host a { id -1 id -2 class ssd id -3 class class alg straw2 }",
+        b"rule d { ruleset 2147483647 type type }",
+        b"rule x { id 0 type replicated min_size 0 max_size 2147483647 step emit }",
+        b"rule x { id 0 type replicated step set_ 0 step set_x 2147483647 }",
+        b"rule x { id 0 type replicated step choose indep -2147483648 type host }",
+        b"rule x { id 0 type replicated step chooseleaf firstn -0 type root }",
+        b"type 0 osd\nrule x { id 0 type replicated step choose firstn 0 type osd }",
+        b"host a { id -1 alg straw2 }\nrule x { id 0 type replicated step take a class class }",
         b"# root",
     ];
     for line in lines {

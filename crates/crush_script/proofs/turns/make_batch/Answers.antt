@@ -5,8 +5,8 @@ use Rattle.crush_map.specs.MapData.{MapData, MapStands}
 use Rattle.crush_script.specs.History.{batch_outcome}
 use Rattle.crush_script.proofs.turns.make_batch.Goals as goal
 
-pub returns-in-Err-Refused : goal.returns-in-Err-Refused
-returns-in-Err-Refused c s t st =
+pub returns-in-Err-Refused-clause-made : goal.returns-in-Err-Refused-clause-made
+returns-in-Err-Refused-clause-made c s t st =
     let arm = c.in-Err-Refused in
     let es = c.args.asked.now in
     let told = arm.ensures.refused arm.index arm.refusal (ap Err arm.field-0-is) t st.forest in

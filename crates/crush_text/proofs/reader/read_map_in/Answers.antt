@@ -1,5 +1,5 @@
 -- What comes of all statements is what the text says.
-use Rattle.std.proofs.Common.{◌∙◌, sym, subst}
+use Rattle.std.proofs.Common.{ℕ, ◌∙◌, sym, subst}
 use Rattle.std.proofs.lemmas.Result.{err_from_is_err_and}
 use Rattle.crush_table.specs.Stands.{Stands}
 use Rattle.crush_edits.specs.Setting.{SettingData}
@@ -22,11 +22,13 @@ pub returns-clause-map : goal.returns-clause-map
 returns-clause-map g c =
     let a = c.in_ok-read_statements.ensures.reads empty_draft c.in-Ok.ensures in
     let m = c.finish.ensures a.0 a.1 in
-    (a.0.table, subst (λ (s : SettingData). IsMapText c.args.text.now s a.0.table 0) (sym m.setting) (is_map c.args.text.now c.new-reader.result c.new-reader.ensures a.0 a.2), m.forest)
+    let n = c.adjusted-adjusted.ensures a.0 a.1 in
+    let text = is_map c.args.text.now c.new-reader.result c.new-reader.ensures a.0 a.2 in
+    (a.0.table, subst (λ (k : ℕ). IsMapText c.args.text.now c.finish.result.setting a.0.table k) (sym n) (subst (λ (s : SettingData). IsMapText c.args.text.now s a.0.table a.0.adjusted) (sym m.setting) text), m.forest)
 
 pub returns-clause-only : goal.returns-clause-only
 returns-clause-only g c = λ s t n k.
     let a = c.in_ok-read_statements.ensures.reads empty_draft c.in-Ok.ensures in
     let m = c.finish.ensures a.0 a.1 in
     let o = only_map c.args.text.now c.new-reader.result c.new-reader.ensures a.0 s t n a.2 k in
-    (record { setting = m.setting ∙ o.0; forest = subst (Stands c.finish.result.forest) o.1 m.forest }, o.2)
+    (record { setting = m.setting ∙ o.0; forest = subst (Stands c.finish.result.forest) o.1 m.forest }, c.adjusted-adjusted.ensures a.0 a.1 ∙ o.2)

@@ -1,18 +1,38 @@
-use Rattle.std.proofs.Common.{◌≡◌, not, subst, sym, arith}
-use Rattle.std.specs.Prelude.{None}
-use Rattle.crush_map.specs.declared.fault.BuildFault.TheVariants.{DuplicateName, UnknownType, TooMany}
-use Rattle.crush_map.specs.Faults.{begin_fault}
-use Rattle.crush_map.proofs.Faults.{none_of_three, not_false}
+use Rattle.std.proofs.Common.{◌≡◌, subst, sym, ◌∙◌, arith}
+use Rattle.std.specs.Prelude.{ℕ, Option, Some}
+use Rattle.crush_edits.specs.Setting.{kind_number}
 use Rattle.crush_map.specs.Pending.{pending_data}
-use Rattle.crush_map.specs.Building.{BuilderData, IsDraft, own_draft, has_name, is_bucket_kind, is_full_of_buckets}
-use Rattle.crush_map.proofs.Drafts.{own_is_draft}
-use Rattle.crush_map.proofs.RowSteps.{begin_fits}
+use Rattle.crush_map.specs.Built.{Draft, begun, begun_bucket}
+use Rattle.crush_map.specs.Building.{BuilderData, IsDraft, own_draft}
+use Rattle.crush_map.proofs.Drafts.{own_is_draft, draft_fits}
+use Rattle.crush_map.proofs.RowSteps.{no_number, begin_step}
 use Rattle.crush_map.proofs.builder.MapBuilder.begin.Goals as goal
+
+pub unreachable-requires : goal.unreachable-requires
+unreachable-requires g c =
+    let b : BuilderData = record { setting = c.self.inside.setting; forest = c.self.inside.forest; pending = pending_data c.self.inside.pending; adjusted = c.self.inside.adjusted } in
+    let d : Draft = own_draft b in
+    let at : IsDraft c.args.self.now d = subst (λ (x : BuilderData). IsDraft x d) c.self.view_is (own_is_draft b c.recall_invariant.ensures c.self.invariant) in
+    no_number d c.args.kind.now c.args.name.now (sym (c.in_default.ensures d at)) (sym (c.kind_number.ensures d at) ∙ c.in_default-kind_number.is)
 
 pub invariant_of-self : goal.invariant_of-self
 invariant_of-self g c =
     let b : BuilderData = record { setting = c.self.inside.setting; forest = c.self.inside.forest; pending = pending_data c.self.inside.pending; adjusted = c.self.inside.adjusted } in
-    let at : IsDraft c.args.self.now (own_draft b) = subst (λ (x : BuilderData). IsDraft x (own_draft b)) c.self.view_is (own_is_draft b c.recall_invariant.ensures c.self.invariant) in
-    let clear : begin_fault (own_draft b) c.args.kind c.args.name.now ≡ None = sym (c.in_default.ensures (own_draft b) at) in
-    let none = none_of_three DuplicateName UnknownType TooMany (has_name (own_draft b) c.args.name.now) (not (is_bucket_kind b.setting c.args.kind)) (is_full_of_buckets (own_draft b)) clear in
-    begin_fits b c.args.kind c.args.name.now c.in_ok-name.name c.self.invariant c.in_ok-name.ensures (omega arith) c.requires.name (not_false (is_bucket_kind b.setting c.args.kind) none.1.0) none.0 none.1.1
+    let d : Draft = own_draft b in
+    let own : IsDraft b d = own_is_draft b c.recall_invariant.ensures c.self.invariant in
+    let at : IsDraft c.args.self.now d = subst (λ (x : BuilderData). IsDraft x d) c.self.view_is own in
+    let number : kind_number d.setting c.args.kind.now ≡ Some c.in-Some-kind_number.kind = sym (c.kind_number.ensures d at) ∙ c.in-Some-kind_number.is in
+    draft_fits (record b { pending = begun c.in-Some-kind_number.kind c.in_ok-name.name }) (begun_bucket d c.in-Some-kind_number.kind c.args.name.now)
+    (subst (λ n. IsDraft (record b { pending = begun c.in-Some-kind_number.kind n }) (begun_bucket d c.in-Some-kind_number.kind c.args.name.now)) (sym c.in_ok-name.ensures)
+    (begin_step b d c.args.kind.now c.in-Some-kind_number.kind c.args.name.now own (sym (c.in_default.ensures d at)) number (omega arith) c.requires.name))
+
+pub returns-clause-ok : goal.returns-clause-ok
+returns-clause-ok g c = λ d k i e.
+    let b : BuilderData = record { setting = c.self.inside.setting; forest = c.self.inside.forest; pending = pending_data c.self.inside.pending; adjusted = c.self.inside.adjusted } in
+    let at : IsDraft b d = subst (λ (x : BuilderData). IsDraft x d) (sym c.self.view_is) i in
+    let number : kind_number d.setting c.args.kind.now ≡ Some c.in-Some-kind_number.kind = sym (c.kind_number.ensures d i) ∙ c.in-Some-kind_number.is in
+    let found : ◌≡◌ {A = Option ℕ} (Some c.in-Some-kind_number.kind) (Some k) = sym number ∙ e in
+    let same : c.in-Some-kind_number.kind ≡ k = cc in
+    subst (λ x. IsDraft (record b { pending = begun c.in-Some-kind_number.kind c.in_ok-name.name }) (begun_bucket d x c.args.name.now)) same
+    (subst (λ n. IsDraft (record b { pending = begun c.in-Some-kind_number.kind n }) (begun_bucket d c.in-Some-kind_number.kind c.args.name.now)) (sym c.in_ok-name.ensures)
+    (begin_step b d c.args.kind.now c.in-Some-kind_number.kind c.args.name.now at (sym (c.in_default.ensures d i)) number (omega arith) c.requires.name))

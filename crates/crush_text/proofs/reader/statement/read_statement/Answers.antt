@@ -1,20 +1,33 @@
 -- A statement by its first word.
-use Rattle.std.proofs.Common.{◌∙◌, ap}
+use Rattle.std.proofs.Common.{◌∙◌, ap, subst}
 use Rattle.crush_text.specs.Grammar.{statement}
-use Rattle.crush_text.specs.Reads.{then_on, line_at}
+use Rattle.crush_text.specs.Reads.{IsKnown, then_on, line_at}
 use Rattle.crush_text.proofs.reader.statement.read_statement.Goals as goal
 
-pub returns-in_ok-read_type-in-Type-clause-reads : goal.returns-in_ok-read_type-in-Type-clause-reads
-returns-in_ok-read_type-in-Type-clause-reads g c = λ d all h is.
-    let k = c.in_ok-read_type-in-Type.ensures.reads d h in
-    (k.0, k.1, is ∙ ap (λ o. then_on (line_at d (statement d o) c.args.reader.now)) c.in-Type.is ∙ ap then_on k.2)
+pub returns-in_ok-read_tunable-in-Tunable-clause-reads : goal.returns-in_ok-read_tunable-in-Tunable-clause-reads
+returns-in_ok-read_tunable-in-Tunable-clause-reads g c = λ d all h is.
+    let k = c.in_ok-read_tunable-in-Tunable.ensures.reads d h in
+    (k.0, k.1, is ∙ ap (λ o. then_on (line_at d (statement d o) c.args.reader.now)) c.in-Tunable.is ∙ ap then_on k.2)
 
 pub returns-in_ok-read_device-in-Device-clause-reads : goal.returns-in_ok-read_device-in-Device-clause-reads
 returns-in_ok-read_device-in-Device-clause-reads g c = λ d all h is.
     let k = c.in_ok-read_device-in-Device.ensures.reads d h in
     (k.0, k.1, is ∙ ap (λ o. then_on (line_at d (statement d o) c.args.reader.now)) c.in-Device.is ∙ ap then_on k.2)
 
+pub returns-in_ok-read_type-in-Type-clause-reads : goal.returns-in_ok-read_type-in-Type-clause-reads
+returns-in_ok-read_type-in-Type-clause-reads g c = λ d all h is.
+    let k = c.in_ok-read_type-in-Type.ensures.reads d h in
+    (k.0, k.1, is ∙ ap (λ o. then_on (line_at d (statement d o) c.args.reader.now)) c.in-Type.is ∙ ap then_on k.2)
+
+pub read_bucket-requires-clause-known : goal.read_bucket-requires-clause-known
+read_bucket-requires-clause-known g c = λ d h. (c.in-Bucket.field-0, subst (λ o. IsKnown d o c.args.word.now) c.in-Bucket.is (c.requires.known d h))
+
 pub returns-in_ok-read_bucket-in-Bucket-clause-reads : goal.returns-in_ok-read_bucket-in-Bucket-clause-reads
 returns-in_ok-read_bucket-in-Bucket-clause-reads g c = λ d all h is.
-    let k = c.in_ok-read_bucket-in-Bucket.ensures.reads d h in
+    let k = c.in_ok-read_bucket-in-Bucket.ensures.reads d _ h (subst (λ o. IsKnown d o c.args.word.now) c.in-Bucket.is (c.requires.known d h)) in
     (k.0, k.1, is ∙ ap (λ o. then_on (line_at d (statement d o) c.args.reader.now)) c.in-Bucket.is ∙ k.2)
+
+pub returns-in_ok-read_rule-in-Rule-clause-reads : goal.returns-in_ok-read_rule-in-Rule-clause-reads
+returns-in_ok-read_rule-in-Rule-clause-reads g c = λ d all h is.
+    let k = c.in_ok-read_rule-in-Rule.ensures.reads d h in
+    (k.0, k.1, is ∙ ap (λ o. then_on (line_at d (statement d o) c.args.reader.now)) c.in-Rule.is ∙ k.2)

@@ -1,0 +1,86 @@
+-- Lines of items and texts of buckets, along a list of nodes.
+use Rattle.std.proofs.Common.{◌≡◌, ℕ, ◌+◌, ◌<◌, ◌≤◌, List, [], ◌∷◌, ◌++◌, length, get_or, take, ap, sym, ◌∙◌, refl, arith, append_assoc, Result, Ok, Err}
+use Rattle.std.specs.Prelude.{OnOk, codes, decimal, is_ok, if◌then◌else◌}
+use Rattle.std.proofs.lemmas.List.{append-nil}
+use Rattle.crush_units.specs.declared.id.ItemId.TheVariants.{Bucket as BucketItem}
+use Rattle.crush_table.specs.Items.{LeafData, BucketData, Items, none, device, bucket, size_of}
+use Rattle.crush_table.specs.Forest.{join}
+use Rattle.crush_edits.specs.Setting.{SettingData}
+use Rattle.crush_nodes.specs.Seen.{items_of, leaf_data}
+use Rattle.crush_nodes.specs.declared.node.Node.{Node}
+use Rattle.crush_nodes.specs.declared.node.Node.TheVariants.{Device, Bucket}
+use Rattle.crush_nodes.proofs.Steps.{items_of-taken, kids_smaller}
+use Rattle.crush_print.specs.Lines.{item_line, bucket_head}
+use Rattle.crush_print.specs.ItemsText.{item_lines, own_text, texts, leaves}
+
+-- of the items of both
+pub item_lines-join : (a b : Items) → item_lines (join a b) ≡ item_lines a ++ item_lines b
+item_lines-join none b = refl
+item_lines-join (device d rest) b = ap (λ (l : List ℕ). item_line d.name d.weight ++ l) (item_lines-join rest b) ∙ sym (append_assoc (item_line d.name d.weight) _ _)
+item_lines-join (bucket h w m kids rest) b = ap (λ (l : List ℕ). item_line h.name w ++ l) (item_lines-join rest b) ∙ sym (append_assoc (item_line h.name w) _ _)
+
+-- the buckets among the items of both
+pub texts-join : (s : SettingData) (a b : Items) → texts s (join a b) ≡ texts s a ++ texts s b
+texts-join s none b = refl
+texts-join s (device d rest) b = texts-join s rest b
+texts-join s (bucket h w m kids rest) b = ap (λ (l : List ℕ). (texts s kids ++ own_text s h w kids) ++ l) (texts-join s rest b) ∙ sym (append_assoc (texts s kids ++ own_text s h w kids) _ _)
+
+-- one item more
+pub item_lines-more : {A : _} (ns : List (Node A)) (i : ℕ) (x : Node A) → i < length ns → x ≡ get_or ns i x
+    → item_lines (items_of (take (i + 1) ns)) ≡ item_lines (items_of (take i ns)) ++ item_lines (items_of (x ∷ []))
+item_lines-more ns i x lt is = ap item_lines (items_of-taken ns i x lt is) ∙ item_lines-join (items_of (take i ns)) (items_of (x ∷ []))
+
+-- the buckets among one item more
+pub texts-more : {A : _} (s : SettingData) (ns : List (Node A)) (i : ℕ) (x : Node A) → i < length ns → x ≡ get_or ns i x
+    → texts s (items_of (take (i + 1) ns)) ≡ texts s (items_of (take i ns)) ++ texts s (items_of (x ∷ []))
+texts-more s ns i x lt is = ap (texts s) (items_of-taken ns i x lt is) ∙ texts-join s (items_of (take i ns)) (items_of (x ∷ []))
+
+-- the devices among the items of both
+pub leaves-join : (a b : Items) → leaves (join a b) ≡ leaves a ++ leaves b
+leaves-join none b = refl
+leaves-join (device d rest) b = ap (λ (l : List LeafData). d ∷ l) (leaves-join rest b)
+leaves-join (bucket h w m kids rest) b = ap (λ (l : List LeafData). leaves kids ++ l) (leaves-join rest b) ∙ sym (append_assoc (leaves kids) (leaves rest) (leaves b))
+
+-- the devices among one item more
+pub leaves-more : {A : _} (ns : List (Node A)) (i : ℕ) (x : Node A) → i < length ns → x ≡ get_or ns i x
+    → leaves (items_of (take (i + 1) ns)) ≡ leaves (items_of (take i ns)) ++ leaves (items_of (x ∷ []))
+leaves-more ns i x lt is = ap leaves (items_of-taken ns i x lt is) ∙ leaves-join (items_of (take i ns)) (items_of (x ∷ []))
+
+-- what is behind the lines so far
+pub one_more : (old now new first next all : List ℕ) → now ≡ old ++ first → new ≡ now ++ next → all ≡ first ++ next → new ≡ old ++ all
+one_more old now new first next all before after is = after ∙ ap (λ (l : List ℕ). l ++ next) before ∙ append_assoc old first next ∙ ap (λ (l : List ℕ). old ++ l) (sym is)
+
+-- the five parts of a bucket, of which the last may fail
+pub bucket_more : {X E : Type 0} (r : Result X E) (old one two three four five head ids choice items end : List ℕ) → one ≡ old ++ head → two ≡ one ++ ids → three ≡ two ++ choice → four ≡ three ++ items → five ≡ (if is_ok r then four ++ end else four)
+    → OnOk r (five ≡ old ++ ((((head ++ ids) ++ choice) ++ items) ++ end))
+bucket_more (Ok x) old one two three four five head ids choice items end a b c d e =
+    one_more old four five (((head ++ ids) ++ choice) ++ items) end _ (one_more old three four ((head ++ ids) ++ choice) items _ (one_more old two three (head ++ ids) choice _ (one_more old one two head ids _ a b refl) c refl) d refl) e refl
+bucket_more (Err e) old one two three four five head ids choice items end a b c d h = tt
+
+-- a bucket's heading, part by part
+pub head_more : {X E : Type 0} (r : Result X E) (old now new kind space name opens number remark : List ℕ) (id : ℕ) → now ≡ old ++ (kind ++ (space ++ (name ++ []))) → OnOk r (new ≡ now ++ (opens ++ (number ++ (remark ++ []))))
+    → space ≡ codes " " → opens ≡ codes " {\n\tid -" → number ≡ decimal id → remark ≡ codes "\t\t# do not change unnecessarily\n" → OnOk r (new ≡ old ++ bucket_head kind name (BucketItem id))
+unfolding bucket_head
+head_more (Ok x) old now new kind space name opens number remark id before after a b c d =
+    one_more old now new (kind ++ (space ++ (name ++ []))) (opens ++ (number ++ (remark ++ []))) _ before after (rw (a, b, c, d) simp (append_assoc, append-nil))
+head_more (Err e) old now new kind space name opens number remark id before after a b c d = tt
+
+-- an item has no more buckets than the items that it is among
+pub item_no_larger : {A : _} (ns : List (Node A)) (i : ℕ) (x : Node A) → i < length ns → x ≡ get_or ns i x → size_of (items_of (x ∷ [])) ≤ size_of (items_of ns)
+item_no_larger ns i (Device l) lt is = omega arith
+item_no_larger ns i (Bucket b) lt is = omega (arith, kids_smaller ns i (Bucket b) b lt is refl)
+
+-- a device among the nodes is found, and so are those below a bucket
+pub found_device : {A : _} (ns : List (Node A)) (i : ℕ) (x : Node A) (l : _) (old now new : List LeafData) → i < length ns → x ≡ get_or ns i x → x ≡ Device l
+    → now ≡ old ++ leaves (items_of (take i ns)) → new ≡ now ++ leaf_data l ∷ [] → new ≡ old ++ leaves (items_of (take (i + 1) ns))
+found_device ns i x l old now new lt is at before after =
+    after ∙ ap (λ (r : List LeafData). r ++ leaf_data l ∷ []) before ∙ append_assoc old (leaves (items_of (take i ns))) (leaf_data l ∷ [])
+    ∙ ap (λ (r : List LeafData). old ++ r) (sym (leaves-more ns i x lt is ∙ ap (λ y. leaves (items_of (take i ns)) ++ leaves (items_of (y ∷ []))) at))
+
+-- the devices below a bucket are found
+pub found_below : {A : _} (ns : List (Node A)) (i : ℕ) (x : Node A) (b : _) (d : BucketData) (kids : Items) (old now new : List LeafData) → i < length ns → x ≡ get_or ns i x → x ≡ Bucket b → d ≡ b.value → kids ≡ d.kids
+    → now ≡ old ++ leaves (items_of (take i ns)) → new ≡ now ++ leaves kids → new ≡ old ++ leaves (items_of (take (i + 1) ns))
+found_below ns i x b d kids old now new lt is at same kid_same before after =
+    after ∙ ap (λ (r : List LeafData). r ++ leaves kids) before ∙ append_assoc old (leaves (items_of (take i ns))) (leaves kids)
+    ∙ ap (λ (r : List LeafData). old ++ (leaves (items_of (take i ns)) ++ r)) (ap leaves (kid_same ∙ ap (λ (d : BucketData). d.kids) same) ∙ sym (append-nil (leaves b.value.kids)))
+    ∙ ap (λ (r : List LeafData). old ++ r) (sym (leaves-more ns i x lt is ∙ ap (λ y. leaves (items_of (take i ns)) ++ leaves (items_of (y ∷ []))) at))

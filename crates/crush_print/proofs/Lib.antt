@@ -1,0 +1,15 @@
+pub mod InOrder
+pub mod ItemLines
+pub mod PartRows
+pub mod PartSteps
+pub mod PartSums
+pub mod PartTables
+pub mod PrintedLines
+pub mod PrintedMaps
+pub mod PrintedOrder
+pub mod PrintedTexts
+pub mod PrintedWords
+pub mod SameText
+pub mod Sorting
+pub mod TakenNames
+pub mod Told

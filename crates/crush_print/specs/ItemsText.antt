@@ -1,0 +1,36 @@
+-- The lines of items and the texts of buckets, written from items as plain data.
+use Rattle.std.specs.Prelude.{ℕ, List, [], ◌∷◌, ◌++◌, None}
+use Rattle.crush_units.specs.declared.id.ItemId.{ItemId}
+use Rattle.crush_units.specs.declared.id.ItemId.TheVariants.{Device, Bucket}
+use Rattle.crush_table.specs.Items.{LeafData, HeaderData, Items, none, device, bucket}
+use Rattle.crush_table.specs.ItemRows.{bucket_row}
+use Rattle.crush_edits.specs.Setting.{SettingData}
+use Rattle.crush_print.specs.Lines.{item_line, bucket_lines}
+use Rattle.crush_print.specs.MapText.{kind_text}
+
+-- the lines of items side by side, with the weights that buckets store
+abbrev pub item_lines : Items → List ℕ
+item_lines none = []
+item_lines (device d rest) = item_line d.name d.weight ++ item_lines rest
+item_lines (bucket h w m kids rest) = item_line h.name w ++ item_lines rest
+
+-- a bucket by itself
+abbrev pub own_text : SettingData → HeaderData → ℕ → Items → List ℕ
+own_text s h w kids = bucket_lines (kind_text s h.kind) (bucket_row None h) w (item_lines kids)
+
+-- the buckets among items and below them, each behind those among its items
+abbrev pub texts : SettingData → Items → List ℕ
+texts s none = []
+texts s (device d rest) = texts s rest
+texts s (bucket h w m kids rest) = (texts s kids ++ own_text s h w kids) ++ texts s rest
+
+-- the devices among items and below them
+abbrev pub leaves : Items → List LeafData
+leaves none = []
+leaves (device d rest) = d ∷ leaves rest
+leaves (bucket h w m kids rest) = leaves kids ++ leaves rest
+
+-- the number of an id, whichever of the two it is
+abbrev pub id_number : ItemId → ℕ
+id_number (Device d) = d
+id_number (Bucket b) = b

@@ -1,0 +1,4 @@
+pub mod ItemsText
+pub mod Lines
+pub mod MapText
+pub mod RuleLines

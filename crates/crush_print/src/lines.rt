@@ -1,0 +1,207 @@
+//! The lines of a printed map, each pushed behind what a `Vec` holds.
+
+ghost use Rattle.std.specs.Prelude.{◌≡◌, [], ◌∷◌, ◌++◌, None, OnOk, flat_map, map};
+ghost use Rattle.crush_table.specs.ItemRows.{device_row, bucket_row};
+ghost use Rattle.crush_nodes.specs.Seen.{leaf_data, header_data, items_of, shadow_data};
+ghost use Rattle.crush_print.specs.Lines.{device_line, kind_line, item_line, class_id_line, bucket_head, bucket_choice, bucket_lines};
+ghost use Rattle.crush_print.specs.ItemsText.{item_lines};
+
+use crush_bytes::put_all;
+use crush_tree::{Bucket, Header, Leaf, Node, ShadowId};
+use crush_units::{ItemId, Weight};
+use itoa::Buffer;
+use std::alloc::{AllocError, Allocator};
+
+/// All parts, one after the other.
+pub(crate) fn push_all(parts: &[&[u8]], out: &mut Vec<u8>) -> Result<(), AllocError>
+    ensures { OnOk result (out.new.items ≡ out.old.items ++ flat_map (λ part. part.now) parts.now) }
+{
+    put_all(out, parts).map_err(|_| AllocError)
+}
+
+/// The line of a device.
+#[tactic(auto, unfolding(crate::specs::Lines::device_line))]
+pub(crate) fn push_device<A: Allocator>(
+    device: &Leaf<A>,
+    out: &mut Vec<u8>,
+) -> Result<(), AllocError>
+    ensures { OnOk result (out.new.items ≡ out.old.items
+        ++ device_line (device_row None (leaf_data device.now))) }
+{
+    let mut buffer = Buffer::new();
+    let number = buffer.format(device.id.number()).as_bytes();
+    push_all(
+        &[
+            b"device ".as_slice(),
+            number,
+            b" ".as_slice(),
+            device.name.as_bytes(),
+        ],
+        out,
+    )?;
+    match &device.class {
+        Some(class) => push_all(
+            &[b" class ".as_slice(), class.as_bytes(), b"\n".as_slice()],
+            out,
+        ),
+        None => push_all(&[b"\n".as_slice()], out),
+    }
+}
+
+/// The line of a type.
+#[tactic(auto, unfolding(crate::specs::Lines::kind_line))]
+pub(crate) fn push_kind(number: u16, name: &[u8], out: &mut Vec<u8>) -> Result<(), AllocError>
+    ensures { OnOk result (out.new.items ≡ out.old.items ++ kind_line number name.now) }
+{
+    let mut buffer = Buffer::new();
+    let number = buffer.format(number).as_bytes();
+    push_all(
+        &[
+            b"type ".as_slice(),
+            number,
+            b" ".as_slice(),
+            name,
+            b"\n".as_slice(),
+        ],
+        out,
+    )
+}
+
+/// The line of an item with this name and this weight.
+#[tactic(auto, unfolding(crate::specs::Lines::item_line))]
+fn push_line(name: &[u8], weight: Weight, out: &mut Vec<u8>) -> Result<(), AllocError>
+    ensures { OnOk result (out.new.items ≡ out.old.items ++ item_line name.now weight) }
+{
+    let mut room = [0; 16];
+    let len = weight.text(&mut room);
+    push_all(
+        &[
+            b"\titem ".as_slice(),
+            name,
+            b" weight ".as_slice(),
+            &room[..len],
+            b"\n".as_slice(),
+        ],
+        out,
+    )
+}
+
+/// The line of an item of a bucket.
+fn push_item<A: Allocator>(node: &Node<A>, out: &mut Vec<u8>) -> Result<(), AllocError>
+    ensures { OnOk result (out.new.items ≡ out.old.items ++ item_lines (items_of (node.now ∷ []))) }
+{
+    match node {
+        Node::Device(leaf) => push_line(leaf.name.as_bytes(), leaf.weight, out),
+        Node::Bucket(bucket) => {
+            let bucket: &Bucket<A> = bucket;
+            push_line(bucket.header.name.as_bytes(), bucket.weight, out)
+        }
+    }
+}
+
+/// The lines of a bucket's items.
+fn push_items<A: Allocator>(items: &[Node<A>], out: &mut Vec<u8>) -> Result<(), AllocError>
+    ensures { OnOk result (out.new.items ≡ out.old.items ++ item_lines (items_of items.now)) }
+{
+    for node in items {
+        push_item(node, out)?;
+    }
+    Ok(())
+}
+
+/// The line of a class id.
+#[tactic(auto, unfolding(crate::specs::Lines::class_id_line))]
+fn push_class_id<A: Allocator>(id: &ShadowId<A>, out: &mut Vec<u8>) -> Result<(), AllocError>
+    ensures { OnOk result (out.new.items ≡ out.old.items ++ class_id_line (shadow_data id.now)) }
+{
+    let mut buffer = Buffer::new();
+    let number = buffer.format(id.id.distance()).as_bytes();
+    push_all(
+        &[
+            b"\tid -".as_slice(),
+            number,
+            b" class ".as_slice(),
+            id.class.as_bytes(),
+            b"\t\t# do not change unnecessarily\n".as_slice(),
+        ],
+        out,
+    )
+}
+
+/// The lines of a bucket's class ids.
+fn push_class_ids<A: Allocator>(ids: &[ShadowId<A>], out: &mut Vec<u8>) -> Result<(), AllocError>
+    ensures { OnOk result (out.new.items ≡ out.old.items
+        ++ flat_map class_id_line (map shadow_data ids.now)) }
+{
+    for id in ids {
+        push_class_id(id, out)?;
+    }
+    Ok(())
+}
+
+/// How a bucket begins, whose type has this name.
+#[tactic(auto, unfolding(crate::specs::Lines::bucket_head))]
+fn push_head<A: Allocator>(
+    kind: &[u8],
+    header: &Header<A>,
+    out: &mut Vec<u8>,
+) -> Result<(), AllocError>
+    ensures { OnOk result (out.new.items ≡ out.old.items
+        ++ bucket_head kind.now header.now.name (ItemId.Bucket header.now.id)) }
+{
+    push_all(&[kind, b" ".as_slice(), header.name.as_bytes()], out)?;
+    let mut buffer = Buffer::new();
+    let number = buffer.format(header.id.distance()).as_bytes();
+    push_all(
+        &[
+            b" {\n\tid -".as_slice(),
+            number,
+            b"\t\t# do not change unnecessarily\n".as_slice(),
+        ],
+        out,
+    )
+}
+
+/// The lines on how a bucket of this weight chooses.
+#[tactic(auto, unfolding(crate::specs::Lines::bucket_choice))]
+fn push_choice<A: Allocator>(
+    header: &Header<A>,
+    weight: Weight,
+    out: &mut Vec<u8>,
+) -> Result<(), AllocError>
+    ensures { OnOk result (out.new.items ≡ out.old.items
+        ++ bucket_choice (bucket_row None (header_data header.now)) weight) }
+{
+    let mut room = [0; 16];
+    let len = weight.text(&mut room);
+    let alg = header.alg.name().as_bytes();
+    push_all(
+        &[
+            b"\t# weight ".as_slice(),
+            &room[..len],
+            b"\n\talg ".as_slice(),
+            alg,
+            b"\n\thash 0\t# rjenkins1\n".as_slice(),
+        ],
+        out,
+    )
+}
+
+/// A bucket with this header, this weight and these items, whose type has this name.
+pub(crate) fn push_bucket<A: Allocator>(
+    kind: &[u8],
+    header: &Header<A>,
+    weight: Weight,
+    items: &[Node<A>],
+    out: &mut Vec<u8>,
+) -> Result<(), AllocError>
+    ensures { OnOk result (out.new.items ≡ out.old.items
+        ++ bucket_lines kind.now (bucket_row None (header_data header.now)) weight
+        (item_lines (items_of items.now))) }
+{
+    push_head(kind, header, out)?;
+    push_class_ids(header.class_ids.as_slice(), out)?;
+    push_choice(header, weight, out)?;
+    push_items(items, out)?;
+    out.extend_from_slice(b"}\n")
+}

@@ -1,0 +1,78 @@
+//! The printer: a map as its text.
+
+ghost use Rattle.std.specs.Prelude.{◌≡◌, List, ◌++◌, OnOk};
+ghost use Rattle.std.specs.Io.KnownBytes.{Keeps};
+ghost use Rattle.crush_table.specs.Stands.{Stands};
+ghost use Rattle.crush_table.specs.Table.{Row};
+ghost use Rattle.crush_print.specs.MapText.{map_text, SameTablesPrintAlike, TakenBucketsAreNamed};
+ghost use Rattle.crush_bytes.specs.Writes.{Writes};
+
+mod buckets;
+mod devices;
+mod kinds;
+mod rules;
+mod tunables;
+
+use buckets::push_roots;
+use crush_bytes::{WriteFault, put};
+use crush_map::{CrushMap, Setting};
+use crush_tree::Forest;
+use devices::push_devices;
+use kinds::push_kinds;
+use rules::push_rules;
+use std::alloc::{AllocError, Allocator, Global};
+use std::io::Write;
+use tunables::push_tunables;
+
+/// Writes the map's text, in Ceph's form, as docs/FORMATS.md says: its tunables, its devices, its
+/// types, its buckets and its rules, and the fixed lines round them. A step of a rule that takes a
+/// bucket names it as the map does now.
+///
+/// The text is laid out in the given memory first. With [`WriteFault::OutOfMemory`] nothing is
+/// written, with [`WriteFault::Write`] a front of the text.
+pub fn write_map<A: Allocator, W: Write>(
+    alloc: Global,
+    map: &CrushMap<A>,
+    out: &mut W,
+) -> Result<(), WriteFault>
+    ensures writes { (t : List Row) → Stands map.now.forest t
+        → Writes result (W.contents out.old) (W.contents out.new) (map_text map.now.setting t) }
+    ensures none { result ≡ Err WriteFault.OutOfMemory
+        → Keeps (W.contents out.old) (W.contents out.new) }
+{
+    let mut text = Vec::new(alloc);
+    if push_map(alloc, map.setting(), map.forest(), &mut text).is_err() {
+        return Err(WriteFault::OutOfMemory);
+    }
+    put(out, text.as_slice())
+}
+
+/// A map's text is that of its table, whatever the order of the table's rows: only the order of
+/// each bucket's items is told. There is nothing to run: the contract is the law.
+pub fn same_tables_print_alike()
+    ensures { SameTablesPrintAlike }
+{}
+
+/// A step of a rule that takes a bucket is printed with the name that this bucket has, for each setting
+/// that fits the table. There is nothing to run: the contract is the law.
+pub fn taken_buckets_are_named()
+    ensures { TakenBucketsAreNamed }
+{}
+
+/// The whole text of a map with this setting and this hierarchy.
+fn push_map<A: Allocator>(
+    alloc: Global,
+    setting: &Setting,
+    forest: &Forest<A>,
+    out: &mut Vec<u8>,
+) -> Result<(), AllocError>
+    ensures { (t : List Row) → Stands forest.now t
+        → OnOk result (out.new.items ≡ out.old.items ++ map_text setting.now t) }
+{
+    push_tunables(setting, out)?;
+    push_devices(alloc, forest, out)?;
+    push_kinds(alloc, setting, out)?;
+    push_roots(alloc, setting, forest, out)?;
+    push_rules(setting, forest, out)?;
+    out.extend_from_slice(b"\n# end crush map\n")
+}

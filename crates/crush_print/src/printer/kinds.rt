@@ -1,0 +1,53 @@
+//! The types of a printed map.
+
+ghost use Rattle.std.specs.Prelude.{◌≡◌, ◌++◌, OnOk, IfOk, map};
+ghost use Rattle.crush_print.specs.MapText.{kind_text, kind_numbers, kind_section};
+
+use crate::lines;
+use crush_map::{Kind, Setting};
+use crush_units::TypeId;
+use std::alloc::{AllocError, Global};
+
+/// The types, by ascending number.
+#[tactic(auto, unfolding(crate::specs::MapText::kind_section))]
+pub(crate) fn push_kinds(
+    alloc: Global,
+    setting: &Setting,
+    out: &mut Vec<u8>,
+) -> Result<(), AllocError>
+    ensures { OnOk result (out.new.items ≡ out.old.items ++ kind_section setting.now) }
+{
+    let numbers = numbers_in_order(alloc, setting)?;
+    out.extend_from_slice(b"\n# types\n")?;
+    for number in &numbers {
+        lines::push_kind(*number, kind_name(setting, TypeId::new(*number)), out)?;
+    }
+    Ok(())
+}
+
+/// The numbers of the types, from the least to the greatest.
+fn numbers_in_order(alloc: Global, setting: &Setting) -> Result<Vec<u16>, AllocError>
+    ensures { IfOk result (λ numbers. numbers.items ≡ kind_numbers setting.now) }
+{
+    let mut numbers = numbers_of(alloc, setting.kinds())?;
+    numbers.sort_unstable();
+    Ok(numbers)
+}
+
+/// The numbers of the types.
+fn numbers_of(alloc: Global, kinds: &[Kind]) -> Result<Vec<u16>, AllocError>
+    ensures { IfOk result (λ numbers. numbers.items ≡ map (λ k. k.number) kinds.now) }
+{
+    kinds.iter().map(|kind| kind.number.number()).collect(alloc)
+}
+
+/// The name of the type with this number, or nothing where the setting has none.
+#[tactic(auto, unfolding(crate::specs::MapText::kind_text))]
+pub(crate) fn kind_name(setting: &Setting, number: TypeId) -> &[u8]
+    ensures { result.now ≡ kind_text setting.now number }
+{
+    match setting.kind_name(number) {
+        Some(name) => name.as_bytes(),
+        None => b"".as_slice(),
+    }
+}

@@ -1,0 +1,52 @@
+//! The tunables of a printed map.
+
+ghost use Rattle.std.specs.Prelude.{◌≡◌, ◌++◌, OnOk, flat_map, map};
+ghost use Rattle.crush_edits.specs.SettingSeen.{tunable_data};
+ghost use Rattle.crush_print.specs.Lines.{tunable_line};
+ghost use Rattle.crush_print.specs.MapText.{tunable_section};
+
+use crate::lines::push_all;
+use crush_edits::{Setting, Tunable};
+use itoa::Buffer;
+use std::alloc::AllocError;
+
+/// The beginning of a map, and the tunables in their order.
+#[tactic(auto, unfolding(crate::specs::MapText::tunable_section))]
+pub(crate) fn push_tunables(setting: &Setting, out: &mut Vec<u8>) -> Result<(), AllocError>
+    ensures { OnOk result (out.new.items ≡ out.old.items ++ tunable_section setting.now) }
+{
+    out.extend_from_slice(b"# begin crush map\n")?;
+    let tunables = setting.tunables();
+    push_all_tunables(tunables, out)
+}
+
+/// The tunables, in their order.
+fn push_all_tunables(tunables: &[Tunable], out: &mut Vec<u8>) -> Result<(), AllocError>
+    ensures { OnOk result (out.new.items
+        ≡ out.old.items ++ flat_map tunable_line (map tunable_data tunables.now)) }
+{
+    for tunable in tunables {
+        push_tunable(tunable, out)?;
+    }
+    Ok(())
+}
+
+/// The line of a tunable.
+#[tactic(auto, unfolding(crate::specs::Lines::tunable_line))]
+fn push_tunable(tunable: &Tunable, out: &mut Vec<u8>) -> Result<(), AllocError>
+    ensures { OnOk result (out.new.items
+        ≡ out.old.items ++ tunable_line (tunable_data tunable.now)) }
+{
+    let mut buffer = Buffer::new();
+    let value = buffer.format(tunable.value).as_bytes();
+    push_all(
+        &[
+            b"tunable ".as_slice(),
+            tunable.name.as_bytes(),
+            b" ".as_slice(),
+            value,
+            b"\n".as_slice(),
+        ],
+        out,
+    )
+}

@@ -1,7 +1,0 @@
-use Rattle.std.proofs.Common.{◌≡◌, ◌++◌, take}
-use Rattle.crush_nodes.specs.Seen.{items_of}
-use Rattle.crush_text.specs.ItemsText.{item_lines}
-use Rattle.crush_text.proofs.lines.push_items.Given as goal
-
-abbrev pub invariant-loop-node : goal.invariant-loop-node
-invariant-loop-node g l = l.out.items ≡ l.fn.out.items ++ item_lines (items_of (take l.node-index l.items))

@@ -1,5 +1,0 @@
-use Rattle.crush_text.proofs.SameText.{map_text-same}
-use Rattle.crush_text.proofs.printer.same_tables_print_alike.Goals as goal
-
-pub returns : goal.returns
-returns c = map_text-same

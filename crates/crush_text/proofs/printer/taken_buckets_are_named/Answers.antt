@@ -1,5 +1,0 @@
-use Rattle.crush_text.proofs.TakenNames.{taken_buckets-named}
-use Rattle.crush_text.proofs.printer.taken_buckets_are_named.Goals as goal
-
-pub returns : goal.returns
-returns c = taken_buckets-named

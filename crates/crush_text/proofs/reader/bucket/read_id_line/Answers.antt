@@ -1,0 +1,14 @@
+-- One more class id, or the algorithm.
+use Rattle.std.proofs.Common.{◌∙◌, ap, Bool, Ok}
+use Rattle.crush_text.proofs.Steps.{id_or_alg_goes}
+use Rattle.crush_text.proofs.reader.bucket.read_id_line.Goals as goal
+
+pub returns-then-not-more-clause-reads : goal.returns-then-not-more-clause-reads
+returns-then-not-more-clause-reads g c = λ d h.
+    let k = c.in_ok-read_alg.ensures.reads d h in
+    (k.0, k.1, id_or_alg_goes d _ _ _ (c.in_ok-more.ensures.gives d h ∙ ap (λ (b : Bool). Ok (b, c.read_id_or_alg.new.reader)) c.if-not-more.true) ∙ k.2)
+
+pub returns-clause-reads : goal.returns-clause-reads
+returns-clause-reads g c = λ d h.
+    let k = c.in_ok-read_class_id.ensures.reads d h in
+    (k.0, k.1, id_or_alg_goes d _ _ _ (c.in_ok-more.ensures.gives d h ∙ ap (λ (b : Bool). Ok (b, c.read_id_or_alg.new.reader)) c.if-not-more.false) ∙ k.2)

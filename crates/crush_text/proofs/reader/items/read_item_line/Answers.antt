@@ -1,0 +1,16 @@
+-- One more item, or the bucket's end.
+use Rattle.std.proofs.Common.{◌∙◌, ap, Bool, Ok}
+use Rattle.crush_map.specs.Built.{with_end}
+use Rattle.crush_text.specs.Reads.{line_at}
+use Rattle.crush_text.proofs.Weighed.{item_or_end_goes}
+use Rattle.crush_text.proofs.reader.items.read_item_line.Goals as goal
+
+pub returns-then-not-more-clause-reads : goal.returns-then-not-more-clause-reads
+unfolding line_at
+returns-then-not-more-clause-reads g c = λ d h.
+    (with_end d, c.end.ensures d h, item_or_end_goes d _ _ _ _ (c.in_ok-more.ensures.gives d ∙ ap (λ (b : Bool). Ok (b, c.read_item_or_end.new.reader)) c.if-not-more.true))
+
+pub returns-clause-reads : goal.returns-clause-reads
+returns-clause-reads g c = λ d h.
+    let k = c.in_ok-read_item.ensures.reads d h in
+    (k.0, k.1, item_or_end_goes d _ _ _ _ (c.in_ok-more.ensures.gives d ∙ ap (λ (b : Bool). Ok (b, c.read_item_or_end.new.reader)) c.if-not-more.false) ∙ k.2)

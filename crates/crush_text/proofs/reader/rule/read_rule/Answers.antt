@@ -1,0 +1,21 @@
+-- The head of a rule, its steps and its end.
+use Rattle.std.proofs.Common.{◌∙◌, ap, refl}
+use Rattle.std.proofs.lemmas.Result.{err_from_is_err_and}
+use Rattle.crush_map.specs.Rules.{with_rule}
+use Rattle.crush_text.specs.Reads.{then_on}
+use Rattle.crush_text.proofs.LineByLine.{fails_all, fails_so}
+use Rattle.crush_text.proofs.reader.rule.read_rule.Goals as goal
+
+pub returns-in_err-rule-clause-reads : goal.returns-in_err-rule-clause-reads
+returns-in_err-rule-clause-reads g c = λ d h.
+    let p = err_from_is_err_and c.from_residual.result c.from_residual.ensures.1 in
+    rw (p.1, p.2) (fails_all _ _ _ _ refl (c.in_err-rule.ensures.gives d h))
+
+pub returns-in_err-place-clause-reads : goal.returns-in_err-place-clause-reads
+returns-in_err-place-clause-reads g c = λ d h.
+    let p = err_from_is_err_and c.from_residual-in_err-place.result c.from_residual-in_err-place.ensures.1 in
+    rw (p.1, p.2) (fails_so _ _ _ (ap then_on (c.in_ok-rule.ensures.gives d h)) (c.in_err-place.ensures.reads d h))
+
+pub returns-clause-reads : goal.returns-clause-reads
+returns-clause-reads g c = λ d h.
+    (with_rule d c.read_steps.new.rule, (c.in-Ok.ensures.ok d h).1, ap then_on (c.in_ok-rule.ensures.gives d h) ∙ c.in_ok-place.ensures.reads d h)

@@ -1,0 +1,28 @@
+-- The steps one after the other, up to the brace.
+use Rattle.std.proofs.Common.{◌∙◌, ap, arith, refl, subst, ℕ, Option, Ok}
+use Rattle.std.proofs.lemmas.Result.{err_from_is_err_and}
+use Rattle.crush_map.specs.Rules.{kept_rule}
+use Rattle.crush_text.specs.Form.{ruled}
+use Rattle.crush_text.specs.Grammar.{lines}
+use Rattle.crush_text.specs.Reads.{ReadsStep, then_on, line_at}
+use Rattle.crush_text.proofs.LineByLine.{fails_all, next_goes}
+use Rattle.crush_text.proofs.reader.rule.read_steps.Goals as goal
+
+pub returns-in_err-end-clause-reads : goal.returns-in_err-end-clause-reads
+returns-in_err-end-clause-reads g c = λ d h.
+    let p = err_from_is_err_and c.from_residual.result c.from_residual.ensures.1 in
+    rw (p.1, p.2) (fails_all _ _ _ _ (c.steps.invariant.reads d h ∙ next_goes _ d _ refl) (c.in_err-end.ensures.reads d h))
+
+pub returns-in-Some-clause-reads : goal.returns-in-Some-clause-reads
+returns-in-Some-clause-reads g c = λ d h.
+    let k = subst (λ (o : Option ℕ). ReadsStep (Ok o) d (kept_rule d c.read_step_line.new.rule) c.read_step_line.new.reader (line_at d (lines d (ruled (kept_rule d c.steps.rule))) c.steps.reader)) c.in-Some.is (c.in_ok-end.ensures.reads d h) in
+    c.steps.invariant.reads d h ∙ next_goes (ruled (kept_rule d c.steps.rule)) d c.steps.reader refl ∙ ap then_on k
+
+pub steps-preserved : goal.steps-preserved
+steps-preserved g c = record {
+  form = c.in_ok-end.ensures.form;
+  shorter = omega (arith, c.steps.invariant.shorter, c.in_ok-end.ensures.shorter);
+  reads = λ d h.
+      let k = subst (λ (o : Option ℕ). ReadsStep (Ok o) d (kept_rule d c.read_step_line.new.rule) c.read_step_line.new.reader (line_at d (lines d (ruled (kept_rule d c.steps.rule))) c.steps.reader)) c.in-None.is (c.in_ok-end.ensures.reads d h) in
+      c.steps.invariant.reads d h ∙ next_goes (ruled (kept_rule d c.steps.rule)) d c.steps.reader refl ∙ ap then_on k;
+}

@@ -1,0 +1,18 @@
+-- The steps so far, and what comes of the rest.
+use Rattle.std.proofs.Common.{◌≡◌, ◌≤◌, length}
+use Rattle.crush_map.specs.Built.{Draft}
+use Rattle.crush_map.specs.Building.{IsDraft}
+use Rattle.crush_map.specs.Rules.{IsRuleForm, kept_rule}
+use Rattle.crush_text.specs.Form.{ruled, at}
+use Rattle.crush_text.specs.Flow.{between, outcome}
+use Rattle.crush_text.proofs.reader.rule.read_steps.Given as goal
+
+abbrev pub invariant-steps : goal.invariant-steps
+invariant-steps g l = record {
+  form : IsRuleForm l.rule;
+  shorter : length l.reader.words ≤ length l.fn.reader.words;
+  reads : (d : Draft) → IsDraft l.fn.builder d → outcome (between (at (ruled (kept_rule d l.fn.rule)) d)) l.fn.reader ≡ outcome (between (at (ruled (kept_rule d l.rule)) d)) l.reader;
+}
+
+abbrev pub decreases-steps : goal.decreases-steps
+decreases-steps g l = length l.reader.words

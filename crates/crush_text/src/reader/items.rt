@@ -1,0 +1,186 @@
+//! The items of a bucket.
+
+ghost use Rattle.std.specs.Prelude.{◌≡◌, ◌≤◌, ◌<◌, length, true, false, IfOk, OnOk, Some, None};
+ghost use Rattle.crush_map.specs.Built.{Draft, with_item};
+ghost use Rattle.crush_map.specs.Building.{IsDraft, is_filling, item_named};
+ghost use Rattle.crush_text.specs.Role.{item_or_end, item};
+ghost use Rattle.crush_text.specs.Form.{second, filling, at};
+ghost use Rattle.crush_text.specs.Grammar.{item_line, item_weight, lines};
+ghost use Rattle.crush_text.specs.Flow.{between, outcome, placed};
+ghost use Rattle.crush_text.specs.Tests.{word_for};
+ghost use Rattle.crush_text.specs.Reads.{IsIdle, IsAmid, IsBehindItem, behind_item, Gives, Reads, ReadsLine, ReadsOn, Adds, own_weight, unless_heavy, word_at, line_at};
+
+use crate::fault::{TextFault, TextFaultKind};
+use crate::reader::roles::read_key;
+use crate::reader::word::{PlacedWord, next_word};
+use crush_bytes::Reader;
+use crush_map::{BuildFault, MapBuilder};
+use crush_units::{ItemId, Weight};
+use std::alloc::Allocator;
+
+/// The items of a bucket and its closing brace.
+pub(crate) fn read_items<A: Allocator>(
+    reader: &mut Reader<'_>,
+    builder: &mut MapBuilder<A>,
+) -> Result<(), TextFault>
+    requires filling { IsAmid is_filling builder.old }
+    ensures idle { OnOk result (IsIdle builder.new) }
+    ensures reads { (d : Draft) → IsDraft builder.old d
+        → ReadsOn second result builder.new reader.new
+        (outcome (between (at (filling false) d)) reader.old) }
+    ensures shorter { OnOk result (length reader.new.words ≤ length reader.old.words) }
+{
+    let mut any = false;
+    'items: loop {
+        let more = read_item_line(reader, builder, any)?;
+        if !more {
+            return Ok(());
+        }
+        any = true;
+    }
+}
+
+/// An item or the closing brace of a bucket, and whether it was an item.
+#[tactic(auto, unfolding(crate::specs::Reads::line_at))]
+fn read_item_line<A: Allocator>(
+    reader: &mut Reader<'_>,
+    builder: &mut MapBuilder<A>,
+    any: bool,
+) -> Result<bool, TextFault>
+    requires filling { IsAmid is_filling builder.old }
+    ensures after { IfOk result (λ more. IsBehindItem more builder.new) }
+    ensures reads { (d : Draft) → IsDraft builder.old d
+        → ReadsLine behind_item result builder.new reader.new
+        (line_at d (lines d (filling any)) reader.old) }
+    ensures shorter { OnOk result (length reader.new.words < length reader.old.words) }
+{
+    let more = read_item_or_end(reader, any)?;
+    if !more {
+        builder.end();
+        return Ok(false);
+    }
+    read_item(reader, builder)?;
+    Ok(true)
+}
+
+/// An item of a bucket, behind the word `item`. What no weight follows is at fault at its name.
+fn read_item<A: Allocator>(
+    reader: &mut Reader<'_>,
+    builder: &mut MapBuilder<A>,
+) -> Result<(), TextFault>
+    requires filling { IsAmid is_filling builder.old }
+    ensures filling { OnOk result (IsAmid is_filling builder.new) }
+    ensures reads { (d : Draft) → IsDraft builder.old d
+        → Reads (filling true) result builder.new reader.new (line_at d (item_line d) reader.old) }
+    ensures shorter { OnOk result (length reader.new.words ≤ length reader.old.words) }
+{
+    let name = next_word(reader)?;
+    let item = free_item(name, builder)?;
+    if reader.is_next(b"weight") {
+        read_key(reader, b"weight")?;
+        return read_weight(reader, builder, item);
+    }
+    add_item(name, item, None, builder)
+}
+
+/// The weight of an item.
+fn read_weight<A: Allocator>(
+    reader: &mut Reader<'_>,
+    builder: &mut MapBuilder<A>,
+    item: ItemId,
+) -> Result<(), TextFault>
+    requires filling { IsAmid is_filling builder.old }
+    ensures filling { OnOk result (IsAmid is_filling builder.new) }
+    ensures reads { (d : Draft) → IsDraft builder.old d
+        → Reads (filling true) result builder.new reader.new
+        (line_at d (item_weight d item) reader.old) }
+    ensures shorter { OnOk result (length reader.new.words ≤ length reader.old.words) }
+{
+    let word = next_word(reader)?;
+    let weight = own_weight(word, &item)?;
+    add_item(word, item, Some(weight), builder)
+}
+
+/// Puts an item into the bucket. The word is the last one of its line.
+fn add_item<A: Allocator>(
+    word: PlacedWord<'_>,
+    item: ItemId,
+    weight: Option<Weight>,
+    builder: &mut MapBuilder<A>,
+) -> Result<(), TextFault>
+    requires filling { IsAmid is_filling builder.old }
+    ensures filling { OnOk result (IsAmid is_filling builder.new) }
+    ensures adds { (d : Draft) → IsDraft builder.old d
+        → Adds result builder.new (with_item d item weight)
+        (placed word.entry.place (unless_heavy (with_item d item weight))) }
+{
+    match builder.item(item, weight) {
+        Ok(()) => Ok(()),
+        Err(BuildFault::SumTooLarge) => Err(word.fault(TextFaultKind::SumTooLarge)),
+        Err(_) => Err(word.fault(TextFaultKind::OutOfMemory)),
+    }
+}
+
+/// The weight of an item: a device's is at most 2147483647 units.
+fn own_weight(word: PlacedWord<'_>, item: &ItemId) -> Result<Weight, TextFault>
+    ensures { (d : Draft)
+        → result ≡ placed word.entry.place (own_weight d item.now word.entry.text.now) }
+{
+    if word.is_brace() {
+        return Err(word.fault(TextFaultKind::Unexpected));
+    }
+    let Ok(weight) = Weight::read_bytes(word.text) else {
+        return Err(word.fault(TextFaultKind::BadWeight));
+    };
+    if matches!(item, ItemId::Device(_)) && !weight.is_device_weight() {
+        return Err(word.fault(TextFaultKind::BadWeight));
+    }
+    Ok(weight)
+}
+
+/// Whether one more item follows, or the bucket ends. `pos` behind an item isn't read.
+#[tactic(auto, unfolding(crate::specs::Reads::word_at))]
+fn read_item_or_end(reader: &mut Reader<'_>, any: bool) -> Result<bool, TextFault>
+    ensures gives { (d : Draft)
+        → Gives (λ x. (x, reader.new)) result (word_at d (item_or_end any) reader.old) }
+    ensures shorter { OnOk result (length reader.new.words < length reader.old.words) }
+{
+    let word = next_word(reader)?;
+    if word.text == b"item".as_slice() {
+        Ok(true)
+    } else if word.text == b"}".as_slice() {
+        Ok(false)
+    } else if any && word.text == b"pos".as_slice() {
+        Err(word.fault(TextFaultKind::LeftOut))
+    } else {
+        Err(word.fault(TextFaultKind::Unexpected))
+    }
+}
+
+/// The device or the complete bucket of the name, which no bucket holds.
+fn free_item<A: Allocator>(
+    word: PlacedWord<'_>,
+    builder: &MapBuilder<A>,
+) -> Result<ItemId, TextFault>
+    ensures { (d : Draft) → IsDraft builder.now d
+        → result ≡ placed word.entry.place (word_for d item word.entry.text.now) }
+{
+    if word.is_brace() {
+        return Err(word.fault(TextFaultKind::Unexpected));
+    }
+    match item_named(builder, word.text) {
+        None => Err(word.fault(TextFaultKind::UnknownItem)),
+        Some(id) if builder.is_placed(id) => Err(word.fault(TextFaultKind::SecondParent)),
+        Some(id) => Ok(id),
+    }
+}
+
+/// The device or the complete bucket of a name, if there is one.
+fn item_named<A: Allocator>(builder: &MapBuilder<A>, name: &[u8]) -> Option<ItemId>
+    ensures { (d : Draft) → IsDraft builder.now d → result ≡ item_named d name.now }
+{
+    match builder.item_named(name) {
+        Ok(id) => Some(id),
+        Err(_) => None,
+    }
+}

@@ -1,0 +1,238 @@
+//! The lines of a rule.
+
+ghost use Rattle.std.specs.Prelude.{◌≡◌, ◌≤◌, ◌<◌, length, map, None, Some, IfOk, IfSome, OnOk, Option, ℕ};
+ghost use Rattle.crush_units.specs.Name.{IsName};
+ghost use Rattle.crush_map.specs.Built.{Draft};
+ghost use Rattle.crush_map.specs.Building.{IsDraft};
+ghost use Rattle.crush_map.specs.Rules.{IsRuleForm, kept_rule};
+ghost use Rattle.crush_text.specs.Role.{rule_name, rule_id_key, rule_id, step_or_end};
+ghost use Rattle.crush_text.specs.Form.{Form, second, ruled, at};
+ghost use Rattle.crush_text.specs.Grammar.{rule_line, lines};
+ghost use Rattle.crush_text.specs.Flow.{between, outcome};
+ghost use Rattle.crush_text.specs.Reads.{IsIdle, Gives, GivesOn, ReadsOn, ReadsSteps, ReadsStep, number_behind, is_step, then_on, word_at, line_at};
+
+use crate::fault::{TextFault, TextFaultKind};
+use crate::reader::roles::{read_key, read_number, read_word};
+use crate::reader::step::read_step;
+use crate::reader::word::{PlacedWord, next_word};
+use crush_bytes::Reader;
+use crush_bytes::number::number_up_to;
+use crush_map::{MapBuilder, Rule, Step};
+use crush_units::limits::MOST_STEPS;
+use std::alloc::{Allocator, Global};
+
+/// The greatest number that a rule's words have.
+const LAST_NUMBER: u32 = 2147483647;
+
+/// A rule, behind the word `rule`. What was read of it so far is kept in the machine's memory.
+pub(crate) fn read_rule<A: Allocator>(
+    reader: &mut Reader<'_>,
+    builder: &mut MapBuilder<A>,
+    machine: Global,
+) -> Result<(), TextFault>
+    requires idle { IsIdle builder.old }
+    ensures idle { OnOk result (IsIdle builder.new) }
+    ensures reads { (d : Draft) → IsDraft builder.old d
+        → ReadsOn second result builder.new reader.new
+        (then_on (line_at d (rule_line d) reader.old)) }
+    ensures shorter { OnOk result (length reader.new.words ≤ length reader.old.words) }
+{
+    let mut rule = read_head(reader, builder, machine)?;
+    let place = read_steps(reader, builder, machine, &mut rule)?;
+    let Ok(()) = builder.rule(&rule) else {
+        return Err(TextFault {
+            kind: TextFaultKind::OutOfMemory,
+            place,
+        });
+    };
+    Ok(())
+}
+
+/// The head of a rule, up to its first step.
+#[tactic(auto, unfolding(crate::specs::Reads::line_at))]
+fn read_head<A: Allocator>(
+    reader: &mut Reader<'_>,
+    builder: &MapBuilder<A>,
+    machine: Global,
+) -> Result<Rule, TextFault>
+    ensures form { IfOk result IsRuleForm }
+    ensures gives { (d : Draft) → IsDraft builder.now d
+        → Gives (λ r. (at (ruled (kept_rule d r)) d, reader.new)) result
+        (line_at d (rule_line d) reader.old) }
+    ensures shorter { OnOk result (length reader.new.words ≤ length reader.old.words) }
+{
+    let name = read_rule_name(reader, builder)?;
+    let name = name.own_name(machine)?;
+    read_key(reader, b"{")?;
+    read_rule_id_key(reader)?;
+    let id = read_rule_id(reader, builder)?;
+    read_key(reader, b"type")?;
+    let kind = read_word(reader)?;
+    let kind = kind.own_name(machine)?;
+    let min_size = read_size(reader, b"min_size")?;
+    let max_size = read_size(reader, b"max_size")?;
+    Ok(Rule {
+        name,
+        id,
+        kind,
+        min_size,
+        max_size,
+        steps: Vec::new(machine),
+    })
+}
+
+/// The size behind its key, if the key is next.
+#[tactic(auto, unfolding(crate::specs::Reads::line_at))]
+fn read_size(reader: &mut Reader<'_>, size: &[u8]) -> Result<Option<u32>, TextFault>
+    ensures most { IfOk result (λ n. IfSome n (λ k. k ≤ 2147483647)) }
+    ensures gives { (d : Draft) (more : Option ℕ → Form)
+        → GivesOn (λ n. line_at d (more n) reader.new) result
+        (line_at d (number_behind size.now more) reader.old) }
+    ensures shorter { OnOk result (length reader.new.words ≤ length reader.old.words) }
+{
+    if !reader.is_next(size) {
+        return Ok(None);
+    }
+    read_key(reader, size)?;
+    let number = read_number(reader, LAST_NUMBER)?;
+    Ok(Some(number))
+}
+
+/// The steps of a rule and its closing brace, whose place is told.
+fn read_steps<A: Allocator>(
+    reader: &mut Reader<'_>,
+    builder: &MapBuilder<A>,
+    machine: Global,
+    rule: &mut Rule,
+) -> Result<usize, TextFault>
+    requires form { IsRuleForm rule.old }
+    ensures form { OnOk result (IsRuleForm rule.new) }
+    ensures reads { (d : Draft) → IsDraft builder.now d
+        → ReadsSteps result d (kept_rule d rule.new) reader.new
+        (outcome (between (at (ruled (kept_rule d rule.old)) d)) reader.old) }
+    ensures shorter { OnOk result (length reader.new.words ≤ length reader.old.words) }
+{
+    'steps: loop {
+        let end = read_step_line(reader, builder, machine, rule)?;
+        match end {
+            Some(place) => return Ok(place),
+            None => continue,
+        }
+    }
+}
+
+/// A step of a rule, or the place of its closing brace.
+#[tactic(auto, unfolding(crate::specs::Reads::line_at))]
+fn read_step_line<A: Allocator>(
+    reader: &mut Reader<'_>,
+    builder: &MapBuilder<A>,
+    machine: Global,
+    rule: &mut Rule,
+) -> Result<Option<usize>, TextFault>
+    requires form { IsRuleForm rule.old }
+    ensures form { OnOk result (IsRuleForm rule.new) }
+    ensures reads { (d : Draft) → IsDraft builder.now d
+        → ReadsStep result d (kept_rule d rule.new) reader.new
+        (line_at d (lines d (ruled (kept_rule d rule.old))) reader.old) }
+    ensures shorter { OnOk result (length reader.new.words < length reader.old.words) }
+{
+    let word = read_step_or_end(reader, &rule.steps)?;
+    if !word.is_step() {
+        return Ok(Some(word.place));
+    }
+    let step = read_step(reader, builder, machine)?;
+    let Ok(()) = rule.steps.push(step) else {
+        return Err(word.fault(TextFaultKind::OutOfMemory));
+    };
+    Ok(None)
+}
+
+/// `step` or the closing brace, behind these steps.
+#[tactic(auto, unfolding(crate::specs::Reads::word_at))]
+fn read_step_or_end<'a>(
+    reader: &mut Reader<'a>,
+    steps: &[Step],
+) -> Result<PlacedWord<'a>, TextFault>
+    ensures gives { (d : Draft)
+        → Gives (λ x. (is_step x.text.now, reader.new)) result
+        (word_at d (step_or_end (length steps.now)) reader.old) }
+    ensures shorter { OnOk result (length reader.new.words < length reader.old.words) }
+{
+    let word = next_word(reader)?;
+    if !word.is_step() && word.text != b"}".as_slice() {
+        return Err(word.fault(TextFaultKind::Unexpected));
+    }
+    if word.is_step() && steps.len() >= MOST_STEPS {
+        return Err(word.fault(TextFaultKind::TooMany));
+    }
+    Ok(word)
+}
+
+impl<'a> PlacedWord<'a> {
+    /// Whether the word is `step`.
+    fn is_step(self) -> bool
+        ensures { result ≡ is_step self.entry.text.now }
+    {
+        self.text == b"step".as_slice()
+    }
+}
+
+/// A name that no rule has.
+#[tactic(auto, unfolding(crate::specs::Reads::word_at))]
+fn read_rule_name<'a, A: Allocator>(
+    reader: &mut Reader<'a>,
+    builder: &MapBuilder<A>,
+) -> Result<PlacedWord<'a>, TextFault>
+    ensures gives { (d : Draft) → IsDraft builder.now d
+        → Gives (λ x. (x.text.now, reader.new)) result (word_at d rule_name reader.old) }
+    ensures named { IfOk result (λ x. IsName x.text.now) }
+    ensures shorter { OnOk result (length reader.new.words < length reader.old.words) }
+{
+    let word = next_word(reader)?;
+    if word.is_brace() {
+        return Err(word.fault(TextFaultKind::Unexpected));
+    }
+    if builder.has_rule_name(word.text) {
+        return Err(word.fault(TextFaultKind::DuplicateName));
+    }
+    Ok(word)
+}
+
+/// `id`, or `ruleset` as older releases print.
+#[tactic(auto, unfolding(crate::specs::Reads::word_at))]
+fn read_rule_id_key(reader: &mut Reader<'_>) -> Result<(), TextFault>
+    ensures gives { (d : Draft)
+        → Gives (λ x. (x, reader.new)) result (word_at d rule_id_key reader.old) }
+    ensures shorter { OnOk result (length reader.new.words < length reader.old.words) }
+{
+    let word = next_word(reader)?;
+    if word.text == b"id".as_slice() || word.text == b"ruleset".as_slice() {
+        Ok(())
+    } else {
+        Err(word.fault(TextFaultKind::Unexpected))
+    }
+}
+
+/// An id that no rule has.
+#[tactic(auto, unfolding(crate::specs::Reads::word_at))]
+fn read_rule_id<A: Allocator>(
+    reader: &mut Reader<'_>,
+    builder: &MapBuilder<A>,
+) -> Result<u32, TextFault>
+    ensures gives { (d : Draft) → IsDraft builder.now d
+        → Gives (λ x. (x, reader.new)) result (word_at d rule_id reader.old) }
+    ensures most { IfOk result (λ n. n ≤ 2147483647) }
+    ensures shorter { OnOk result (length reader.new.words < length reader.old.words) }
+{
+    let word = next_word(reader)?;
+    if word.is_brace() {
+        return Err(word.fault(TextFaultKind::Unexpected));
+    }
+    let Some(id) = number_up_to(LAST_NUMBER, word.text) else {
+        return Err(word.fault(TextFaultKind::BadNumber));
+    };
+    if builder.has_rule_id(id) {
+        return Err(word.fault(TextFaultKind::DuplicateId));
+    }
+    Ok(id)
+}

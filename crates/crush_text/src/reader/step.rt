@@ -1,0 +1,257 @@
+//! The steps of a rule.
+
+ghost use Rattle.std.specs.Prelude.{◌≡◌, ◌≤◌, ◌<◌, length, IfOk, OnOk, nat_eq, true, Some, None, if◌then◌else◌, codes};
+ghost use Rattle.std.specs.List.{starts_with};
+ghost use Rattle.crush_units.specs.Name.{IsName};
+ghost use Rattle.crush_edits.specs.Setting.{RuleData};
+ghost use Rattle.crush_edits.specs.Fits.{IsSet};
+ghost use Rattle.crush_map.specs.Built.{Draft};
+ghost use Rattle.crush_map.specs.Building.{IsDraft};
+ghost use Rattle.crush_map.specs.Rules.{IsStepForm, kept_step, bucket_named, taken_number};
+ghost use Rattle.crush_text.specs.Forms.{is_signed, signed_value};
+ghost use Rattle.crush_text.specs.Role.{step_word, taken_bucket, step_order, step_count, step_type};
+ghost use Rattle.crush_text.specs.Form.{word};
+ghost use Rattle.crush_text.specs.Grammar.{step_behind, take_step, choose_step, set_step};
+ghost use Rattle.crush_text.specs.Reads.{Gives, behind_step, first_of_step, IsFirstOfStep, word_at, line_at};
+
+use crate::fault::{TextFault, TextFaultKind};
+use crate::reader::roles::{read_key, read_number, read_word};
+use crate::reader::word::{PlacedWord, next_word};
+use crush_bytes::Reader;
+use crush_bytes::number::number_up_to;
+use crush_map::{MapBuilder, Step};
+use std::alloc::{Allocator, Global};
+
+/// What the first word of a step says.
+#[derive(Clone, Copy)]
+pub(crate) enum FirstOfStep<'a> {
+    /// `take`.
+    Take,
+    /// `choose`, or `chooseleaf`, which chooses devices.
+    Choose {
+        /// Whether devices are chosen.
+        leaf: bool,
+    },
+    /// A word that begins with `set_`.
+    Set(PlacedWord<'a>),
+    /// `emit`.
+    Emit,
+}
+
+/// A step, behind the word `step`.
+#[tactic(auto, unfolding(crate::specs::Reads::line_at))]
+pub(crate) fn read_step<A: Allocator>(
+    reader: &mut Reader<'_>,
+    builder: &MapBuilder<A>,
+    machine: Global,
+) -> Result<Step, TextFault>
+    ensures form { IfOk result IsStepForm }
+    ensures gives { (d : Draft) (r : RuleData) → IsDraft builder.now d
+        → Gives (λ s. (behind_step d r s, reader.new)) result
+        (line_at d (word step_word (step_behind d r)) reader.old) }
+    ensures shorter { OnOk result (length reader.new.words ≤ length reader.old.words) }
+{
+    match read_first(reader)? {
+        FirstOfStep::Take => read_take(reader, builder, machine),
+        FirstOfStep::Choose { leaf } => read_choose(reader, builder, machine, leaf),
+        FirstOfStep::Set(word) => read_set(reader, machine, word),
+        FirstOfStep::Emit => Ok(Step::Emit),
+    }
+}
+
+/// The bucket that a step takes, and the class of which it takes devices where that is given.
+#[tactic(auto, unfolding(crate::specs::Reads::line_at))]
+fn read_take<A: Allocator>(
+    reader: &mut Reader<'_>,
+    builder: &MapBuilder<A>,
+    machine: Global,
+) -> Result<Step, TextFault>
+    ensures form { IfOk result IsStepForm }
+    ensures gives { (d : Draft) (r : RuleData) → IsDraft builder.now d
+        → Gives (λ s. (behind_step d r s, reader.new)) result
+        (line_at d (take_step d r) reader.old) }
+    ensures shorter { OnOk result (length reader.new.words ≤ length reader.old.words) }
+{
+    let bucket = read_taken_bucket(reader, builder)?;
+    let bucket = bucket.own_name(machine)?;
+    if !reader.is_next(b"class") {
+        return Ok(Step::Take(bucket, None));
+    }
+    read_key(reader, b"class")?;
+    let class = read_word(reader)?;
+    let class = class.own_name(machine)?;
+    Ok(Step::Take(bucket, Some(class)))
+}
+
+/// How many items of which type a step chooses.
+#[tactic(auto, unfolding(crate::specs::Reads::line_at))]
+fn read_choose<A: Allocator>(
+    reader: &mut Reader<'_>,
+    builder: &MapBuilder<A>,
+    machine: Global,
+    leaf: bool,
+) -> Result<Step, TextFault>
+    ensures form { IfOk result IsStepForm }
+    ensures gives { (d : Draft) (r : RuleData) → IsDraft builder.now d
+        → Gives (λ s. (behind_step d r s, reader.new)) result
+        (line_at d (choose_step d r leaf) reader.old) }
+    ensures shorter { OnOk result (length reader.new.words ≤ length reader.old.words) }
+{
+    let firstn = read_order(reader)?;
+    let count = read_count(reader)?;
+    read_key(reader, b"type")?;
+    let kind = read_type(reader, builder)?;
+    let kind = kind.own_name(machine)?;
+    Ok(Step::Choose {
+        leaf,
+        firstn,
+        count,
+        kind,
+    })
+}
+
+/// The value that a step sets, behind the word for what it sets.
+#[tactic(auto, unfolding(crate::specs::Reads::line_at))]
+fn read_set(
+    reader: &mut Reader<'_>,
+    machine: Global,
+    word: PlacedWord<'_>,
+) -> Result<Step, TextFault>
+    requires sets { starts_with nat_eq word.text.now (codes "set_") ≡ true }
+    requires name { IsName word.text.now }
+    ensures form { IfOk result IsStepForm }
+    ensures gives { (d : Draft) (r : RuleData)
+        → Gives (λ s. (behind_step d r s, reader.new)) result
+        (line_at d (set_step d r word.entry.text.now) reader.old) }
+    ensures shorter { OnOk result (length reader.new.words ≤ length reader.old.words) }
+{
+    let word = word.own_name(machine)?;
+    let value = read_number(reader, 2147483647)?;
+    Ok(Step::Set(word, value))
+}
+
+/// The first word of a step. Steps of the rules for multiple failures aren't read.
+#[tactic(auto, unfolding(crate::specs::Reads::word_at))]
+fn read_first<'a>(reader: &mut Reader<'a>) -> Result<FirstOfStep<'a>, TextFault>
+    ensures gives { (d : Draft)
+        → Gives (λ x. (first_of_step x, reader.new)) result (word_at d step_word reader.old) }
+    ensures form { IfOk result IsFirstOfStep }
+    ensures shorter { OnOk result (length reader.new.words < length reader.old.words) }
+{
+    let word = next_word(reader)?;
+    if word.text == b"take".as_slice() {
+        Ok(FirstOfStep::Take)
+    } else if word.text == b"choose".as_slice() {
+        Ok(FirstOfStep::Choose { leaf: false })
+    } else if word.text == b"chooseleaf".as_slice() {
+        Ok(FirstOfStep::Choose { leaf: true })
+    } else if word.text == b"emit".as_slice() {
+        Ok(FirstOfStep::Emit)
+    } else if sets(word.text) {
+        Ok(FirstOfStep::Set(word))
+    } else if word.text == b"choosemsr".as_slice() {
+        Err(word.fault(TextFaultKind::LeftOut))
+    } else {
+        Err(word.fault(TextFaultKind::Unexpected))
+    }
+}
+
+/// Whether a word begins with `set_`.
+fn sets(text: &[u8]) -> bool
+    ensures { result ≡ starts_with nat_eq text.now (codes "set_") }
+{
+    matches!(text, [b's', b'e', b't', b'_', ..])
+}
+
+/// The name of a complete bucket.
+#[tactic(auto, unfolding(crate::specs::Reads::word_at))]
+fn read_taken_bucket<'a, A: Allocator>(
+    reader: &mut Reader<'a>,
+    builder: &MapBuilder<A>,
+) -> Result<PlacedWord<'a>, TextFault>
+    ensures gives { (d : Draft) → IsDraft builder.now d
+        → Gives (λ x. (taken_number (bucket_named d x.text.now), reader.new)) result
+        (word_at d taken_bucket reader.old) }
+    ensures named { IfOk result (λ x. IsName x.text.now) }
+    ensures shorter { OnOk result (length reader.new.words < length reader.old.words) }
+{
+    let word = next_word(reader)?;
+    if word.is_brace() {
+        return Err(word.fault(TextFaultKind::Unexpected));
+    }
+    match builder.bucket_named(word.text) {
+        Some(_) => Ok(word),
+        None => Err(word.fault(TextFaultKind::UnknownBucketInRule)),
+    }
+}
+
+/// Whether a lost item moves the others up, `firstn`, or each keeps its place, `indep`.
+#[tactic(auto, unfolding(crate::specs::Reads::word_at))]
+fn read_order(reader: &mut Reader<'_>) -> Result<bool, TextFault>
+    ensures gives { (d : Draft)
+        → Gives (λ x. (x, reader.new)) result (word_at d step_order reader.old) }
+    ensures shorter { OnOk result (length reader.new.words < length reader.old.words) }
+{
+    let word = next_word(reader)?;
+    if word.text == b"firstn".as_slice() {
+        Ok(true)
+    } else if word.text == b"indep".as_slice() {
+        Ok(false)
+    } else {
+        Err(word.fault(TextFaultKind::Unexpected))
+    }
+}
+
+/// How many items are chosen: a number from -2147483648 to 2147483647.
+#[tactic(auto, unfolding(crate::specs::Reads::word_at))]
+fn read_count(reader: &mut Reader<'_>) -> Result<i32, TextFault>
+    ensures gives { (d : Draft)
+        → Gives (λ x. (x, reader.new)) result (word_at d step_count reader.old) }
+    ensures shorter { OnOk result (length reader.new.words < length reader.old.words) }
+{
+    let word = next_word(reader)?;
+    if word.is_brace() {
+        return Err(word.fault(TextFaultKind::Unexpected));
+    }
+    match signed(word.text) {
+        Some(count) => Ok(count),
+        None => Err(word.fault(TextFaultKind::BadNumber)),
+    }
+}
+
+/// The number that an optional `-` and 1 to 10 digits write, where it has 32 bits.
+fn signed(text: &[u8]) -> Option<i32>
+    ensures { result ≡ (if is_signed text.now then Some (signed_value text.now) else None) }
+{
+    match text {
+        [b'-', digits @ ..] => {
+            let below = number_up_to(2147483648, digits)?;
+            Some((0 - i64::from(below)) as i32)
+        }
+        _ => {
+            let number = number_up_to(2147483647, text)?;
+            Some(number as i32)
+        }
+    }
+}
+
+/// The name of a type.
+#[tactic(auto, unfolding(crate::specs::Reads::word_at))]
+fn read_type<'a, A: Allocator>(
+    reader: &mut Reader<'a>,
+    builder: &MapBuilder<A>,
+) -> Result<PlacedWord<'a>, TextFault>
+    ensures gives { (d : Draft) → IsDraft builder.now d
+        → Gives (λ x. (x.text.now, reader.new)) result (word_at d step_type reader.old) }
+    ensures named { IfOk result (λ x. IsName x.text.now) }
+    ensures shorter { OnOk result (length reader.new.words < length reader.old.words) }
+{
+    let word = next_word(reader)?;
+    if word.is_brace() {
+        return Err(word.fault(TextFaultKind::Unexpected));
+    }
+    match builder.kind_number(word.text) {
+        Some(_) => Ok(word),
+        None => Err(word.fault(TextFaultKind::UnknownType)),
+    }
+}

@@ -1,0 +1,58 @@
+//! The line of a tunable.
+
+ghost use Rattle.std.specs.Prelude.{◌≡◌, ◌≤◌, ◌<◌, length, IfOk, OnOk};
+ghost use Rattle.crush_units.specs.Name.{IsName};
+ghost use Rattle.crush_map.specs.Built.{Draft};
+ghost use Rattle.crush_map.specs.Building.{IsDraft};
+ghost use Rattle.crush_text.specs.Role.{tunable_name};
+ghost use Rattle.crush_text.specs.Form.{first};
+ghost use Rattle.crush_text.specs.Grammar.{tunable_line};
+ghost use Rattle.crush_text.specs.Reads.{IsIdle, Gives, Reads, word_at, line_at};
+
+use crate::fault::{TextFault, TextFaultKind};
+use crate::reader::roles::read_number;
+use crate::reader::word::{PlacedWord, next_word};
+use crush_bytes::Reader;
+use crush_map::MapBuilder;
+use std::alloc::Allocator;
+
+/// A tunable, behind the word `tunable`.
+#[tactic(auto, unfolding(crate::specs::Reads::line_at))]
+pub(crate) fn read_tunable<A: Allocator>(
+    reader: &mut Reader<'_>,
+    builder: &mut MapBuilder<A>,
+) -> Result<(), TextFault>
+    requires idle { IsIdle builder.old }
+    ensures idle { OnOk result (IsIdle builder.new) }
+    ensures reads { (d : Draft) → IsDraft builder.old d
+        → Reads first result builder.new reader.new (line_at d (tunable_line d) reader.old) }
+    ensures shorter { OnOk result (length reader.new.words ≤ length reader.old.words) }
+{
+    let name = read_name(reader, builder)?;
+    let value = read_number(reader, u32::MAX)?;
+    let Ok(()) = builder.tunable(name.text, value) else {
+        return Err(name.fault(TextFaultKind::OutOfMemory));
+    };
+    Ok(())
+}
+
+/// A name that no tunable has.
+#[tactic(auto, unfolding(crate::specs::Reads::word_at))]
+fn read_name<'a, A: Allocator>(
+    reader: &mut Reader<'a>,
+    builder: &MapBuilder<A>,
+) -> Result<PlacedWord<'a>, TextFault>
+    ensures gives { (d : Draft) → IsDraft builder.now d
+        → Gives (λ x. (x.text.now, reader.new)) result (word_at d tunable_name reader.old) }
+    ensures named { IfOk result (λ x. IsName x.text.now) }
+    ensures shorter { OnOk result (length reader.new.words < length reader.old.words) }
+{
+    let word = next_word(reader)?;
+    if word.is_brace() {
+        return Err(word.fault(TextFaultKind::Unexpected));
+    }
+    if builder.has_tunable(word.text) {
+        return Err(word.fault(TextFaultKind::DuplicateName));
+    }
+    Ok(word)
+}
