@@ -4,26 +4,25 @@ use Rattle.std.proofs.lemmas.Bool.Decides.{nat_tests}
 use Rattle.std.proofs.lemmas.Bool.{ne_eqb}
 use Rattle.std.proofs.lemmas.Fmt.{decimal_is_IsNumeral, length-decimal-le}
 use Rattle.std.proofs.lemmas.Str.Parse.{digit_from_value}
-use Rattle.std.specs.Prelude.{map, drop, codes, decimal, bytes_eq, unwrap_or, ◌&&◌, eqb, nat_le, if◌then◌else◌}
+use Rattle.std.specs.Prelude.{map, drop, codes, decimal, bytes_eq, unwrap_or, eqb, nat_le, if◌then◌else◌}
 use Rattle.std.specs.Char.{is_ascii_digit}
 use Rattle.std.specs.List.{list_all}
 use Rattle.std.specs.Str.Parse.{AllDigits, digits_value}
 use Rattle.crush_units.specs.declared.alg.Alg.{Alg}
 use Rattle.crush_units.specs.declared.alg.Alg.TheVariants.{Straw2}
 use Rattle.crush_units.specs.declared.id.ItemId.{ItemId}
-use Rattle.crush_units.specs.declared.id.ItemId.TheVariants.{Device, Bucket}
-use Rattle.crush_units.specs.Alg.{alg_text, alg_of_text}
-use Rattle.crush_units.specs.Weight.{are_digits, weight_of_text, weight_text}
+use Rattle.crush_units.specs.declared.id.ItemId.TheVariants.{Device}
+use Rattle.crush_units.specs.Alg.{alg_text}
+use Rattle.crush_units.specs.Weight.{are_digits, weight_text}
 use Rattle.crush_units.proofs.Algs.{alg_of_text-alg_text}
 use Rattle.crush_units.proofs.ReadBack.{read_again}
 use Rattle.crush_table.specs.Table.{is_placed}
 use Rattle.crush_map.specs.Built.{Draft, with_tunable, with_kind, with_device, begun_bucket, with_id, with_class_id, with_alg, with_item, with_end}
 use Rattle.crush_map.specs.Building.{item_named}
 use Rattle.crush_bytes.specs.Words.{Word, texts, begins_with_key}
-use Rattle.crush_text.specs.declared.reader.statement.Opening.{Opening}
 use Rattle.crush_text.specs.declared.reader.statement.Opening.TheVariants as openings
 use Rattle.crush_text.specs.Forms.{is_number}
-use Rattle.crush_text.specs.Role.{Role, value, number_of, item_of, opened, units, units_or_none, key, any_word, number, opening, tunable_name, type_number, type_name, device_id, new_name, bucket_id, id_or_alg, id_class, algorithm, item_or_end, item, weight}
+use Rattle.crush_text.specs.Role.{value, number_of, item_of, opened, units, units_or_none, key, any_word, number, type_name, new_name, bucket_id, id_class}
 use Rattle.crush_text.specs.Form.{Mode, first, second, begun, numbered, filling, at, Form, done, word, optional, ahead}
 use Rattle.crush_text.specs.Grammar.{tunable_line, type_line, device_class, device_line, bucket_line, class_id_line, alg_line, weighed_item, item_weight, statement}
 use Rattle.crush_print.proofs.PrintedLines.{class_words}

@@ -4,7 +4,7 @@ use Rattle.std.proofs.lemmas.Bool.{ne_eqb}
 use Rattle.std.proofs.lemmas.Slice.Eq.{bytes_eq-Decides}
 use Rattle.std.proofs.lemmas.Fmt.{decimal_is_IsNumeral}
 use Rattle.std.proofs.lemmas.Str.Parse.{digit_from_value}
-use Rattle.std.specs.Prelude.{ℤ, pos, negsuc, map, codes, decimal, unwrap_or, slice_index, nat_eq, bytes_eq, ◌==◌, IfSome, if◌then◌else◌}
+use Rattle.std.specs.Prelude.{ℤ, pos, negsuc, codes, decimal, unwrap_or, slice_index, nat_eq, bytes_eq, ◌==◌, IfSome, if◌then◌else◌}
 use Rattle.std.specs.Fmt.{signed_decimal}
 use Rattle.std.specs.List.{starts_with}
 use Rattle.std.specs.Str.Parse.{AllDigits}
@@ -15,10 +15,10 @@ use Rattle.crush_map.specs.Rules.{bucket_named}
 use Rattle.crush_bytes.specs.Words.{Word, begins_with_key}
 use Rattle.crush_print.proofs.PrintedLines.{class_words, size_words, choice_word, order_word}
 use Rattle.crush_text.specs.Forms.{is_signed, signed_value}
-use Rattle.crush_text.specs.Role.{bucket_of, key, any_word, number, rule_name, rule_id_key, rule_id, step_word, StepWord, takes, chooses, sets, emits, step_said, taken_bucket, step_order, step_count, step_type}
+use Rattle.crush_text.specs.Role.{bucket_of, key, any_word, number, rule_id_key, rule_id, step_word, sets, step_said, step_count, step_type}
 use Rattle.crush_text.specs.Form.{second, ruled, at, Form, done, word}
 use Rattle.crush_text.specs.Grammar.{new_rule, max_size, sizes, rule_line, with_step, step_done, take_step, choose_step, set_step, step_behind}
-use Rattle.crush_text.specs.Flow.{State, between, amid, arrive}
+use Rattle.crush_text.specs.Flow.{between, amid, arrive}
 use Rattle.crush_text.specs.Admitted.{IsLawfulDraft, IsLawfulState, Leads}
 use Rattle.crush_text.proofs.BuiltLines.{plain, Goes, goes_both, idle, decimal_digits, decimal_value, decimal_number}
 

@@ -1,7 +1,16 @@
 pub mod Admitted
 pub mod Allowed
+pub mod BuiltBuckets
+pub mod BuiltDevices
+pub mod BuiltEach
+pub mod BuiltHeads
+pub mod BuiltItems
+pub mod BuiltKinds
 pub mod BuiltLines
+pub mod BuiltMaps
+pub mod BuiltParts
 pub mod BuiltRules
+pub mod BuiltWholeRules
 pub mod Digits
 pub mod FirstWords
 pub mod Judged
@@ -11,6 +20,7 @@ pub mod LawfulTexts
 pub mod Laws
 pub mod LineByLine
 pub mod OneOfBoth
+pub mod PrintedAgain
 pub mod Ruled
 pub mod Steps
 pub mod TheTable

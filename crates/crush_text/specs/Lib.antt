@@ -7,6 +7,7 @@ pub mod Form
 pub mod Forms
 pub mod Grammar
 pub mod MapOrFlaw
+pub mod ReadingBack
 pub mod Reads
 pub mod Role
 pub mod Rows

@@ -1,0 +1,31 @@
+-- What is printed of a map is read back as that map.
+use Rattle.std.specs.Prelude.{◌≡◌, ℕ, List, map}
+use Rattle.crush_table.specs.Table.{Row}
+use Rattle.crush_table.specs.Lawful.{Lawful}
+use Rattle.crush_table.specs.Same.{Same}
+use Rattle.crush_edits.specs.Setting.{KindData, SettingData}
+use Rattle.crush_edits.specs.Fits.{Fits}
+use Rattle.crush_print.specs.MapText.{kind_numbers, kind_text, map_text}
+use Rattle.crush_text.specs.Document.{IsMapText}
+
+-- the type of a number, by its printed name
+abbrev pub printed_kind : SettingData → ℕ → KindData
+printed_kind s n = record { number = n; name = kind_text s n }
+
+-- the setting with its types by ascending number; tunables and rules stay as they are
+abbrev pub in_order : SettingData → SettingData
+in_order s = record s { kinds = map (printed_kind s) (kind_numbers s) }
+
+-- the bytes are the text of a map with this setting and the same table, in which each written weight of a bucket is its sum
+pub record IsReadAs (bytes : List ℕ) (s : SettingData) (t : List Row) : Type 0 where
+  pub table : List Row
+  pub text : IsMapText bytes s table 0
+  pub same : Same table t
+
+-- READING BACK: what is printed of a lawful table and a setting that fits it is the text of that map, but for the order of types
+abbrev pub PrintedTextsAreReadBack : Type 0
+PrintedTextsAreReadBack = (s : SettingData) (t : List Row) → Lawful t → Fits s t → IsReadAs (map_text s t) (in_order s) t
+
+-- and what is read back of it prints the same text again
+abbrev pub ReadBackPrintsAlike : Type 0
+ReadBackPrintsAlike = (s : SettingData) (t u : List Row) → Lawful t → Fits s t → Same u t → map_text (in_order s) u ≡ map_text s t
