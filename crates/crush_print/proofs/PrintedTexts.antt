@@ -15,7 +15,7 @@ use Rattle.crush_table.proofs.Renamed.{All-row}
 use Rattle.crush_table.proofs.Tested.{bytes_equal}
 use Rattle.crush_edits.specs.Setting.{KindData, StepData, take, choose, set, emit, RuleData, SettingData, bucket_taken}
 use Rattle.crush_edits.specs.Fits.{Fits, IsSetting, IsTunable, IsKind, IsStep, IsRule, IsThere, HasKind}
-use Rattle.crush_bytes.proofs.Printed.{Holds, holds_nothing}
+use Rattle.crush_bytes.proofs.Printed.{Holds}
 use Rattle.crush_print.specs.Lines.{tunable_line, device_line, kind_line}
 use Rattle.crush_print.specs.RuleLines.{bucket_name, rule_lines}
 use Rattle.crush_print.specs.MapText.{put_in, ascending, device_numbers, kind_numbers, root_numbers, of_row, kind_text, kids_lines, bucket_text, bucket_texts, device_lines, root_texts, tunable_section, device_section, kind_section, bucket_section, rule_section, map_text}
@@ -216,9 +216,15 @@ map_words s t =
 end_spells : Spells (codes "\n# end crush map\n") []
 end_spells = spells_blank 10 _ _ refl refl (spells_comment (codes " end crush map") [] [] refl spells_nothing)
 
--- the printed text of a map has these words, and then it ends
-pub map_text-holds : (s : SettingData) (t : List Row) → Lawful t → Fits s t → Holds (map_text s t) (map_words s t)
+-- the printed text of a map has these words, whatever stands behind it
+pub map_text-spells : (s : SettingData) (t : List Row) → Lawful t → Fits s t → Spells (map_text s t) (map_words s t)
 unfolding map_text
-map_text-holds s t l f =
+map_text-spells s t l f =
     let all = spells_both _ _ _ _ (spells_both _ _ _ _ (spells_both _ _ _ _ (spells_both _ _ _ _ (spells_both _ _ _ _ (tunables_spell s t l f) (devices_spell s t l f)) (kinds_spell s t l f)) (buckets_spell s t l f)) (rules_section_spell s t l f)) end_spells in
-    subst (λ l. Holds l (map_words s t)) (append-nil _) (subst (λ ws. Holds (map_text s t ++ []) ws) (append-nil _ ∙ append-nil _) (all.before [] [] holds_nothing))
+    subst (λ ws. Spells (map_text s t) ws) (append-nil _) all
+
+-- and behind it stand lines without words
+pub map_text-holds : (s : SettingData) (t : List Row) → Lawful t → Fits s t → (rest : List ℕ) → Holds rest [] → Holds (map_text s t ++ rest) (map_words s t)
+map_text-holds s t l f rest h =
+    let all = map_text-spells s t l f in
+    subst (λ ws. Holds (map_text s t ++ rest) ws) (append-nil _) (all.before rest [] h)

@@ -1,5 +1,6 @@
 -- What is printed of a map is the text of that map.
 use Rattle.std.proofs.Common.{◌≡◌, ℕ, Bool, true, false, List, [], ◌∷◌, ◌++◌, Option, Some, None, refl, sym, ap, subst, ◌∙◌, arith}
+use Rattle.std.proofs.lemmas.List.{append-nil}
 use Rattle.std.proofs.lemmas.List.Elements.{All-head, All-tail}
 use Rattle.std.specs.Prelude.{All, flat_map, find, codes, bytes_eq, ◌==◌, if◌then◌else◌}
 use Rattle.std.specs.Option.{option_map, option_map_or}
@@ -14,6 +15,7 @@ use Rattle.crush_edits.specs.Setting.{KindData, SettingData, kind_number}
 use Rattle.crush_edits.specs.Fits.{Fits, is_reserved}
 use Rattle.crush_map.specs.Built.{Draft}
 use Rattle.crush_bytes.specs.Words.{words}
+use Rattle.crush_bytes.proofs.Printed.{Holds, holds_nothing}
 use Rattle.crush_print.specs.MapText.{device_numbers, kind_numbers, kind_text, map_text}
 use Rattle.crush_print.proofs.PrintedLines.{tunable_words, device_words, kind_words, bucket_words, kid_words, rule_words, words_of, whole_words}
 use Rattle.crush_print.proofs.PrintedTexts.{row_kind, kind_text-is, map_words, map_text-holds, root_order}
@@ -21,7 +23,8 @@ use Rattle.crush_text.specs.Form.{first, at}
 use Rattle.crush_text.specs.Flow.{State, between, is_idle}
 use Rattle.crush_text.specs.Document.{IsMap, start}
 use Rattle.crush_text.specs.Admitted.{IsLawfulText}
-use Rattle.crush_text.specs.ReadingBack.{in_order, IsReadAs, PrintedTextsAreReadBack}
+use Rattle.crush_text.specs.ReadingBack.{in_order, IsReadAs, PrintedTextsAreReadBack, CommentsBehindAreNoMatter}
+use Rattle.crush_text.proofs.Comments.{comment_lines-hold}
 use Rattle.crush_text.proofs.Keeps.{nothing_there}
 use Rattle.crush_text.proofs.LawfulTexts.{maps_are_the_lawful_texts}
 use Rattle.crush_text.proofs.BuiltLines.{Goes, goes_both, goes_build, idle}
@@ -134,16 +137,16 @@ module _ (s : SettingData) (t : List Row) (l : Lawful t) (f : Fits s t) where
   may_end true = refl
   may_end false = refl
 
-  -- THE WHOLE MAP is read back, where its buckets are built
-  read_as : BucketsLead s t false due rules_behind → IsReadAs (map_text s t) (in_order s) t
-  read_as b =
+  -- THE WHOLE MAP is read back, where its buckets are built, whatever stands behind it that has no words
+  read_as : (rest : List ℕ) → Holds rest [] → BucketsLead s t false due rules_behind → IsReadAs (map_text s t ++ rest) (in_order s) t
+  read_as rest none b =
       let u = b.last.table in
       let is : b.last ≡ quiet (kinded s.tunables (in_order s).kinds) u = λ i. record { setting = b.setting i; table = u; pending = b.pending i; adjusted = b.adjusted i } in
       let map : IsMap (quiet (kinded s.tunables (in_order s).kinds) u) = subst IsMap is b.lawful.map in
       let lawful = map.lawful in
       let rules = rules_go s t u l f lawful b.table b.behind [] map in
       let all = before.goes in
-      let holds = map_text-holds s t l f in
+      let holds = map_text-holds s t l f rest none in
       let unruled_at : State = between (at (idle b.behind) (quiet (kinded s.tunables (in_order s).kinds) u)) in
       let due_at : State = between (at first due) in
       let last_at : State = between (at (idle (behind b.behind s.rules)) (quiet (in_order s) u)) in
@@ -152,13 +155,17 @@ module _ (s : SettingData) (t : List Row) (l : Lawful t) (f : Fits s t) where
       let filled : Goes due_at buckets rules_behind unruled_at = subst (λ d. Goes due_at buckets rules_behind (between (at (idle b.behind) d))) is b.goes in
       let goes : Goes start (map_words s t) [] last_at =
       goes_both start (front ++ buckets) (flat_map (rule_words t) s.rules) [] unruled_at last_at (goes_both start front buckets rules_behind due_at unruled_at all filled) rules.goes in
-      let built = goes_build start (map_words s t) (words 0 (map_text s t)).words last_at (quiet (in_order s) u) (holds.texts_are 0) goes (refl, may_end (behind b.behind s.rules)) in
-      let text : IsLawfulText (map_text s t) (in_order s) u 0 = record { draft = quiet (in_order s) u; built = built; end = holds.ends 0; setting = refl; table = refl; count = refl } in
-      record { table = u; text = (maps_are_the_lawful_texts (map_text s t) (in_order s) u 0).1 text; same = Same-sym t u b.table }
+      let built = goes_build start (map_words s t) (words 0 (map_text s t ++ rest)).words last_at (quiet (in_order s) u) (holds.texts_are 0) goes (refl, may_end (behind b.behind s.rules)) in
+      let text : IsLawfulText (map_text s t ++ rest) (in_order s) u 0 = record { draft = quiet (in_order s) u; built = built; end = holds.ends 0; setting = refl; table = refl; count = refl } in
+      record { table = u; text = (maps_are_the_lawful_texts (map_text s t ++ rest) (in_order s) u 0).1 text; same = Same-sym t u b.table }
 
-  pub map_read_back : BucketsAreBuilt → IsReadAs (map_text s t) (in_order s) t
-  map_read_back built = read_as (built s t l false due rules_behind before.ready)
+  pub map_read_back : BucketsAreBuilt → (rest : List ℕ) → Holds rest [] → IsReadAs (map_text s t ++ rest) (in_order s) t
+  map_read_back built rest none = read_as rest none (built s t l false due rules_behind before.ready)
 
 -- what is printed is read back, where its buckets are built
 pub printed_texts_read_back : BucketsAreBuilt → PrintedTextsAreReadBack
-printed_texts_read_back built s t l f = map_read_back s t l f built
+printed_texts_read_back built s t l f = subst (λ bytes. IsReadAs bytes (in_order s) t) (append-nil (map_text s t)) (map_read_back s t l f built [] holds_nothing)
+
+-- and with comments behind it
+pub comments_behind : BucketsAreBuilt → CommentsBehindAreNoMatter
+comments_behind built s t comments l f are = map_read_back s t l f built comments (comment_lines-hold comments are)

@@ -11,6 +11,7 @@ pub mod BuiltMaps
 pub mod BuiltParts
 pub mod BuiltRules
 pub mod BuiltWholeRules
+pub mod Comments
 pub mod Digits
 pub mod FirstWords
 pub mod Judged

@@ -1,5 +1,5 @@
 -- What is printed of a map is read back as that map.
-use Rattle.std.specs.Prelude.{◌≡◌, ℕ, List, map}
+use Rattle.std.specs.Prelude.{◌≡◌, ℕ, ◌==◌, Bool, true, false, not, ◌&&◌, List, [], ◌∷◌, ◌++◌, map}
 use Rattle.crush_table.specs.Table.{Row}
 use Rattle.crush_table.specs.Lawful.{Lawful}
 use Rattle.crush_table.specs.Same.{Same}
@@ -29,3 +29,17 @@ PrintedTextsAreReadBack = (s : SettingData) (t : List Row) → Lawful t → Fits
 -- and what is read back of it prints the same text again
 abbrev pub ReadBackPrintsAlike : Type 0
 ReadBackPrintsAlike = (s : SettingData) (t u : List Row) → Lawful t → Fits s t → Same u t → map_text (in_order s) u ≡ map_text s t
+
+-- whether bytes are whole lines, each of which begins with `#`; the first argument says whether one has begun
+abbrev pub are_comments : Bool → List ℕ → Bool
+are_comments inside [] = not inside
+are_comments false (b ∷ bs) = b == 35 && are_comments true bs
+are_comments true (b ∷ bs) = are_comments (not (b == 10)) bs
+
+-- COMMENT LINES
+abbrev pub AreCommentLines : List ℕ → Type 0
+AreCommentLines bytes = are_comments false bytes ≡ true
+
+-- what is printed is read as the same map, whatever comment lines stand behind it
+abbrev pub CommentsBehindAreNoMatter : Type 0
+CommentsBehindAreNoMatter = (s : SettingData) (t : List Row) (comments : List ℕ) → Lawful t → Fits s t → AreCommentLines comments → IsReadAs (map_text s t ++ comments) (in_order s) t
