@@ -9,4 +9,5 @@ pub mod InTurn
 pub mod EntryLines
 pub mod PrintedWords
 pub mod PrintedLaws
+pub mod HistoryComments
 pub mod Examples

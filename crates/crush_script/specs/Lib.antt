@@ -11,3 +11,4 @@ pub mod Entries
 pub mod HistoryText
 pub mod Turns
 pub mod Printed
+pub mod Written

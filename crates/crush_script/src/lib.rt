@@ -19,6 +19,6 @@ pub use entry::{Entry, count_changes};
 pub use fault::JobFault;
 pub use history::{history_text, write_entry};
 pub use job::{Job, read_job};
-pub use law::printed_is_read;
+pub use law::{printed_is_read, what_is_written_is_read_back};
 pub use sections::Script;
 pub use turns::{run_in_turn, turns_are_history};
