@@ -5,7 +5,7 @@ ghost use Rattle.std.specs.Str.Parse.{digits_value};
 ghost use Rattle.crush_units.specs.Name.{IsName};
 ghost use Rattle.crush_edits.specs.Setting.{kind_number};
 ghost use Rattle.crush_map.specs.Built.{Draft};
-ghost use Rattle.crush_map.specs.Building.{IsDraft, is_begun, is_numbered, is_filling};
+ghost use Rattle.crush_map.specs.Building.{IsDraft, has_bucket_id, is_begun, is_numbered, is_filling};
 ghost use Rattle.crush_text.specs.Forms.{is_negative};
 ghost use Rattle.crush_text.specs.Role.{bucket_id, id_or_alg, id_class, algorithm};
 ghost use Rattle.crush_text.specs.Form.{second, begun, numbered, filling, at};
@@ -83,12 +83,9 @@ fn read_id<A: Allocator>(
 {
     read_key(reader, b"{")?;
     read_key(reader, b"id")?;
-    let (id, place) = read_bucket_id(reader, builder)?;
+    let id = read_bucket_id(reader, builder)?;
     let Ok(()) = builder.id(id) else {
-        return Err(TextFault {
-            kind: TextFaultKind::OutOfMemory,
-            place,
-        });
+        unreachable!()
     };
     Ok(())
 }
@@ -147,7 +144,7 @@ fn read_class_id<A: Allocator + Clone>(
         → Reads numbered result builder.new reader.new (line_at d (class_id_line d) reader.old) }
     ensures shorter { OnOk result (length reader.new.words ≤ length reader.old.words) }
 {
-    let (id, _) = read_bucket_id(reader, builder)?;
+    let id = read_bucket_id(reader, builder)?;
     read_key(reader, b"class")?;
     let class = read_id_class(reader, builder)?;
     let Ok(()) = builder.class_id(id, class.text) else {
@@ -182,14 +179,16 @@ fn read_alg<A: Allocator + Clone>(
     Ok(())
 }
 
-/// A bucket's id that is free, `-` and a number from 1 to 2147483648, and its place.
+/// A bucket's id that is free, `-` and a number from 1 to 2147483648.
 #[tactic(auto, unfolding(crate::specs::Reads::word_at))]
 fn read_bucket_id<A: Allocator>(
     reader: &mut Reader<'_>,
     builder: &MapBuilder<A>,
-) -> Result<(BucketId, usize), TextFault>
+) -> Result<BucketId, TextFault>
     ensures gives { (d : Draft) → IsDraft builder.now d
-        → Gives (λ x. (x.0, reader.new)) result (word_at d bucket_id reader.old) }
+        → Gives (λ x. (x, reader.new)) result (word_at d bucket_id reader.old) }
+    ensures free { IfOk result (λ b. (d : Draft) → IsDraft builder.now d
+        → has_bucket_id d b ≡ false) }
     ensures shorter { OnOk result (length reader.new.words < length reader.old.words) }
 {
     let word = next_word(reader)?;
@@ -202,7 +201,7 @@ fn read_bucket_id<A: Allocator>(
     if builder.has_bucket_id(id) {
         return Err(word.fault(TextFaultKind::DuplicateId));
     }
-    Ok((id, word.place))
+    Ok(id)
 }
 
 /// The id of a bucket, if the bytes spell one.
