@@ -328,6 +328,14 @@ WEIGHTS = ["0", "1", "0.333", "2.5", "1.00001", "32767.99998", "32768", "40000",
 
 
 def random_map(dice):
+    """A map that isn't too heavy to be read."""
+    while True:
+        map = any_map(dice)
+        if not map.is_heavy():
+            return map
+
+
+def any_map(dice):
     map = Map({0: "osd", 1: "host", 3: "rack", 4: "row", 11: "root"})
     for number in dice.sample(range(9), dice.randint(1, 7)):
         name = "disk" if number == 7 else f"osd.{number}"

@@ -1,31 +1,61 @@
 -- Parts of a setting as they are kept, and in the lists that contracts see.
-use Rattle.std.proofs.Common.{◌≡◌, ℕ, Bool, true, false, List, [], ◌∷◌, ◌++◌, ◌||◌, refl, ap, sym, ◌∙◌}
-use Rattle.std.specs.Prelude.{Option, Some, if◌then◌else◌, find, map, flat_map, bytes_eq, ◌==◌}
-use Rattle.std.specs.Option.{option_map}
+use Rattle.std.proofs.Common.{◌≡◌, ℕ, Bool, true, false, cond, List, [], ◌∷◌, ◌++◌, ◌||◌, refl, ap, sym, subst, ◌∙◌, true≢false}
 use Rattle.std.proofs.Math.Bool.{or_assoc}
-use Rattle.std.specs.List.{list_any}
+use Rattle.std.proofs.lemmas.List.{append_assoc}
+use Rattle.std.specs.Cmp.{IsEquivalence}
+use Rattle.std.specs.Cmp.Lexicographic.{nat_list_eq_equiv}
+use Rattle.std.specs.List.{AllByRecursion, IsDistinct, list_any}
+use Rattle.std.specs.Map.{keys_of, lookup}
+use Rattle.std.specs.Option.{is_some, option_map}
+use Rattle.std.specs.Prelude.{Option, Some, None, if◌then◌else◌, find, map, flat_map, bytes_eq, ◌==◌}
+use Rattle.indexmap.specs.IndexMap.{IndexMap, insert_entry}
+use Rattle.indexmap.proofs.CallerLemmas.{insert_entry-new}
 use Rattle.crush_table.specs.Table.{member}
-use Rattle.crush_edits.specs.Setting.{KindData, RuleData, bucket_taken}
-use Rattle.crush_edits.specs.declared.setting.Kind.{Kind}
+use Rattle.crush_table.proofs.Climbs.{eqb_turned}
+use Rattle.crush_edits.specs.Setting.{KindData, TunableData, RuleData, bucket_taken}
 use Rattle.crush_edits.specs.declared.setting.KeptRule.{KeptRule}
 use Rattle.crush_edits.specs.declared.setting.KeptStep.{KeptStep}
 use Rattle.crush_edits.specs.declared.setting.KeptStep.TheVariants.{Take, Choose, Set, Emit}
-use Rattle.crush_edits.specs.SettingSeen.{kind_data, step_data, rule_data, takes_bucket}
+use Rattle.crush_edits.specs.SettingSeen.{kind_data, tunable_data, step_data, rule_data, takes_bucket}
 
-found_if : {X : Type 0} (f : Kind → X) (g : KindData → X) (b : Bool) (k : Kind) (o : Option Kind) (q : Option KindData) → f k ≡ g (kind_data k) → option_map f o ≡ option_map g q
-    → option_map f (if b then Some k else o) ≡ option_map g (if b then Some (kind_data k) else q)
-found_if f g true k o q e r = ap Some e
-found_if f g false k o q e r = r
+-- the name of a type by its number
+pub name_got : (n : ℕ) (es : List (ℕ × List ℕ)) → lookup (λ k. n == k) es ≡ option_map (λ (k : KindData). k.name) (find (λ (k : KindData). k.number == n) (map kind_data es))
+name_got n [] = refl
+name_got n (e ∷ es) = (λ j. cond (eqb_turned n e.0 j) (Some e.1) (name_got n es j)) ∙ by (e.0 == n)
+  where
+    by : (b : Bool) → cond b (Some e.1) (option_map (λ (k : KindData). k.name) (find (λ (k : KindData). k.number == n) (map kind_data es))) ≡ option_map (λ (k : KindData). k.name) (if b then Some (kind_data e) else find (λ (k : KindData). k.number == n) (map kind_data es))
+    by true = refl
+    by false = refl
 
--- the number of the first type of a name
-pub number_found : (n : List ℕ) (xs : List Kind) → option_map (λ (k : Kind). k.number) (find (λ (k : Kind). bytes_eq k.name n) xs) ≡ option_map (λ (k : KindData). k.number) (find (λ (k : KindData). bytes_eq k.name n) (map kind_data xs))
-number_found n [] = refl
-number_found n (k ∷ xs) = found_if (λ (x : Kind). x.number) (λ (x : KindData). x.number) (bytes_eq k.name n) k (find (λ (x : Kind). bytes_eq x.name n) xs) (find (λ (x : KindData). bytes_eq x.name n) (map kind_data xs)) refl (number_found n xs)
+-- whether a tunable has a name
+pub tunable_got : (n : List ℕ) (es : List (List ℕ × ℕ)) → is_some (lookup (bytes_eq n) es) ≡ list_any (λ (x : TunableData). bytes_eq x.name n) (map tunable_data es)
+tunable_got n [] = refl
+tunable_got n (e ∷ es) = (λ j. is_some (cond (nat_list_eq_equiv.symm n e.0 j) (Some e.1) (lookup (bytes_eq n) es))) ∙ by (bytes_eq e.0 n) (tunable_got n es)
+  where
+    by : (b : Bool) → is_some (lookup (bytes_eq n) es) ≡ list_any (λ (x : TunableData). bytes_eq x.name n) (map tunable_data es)
+        → is_some (cond b (Some e.1) (lookup (bytes_eq n) es)) ≡ b || list_any (λ (x : TunableData). bytes_eq x.name n) (map tunable_data es)
+    by true rest = refl
+    by false rest = rest
 
--- the name of the first type of a number
-pub name_found : (n : ℕ) (xs : List Kind) → option_map (λ (k : Kind). k.name) (find (λ (k : Kind). k.number == n) xs) ≡ option_map (λ (k : KindData). k.name) (find (λ (k : KindData). k.number == n) (map kind_data xs))
-name_found n [] = refl
-name_found n (k ∷ xs) = found_if (λ (x : Kind). x.name) (λ (x : KindData). x.name) (k.number == n) k (find (λ (x : Kind). x.number == n) xs) (find (λ (x : KindData). x.number == n) (map kind_data xs)) refl (name_found n xs)
+pub not_got : {X : Type 0} (o : Option X) → is_some o ≡ false → o ≡ None
+not_got None e = refl
+not_got (Some x) e = absurd (true≢false e)
+
+-- a map is copied entry by entry, since none of its keys is among those before it
+module _ {K X : Type 0} (eq : K → K → Bool) (laws : IsEquivalence eq) where
+  new_key : (done rest : List (K × X)) (k : K) (v : X) → IsDistinct eq (keys_of (done ++ (k, v) ∷ rest)) → lookup (eq k) done ≡ None
+  unfolding IsDistinct
+  new_key [] rest k v h = refl
+  new_key (e ∷ done) rest k v h = λ j. cond ((laws.symm k e.0 ∙ apart done h.0) j) (Some e.1) (new_key done rest k v h.1 j)
+    where
+      apart : (es : List (K × X)) → AllByRecursion (λ y. eq e.0 y ≡ false) (keys_of (es ++ (k, v) ∷ rest)) → eq e.0 k ≡ false
+      apart [] p = p.0
+      apart (x ∷ es) p = apart es p.1
+
+  pub entry_copied : {S : Type 0} (m n : IndexMap K X S) (k : K) (v : X) (rest all : List (K × X)) → IsDistinct eq (keys_of all) → m.entries ++ (k, v) ∷ rest ≡ all → n.entries ≡ insert_entry eq m.entries k v → n.entries ++ rest ≡ all
+  entry_copied m n k v rest all distinct so_far e =
+      ap (λ es. es ++ rest) (e ∙ insert_entry-new eq m k v (new_key m.entries rest k v (subst (λ es. IsDistinct eq (keys_of es)) (sym so_far) distinct)))
+      ∙ append_assoc m.entries ((k, v) ∷ []) rest ∙ so_far
 
 -- what is seen of one element more
 pub map-push : {X Y : Type 0} (f : X → Y) (xs : List X) (x : X) → map f (xs ++ x ∷ []) ≡ map f xs ++ f x ∷ []

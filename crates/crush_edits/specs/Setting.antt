@@ -1,6 +1,7 @@
 -- The setting of a map: what it holds beside its items.
 use Rattle.std.specs.Coded.{Coded, code_by, coded×, coded_ℕ, coded_ℤ, coded_bool, coded_list, coded_option}
 use Rattle.std.specs.Prelude.{refl, ◌≡◌, ℕ, ℤ, pos, List, [], ◌∷◌, Option, None, Bool, false, ◌==◌, find, flat_map, bytes_eq, if◌then◌else◌}
+use Rattle.std.specs.List.{list_any}
 use Rattle.std.specs.Option.{option_map}
 
 -- a type: its number and its name
@@ -41,6 +42,10 @@ kind_number s n = option_map (λ (k : KindData). k.number) (find (λ (k : KindDa
 
 abbrev pub kind_name : SettingData → ℕ → Option (List ℕ)
 kind_name s n = option_map (λ (k : KindData). k.name) (find (λ (k : KindData). k.number == n) s.kinds)
+
+-- whether a tunable has the name
+abbrev pub has_tunable : SettingData → List ℕ → Bool
+has_tunable s n = list_any (λ (x : TunableData). bytes_eq x.name n) s.tunables
 
 -- the bucket that a step takes, and the buckets that rules take, each as often as a step takes it
 abbrev pub bucket_taken : StepData → List ℕ

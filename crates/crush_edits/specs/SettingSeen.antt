@@ -1,17 +1,16 @@
 -- How contracts see the parts of a setting.
-use Rattle.std.specs.Prelude.{ℕ, Bool, false, ◌==◌, map}
+use Rattle.std.specs.Prelude.{ℕ, List, Bool, false, ◌==◌, map}
 use Rattle.crush_edits.specs.Setting.{KindData, TunableData, StepData, take, choose, set, emit, RuleData}
-use Rattle.crush_edits.specs.declared.setting.Kind.{Kind}
-use Rattle.crush_edits.specs.declared.setting.Tunable.{Tunable}
 use Rattle.crush_edits.specs.declared.setting.KeptRule.{KeptRule}
 use Rattle.crush_edits.specs.declared.setting.KeptStep.{KeptStep}
 use Rattle.crush_edits.specs.declared.setting.KeptStep.TheVariants.{Take, Choose, Set, Emit}
 
-abbrev pub kind_data : Kind → KindData
-kind_data k = record { number = k.number; name = k.name }
+-- a type and a tunable as entries of their maps
+abbrev pub kind_data : ℕ × List ℕ → KindData
+kind_data e = record { number = e.0; name = e.1 }
 
-abbrev pub tunable_data : Tunable → TunableData
-tunable_data k = record { name = k.name; value = k.value }
+abbrev pub tunable_data : List ℕ × ℕ → TunableData
+tunable_data e = record { name = e.0; value = e.1 }
 
 abbrev pub step_data : KeptStep → StepData
 step_data (Take b class) = take b class

@@ -13,4 +13,4 @@ pub use edit::Edit;
 pub use location::{Location, LocationFault, MOST_PAIRS, Pair};
 pub use refusal::{BatchFault, Done, Dones, EditFault, Refusal};
 pub use rule::{Rule, Step};
-pub use setting::{KeptRule, KeptStep, Kind, Setting, Tunable, is_reserved};
+pub use setting::{KeptRule, KeptStep, Setting, is_reserved};

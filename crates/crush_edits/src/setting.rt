@@ -1,37 +1,18 @@
 //! The setting of a map: what it holds beside its items.
 
-ghost use Rattle.std.specs.Prelude.{◌≡◌, ◌==◌, ◌∷◌, [], ◌++◌, map, find, bytes_eq, OnOk, OnErr, IfOk};
+ghost use Rattle.std.specs.Prelude.{◌≡◌, ◌∷◌, [], ◌++◌, map, find, bytes_eq, None, false, OnOk, OnErr, IfOk};
 ghost use Rattle.std.specs.Option.{option_copied, option_map};
 ghost use Rattle.crush_edits.specs.Fits.{is_reserved as is_reserved_name};
 ghost use Rattle.crush_edits.specs.Making.{is_taken_by_rule};
-ghost use Rattle.crush_edits.specs.Setting.{kind_number, kind_name};
+ghost use Rattle.crush_edits.specs.Setting.{KindData, kind_number, kind_name, has_tunable};
 ghost use Rattle.crush_edits.specs.SettingSeen.{kind_data, tunable_data, rule_data, takes_bucket};
 ghost use Rattle.std.specs.List.{list_any};
-ghost use Rattle.crush_edits.specs.declared.setting.Kind.{Kind as DeclaredKind};
 ghost use Rattle.crush_edits.specs.declared.setting.KeptRule.{KeptRule as DeclaredRule};
 
 use crush_units::{BucketId, Name, TypeId};
+use indexmap::IndexMap;
 use std::alloc::{AllocError, Global};
 use std::marker::Model;
-
-/// A type of items: its number and its name, as `type 1 host` says in a map's text. Devices have
-/// type 0.
-#[derive(Debug, Drop)]
-pub struct Kind {
-    /// The type's number, 0 for devices.
-    pub number: TypeId,
-    /// The type's name.
-    pub name: Name<Global>,
-}
-
-/// A tunable of placement: its name and its value, as `tunable chooseleaf_stable 1` says.
-#[derive(Debug, Drop)]
-pub struct Tunable {
-    /// The tunable's name.
-    pub name: Name<Global>,
-    /// Its value.
-    pub value: u32,
-}
 
 /// A rule as a map keeps it: it names the buckets that it takes by their ids, so that a bucket's
 /// new name changes no rule.
@@ -75,11 +56,16 @@ pub enum KeptStep {
 }
 
 /// What a map holds beside its items: types, tunables and rules, each in the order in which they
-/// were declared. Contracts see the three lists.
+/// were declared.
+///
+/// A type is a number and a name, as `type 1 host` says in a map's text; devices have type 0. A
+/// tunable of placement is a name and a value, as `tunable chooseleaf_stable 1` says. They are kept
+/// in maps, so that no two types have one number and no two tunables one name. Contracts see three
+/// lists.
 #[derive(Debug, Drop)]
 pub struct Setting {
-    kinds: Vec<Kind>,
-    tunables: Vec<Tunable>,
+    kinds: IndexMap<TypeId, Name<Global>>,
+    tunables: IndexMap<Name<Global>, u32>,
     rules: Vec<KeptRule>,
 }
 
@@ -94,32 +80,10 @@ impl Model for Setting {
     ghost use Rattle.crush_edits.specs.SettingSeen.{kind_data, tunable_data, rule_data};
 
     ghost view = { λ s. record {
-      kinds = map kind_data s.kinds.items;
-      tunables = map tunable_data s.tunables.items;
+      kinds = map kind_data s.kinds.entries;
+      tunables = map tunable_data s.tunables.entries;
       rules = map rule_data s.rules.items;
     } };
-}
-
-impl Kind {
-    /// A copy of the type. An Err is want of memory.
-    pub fn try_copy(&self, alloc: Global) -> Result<Kind, AllocError>
-        ensures { IfOk result (λ copy. copy ≡ self.now) }
-    {
-        let name = self.name.try_copy(alloc)?;
-        let number = self.number;
-        Ok(Kind { number, name })
-    }
-}
-
-impl Tunable {
-    /// A copy of the tunable. An Err is want of memory.
-    pub fn try_copy(&self, alloc: Global) -> Result<Tunable, AllocError>
-        ensures { IfOk result (λ copy. copy ≡ self.now) }
-    {
-        let name = self.name.try_copy(alloc)?;
-        let value = self.value;
-        Ok(Tunable { name, value })
-    }
 }
 
 impl KeptStep {
@@ -181,30 +145,33 @@ impl Setting {
         } }
     {
         Setting {
-            kinds: Vec::new(alloc),
-            tunables: Vec::new(alloc),
+            kinds: IndexMap::new(alloc),
+            tunables: IndexMap::new(alloc),
             rules: Vec::new(alloc),
         }
     }
 
-    /// Adds a type after those that are there. An Err is want of memory; nothing has changed then.
-    pub fn push_kind(&mut self, kind: Kind) -> Result<(), AllocError>
+    /// Adds a type of a number that no type has, after those that are there. An Err is want of
+    /// memory; nothing has changed then.
+    pub fn push_kind(&mut self, number: TypeId, name: Name<Global>) -> Result<(), AllocError>
+        requires { kind_name self.old number ≡ None }
         ensures ok { OnOk result (self.new
-            ≡ record self.old { kinds = self.old.kinds ++ kind_data kind ∷ [] }) }
+            ≡ record self.old { kinds = self.old.kinds ++ kind_data (number, name) ∷ [] }) }
         ensures err { OnErr result (self.new ≡ self.old) }
     {
-        self.kinds.push(kind)?;
+        self.kinds.insert(number, name)?;
         Ok(())
     }
 
-    /// Adds a tunable after those that are there. An Err is want of memory; nothing has changed
-    /// then.
-    pub fn push_tunable(&mut self, tunable: Tunable) -> Result<(), AllocError>
+    /// Adds a tunable of a name that no tunable has, after those that are there. An Err is want of
+    /// memory; nothing has changed then.
+    pub fn push_tunable(&mut self, name: Name<Global>, value: u32) -> Result<(), AllocError>
+        requires { has_tunable self.old name ≡ false }
         ensures ok { OnOk result (self.new
-            ≡ record self.old { tunables = self.old.tunables ++ tunable_data tunable ∷ [] }) }
+            ≡ record self.old { tunables = self.old.tunables ++ tunable_data (name, value) ∷ [] }) }
         ensures err { OnErr result (self.new ≡ self.old) }
     {
-        self.tunables.push(tunable)?;
+        self.tunables.insert(name, value)?;
         Ok(())
     }
 
@@ -218,18 +185,18 @@ impl Setting {
         Ok(())
     }
 
-    /// The types, in the order in which they were declared.
-    pub fn kinds(&self) -> &[Kind]
-        ensures { map kind_data result.now ≡ self.now.kinds }
+    /// The types: the name of each number, in the order in which they were declared.
+    pub fn kinds(&self) -> &IndexMap<TypeId, Name<Global>>
+        ensures { map kind_data result.now.entries ≡ self.now.kinds }
     {
-        self.kinds.as_slice()
+        &self.kinds
     }
 
-    /// The tunables, in the order in which they were declared.
-    pub fn tunables(&self) -> &[Tunable]
-        ensures { map tunable_data result.now ≡ self.now.tunables }
+    /// The tunables: the value of each name, in the order in which they were declared.
+    pub fn tunables(&self) -> &IndexMap<Name<Global>, u32>
+        ensures { map tunable_data result.now.entries ≡ self.now.tunables }
     {
-        self.tunables.as_slice()
+        &self.tunables
     }
 
     /// The rules, in the order in which they were declared.
@@ -250,7 +217,7 @@ impl Setting {
     pub fn kind_name(&self, number: TypeId) -> Option<&Name<Global>>
         ensures { option_copied result ≡ kind_name self.now number }
     {
-        name_of(&self.kinds, number)
+        self.kinds.get(&number)
     }
 
     /// The allocator that the setting was made with. No contract tells one from another.
@@ -291,25 +258,16 @@ pub fn is_reserved(name: &[u8]) -> bool
 }
 
 /// The number of the first type of this name.
-fn number_of(kinds: &[Kind], name: &[u8]) -> Option<TypeId>
-    ensures { result ≡ option_map (λ (k : DeclaredKind). k.number)
-        (find (λ (k : DeclaredKind). bytes_eq k.name name.now) kinds.now) }
+fn number_of(kinds: &IndexMap<TypeId, Name<Global>>, name: &[u8]) -> Option<TypeId>
+    ensures { result ≡ option_map (λ (k : KindData). k.number)
+        (find (λ (k : KindData). bytes_eq k.name name.now) (map kind_data kinds.now.entries)) }
 {
-    kinds
-        .iter()
-        .find(|kind| kind.name.is(name))
-        .map(|kind| kind.number)
-}
-
-/// The name of the first type of this number.
-fn name_of(kinds: &[Kind], number: TypeId) -> Option<&Name<Global>>
-    ensures { option_copied result ≡ option_map (λ (k : DeclaredKind). k.name)
-        (find (λ (k : DeclaredKind). k.number == number) kinds.now) }
-{
-    kinds
-        .iter()
-        .find(|kind| kind.number == number)
-        .map(|kind| &kind.name)
+    for (number, kind) in kinds {
+        if kind.is(name) {
+            return Some(*number);
+        }
+    }
+    None
 }
 
 /// Whether a step of one of the rules takes the bucket.
@@ -338,25 +296,31 @@ fn step_takes(step: &KeptStep, bucket: BucketId) -> bool
 }
 
 /// Copies of the types, in their order.
-fn copied_kinds(kinds: &[Kind], alloc: Global) -> Result<Vec<Kind>, AllocError>
-    ensures { IfOk result (λ copies. copies.items ≡ kinds.now) }
+fn copied_kinds(
+    kinds: &IndexMap<TypeId, Name<Global>>,
+    alloc: Global,
+) -> Result<IndexMap<TypeId, Name<Global>>, AllocError>
+    ensures { IfOk result (λ copies. copies.entries ≡ kinds.now.entries) }
 {
-    let mut copies = Vec::new(alloc);
-    for kind in kinds {
-        let kind = kind.try_copy(alloc)?;
-        copies.push(kind)?;
+    let mut copies = IndexMap::new(alloc);
+    for (number, name) in kinds {
+        let name = name.try_copy(alloc)?;
+        copies.insert(*number, name)?;
     }
     Ok(copies)
 }
 
 /// Copies of the tunables, in their order.
-fn copied_tunables(tunables: &[Tunable], alloc: Global) -> Result<Vec<Tunable>, AllocError>
-    ensures { IfOk result (λ copies. copies.items ≡ tunables.now) }
+fn copied_tunables(
+    tunables: &IndexMap<Name<Global>, u32>,
+    alloc: Global,
+) -> Result<IndexMap<Name<Global>, u32>, AllocError>
+    ensures { IfOk result (λ copies. copies.entries ≡ tunables.now.entries) }
 {
-    let mut copies = Vec::new(alloc);
-    for tunable in tunables {
-        let tunable = tunable.try_copy(alloc)?;
-        copies.push(tunable)?;
+    let mut copies = IndexMap::new(alloc);
+    for (name, value) in tunables {
+        let name = name.try_copy(alloc)?;
+        copies.insert(name, *value)?;
     }
     Ok(copies)
 }

@@ -1,16 +1,14 @@
 -- One more tunable.
-use Rattle.std.proofs.Common.{◌≡◌, ℕ, ◌<◌, false, List, [], ◌∷◌, ◌++◌, length, refl, ap, sym, subst, ◌∙◌, arith, length-append}
+use Rattle.std.proofs.Common.{◌≡◌, ℕ, ◌<◌, false, List, [], ◌∷◌, ◌++◌, length, sym, subst, ◌∙◌, arith, length-append}
 use Rattle.std.proofs.lemmas.Slice.Eq.{bytes_eq-Decides}
 use Rattle.std.proofs.lemmas.List.Elements.{All-push, All-weaker}
-use Rattle.std.specs.Prelude.{nat_le, ◌||◌, bytes_eq, map}
+use Rattle.std.specs.Prelude.{nat_le, bytes_eq}
 use Rattle.std.specs.List.{list_any}
 use Rattle.crush_table.specs.Table.{Row}
-use Rattle.crush_edits.specs.Setting.{TunableData, StepData, take, choose, set, emit, RuleData, SettingData}
-use Rattle.crush_edits.specs.SettingSeen.{tunable_data}
-use Rattle.crush_edits.specs.declared.setting.Tunable.{Tunable}
+use Rattle.crush_edits.specs.Setting.{TunableData, StepData, take, choose, set, emit, RuleData, SettingData, has_tunable}
 use Rattle.crush_edits.specs.Fits.{IsTunable, IsStep, IsRule, Fits}
 use Rattle.crush_map.specs.Built.{Draft, nothing, with_tunable}
-use Rattle.crush_map.specs.Building.{BuilderData, IsDraft, IsPending, has_tunable, is_full_of_tunables}
+use Rattle.crush_map.specs.Building.{BuilderData, IsDraft, IsPending, is_full_of_tunables}
 use Rattle.crush_map.proofs.KindSteps.{count_one_more, less}
 
 -- a rule keeps its form
@@ -63,8 +61,3 @@ tunable_step b s d n v i idle e is name few = record {
   fits = Fits-with_tunable d.setting d.table (record { name = n; value = v }) i.fits is name few;
   part = subst (IsPending (with_tunable d n v).setting d.table) (sym (sym i.pending ∙ idle)) tt;
 }
-
--- a name among the tunables as they are kept, and in the list that contracts see
-pub tunable_found : (n : List ℕ) (xs : List Tunable) → list_any (λ (x : Tunable). bytes_eq x.name n) xs ≡ list_any (λ (x : TunableData). bytes_eq x.name n) (map tunable_data xs)
-tunable_found n [] = refl
-tunable_found n (x ∷ xs) = ap (λ b. bytes_eq x.name n || b) (tunable_found n xs)

@@ -1,4 +1,5 @@
 -- The state of a builder, the draft at which it is, and the tests that a reader makes before each step.
+pub use Rattle.crush_edits.specs.Setting.{has_tunable}
 use Rattle.std.specs.Prelude.{◌≡◌, ℕ, ◌<◌, ◌≤◌, List, [], ◌∷◌, All, map, Option, Some, None, Bool, true, false, ◌==◌, ◌||◌, ◌&&◌, if◌then◌else◌, length, bytes_eq, nat_lt, nat_le, refl, is_some, option_and_then}
 use Rattle.std.specs.List.{count_by, list_any}
 use Rattle.std.specs.Coded.{Coded, code_by, coded×, coded_ℕ}
@@ -11,7 +12,7 @@ use Rattle.crush_table.specs.Table.{Row, is_bucket, is_there, is_named, parent_o
 use Rattle.crush_table.specs.Lawful.{IsShadowId}
 use Rattle.crush_table.specs.Forest.{ForestData, coded_forest, rows_of}
 use Rattle.crush_table.specs.Stands.{Stands}
-use Rattle.crush_edits.specs.Setting.{KindData, TunableData, SettingData, coded_setting, kind_number}
+use Rattle.crush_edits.specs.Setting.{KindData, SettingData, coded_setting, kind_number}
 use Rattle.crush_edits.specs.Fits.{Fits}
 use Rattle.crush_map.specs.Built.{Pending, nothing, begun, numbered, filling, Draft}
 use Rattle.crush_map.specs.Stored.{coded_pending}
@@ -158,9 +159,6 @@ has_kind_number s k = list_any (λ (x : KindData). x.number == k) s.kinds
 
 abbrev pub has_kind_name : SettingData → List ℕ → Bool
 has_kind_name s n = list_any (λ (x : KindData). bytes_eq x.name n) s.kinds
-
-abbrev pub has_tunable : SettingData → List ℕ → Bool
-has_tunable s n = list_any (λ (x : TunableData). bytes_eq x.name n) s.tunables
 
 -- one more would pass a limit
 abbrev pub is_full_of_devices : Draft → Bool

@@ -6,8 +6,9 @@ use Rattle.crush_table.specs.Table.{is_there, is_placed, is_device_id}
 use Rattle.crush_table.specs.Lawful.{is_too_heavy}
 use Rattle.crush_map.specs.declared.fault.BuildFault.{BuildFault}
 use Rattle.crush_map.specs.declared.fault.BuildFault.TheVariants.{BadWeight, DuplicateId, DuplicateName, UnknownType, UnknownItem, SecondParent, UnknownBucketInRule, TooMany, SumTooLarge, OutOfMemory}
+use Rattle.crush_edits.specs.Setting.{has_tunable}
 use Rattle.crush_map.specs.Built.{Draft, with_item}
-use Rattle.crush_map.specs.Building.{is_open, has_kind_number, has_kind_name, has_tunable, has_name, has_bucket_id, has_class, names_bucket_kind, is_full_of_devices, is_full_of_buckets, is_full_of_class_ids, is_full_of_kinds, is_full_of_tunables}
+use Rattle.crush_map.specs.Building.{is_open, has_kind_number, has_kind_name, has_name, has_bucket_id, has_class, names_bucket_kind, is_full_of_devices, is_full_of_buckets, is_full_of_class_ids, is_full_of_kinds, is_full_of_tunables}
 use Rattle.crush_units.specs.declared.limits.TheConstants.{HEAVIEST_DEVICE}
 
 -- the place in the order in which faults are told

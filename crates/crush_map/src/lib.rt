@@ -9,8 +9,8 @@ mod map;
 
 pub use builder::MapBuilder;
 pub use crush_edits::{
-    BatchFault, Done, Dones, Edit, EditFault, KeptRule, KeptStep, Kind, Location, LocationFault,
-    Pair, Refusal, Rule, Setting, Step, Tunable, is_reserved,
+    BatchFault, Done, Dones, Edit, EditFault, KeptRule, KeptStep, Location, LocationFault, Pair,
+    Refusal, Rule, Setting, Step, is_reserved,
 };
 pub use fault::{BuildFault, RuleFault, RulePart};
 pub use map::CrushMap;

@@ -1,8 +1,9 @@
 -- A call that is added to the last script.
-use Rattle.std.proofs.Common.{◌≡◌, ℕ, zero, suc, ◌+◌, ◌<◌, ◌≤◌, true, false, List, [], ◌∷◌, ◌++◌, Ok, Err, length, map, get_or, set, nat_le, ap, sym, ◌∙◌, arith, rules, tests}
-use Rattle.crush_script.specs.declared.call.Call.{Call}
-use Rattle.crush_script.specs.declared.sections.Script.{Script}
-use Rattle.crush_script.specs.Sections.{ScriptData, script_data, call_in_last}
+use Rattle.std.proofs.Common.{◌≡◌, ℕ, zero, suc, ◌+◌, List, [], ◌∷◌, ◌++◌, length, map, get_or, set, ap, sym, ◌∙◌, arith}
+use Rattle.crush_calls.specs.declared.call.Call.{Call}
+use Rattle.crush_calls.specs.declared.script.Script.{Script}
+use Rattle.crush_calls.specs.Script.{ScriptData, script_data}
+use Rattle.crush_script.specs.Sections.{call_in_last}
 
 -- the last script is set to one with one more call
 pub call_in_last-set : (c : Call) (xs : List Script) (i : ℕ) (s n : Script) → i + 1 ≡ length xs → s ≡ get_or xs i s → script_data n ≡ record (script_data s) { calls = s.calls.items ++ c ∷ [] } → call_in_last c (map script_data xs) ≡ map script_data (set xs i n)

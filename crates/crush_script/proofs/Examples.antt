@@ -1,11 +1,8 @@
 -- The definitions, computed on worked examples.
-use Rattle.std.proofs.Common.{◌≡◌, ℕ, true, false, List, [], ◌∷◌, Ok, Err, Some, None, refl, lit<}
-use Rattle.std.proofs.lemmas.Fmt.{decimal_digit}
+use Rattle.std.proofs.Common.{◌≡◌, ℕ, List, [], ◌∷◌, Ok, Err, Some, None, refl}
 use Rattle.std.specs.Prelude.{codes}
 use Rattle.crush_edits.specs.declared.edit.Edit.TheVariants.{Insert, CreateOrMove, Update, Move, Swap, Reweight, ReweightSubtree, Remove, AddBucket, Rename}
-use Rattle.crush_edits.specs.declared.refusal.Refusal.TheVariants.{NotPlaced, NoSuchItem}
-use Rattle.crush_script.specs.declared.call.Call.TheVariants.{One, Batch}
-use Rattle.crush_script.specs.declared.call.Reply.TheVariants.{Done, Dones, Refused, BatchRefused}
+use Rattle.crush_calls.specs.declared.call.Call.TheVariants.{One, Batch}
 use Rattle.crush_script.specs.declared.command.Command.TheVariants.{Nothing, Edit, Begin, Commit}
 use Rattle.crush_script.specs.declared.command.LineFault.TheVariants as line
 use Rattle.crush_script.specs.declared.fault.JobFault.TheVariants as job
@@ -13,7 +10,6 @@ use Rattle.crush_script.specs.Lines.{lines, words_between_blanks, line_words, ma
 use Rattle.crush_script.specs.Words.{device_named}
 use Rattle.crush_script.specs.Command.{name_at, weight_at, end_at, with_pair, with_pairs, location_at, placing_at, located_at, one_name_at, two_names_at, weighed_at, keyword_of, edit_at, command, operator}
 use Rattle.crush_script.specs.Sections.{with_line, with_lines, sections_of}
-use Rattle.crush_script.specs.HistoryText.{edit_text, line_front, line_end, line_text}
 
 -- a comment inside a word, blanks of both kinds, a carriage return
 words_of_a_line : line_words (codes " reweight\tosd.2  1.0#c\r") ≡ codes "reweight" ∷ (codes "osd.2" ∷ (codes "1.0" ∷ []))
@@ -198,31 +194,3 @@ two_scripts : sections_of (codes "%operator a\nbegin\nrm x\n\nrm y\ncommit\nrm z
     ≡ Ok (record { scripts = (record { name = codes "a"; calls = Batch (Remove (codes "x") ∷ (Remove (codes "y") ∷ [])) ∷ (One (Remove (codes "z")) ∷ []) }) ∷ ((record { name = codes "b"; calls = Batch [] ∷ [] }) ∷ []); calls = 3; begun = None })
 unfolding lines words_between_blanks name_at weight_at end_at with_pair with_pairs location_at placing_at located_at one_name_at two_names_at weighed_at keyword_of edit_at command operator with_line with_lines
 two_scripts = refl
-
--- an edit as its command
-put_text : edit_text (Insert 3 (codes "osd.3") 21823 ((record { kind = codes "host"; name = codes "h3" }) ∷ ((record { kind = codes "rack"; name = codes "r1" }) ∷ ((record { kind = codes "root"; name = codes "default" }) ∷ [])))) ≡ codes "add osd.3 0.33299 host=h3 rack=r1 root=default"
-put_text = rw (decimal_digit 0 (lit< tt)) refl
-
-remove_text : edit_text (Remove (codes "osd.0")) ≡ codes "rm osd.0"
-remove_text = refl
-
--- the lines of a history
-done_line : line_text 1 (codes "a") (One (Reweight (codes "osd.2") 65536)) (Done (record { changed = true; made = 0 })) ≡ codes "# 1 a reweight osd.2 1.00000 = done changed 1 made 0\n"
-unfolding line_front line_end
-done_line = rw (decimal_digit 1 (lit< tt), decimal_digit 0 (lit< tt)) refl
-
-same_line : line_text 2 (codes "b") (One (Reweight (codes "osd.0") 131072)) (Done (record { changed = false; made = 0 })) ≡ codes "# 2 b reweight osd.0 2.00000 = done changed 0 made 0\n"
-unfolding line_front line_end
-same_line = rw (decimal_digit 2 (lit< tt), decimal_digit 0 (lit< tt)) refl
-
-refused_line : line_text 3 (codes "a") (One (Reweight (codes "osd.9") 65536)) (Refused NotPlaced) ≡ codes "# 3 a reweight osd.9 1.00000 = refused NotPlaced 2\n"
-unfolding line_front line_end
-refused_line = rw (decimal_digit 3 (lit< tt), decimal_digit 1 (lit< tt), decimal_digit 2 (lit< tt)) refl
-
-empty_batch : line_text 2 (codes "a") (Batch []) (Dones (record { edits = 0; changed = 0; made = 0 })) ≡ codes "# 2 a begin ; commit = dones 0 changed 0 made 0\n"
-unfolding line_front line_end
-empty_batch = rw (decimal_digit 2 (lit< tt), decimal_digit 0 (lit< tt)) refl
-
-refused_batch : line_text 1 (codes "a") (Batch (Rename (codes "h1") (codes "hq") ∷ (Remove (codes "x") ∷ []))) (BatchRefused 1 NoSuchItem) ≡ codes "# 1 a begin ; rename-bucket h1 hq ; rm x ; commit = refused at 1 NoSuchItem 2\n"
-unfolding line_front line_end
-refused_batch = rw (decimal_digit 1 (lit< tt), decimal_digit 2 (lit< tt)) refl

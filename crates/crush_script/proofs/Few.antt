@@ -1,17 +1,18 @@
 -- A job has at most 65,536 calls.
-use Rattle.std.proofs.Common.{◌≡◌, ℕ, ◌+◌, ◌<◌, ◌≤◌, Bool, true, false, cond, List, [], ◌∷◌, ◌++◌, Option, Some, None, Result, Ok, Err, length, nat_le, refl, sym, ap, subst, arith, rules, tests, length-append}
+use Rattle.std.proofs.Common.{◌≡◌, ℕ, ◌+◌, ◌<◌, ◌≤◌, Bool, true, false, List, [], ◌∷◌, ◌++◌, Option, Some, None, Ok, length, nat_le, refl, ap, arith, rules, tests, length-append}
 use Rattle.std.specs.Prelude.{IfOk}
 use Rattle.std.proofs.lemmas.List.Sums.{sum_by-append, sum_by-cons}
 use Rattle.crush_edits.specs.declared.edit.Edit.{Edit}
-use Rattle.crush_script.specs.declared.call.Call.{Call}
-use Rattle.crush_script.specs.declared.call.Call.TheVariants.{One, Batch}
+use Rattle.crush_calls.specs.declared.call.Call.{Call}
+use Rattle.crush_calls.specs.declared.call.Call.TheVariants.{One, Batch}
+use Rattle.crush_script.proofs.Oks.{bind-if_ok_at, bind-if_ok, if_ok-either, if_ok-else, if_ok-at}
 use Rattle.crush_script.specs.declared.command.Command.{Command}
 use Rattle.crush_script.specs.declared.command.Command.TheVariants as says
-use Rattle.crush_script.specs.declared.fault.JobFault.{JobFault}
 use Rattle.crush_script.specs.declared.sections.BegunBatch.{BegunBatch}
 use Rattle.crush_script.specs.Command.{◌>>=◌, command, operator}
 use Rattle.crush_script.specs.Lines.{line_words, begins_section}
-use Rattle.crush_script.specs.Sections.{ScriptData, SectionsData, no_sections, call_count, call_in_last, in_line, without_batch, closed, has_operator, with_section, counted, with_call, in_batch, with_edit, with_begin, with_commit, with_command, with_line, with_lines}
+use Rattle.crush_calls.specs.Script.{ScriptData, call_count}
+use Rattle.crush_script.specs.Sections.{SectionsData, no_sections, call_in_last, in_line, without_batch, closed, has_operator, with_section, counted, with_call, with_edit, with_begin, with_commit, with_command, with_line, with_lines}
 
 -- a batch that is open is one call
 abbrev open_calls : Option BegunBatch → ℕ
@@ -27,20 +28,6 @@ record IsFew (s : SectionsData) : Type 0 where
 record IsFewer (s : SectionsData) : Type 0 where
   counted : call_count s.scripts + open_calls s.begun + 1 ≤ s.calls
   few : s.calls ≤ 65536
-
--- a fact that holds after each step holds after the next one too
-bind-if_ok_at : {A B F : Type 0} (r : Result A F) (f : A → Result B F) (P : B → Type 0) (Q : A → Type 0) → IfOk r Q → ((x : A) → Q x → IfOk (f x) P) → IfOk (r >>= f) P
-bind-if_ok_at (Ok x) f P Q q h = h x q
-bind-if_ok_at (Err e) f P Q q h = tt
-
-bind-if_ok : {A B F : Type 0} (r : Result A F) (f : A → Result B F) (P : B → Type 0) → ((x : A) → IfOk (f x) P) → IfOk (r >>= f) P
-bind-if_ok (Ok x) f P h = h x
-bind-if_ok (Err e) f P h = tt
-
--- a test before a result
-if_few : (e : JobFault) (r : Result SectionsData JobFault) (b : Bool) → IfOk r IsFew → IfOk (cond b (Err e) r) IsFew
-if_few e r true h = tt
-if_few e r false h = h
 
 -- the last script has one more call, if there is one
 call_count-call_in_last : (c : Call) (scripts : List ScriptData) → call_count (call_in_last c scripts) ≤ call_count scripts + 1
@@ -63,7 +50,7 @@ section_few : (number : ℕ) (s : SectionsData) (name : List ℕ) → IsFew s �
 section_few number s name few =
     let new : ScriptData = record { name = name; calls = [] } in
     let same : call_count (s.scripts ++ new ∷ []) ≡ call_count s.scripts + 0 = sum_by-append (λ (x : ScriptData). length x.calls) s.scripts (new ∷ []) in
-    if_few _ _ (nat_le 16 (length s.scripts)) (if_few _ _ (has_operator s.scripts name) (record { counted = omega (arith, same, few.counted); few = few.few }))
+    if_ok-else _ _ (nat_le 16 (length s.scripts)) IsFew (if_ok-else _ _ (has_operator s.scripts name) IsFew (record { counted = omega (arith, same, few.counted); few = few.few }))
 
 counted_fewer : (number : ℕ) (s : SectionsData) → IsFew s → IfOk (counted number s) IsFewer
 counted_fewer number s few = at (nat_le 65536 s.calls) refl
@@ -79,7 +66,7 @@ call_few s c fewer = record { counted = omega (arith, call_count-call_in_last c 
 
 edit_few : (number : ℕ) (s : SectionsData) (o : Option BegunBatch) (e : Edit) → o ≡ s.begun → IsFew s → IfOk (with_edit number s o e) IsFew
 edit_few number s None e is few = bind-if_ok_at (counted number s) (λ more. Ok (with_call (One e) more)) IsFew IsFewer (counted_fewer number s few) (λ more fewer. call_few more (One e) fewer)
-edit_few number s (Some b) e is few = if_few _ _ (nat_le 65536 (length b.edits)) (record { counted = omega (arith, few.counted, ap open_calls is); few = few.few })
+edit_few number s (Some b) e is few = if_ok-else _ _ (nat_le 65536 (length b.edits)) IsFew (record { counted = omega (arith, few.counted, ap open_calls is); few = few.few })
 
 begin_few : (number : ℕ) (s : SectionsData) (o : Option BegunBatch) → IsFew s → IfOk (with_begin number s o) IsFew
 begin_few number s None few =
@@ -99,22 +86,15 @@ command_few number s says.Commit few = commit_few number s s.begun refl few
 line_few : (number : ℕ) (s : SectionsData) (text : List ℕ) → IsFew s → IfOk (with_line number s text) IsFew
 unfolding with_line
 line_few number s text few =
-    at _ _ (begins_section text)
+    if_ok-either _ _ (begins_section text) IsFew
     (bind-if_ok_at (closed s) (λ r. in_line number (operator (line_words text)) >>= λ name. with_section number r name) IsFew IsFew (closed_few s few) (λ r fine. bind-if_ok (in_line number (operator (line_words text))) (λ name. with_section number r name) IsFew (λ name. section_few number r name fine)))
     (bind-if_ok (in_line number (command (line_words text))) (λ c. with_command number s c) IsFew (λ c. command_few number s c few))
-  where
-    at : (r q : Result SectionsData JobFault) (b : Bool) → IfOk r IsFew → IfOk q IsFew → IfOk (cond b r q) IsFew
-    at r q true h k = h
-    at r q false h k = k
 
 lines_few : (number : ℕ) (s : SectionsData) (lines : List (List ℕ)) → IsFew s → IfOk (with_lines number s lines) IsFew
 unfolding with_lines
 lines_few number s [] few = closed_few s few
 lines_few number s (text ∷ rest) few =
     bind-if_ok_at (with_line number s text) (λ next. with_lines (number + 1) next rest) IsFew IsFew (line_few number s text few) (λ next h. lines_few (number + 1) next rest h)
-
-if_ok-at : {A F : Type 0} (r : Result A F) (x : A) (P : A → Type 0) → r ≡ Ok x → IfOk r P → P x
-if_ok-at r x P e h = subst (λ q. IfOk q P) e h
 
 -- however the lines of a job go on, its scripts have few calls
 pub calls_few : (number : ℕ) (lines : List (List ℕ)) (s : SectionsData) → with_lines number no_sections lines ≡ Ok s → call_count s.scripts ≤ 65536

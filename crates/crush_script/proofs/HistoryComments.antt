@@ -20,13 +20,13 @@ use Rattle.crush_text.specs.ReadingBack.{are_comments}
 use Rattle.crush_text.proofs.BuiltBuckets.{buckets_are_built}
 use Rattle.crush_text.proofs.BuiltMaps.{comments_behind}
 use Rattle.crush_text.proofs.Comments.{within}
-use Rattle.crush_script.specs.declared.call.Call.{Call}
-use Rattle.crush_script.specs.declared.call.Call.TheVariants.{One, Batch}
-use Rattle.crush_script.specs.declared.call.Reply.{Reply}
-use Rattle.crush_script.specs.declared.call.Reply.TheVariants.{Done, Dones, Refused, BatchRefused}
-use Rattle.crush_script.specs.History.{EntryData, table_after}
-use Rattle.crush_script.specs.HistoryText.{pair_text, pairs_text, one_name, two_names, weighed, edit_text, edits_text, call_text, digit_of, line_front, refusal_text, refused_at_text, line_end, line_text, entries_text}
-use Rattle.crush_script.specs.Written.{IsNamed, IsNamedCall, HistoryLinesAreComments, WhatIsWrittenIsReadBack, JobTextsAreReadBack}
+use Rattle.crush_calls.specs.declared.call.Call.{Call}
+use Rattle.crush_calls.specs.declared.call.Call.TheVariants.{One, Batch}
+use Rattle.crush_calls.specs.declared.call.Reply.{Reply}
+use Rattle.crush_calls.specs.declared.call.Reply.TheVariants.{Done, Dones, Refused, BatchRefused}
+use Rattle.crush_calls.specs.History.{EntryData}
+use Rattle.crush_calls.specs.HistoryText.{pair_text, pairs_text, one_name, two_names, weighed, edit_text, edits_text, call_text, digit_of, line_front, refusal_text, refused_at_text, line_end, line_text, entries_text}
+use Rattle.crush_script.specs.Written.{IsNamed, IsNamedCall, HistoryLinesAreComments, WhatIsWrittenIsReadBack}
 
 -- no byte ends the line
 abbrev IsInLine : List ℕ → Type 0
@@ -208,6 +208,3 @@ history_lines_are_comments names number (e ∷ h) ns hs =
 -- WHAT IS WRITTEN of a run is read as the map
 pub written_is_read_back : WhatIsWrittenIsReadBack
 written_is_read_back s t names number h l f ns hs = comments_behind buckets_are_built s t (entries_text names number h) l f (history_lines_are_comments names number h ns hs)
-
-pub job_texts_are_read_back : JobTextsAreReadBack
-job_texts_are_read_back s t names h l f ns hs = written_is_read_back s (table_after s t h) names 1 h l f ns hs

@@ -1,13 +1,12 @@
+pub mod Oks
 pub mod Cuts
 pub mod Pairs
-pub mod Writing
 pub mod Calls
 pub mod Few
-pub mod Histories
-pub mod SameForests
-pub mod InTurn
-pub mod EntryLines
 pub mod PrintedWords
 pub mod PrintedLaws
+pub mod Said
+pub mod SaidJobs
 pub mod HistoryComments
+pub mod JobTexts
 pub mod Examples

@@ -1,13 +1,12 @@
 -- Pairs that a word says, and locations of them.
-use Rattle.std.proofs.Common.{◌≡◌, ℕ, ◌+◌, ◌-◌, ◌<◌, ◌≤◌, ◌&&◌, Bool, true, false, cond, List, [], ◌∷◌, ◌++◌, Ok, Err, Result, length, take, drop, nat_lt, refl, sym, ap, ◌∙◌, arith, rules, tests, length-drop}
+use Rattle.std.proofs.Common.{◌≡◌, ℕ, ◌-◌, ◌≤◌, ◌&&◌, Bool, true, false, cond, List, [], ◌∷◌, ◌++◌, Ok, Err, length, take, drop, nat_lt, refl, sym, ap, ◌∙◌, arith, rules, tests, length-drop}
 use Rattle.std.proofs.lemmas.List.{drop-drop, take_all}
 use Rattle.crush_units.specs.Name.{is_name}
 use Rattle.crush_units.proofs.Names.{is_name_true}
 use Rattle.crush_edits.specs.declared.location.Pair.{Pair}
 use Rattle.crush_edits.specs.Pushed.{CanPush}
-use Rattle.crush_script.specs.declared.command.LineFault.{LineFault}
 use Rattle.crush_script.specs.declared.command.LineFault.TheVariants.{BadLine}
-use Rattle.crush_script.specs.Words.{equals_at, pair_of, can_add}
+use Rattle.crush_script.specs.Words.{equals_at, pair_of}
 use Rattle.crush_script.specs.Command.{with_pair}
 
 -- what stands behind the first `=`

@@ -1,15 +1,15 @@
 -- What is printed of an edit is read as that edit.
-use Rattle.std.proofs.Common.{◌≡◌, ℕ, zero, suc, ◌+◌, ◌-◌, ◌/◌, ◌%◌, ◌<◌, ◌≤◌, ◌^◌, ◌&&◌, ◌||◌, ◌==◌, Bool, true, false, List, [], ◌∷◌, ◌++◌, Option, Some, Ok, length, map, take, drop, get_or, nat_lt, refl, sym, ap, ◌∙◌, arith, rules, tests, append_assoc, length-append}
+use Rattle.std.proofs.Common.{◌≡◌, ℕ, suc, ◌+◌, ◌/◌, ◌<◌, ◌≤◌, ◌^◌, true, List, [], ◌∷◌, ◌++◌, Some, Ok, length, map, take, drop, get_or, refl, sym, ap, ◌∙◌, arith, append_assoc, length-append}
 use Rattle.std.specs.Prelude.{codes, decimal}
-use Rattle.std.specs.List.{list_all, position_or_len}
+use Rattle.std.specs.List.{list_all}
 use Rattle.std.specs.Str.Parse.{AllDigits}
 use Rattle.std.proofs.lemmas.Bool.Decides.{nat_tests}
 use Rattle.std.proofs.lemmas.Fmt.{decimal_is_IsNumeral}
-use Rattle.std.proofs.lemmas.List.{append-nil, take_at, drop_at}
+use Rattle.std.proofs.lemmas.List.{append-nil, take_at}
 use Rattle.std.proofs.lemmas.List.Folds.{list_all-append}
 use Rattle.std.proofs.lemmas.Str.Parse.{digit_from_value}
 use Rattle.std.proofs.Math.Seq.{drop-append-add}
-use Rattle.crush_units.specs.Name.{IsName, is_name, is_name_byte}
+use Rattle.crush_units.specs.Name.{IsName, is_name_byte}
 use Rattle.crush_units.specs.Weight.{weight_of_text, weight_text, parts_of, digit}
 use Rattle.crush_units.proofs.Names.{is_name_true}
 use Rattle.crush_units.proofs.ReadBack.{read_again}
@@ -18,12 +18,11 @@ use Rattle.crush_edits.specs.declared.edit.Edit.{Edit}
 use Rattle.crush_edits.specs.declared.edit.Edit.TheVariants.{Insert, CreateOrMove, Update, Move, Swap, Reweight, ReweightSubtree, Remove, AddBucket, Rename}
 use Rattle.crush_edits.specs.Pushed.{IsLocation}
 use Rattle.crush_script.specs.declared.command.Command.TheVariants as says
-use Rattle.crush_script.specs.declared.command.Placing.{Placing}
 use Rattle.crush_script.specs.Lines.{line_words}
 use Rattle.crush_script.specs.Words.{equals_at, pair_of, device_named}
 use Rattle.crush_script.specs.Command.{name_at, weight_at, end_at, with_pair, with_pairs, location_at, placing_at, located_at, one_name_at, two_names_at, weighed_at, keyword_of, edit_at, command}
-use Rattle.crush_script.specs.HistoryText.{pair_text, pairs_text, one_name, two_names, weighed, edit_text}
-use Rattle.crush_script.specs.Printed.{IsPlacing, IsSaid, PrintedIsRead}
+use Rattle.crush_calls.specs.HistoryText.{pairs_text, one_name}
+use Rattle.crush_script.specs.Printed.{PrintedIsRead}
 use Rattle.crush_script.proofs.Pairs.{pair_added}
 use Rattle.crush_script.proofs.PrintedWords.{is_word_byte, IsWord, AreWords, joined, line_words-joined, both, never}
 

@@ -10,6 +10,8 @@ use Rattle.crush_script.specs.declared.command.Command.{Command}
 use Rattle.crush_script.specs.declared.command.Command.TheVariants as says
 use Rattle.crush_script.specs.declared.command.Keyword.{Keyword}
 use Rattle.crush_script.specs.declared.command.Keyword.TheVariants as word
+use Rattle.crush_script.specs.declared.command.Placement.{Placement}
+use Rattle.crush_script.specs.declared.command.Placement.TheVariants as place
 use Rattle.crush_script.specs.declared.command.Placing.{Placing}
 use Rattle.crush_script.specs.declared.command.LineFault.{LineFault}
 use Rattle.crush_script.specs.declared.command.LineFault.TheVariants.{BadLine, NoSuchCommand}
@@ -103,9 +105,9 @@ weighed_at words = do
 -- the command that a first word names
 unfoldable pub keyword_of : List ℕ → Option Keyword
 keyword_of first =
-    if bytes_eq first (codes "add") then Some word.Add
-    else if bytes_eq first (codes "set") then Some word.Set
-    else if bytes_eq first (codes "create-or-move") then Some word.CreateOrMove
+    if bytes_eq first (codes "add") then Some (word.Place place.Add)
+    else if bytes_eq first (codes "set") then Some (word.Place place.Set)
+    else if bytes_eq first (codes "create-or-move") then Some (word.Place place.CreateOrMove)
     else if bytes_eq first (codes "move") then Some word.Move
     else if bytes_eq first (codes "swap-bucket") then Some word.SwapBucket
     else if bytes_eq first (codes "reweight") then Some word.Reweight
@@ -115,11 +117,15 @@ keyword_of first =
     else if bytes_eq first (codes "rename-bucket") then Some word.RenameBucket
     else None
 
+-- the edit of a command that places a device
+abbrev pub placed : Placement → Placing → Edit
+placed place.Add p = Insert p.device p.name p.weight p.at
+placed place.Set p = Update p.device p.name p.weight p.at
+placed place.CreateOrMove p = CreateOrMove p.device p.name p.weight p.at
+
 -- the edit of a command, by the words behind its first
 abbrev pub edit_of : Keyword → List (List ℕ) → Result Edit LineFault
-edit_of word.Add rest = placing_at rest >>= λ p. Ok (Insert p.device p.name p.weight p.at)
-edit_of word.Set rest = placing_at rest >>= λ p. Ok (Update p.device p.name p.weight p.at)
-edit_of word.CreateOrMove rest = placing_at rest >>= λ p. Ok (CreateOrMove p.device p.name p.weight p.at)
+edit_of (word.Place how) rest = placing_at rest >>= λ p. Ok (placed how p)
 edit_of word.Move rest = located_at rest >>= λ p. Ok (Move p.0 p.1)
 edit_of word.SwapBucket rest = two_names_at rest >>= λ p. Ok (Swap p.0 p.1)
 edit_of word.Reweight rest = weighed_at rest >>= λ p. Ok (Reweight p.0 p.1)

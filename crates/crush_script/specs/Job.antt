@@ -10,7 +10,8 @@ use Rattle.crush_script.specs.declared.fault.JobFault.TheVariants.{BadLine, NoSu
 use Rattle.crush_script.specs.declared.job.Job.{Job}
 use Rattle.crush_script.specs.Lines.{map_part}
 use Rattle.crush_script.specs.MapPart.{IsNoMap}
-use Rattle.crush_script.specs.Sections.{ScriptData, SectionsData, scripts_data, sections_of}
+use Rattle.crush_calls.specs.Script.{ScriptData, scripts_data}
+use Rattle.crush_script.specs.Sections.{SectionsData, sections_of}
 use Rattle.crush_units.specs.declared.limits.TheConstants.{LONGEST_JOB}
 
 -- what a job says: the setting and the table of its map, how many written weights of it were replaced, and the scripts

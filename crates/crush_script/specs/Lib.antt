@@ -6,9 +6,5 @@ pub mod Sections
 pub mod Steps
 pub mod MapPart
 pub mod Job
-pub mod History
-pub mod Entries
-pub mod HistoryText
-pub mod Turns
 pub mod Printed
 pub mod Written

@@ -1,4 +1,4 @@
--- What is printed of an edit is read as that edit.
+-- What is printed of an edit is read as that edit, and what is read can be printed.
 use Rattle.std.specs.Prelude.{◌≡◌, ℕ, ◌<◌, ◌^◌, List, Some, Ok}
 use Rattle.crush_units.specs.Name.{IsName}
 use Rattle.crush_edits.specs.declared.location.Pair.{Pair}
@@ -9,7 +9,7 @@ use Rattle.crush_script.specs.declared.command.Command.TheVariants as says
 use Rattle.crush_script.specs.Lines.{line_words}
 use Rattle.crush_script.specs.Words.{device_named}
 use Rattle.crush_script.specs.Command.{command}
-use Rattle.crush_script.specs.HistoryText.{edit_text}
+use Rattle.crush_calls.specs.HistoryText.{edit_text}
 
 -- the forms of what a command says of a device: its name is `osd.N`, and the others are those that their types keep
 pub record IsPlacing (d : ℕ) (n : List ℕ) (w : ℕ) (l : List Pair) : Type 0 where
@@ -34,3 +34,7 @@ IsSaid (Rename from to) = IsName from × IsName to
 -- PRINTED IS READ: the command that is printed of an edit is a line that says the same edit
 abbrev pub PrintedIsRead : Type 0
 PrintedIsRead = (e : Edit) → IsSaid e → command (line_words (edit_text e)) ≡ Ok (says.Edit e)
+
+-- READ IS SAID: each edit that a line says is of these forms, so that what is read is printed as a line that is read again
+abbrev pub ReadIsSaid : Type 0
+ReadIsSaid = (words : List (List ℕ)) (e : Edit) → command words ≡ Ok (says.Edit e) → IsSaid e

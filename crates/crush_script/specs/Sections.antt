@@ -1,9 +1,9 @@
 -- The scripts of a job: a fold over the lines of its sections.
-use Rattle.std.specs.Prelude.{ℕ, ◌+◌, List, [], ◌∷◌, ◌++◌, Bool, Option, Some, None, length, map, Result, Ok, Err, if◌then◌else◌, nat_le, bytes_eq}
-use Rattle.std.specs.List.{sum_by, list_any}
+use Rattle.std.specs.Prelude.{ℕ, ◌+◌, List, [], ◌∷◌, ◌++◌, Bool, Option, Some, None, length, Result, Ok, Err, if◌then◌else◌, nat_le, bytes_eq}
+use Rattle.std.specs.List.{list_any}
 use Rattle.crush_edits.specs.declared.edit.Edit.{Edit}
-use Rattle.crush_script.specs.declared.call.Call.{Call}
-use Rattle.crush_script.specs.declared.call.Call.TheVariants.{One, Batch}
+use Rattle.crush_calls.specs.declared.call.Call.{Call}
+use Rattle.crush_calls.specs.declared.call.Call.TheVariants.{One, Batch}
 use Rattle.crush_script.specs.declared.command.Command.{Command}
 use Rattle.crush_script.specs.declared.command.Command.TheVariants as says
 use Rattle.crush_script.specs.declared.command.LineFault.{LineFault}
@@ -11,22 +11,11 @@ use Rattle.crush_script.specs.declared.command.LineFault.TheVariants as line
 use Rattle.crush_script.specs.declared.fault.JobFault.{JobFault}
 use Rattle.crush_script.specs.declared.fault.JobFault.TheVariants as job
 use Rattle.crush_script.specs.declared.sections.BegunBatch.{BegunBatch}
-use Rattle.crush_script.specs.declared.sections.Script.{Script}
+use Rattle.crush_calls.specs.Script.{ScriptData, scripts_data}
 use Rattle.crush_script.specs.declared.sections.Sections.{Sections}
 use Rattle.crush_script.specs.Command.{◌>>=◌, command, operator}
 use Rattle.crush_script.specs.Lines.{lines, section_part, section_line, line_words, begins_section}
 use Rattle.crush_units.specs.declared.limits.TheConstants.{MOST_CALLS, MOST_EDITS, MOST_OPERATORS}
-
--- the script of one operator: its name, and its calls in order
-pub record ScriptData : Type 0 where
-  pub name : List ℕ
-  pub calls : List Call
-
-abbrev pub script_data : Script → ScriptData
-script_data s = record { name = s.name; calls = s.calls.items }
-
-abbrev pub scripts_data : List Script → List ScriptData
-scripts_data scripts = map script_data scripts
 
 -- what the lines so far say: the scripts, how many calls were begun in all, and the batch that is open, with the line of its `begin` and its edits
 pub record SectionsData : Type 0 where
@@ -39,10 +28,6 @@ sections_data s = record { scripts = scripts_data s.scripts.items; calls = s.cal
 
 abbrev pub no_sections : SectionsData
 no_sections = record { scripts = []; calls = 0; begun = None }
-
--- how many calls scripts have in all
-abbrev pub call_count : List ScriptData → ℕ
-call_count scripts = sum_by (λ (s : ScriptData). length s.calls) scripts
 
 -- a fault of a line, told with the line's number
 abbrev pub fault_at : ℕ → LineFault → JobFault

@@ -1,19 +1,25 @@
--- The map's text with the history's lines behind it is read as the map.
+-- What is written of a run, and that it is read back.
 use Rattle.std.specs.Prelude.{ℕ, ◌++◌, List, All}
 use Rattle.crush_units.specs.Name.{IsName}
 use Rattle.crush_table.specs.Table.{Row}
 use Rattle.crush_table.specs.Lawful.{Lawful}
 use Rattle.crush_edits.specs.Setting.{SettingData}
 use Rattle.crush_edits.specs.Fits.{Fits}
+use Rattle.crush_edits.specs.LawEdit.{Keeps}
 use Rattle.crush_edits.specs.Pushed.{IsLocation}
 use Rattle.crush_edits.specs.declared.edit.Edit.{Edit}
 use Rattle.crush_edits.specs.declared.edit.Edit.TheVariants.{Insert, CreateOrMove, Update, Move, Swap, Reweight, ReweightSubtree, Remove, AddBucket, Rename}
 use Rattle.crush_print.specs.MapText.{map_text}
 use Rattle.crush_text.specs.ReadingBack.{in_order, IsReadAs, AreCommentLines}
-use Rattle.crush_script.specs.declared.call.Call.{Call}
-use Rattle.crush_script.specs.declared.call.Call.TheVariants.{One, Batch}
-use Rattle.crush_script.specs.History.{EntryData, table_after}
-use Rattle.crush_script.specs.HistoryText.{entries_text, job_text}
+use Rattle.crush_calls.specs.declared.call.Call.{Call}
+use Rattle.crush_calls.specs.declared.call.Call.TheVariants.{One, Batch}
+use Rattle.crush_calls.specs.History.{EntryData, table_after, turns}
+use Rattle.crush_calls.specs.HistoryText.{entries_text, names_of}
+use Rattle.crush_script.specs.Job.{JobData, IsJob}
+
+-- JOB TEXT: the map after the history, and a line for each entry
+abbrev pub job_text : SettingData → List Row → List (List ℕ) → List EntryData → List ℕ
+job_text s t names h = map_text s (table_after s t h) ++ entries_text names 1 h
 
 -- the names of an edit are names and its location is one, as their types keep
 abbrev pub IsNamed : Edit → Type 0
@@ -47,7 +53,16 @@ abbrev pub WhatIsWrittenIsReadBack : Type 0
 WhatIsWrittenIsReadBack = (s : SettingData) (t : List Row) (names : List (List ℕ)) (number : ℕ) (h : List EntryData) → Lawful t → Fits s t
     → All IsName names → IsNamedHistory h → IsReadAs (map_text s t ++ entries_text names number h) (in_order s) t
 
--- so is the text of a job that has run, of the map after its history
+-- THE MAP AFTER A JOB: whatever job bytes are, the table after its run is lawful, and the setting fits it
+abbrev pub JobsStayLawful : Type 0
+JobsStayLawful = (bytes : List ℕ) (job : JobData) → IsJob bytes job → Keeps job.setting (table_after job.setting job.table (turns job.setting job.table job.scripts))
+
+-- THE TEXT OF A JOB that has run is read back as that map, with its history
 abbrev pub JobTextsAreReadBack : Type 0
-JobTextsAreReadBack = (s : SettingData) (t : List Row) (names : List (List ℕ)) (h : List EntryData) → Lawful (table_after s t h) → Fits s (table_after s t h)
-    → All IsName names → IsNamedHistory h → IsReadAs (job_text s t names h) (in_order s) (table_after s t h)
+JobTextsAreReadBack = (bytes : List ℕ) (job : JobData) → IsJob bytes job
+    → let h = turns job.setting job.table job.scripts in IsReadAs (job_text job.setting job.table (names_of job.scripts) h) (in_order job.setting) (table_after job.setting job.table h)
+
+-- and without
+abbrev pub JobMapsAreReadBack : Type 0
+JobMapsAreReadBack = (bytes : List ℕ) (job : JobData) → IsJob bytes job
+    → let u = table_after job.setting job.table (turns job.setting job.table job.scripts) in IsReadAs (map_text job.setting u) (in_order job.setting) u

@@ -2,7 +2,7 @@
 
 ghost use Rattle.std.specs.Prelude.{◌≡◌};
 ghost use Rattle.crush_script.specs.AnswersAs.{AnswersAs, AnswersAndLeaves};
-ghost use Rattle.crush_script.specs.Command.{command, operator, name_at, weight_at, end_at, with_pair, location_at, placing_at, located_at, one_name_at, two_names_at, weighed_at, keyword_of, edit_of, edit_at};
+ghost use Rattle.crush_script.specs.Command.{command, operator, name_at, weight_at, end_at, with_pair, location_at, placing_at, located_at, one_name_at, two_names_at, weighed_at, keyword_of, placed, edit_of, edit_at};
 
 use crate::line::{LineWords, place_of};
 use crate::word::device_named;
@@ -34,12 +34,18 @@ pub(crate) enum Command {
     Commit,
 }
 
-/// The command that makes an edit.
+/// The command that places a device.
 #[derive(Clone, Copy)]
-pub(crate) enum Keyword {
+pub(crate) enum Placement {
     Add,
     Set,
     CreateOrMove,
+}
+
+/// The command that makes an edit.
+#[derive(Clone, Copy)]
+pub(crate) enum Keyword {
+    Place(Placement),
     Move,
     SwapBucket,
     Reweight,
@@ -201,11 +207,11 @@ fn keyword_of(first: &[u8]) -> Option<Keyword>
     ensures { result ≡ keyword_of first.now }
 {
     if first == b"add".as_slice() {
-        Some(Keyword::Add)
+        Some(Keyword::Place(Placement::Add))
     } else if first == b"set".as_slice() {
-        Some(Keyword::Set)
+        Some(Keyword::Place(Placement::Set))
     } else if first == b"create-or-move".as_slice() {
-        Some(Keyword::CreateOrMove)
+        Some(Keyword::Place(Placement::CreateOrMove))
     } else if first == b"move".as_slice() {
         Some(Keyword::Move)
     } else if first == b"swap-bucket".as_slice() {
@@ -225,6 +231,38 @@ fn keyword_of(first: &[u8]) -> Option<Keyword>
     }
 }
 
+/// The edit of a command that places a device.
+fn placed(how: Placement, placing: Placing) -> Edit
+    ensures { result ≡ placed how placing }
+{
+    let Placing {
+        device,
+        name,
+        weight,
+        at,
+    } = placing;
+    match how {
+        Placement::Add => Edit::Insert {
+            device,
+            name,
+            weight,
+            at,
+        },
+        Placement::Set => Edit::Update {
+            device,
+            name,
+            weight,
+            at,
+        },
+        Placement::CreateOrMove => Edit::CreateOrMove {
+            device,
+            name,
+            weight,
+            at,
+        },
+    }
+}
+
 /// The edit of a command, by the words behind its first.
 fn read_edit_of(
     alloc: Global,
@@ -234,47 +272,9 @@ fn read_edit_of(
     ensures { AnswersAs result (edit_of keyword words.old) }
 {
     match keyword {
-        Keyword::Add => {
-            let Placing {
-                device,
-                name,
-                weight,
-                at,
-            } = read_placing(alloc, words)?;
-            Ok(Edit::Insert {
-                device,
-                name,
-                weight,
-                at,
-            })
-        }
-        Keyword::Set => {
-            let Placing {
-                device,
-                name,
-                weight,
-                at,
-            } = read_placing(alloc, words)?;
-            Ok(Edit::Update {
-                device,
-                name,
-                weight,
-                at,
-            })
-        }
-        Keyword::CreateOrMove => {
-            let Placing {
-                device,
-                name,
-                weight,
-                at,
-            } = read_placing(alloc, words)?;
-            Ok(Edit::CreateOrMove {
-                device,
-                name,
-                weight,
-                at,
-            })
+        Keyword::Place(how) => {
+            let placing = read_placing(alloc, words)?;
+            Ok(placed(how, placing))
         }
         Keyword::Move => {
             let (name, at) = read_located(alloc, words)?;

@@ -7,14 +7,15 @@ ghost use Rattle.crush_table.specs.Stands.{Stands};
 ghost use Rattle.crush_map.specs.MapData.{MapStands};
 ghost use Rattle.crush_text.specs.Document.{IsMapText};
 ghost use Rattle.crush_script.specs.Lines.{map_part};
-ghost use Rattle.crush_script.specs.Sections.{scripts_data, call_count};
+ghost use Rattle.crush_calls.specs.Script.{scripts_data, call_count};
 ghost use Rattle.crush_script.specs.Job.{IsJob, IsJobFault, JobData, JobStands};
 ghost use Rattle.crush_script.specs.MapPart.{IsMapFault};
 ghost use Rattle.crush_units.specs.declared.limits.TheConstants.{MOST_CALLS};
 
 use crate::fault::JobFault;
 use crate::line::{cut_job, line_feeds};
-use crate::sections::{Script, Sections, read_sections};
+use crate::sections::{Sections, read_sections};
+use crush_calls::Script;
 use crush_map::CrushMap;
 use crush_text::{TextFaultKind, read_map};
 use crush_units::limits::LONGEST_JOB;

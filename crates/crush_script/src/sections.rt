@@ -2,26 +2,18 @@
 
 ghost use Rattle.std.specs.Prelude.{◌≡◌, ◌+◌, ◌<◌, ◌^◌, false, true, length};
 ghost use Rattle.crush_script.specs.Lines.{lines, begins_section};
-ghost use Rattle.crush_script.specs.Sections.{with_lines, no_sections, has_operator, scripts_data};
+ghost use Rattle.crush_calls.specs.Script.{scripts_data};
+ghost use Rattle.crush_script.specs.Sections.{with_lines, no_sections, has_operator};
 ghost use Rattle.crush_script.specs.Steps.{GivesSections};
 
-use crate::call::{Call, Edits};
 use crate::command::{Command, read_command, read_operator};
 use crate::fault::JobFault;
 use crate::line::{LineWords, begins_section, cut_line};
+use crush_calls::{Call, Edits, Script};
 use crush_edits::Edit;
 use crush_units::Name;
 use crush_units::limits::{MOST_CALLS, MOST_OPERATORS};
 use std::alloc::Global;
-
-/// The script of one operator.
-#[derive(Debug, Drop)]
-pub struct Script {
-    /// The operator's name.
-    pub name: Name<Global>,
-    /// The calls to be made, in order.
-    pub calls: Vec<Call>,
-}
 
 /// A batch whose `commit` is still to come.
 #[derive(Drop)]

@@ -25,5 +25,6 @@ pub mod PrintedAgain
 pub mod Ruled
 pub mod Steps
 pub mod TheTable
+pub mod Wants
 pub mod Weighed
 pub mod Whole

@@ -10,5 +10,6 @@ pub mod MapOrFlaw
 pub mod ReadingBack
 pub mod Reads
 pub mod Role
+pub mod Room
 pub mod Rows
 pub mod Tests

@@ -3,6 +3,7 @@
 mod faults;
 mod heaps;
 mod limits;
+mod pairs;
 mod printing;
 mod reading;
 mod rules;
@@ -103,17 +104,18 @@ fn fault_of(alloc: Global, line: &[u8]) -> Result<Option<TextFault>, Fail> {
     Ok(read_map(alloc, text.as_slice()).err())
 }
 
-/// Each text is refused behind these types and this device, for the fault and at the place beside it.
-fn are_refused_so(
+/// Each line is refused for this behind these types and this device, at the place beside it.
+fn are_refused(
     rt: &impl Abort,
     alloc: Global,
-    rows: &[(TextFaultKind, &[u8], usize)],
+    kind: TextFaultKind,
+    lines: &[(&[u8], usize)],
 ) -> Result<(), Fail> {
-    for (kind, text, place) in rows {
-        let Some(fault) = fault_of(alloc, *text)? else {
-            return Err("a text is read".into());
+    for (line, place) in lines {
+        let Some(fault) = fault_of(alloc, *line)? else {
+            return Err("a line is read".into());
         };
-        assert!(rt; fault.kind == *kind, "{kind}, and not {fault}");
+        assert!(rt; fault.kind == kind, "{kind}, and not {fault}");
         assert_eq!(rt; fault.place, *place, "{kind}");
     }
     Ok(())

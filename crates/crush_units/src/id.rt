@@ -59,7 +59,7 @@ pub enum ItemId {
 
 /// The number of a type of item, from 0 to 65535. Devices have type 0, buckets another. Contracts
 /// see that number.
-#[derive(Clone, Copy, Debug, PartialEq, Eq)]
+#[derive(Clone, Copy, Debug, PartialEq, Eq, Hash)]
 pub struct TypeId {
     kind: u16,
 }

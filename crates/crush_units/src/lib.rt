@@ -11,6 +11,9 @@
 //!   prints as is read as the same weight ([`printed_is_read_back`]).
 //! - [`limits`]: what a map, its parts and its edits have at most, by name.
 //!
+//! [`TypeId`] and [`Name`] are keys of maps: each is hashed by what is compared of it, and a map
+//! whose keys are names is asked by a name or by its bytes.
+//!
 //! No call allocates but [`Name::read`] and [`Name::try_copy`]. What a text says, and what a value
 //! prints as, is defined in `specs/`, one file for each module here.
 #![tactic(auto)]

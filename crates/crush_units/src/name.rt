@@ -1,12 +1,16 @@
 //! Names of devices, buckets, types, tunables, rules and classes.
 
 ghost use Rattle.std.specs.Prelude.{◌≡◌, IsTrue, ◌↔◌, OnOk, IfOk, IfErr, MatchOption, bytes_eq, true};
-ghost use Rattle.std.specs.Cmp.Rules.{comparing};
-ghost use Rattle.std.proofs.Common.{rules};
+ghost use Rattle.std.specs.Cmp.Rules.{comparing, hashing};
+ghost use Rattle.std.specs.Cmp.Lexicographic.{bytes_decides, nat_list_eq_equiv};
+ghost use Rattle.std.specs.Hash as fed;
+ghost use Rattle.std.proofs.Common.{ap, rules};
 ghost use Rattle.crush_units.specs.Name.{IsName, is_name_byte, are_name_bytes, is_name, IsFirstBad, IsNameFault, name_fault_number};
 
 use crate::limits::LONGEST_NAME;
+use indexmap::Equivalent;
 use std::alloc::{AllocError, Allocator};
+use std::hash::{Hash, Hasher};
 use std::marker::Model;
 use std::str;
 use thiserror::Error;
@@ -135,6 +139,30 @@ impl<A: Allocator> PartialEq for Name<A> {
 
 impl<A: Allocator> Eq for Name<A> {
     ghost laws = { Prim.search (comparing, rules) };
+}
+
+impl<A: Allocator> Hash for Name<A> {
+    ghost hash_input = { fed.slice fed.u8 };
+
+    ghost respects_eq = { Prim.search (hashing, rules) };
+
+    fn hash<H: Hasher>(&self, state: &mut H) {
+        self.as_bytes().hash(state);
+    }
+}
+
+/// A map whose keys are names is asked by a name's bytes too.
+impl<A: Allocator> Equivalent<Name<A>> for &[u8] {
+    ghost equivalent = { λ bytes. bytes_eq bytes.now };
+
+    ghost respects_hash = { λ bytes name h.
+        ap (fed.slice fed.u8) ((bytes_decides bytes.now name).0 h) };
+
+    ghost respects_eq = { λ bytes. nat_list_eq_equiv.congr bytes.now };
+
+    fn equivalent(&self, name: &Name<A>) -> bool {
+        *self == name.as_bytes()
+    }
 }
 
 /// Whether the bytes are a name.

@@ -1,8 +1,9 @@
 -- The run of a job: what its contract says, on one page.
 use Rattle.std.specs.Prelude.{◌≢◌, ℕ, Option, IfSome, List, Bool, if◌then◌else◌, length}
 use Rattle.crush_print.specs.MapText.{map_text}
-use Rattle.crush_script.specs.History.{EntryData, table_after, changes, turns}
-use Rattle.crush_script.specs.HistoryText.{job_text, names_of}
+use Rattle.crush_calls.specs.History.{EntryData, table_after, changes, turns}
+use Rattle.crush_script.specs.Written.{job_text}
+use Rattle.crush_calls.specs.HistoryText.{names_of}
 use Rattle.crush_script.specs.Job.{JobData, HasJob, IsJobFault}
 use Rattle.crush_script.specs.declared.fault.JobFault.{JobFault}
 use Rattle.crush_script.specs.declared.fault.JobFault.TheVariants.{OutOfMemory}

@@ -1,7 +1,7 @@
 -- The stages of a run: which faults may come at which.
 use Rattle.std.specs.Prelude.{ℕ, List, Bool, if◌then◌else◌, []}
-use Rattle.crush_script.specs.History.{EntryData}
-use Rattle.crush_script.specs.HistoryText.{entries_text}
+use Rattle.crush_calls.specs.History.{EntryData}
+use Rattle.crush_calls.specs.HistoryText.{entries_text}
 use Rattle.crushedit.specs.declared.fault.RunFault.{RunFault}
 use Rattle.crushedit.specs.declared.fault.RunFault.TheVariants as run
 

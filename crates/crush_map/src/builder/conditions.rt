@@ -5,25 +5,23 @@ ghost use Rattle.std.specs.Option.{ok_or};
 ghost use Rattle.crush_map.specs.declared.fault.BuildFault.TheVariants.{UnknownItem};
 ghost use Rattle.crush_units.specs.declared.id.ItemId.TheVariants.{Device, Bucket};
 ghost use Rattle.crush_table.specs.Table.{is_there, is_placed, weight_of};
-ghost use Rattle.crush_edits.specs.Setting.{kind_number};
+ghost use Rattle.crush_edits.specs.Setting.{kind_number, has_tunable};
 ghost use Rattle.crush_map.specs.Built.{Draft, nothing};
 ghost use Rattle.crush_map.specs.Building.{IsDraft, is_begun, is_numbered, is_filling, is_open};
 ghost use Rattle.crush_map.specs.Building.{has_kind_number, has_kind_name, has_name, has_bucket_id};
 ghost use Rattle.crush_map.specs.Building.{is_bucket_kind, item_named, is_full_of_devices};
 ghost use Rattle.crush_map.specs.Building.{is_full_of_buckets, is_full_of_kinds};
-ghost use Rattle.crush_map.specs.Building.{has_tunable, is_full_of_tunables, has_class};
+ghost use Rattle.crush_map.specs.Building.{is_full_of_tunables, has_class};
 ghost use Rattle.crush_map.specs.Building.{is_full_of_class_ids, names_bucket_kind};
 ghost use Rattle.crush_map.specs.Building.{has_pending_id, pending_class_ids};
 ghost use Rattle.crush_nodes.specs.Seen.{shadow_data};
 ghost use Rattle.crush_nodes.specs.declared.node.ShadowId.{ShadowId as DeclaredShadow};
 ghost use Rattle.std.specs.List.{list_any};
-ghost use Rattle.crush_edits.specs.declared.setting.Tunable.{Tunable as DeclaredTunable};
 
 use super::{MapBuilder, Pending};
 use crate::fault::BuildFault;
-use crush_edits::Tunable;
 use crush_tree::ShadowId;
-use crush_units::limits::MOST_CLASS_IDS;
+use crush_units::limits::{MOST_BUCKETS, MOST_CLASS_IDS, MOST_DEVICES, MOST_TUNABLES, MOST_TYPES};
 use crush_units::{BucketId, DeviceId, ItemId, TypeId, Weight};
 use std::alloc::Allocator;
 
@@ -114,7 +112,7 @@ impl<A: Allocator> MapBuilder<A> {
     pub fn has_tunable(&self, name: &[u8]) -> bool
         ensures { (d : Draft) → IsDraft self.now d → result ≡ has_tunable d.setting name.now }
     {
-        names_tunable(self.setting.tunables(), name)
+        self.setting.tunables().contains_key(name)
     }
 
     /// Whether buckets can have the type of this number: it isn't 0, and one of the map's types.
@@ -198,28 +196,28 @@ impl<A: Allocator> MapBuilder<A> {
     pub fn is_full_of_devices(&self) -> bool
         ensures { (d : Draft) → IsDraft self.now d → result ≡ is_full_of_devices d }
     {
-        self.forest.counts().devices >= 65536
+        self.forest.counts().devices >= MOST_DEVICES
     }
 
     /// Whether there are 4,096 buckets.
     pub fn is_full_of_buckets(&self) -> bool
         ensures { (d : Draft) → IsDraft self.now d → result ≡ is_full_of_buckets d }
     {
-        self.forest.counts().buckets >= 4096
+        self.forest.counts().buckets >= MOST_BUCKETS
     }
 
     /// Whether there are 256 types.
     pub fn is_full_of_kinds(&self) -> bool
         ensures { (d : Draft) → IsDraft self.now d → result ≡ is_full_of_kinds d }
     {
-        self.setting.kinds().len() >= 256
+        self.setting.kinds().len() >= MOST_TYPES
     }
 
     /// Whether there are 64 tunables.
     pub fn is_full_of_tunables(&self) -> bool
         ensures { (d : Draft) → IsDraft self.now d → result ≡ is_full_of_tunables d }
     {
-        self.setting.tunables().len() >= 64
+        self.setting.tunables().len() >= MOST_TUNABLES
     }
 
     /// Whether the bucket that waits for its algorithm, or one of its class ids, has the id.
@@ -266,11 +264,4 @@ fn names_class<A: Allocator>(class_ids: &[ShadowId<A>], class: &[u8]) -> bool
         ≡ list_any (λ (c : DeclaredShadow _). bytes_eq c.class class.now) class_ids.now }
 {
     class_ids.iter().any(|class_id| class_id.class.is(class))
-}
-
-/// Whether one of the tunables has the name.
-fn names_tunable(tunables: &[Tunable], name: &[u8]) -> bool
-    ensures { result ≡ list_any (λ (x : DeclaredTunable). bytes_eq x.name name.now) tunables.now }
-{
-    tunables.iter().any(|tunable| tunable.name.is(name))
 }

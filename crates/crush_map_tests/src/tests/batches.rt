@@ -28,20 +28,20 @@ fn makes_batch(
 }
 
 /// One that is refused at its third edit.
-const REFUSED: [Asked; 3] = [
+const REFUSED: &[Asked] = &[
     Asked::Add(3, 65536, &[("host", "h2")]),
     Asked::Rename("h1", "hq"),
     Asked::Remove("h2"),
 ];
 
 /// Edits of which each sees those before it.
-const MOVED: [Asked; 2] = [
+const MOVED: &[Asked] = &[
     Asked::AddBucket("h9", "host"),
     Asked::Move("h9", &[("root", "default")]),
 ];
 
 /// An id that is free again.
-const AGAIN: [Asked; 3] = [
+const AGAIN: &[Asked] = &[
     Asked::Remove("osd.2"),
     Asked::Remove("h2"),
     Asked::Add(2, 32768, &[("host", "h2")]),
@@ -51,21 +51,21 @@ const AGAIN: [Asked; 3] = [
 fn batches_are_made(rt: HostRuntime) -> Result<(), Fail> {
     let alloc = rt.alloc();
     let refused = Err(BatchFault::Refused(2, Refusal::NotEmpty));
-    makes_batch(&rt, alloc, REFUSED.as_slice(), refused, &[])?;
+    makes_batch(&rt, alloc, REFUSED, refused, &[])?;
     let moved = Ok(Dones {
         edits: 2,
         changed: 2,
         made: 1,
     });
     let held: [Held; 1] = [("default", &["h1", "h2", "h9"], 163840)];
-    makes_batch(&rt, alloc, MOVED.as_slice(), moved, held.as_slice())?;
+    makes_batch(&rt, alloc, MOVED, moved, held.as_slice())?;
     let again = Ok(Dones {
         edits: 3,
         changed: 3,
         made: 1,
     });
     let held: [Held; 2] = [("h2", &["osd.2"], 32768), ("default", &["h1"], 131072)];
-    makes_batch(&rt, alloc, AGAIN.as_slice(), again, held.as_slice())?;
+    makes_batch(&rt, alloc, AGAIN, again, held.as_slice())?;
     let nothing = Ok(Dones {
         edits: 0,
         changed: 0,

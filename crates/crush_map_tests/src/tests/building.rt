@@ -3,7 +3,7 @@
 use crate::tests::statements::{
     add_device, add_item, add_type, begin_bucket, end_bucket, finish, open_bucket,
 };
-use crush_map::{BuildFault, CrushMap, Kind, MapBuilder, Setting};
+use crush_map::{BuildFault, CrushMap, MapBuilder, Setting};
 use crush_units::{BucketId, DeviceId, ItemId, TypeId};
 use std::alloc::{Allocator, Global};
 use std::process::Abort;
@@ -16,14 +16,23 @@ pub fn types_and_devices<A: Allocator + Clone>(
     alloc: A,
 ) -> Result<MapBuilder<A>, BuildFault> {
     let mut builder = MapBuilder::new(machine, alloc)?;
-    add_device(rt, &mut builder, 0, b"osd.0")?;
-    add_device(rt, &mut builder, 1, b"osd.1")?;
-    add_device(rt, &mut builder, 2, b"osd.2")?;
-    add_type(rt, &mut builder, 0, b"osd")?;
-    add_type(rt, &mut builder, 1, b"host")?;
-    add_type(rt, &mut builder, 3, b"rack")?;
-    add_type(rt, &mut builder, 11, b"root")?;
+    add_types_and_devices(rt, &mut builder)?;
     Ok(builder)
+}
+
+/// Adds the types and the devices of the plain example map.
+fn add_types_and_devices<A: Allocator + Clone>(
+    rt: &impl Abort,
+    builder: &mut MapBuilder<A>,
+) -> Result<(), BuildFault> {
+    add_device(rt, builder, 0, b"osd.0")?;
+    add_device(rt, builder, 1, b"osd.1")?;
+    add_device(rt, builder, 2, b"osd.2")?;
+    add_type(rt, builder, 0, b"osd")?;
+    add_type(rt, builder, 1, b"host")?;
+    add_type(rt, builder, 3, b"rack")?;
+    add_type(rt, builder, 11, b"root")?;
+    Ok(())
 }
 
 /// The buckets of the plain example map, but for the last brace.
@@ -110,13 +119,11 @@ fn the_plain_example_map_is_counted(rt: HostRuntime) -> Result<(), Fail> {
     Ok(())
 }
 
-/// Asserts that the type has this number and this name, and is found by both.
-fn is_type(rt: &impl Abort, setting: &Setting, kind: &Kind, number: u16, name: &str) {
-    assert_eq!(rt; kind.number.number(), number, "at {name}");
-    assert!(rt; kind.name.is(name.as_bytes()), "at {number}");
+/// Asserts that a type has this number and this name, and is found by both.
+fn is_type(rt: &impl Abort, setting: &Setting, number: u16, name: &str) {
     let found = setting.kind_number(name.as_bytes()).expect(rt, name);
     assert_eq!(rt; found.number(), number, "at {name}");
-    let found = setting.kind_name(kind.number).expect(rt, name);
+    let found = setting.kind_name(TypeId::new(number)).expect(rt, name);
     assert!(rt; found.is(name.as_bytes()), "at {number}");
 }
 
@@ -126,8 +133,9 @@ fn the_types_of_the_plain_example_map(rt: HostRuntime) -> Result<(), Fail> {
     let setting = map.setting();
     let kinds = [(0, "osd"), (1, "host"), (3, "rack"), (11, "root")];
     assert_eq!(rt; setting.kinds().len(), kinds.len());
-    for (kind, (number, name)) in setting.kinds().iter().zip(kinds) {
-        is_type(&rt, setting, kind, number, name);
+    for (own, (number, name)) in setting.kinds().keys().zip(kinds) {
+        assert_eq!(rt; own.number(), number, "at {name}");
+        is_type(&rt, setting, number, name);
     }
     assert!(rt; setting.kind_number(b"row").is_none());
     assert!(rt; setting.kind_name(TypeId::new(2)).is_none());
@@ -172,17 +180,22 @@ pub fn bucket(rt: &impl Abort, number: i32) -> BucketId {
     BucketId::new(number).expect(rt, "a bucket")
 }
 
-#[test]
-fn a_bucket_that_is_open(rt: HostRuntime) -> Result<(), Fail> {
-    let mut builder = types_and_devices(&rt, rt.alloc(), rt.alloc())?;
-    begin_bucket(&rt, &mut builder, b"host", b"h1")?;
+/// A bucket has its name once it has begun, and is no item before its end.
+fn opens_a_bucket(rt: &impl Abort, builder: &mut MapBuilder<Global>) -> Result<(), Fail> {
+    begin_bucket(rt, builder, b"host", b"h1")?;
     assert!(rt; builder.has_name(b"h1"));
-    open_bucket(&rt, &mut builder, -2)?;
+    open_bucket(rt, builder, -2)?;
     assert!(rt; !builder.is_idle());
     assert!(rt; builder.item_named(b"h1") == Err(BuildFault::UnknownItem));
     let id = builder.item_named(b"osd.0")?;
     assert_eq!(rt; id.number(), 0);
     Ok(())
+}
+
+#[test]
+fn a_bucket_that_is_open(rt: HostRuntime) -> Result<(), Fail> {
+    let mut builder = types_and_devices(&rt, rt.alloc(), rt.alloc())?;
+    opens_a_bucket(&rt, &mut builder)
 }
 
 /// Asserts what the item of this name weighs so far, in units.
@@ -192,31 +205,41 @@ fn weighs_now(rt: &impl Abort, builder: &MapBuilder<Global>, name: &str, units: 
     assert_eq!(rt; weight.units(), units, "at {name}");
 }
 
+/// A device weighs what its host says, and so does the host.
+fn holds_an_item(rt: &impl Abort, builder: &mut MapBuilder<Global>) -> Result<(), Fail> {
+    begin_bucket(rt, builder, b"host", b"h1")?;
+    open_bucket(rt, builder, -2)?;
+    assert!(rt; !builder.is_placed(ItemId::Device(device(rt, 0))));
+    weighs_now(rt, builder, "osd.0", 0);
+    add_item(rt, builder, b"osd.0", 65536)?;
+    assert!(rt; builder.is_placed(ItemId::Device(device(rt, 0))));
+    weighs_now(rt, builder, "osd.0", 65536);
+    end_bucket(rt, builder);
+    weighs_now(rt, builder, "h1", 65536);
+    Ok(())
+}
+
 #[test]
 fn an_item_is_held_once(rt: HostRuntime) -> Result<(), Fail> {
     let mut builder = types_and_devices(&rt, rt.alloc(), rt.alloc())?;
-    begin_bucket(&rt, &mut builder, b"host", b"h1")?;
-    open_bucket(&rt, &mut builder, -2)?;
-    assert!(rt; !builder.is_placed(ItemId::Device(device(&rt, 0))));
-    weighs_now(&rt, &builder, "osd.0", 0);
-    add_item(&rt, &mut builder, b"osd.0", 65536)?;
-    assert!(rt; builder.is_placed(ItemId::Device(device(&rt, 0))));
-    weighs_now(&rt, &builder, "osd.0", 65536);
-    end_bucket(&rt, &mut builder);
-    weighs_now(&rt, &builder, "h1", 65536);
+    holds_an_item(&rt, &mut builder)
+}
+
+/// A host takes two of the heaviest devices and not two units more.
+fn fills_a_host(rt: &impl Abort, builder: &mut MapBuilder<Global>) -> Result<(), Fail> {
+    begin_bucket(rt, builder, b"host", b"h1")?;
+    open_bucket(rt, builder, -2)?;
+    add_item(rt, builder, b"osd.0", 2147483647)?;
+    add_item(rt, builder, b"osd.1", 2147483647)?;
+    let told = add_item(rt, builder, b"osd.2", 2);
+    assert!(rt; told == Err(BuildFault::SumTooLarge));
     Ok(())
 }
 
 #[test]
 fn two_of_the_heaviest_devices_fit_a_host(rt: HostRuntime) -> Result<(), Fail> {
     let mut builder = types_and_devices(&rt, rt.alloc(), rt.alloc())?;
-    begin_bucket(&rt, &mut builder, b"host", b"h1")?;
-    open_bucket(&rt, &mut builder, -2)?;
-    add_item(&rt, &mut builder, b"osd.0", 2147483647)?;
-    add_item(&rt, &mut builder, b"osd.1", 2147483647)?;
-    let told = add_item(&rt, &mut builder, b"osd.2", 2);
-    assert!(rt; told == Err(BuildFault::SumTooLarge));
-    Ok(())
+    fills_a_host(&rt, &mut builder)
 }
 
 #[test]

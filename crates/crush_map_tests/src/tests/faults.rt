@@ -5,12 +5,14 @@ use crate::tests::statements::{
     add_device, add_device_of_class, add_item, add_item_as_it_is, add_type, begin_bucket,
     end_bucket, finish, open_bucket,
 };
-use crush_map::BuildFault;
+use crush_map::{BuildFault, MapBuilder};
 use crush_units::BucketId;
+use std::alloc::Global;
+use std::process::Abort;
 use std::test::Fail;
 
 /// The faults in the order of their numbers.
-const FAULTS: [(BuildFault, u8); 10] = [
+const FAULTS: &[(BuildFault, u8)] = &[
     (BuildFault::BadWeight, 5),
     (BuildFault::DuplicateId, 6),
     (BuildFault::DuplicateName, 7),
@@ -30,43 +32,53 @@ fn faults_by_number(rt: HostRuntime) {
     }
 }
 
-#[test]
-fn names_and_numbers_that_are_taken(rt: HostRuntime) -> Result<(), Fail> {
-    let mut builder = types_and_devices(&rt, rt.alloc(), rt.alloc())?;
+/// No name and no number is taken twice.
+fn takes_no_key_twice(rt: &impl Abort, builder: &mut MapBuilder<Global>) -> Result<(), Fail> {
     let id = Err(BuildFault::DuplicateId);
     let name = Err(BuildFault::DuplicateName);
-    assert!(rt; add_type(&rt, &mut builder, 3, b"host") == id);
-    assert!(rt; add_type(&rt, &mut builder, 4, b"host") == name);
-    assert!(rt; add_device(&rt, &mut builder, 2, b"osd.9") == id);
-    assert!(rt; add_device(&rt, &mut builder, 9, b"osd.2") == name);
-    assert!(rt; begin_bucket(&rt, &mut builder, b"osd", b"osd.2") == name);
+    assert!(rt; add_type(rt, builder, 3, b"host") == id);
+    assert!(rt; add_type(rt, builder, 4, b"host") == name);
+    assert!(rt; add_device(rt, builder, 2, b"osd.9") == id);
+    assert!(rt; add_device(rt, builder, 9, b"osd.2") == name);
+    assert!(rt; begin_bucket(rt, builder, b"osd", b"osd.2") == name);
     for kind in [b"osd".as_slice(), b"row".as_slice()] {
-        let told = begin_bucket(&rt, &mut builder, kind, b"h1");
+        let told = begin_bucket(rt, builder, kind, b"h1");
         assert!(rt; told == Err(BuildFault::UnknownType));
     }
-    begin_bucket(&rt, &mut builder, b"host", b"h1")?;
-    open_bucket(&rt, &mut builder, -2)?;
-    end_bucket(&rt, &mut builder);
-    begin_bucket(&rt, &mut builder, b"host", b"h2")?;
-    let taken = BucketId::new(-2).expect(&rt, "a bucket");
+    begin_bucket(rt, builder, b"host", b"h1")?;
+    open_bucket(rt, builder, -2)?;
+    end_bucket(rt, builder);
+    begin_bucket(rt, builder, b"host", b"h2")?;
+    let taken = BucketId::new(-2).expect(rt, "a bucket");
     assert!(rt; builder.is_begun());
     assert!(rt; builder.id(taken) == id);
     Ok(())
 }
 
 #[test]
-fn items_that_are_not_taken(rt: HostRuntime) -> Result<(), Fail> {
+fn names_and_numbers_that_are_taken(rt: HostRuntime) -> Result<(), Fail> {
     let mut builder = types_and_devices(&rt, rt.alloc(), rt.alloc())?;
-    begin_bucket(&rt, &mut builder, b"host", b"h1")?;
-    open_bucket(&rt, &mut builder, -2)?;
-    let heavy = add_item(&rt, &mut builder, b"osd.0", 2147483648);
+    takes_no_key_twice(&rt, &mut builder)
+}
+
+/// A bucket takes no item that is too heavy, held already, or the bucket itself.
+fn refuses_items(rt: &impl Abort, builder: &mut MapBuilder<Global>) -> Result<(), Fail> {
+    begin_bucket(rt, builder, b"host", b"h1")?;
+    open_bucket(rt, builder, -2)?;
+    let heavy = add_item(rt, builder, b"osd.0", 2147483648);
     assert!(rt; heavy == Err(BuildFault::BadWeight));
-    add_item_as_it_is(&rt, &mut builder, b"osd.0")?;
-    let twice = add_item(&rt, &mut builder, b"osd.0", 65536);
+    add_item_as_it_is(rt, builder, b"osd.0")?;
+    let twice = add_item(rt, builder, b"osd.0", 65536);
     assert!(rt; twice == Err(BuildFault::SecondParent));
-    let itself = add_item(&rt, &mut builder, b"h1", 65536);
+    let itself = add_item(rt, builder, b"h1", 65536);
     assert!(rt; itself == Err(BuildFault::UnknownItem));
     Ok(())
+}
+
+#[test]
+fn items_that_are_not_taken(rt: HostRuntime) -> Result<(), Fail> {
+    let mut builder = types_and_devices(&rt, rt.alloc(), rt.alloc())?;
+    refuses_items(&rt, &mut builder)
 }
 
 #[test]

@@ -7,7 +7,7 @@ use crush_map::Refusal;
 use std::test::Fail;
 
 /// What a map of 4,096 buckets has no room for, and what it has.
-const LINES: [Line; 3] = [
+const LINES: &[Line] = &[
     Line {
         asked: Asked::AddBucket("z", "host"),
         told: Err(Refusal::NoRoom),
@@ -37,5 +37,5 @@ fn no_room_for_one_bucket_more(rt: HostRuntime) -> Result<(), Fail> {
     }
     let mut map = finish(&rt, builder);
     assert_eq!(rt; map.counts().buckets, 4096);
-    makes(&rt, alloc, &mut map, LINES.as_slice())
+    makes(&rt, alloc, &mut map, LINES)
 }

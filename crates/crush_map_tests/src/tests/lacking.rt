@@ -70,23 +70,23 @@ fn lacks_at_each_growth(
 }
 
 /// A device in new buckets.
-const NEW_BUCKETS: [Asked; 1] = [Asked::Add(
+const NEW_BUCKETS: &[Asked] = &[Asked::Add(
     3,
     21823,
     &[("host", "h3"), ("rack", "r1"), ("root", "default")],
 )];
 
 /// A device that moves.
-const MOVE: [Asked; 1] = [Asked::CreateOrMove(0, 327680, &[("host", "h2")])];
+const MOVE: &[Asked] = &[Asked::CreateOrMove(0, 327680, &[("host", "h2")])];
 
 /// A batch that is made.
-const BATCH: [Asked; 2] = [
+const BATCH: &[Asked] = &[
     Asked::AddBucket("h9", "host"),
     Asked::Move("h9", &[("root", "default")]),
 ];
 
 /// A batch that is refused.
-const REFUSED: [Asked; 3] = [
+const REFUSED: &[Asked] = &[
     Asked::Add(3, 65536, &[("host", "h2")]),
     Asked::Rename("h1", "hq"),
     Asked::Remove("h2"),
@@ -101,10 +101,10 @@ fn memory_lacks_at_each_growth(rt: HostRuntime) -> Result<(), Fail> {
         made: 1,
     });
     let refused = Err(BatchFault::Refused(2, Refusal::NotEmpty));
-    lacks_at_each_growth(&rt, alloc, NEW_BUCKETS.as_slice(), dones, 2)?;
-    lacks_at_each_growth(&rt, alloc, MOVE.as_slice(), dones, 1)?;
-    lacks_at_each_growth(&rt, alloc, BATCH.as_slice(), dones, 2)?;
-    lacks_at_each_growth(&rt, alloc, REFUSED.as_slice(), refused, 2)
+    lacks_at_each_growth(&rt, alloc, NEW_BUCKETS, dones, 2)?;
+    lacks_at_each_growth(&rt, alloc, MOVE, dones, 1)?;
+    lacks_at_each_growth(&rt, alloc, BATCH, dones, 2)?;
+    lacks_at_each_growth(&rt, alloc, REFUSED, refused, 2)
 }
 
 #[test]

@@ -6,7 +6,7 @@ use crush_map::{Done, Refusal};
 use std::test::Fail;
 
 /// Two buckets exchange names and items.
-const SWAPPED: [Line; 5] = [
+const SWAPPED: &[Line] = &[
     Line {
         asked: Asked::Swap("h1", "default"),
         told: Err(Refusal::Nested),
@@ -39,7 +39,7 @@ const SWAPPED: [Line; 5] = [
 ];
 
 /// Items are removed from the devices up.
-const REMOVED: [Line; 8] = [
+const REMOVED: &[Line] = &[
     Line {
         asked: Asked::Remove("default"),
         told: Err(Refusal::NotEmpty),
@@ -83,7 +83,7 @@ const REMOVED: [Line; 8] = [
 ];
 
 /// An empty root is added.
-const ADDED: [Line; 4] = [
+const ADDED: &[Line] = &[
     Line {
         asked: Asked::AddBucket("h1", "host"),
         told: Err(Refusal::NameTaken),
@@ -110,7 +110,7 @@ const ADDED: [Line; 4] = [
 ];
 
 /// A bucket gets another name.
-const RENAMED: [Line; 7] = [
+const RENAMED: &[Line] = &[
     Line {
         asked: Asked::Rename("x", "h1"),
         told: Err(Refusal::AlreadyRenamed),
@@ -152,7 +152,7 @@ const RENAMED: [Line; 7] = [
 ];
 
 /// All devices below a bucket get a weight.
-const WEIGHED: [Line; 3] = [
+const WEIGHED: &[Line] = &[
     Line {
         asked: Asked::ReweightSubtree("h1", 16384),
         told: CHANGED,
@@ -174,7 +174,7 @@ const WEIGHED: [Line; 3] = [
 ];
 
 /// Weights that are refused, on a map with a spare device.
-const REFUSED: [Line; 4] = [
+const REFUSED: &[Line] = &[
     Line {
         asked: Asked::Reweight("osd.0", 2147483648),
         told: Err(Refusal::WeightTooLarge),
@@ -200,13 +200,7 @@ const REFUSED: [Line; 4] = [
 #[test]
 fn edits_are_made(rt: HostRuntime) -> Result<(), Fail> {
     let alloc = rt.alloc();
-    let all = [
-        SWAPPED.as_slice(),
-        REMOVED.as_slice(),
-        ADDED.as_slice(),
-        RENAMED.as_slice(),
-        WEIGHED.as_slice(),
-    ];
+    let all = [SWAPPED, REMOVED, ADDED, RENAMED, WEIGHED];
     for lines in all {
         let mut map = example_map(&rt, alloc, alloc)?;
         makes(&rt, alloc, &mut map, lines)?;
@@ -218,5 +212,5 @@ fn edits_are_made(rt: HostRuntime) -> Result<(), Fail> {
 fn weights_are_refused(rt: HostRuntime) -> Result<(), Fail> {
     let alloc = rt.alloc();
     let mut map = map_with_spare(&rt, alloc)?;
-    makes(&rt, alloc, &mut map, REFUSED.as_slice())
+    makes(&rt, alloc, &mut map, REFUSED)
 }

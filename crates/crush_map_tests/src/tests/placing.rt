@@ -6,7 +6,7 @@ use crush_map::{Done, Refusal};
 use std::test::Fail;
 
 /// A device in new buckets, whose ids are the free ones nearest to 0; then a batch of one.
-const NEW_BUCKETS: [Line; 1] = [Line {
+const NEW_BUCKETS: &[Line] = &[Line {
     asked: Asked::Add(
         3,
         21823,
@@ -24,7 +24,7 @@ const NEW_BUCKETS: [Line; 1] = [Line {
 }];
 
 /// The first bucket that is there ends the route.
-const ROUTE_ENDS: [Line; 1] = [Line {
+const ROUTE_ENDS: &[Line] = &[Line {
     asked: Asked::Add(
         3,
         65536,
@@ -38,7 +38,7 @@ const ROUTE_ENDS: [Line; 1] = [Line {
 }];
 
 /// A placed device keeps its weight; what is held stays.
-const OWN_WEIGHT: [Line; 3] = [
+const OWN_WEIGHT: &[Line] = &[
     Line {
         asked: Asked::CreateOrMove(0, 327680, &[("host", "h1"), ("root", "other")]),
         told: SAME,
@@ -61,7 +61,7 @@ const OWN_WEIGHT: [Line; 3] = [
 ];
 
 /// A bucket isn't moved below itself, and comes into a new one with all that it holds.
-const MOVES: [Line; 3] = [
+const MOVES: &[Line] = &[
     Line {
         asked: Asked::Move("default", &[("host", "h1")]),
         told: Err(Refusal::Loop),
@@ -87,7 +87,7 @@ const MOVES: [Line; 3] = [
 ];
 
 /// A new root that comes to hold as much as it can.
-const NEW_ROOT: [Line; 5] = [
+const NEW_ROOT: &[Line] = &[
     Line {
         asked: Asked::Add(10, 2147483647, &[("host", "hx"), ("rack", "rx")]),
         told: Ok(Done {
@@ -119,7 +119,7 @@ const NEW_ROOT: [Line; 5] = [
 ];
 
 /// A weight is set in its place, and with a move.
-const WEIGHT_SET: [Line; 3] = [
+const WEIGHT_SET: &[Line] = &[
     Line {
         asked: Asked::Set(1, 196608, &[("host", "h1")]),
         told: CHANGED,
@@ -142,7 +142,7 @@ const WEIGHT_SET: [Line; 3] = [
 ];
 
 /// A spare device is added with its weight, on a map with one.
-const SPARE: [Line; 2] = [
+const SPARE: &[Line] = &[
     Line {
         asked: Asked::Add(9, 65536, &[("host", "h2")]),
         told: CHANGED,
@@ -156,14 +156,14 @@ const SPARE: [Line; 2] = [
 ];
 
 /// A spare device is moved with weight 0.
-const SPARE_MOVED: [Line; 1] = [Line {
+const SPARE_MOVED: &[Line] = &[Line {
     asked: Asked::Move("osd.9", &[("host", "h2")]),
     told: CHANGED,
     holds: &[("h2", &["osd.2", "osd.9"], 32768)],
 }];
 
 /// Locations that are refused, and devices.
-const REFUSED: [Line; 11] = [
+const REFUSED: &[Line] = &[
     Line {
         asked: Asked::Add(3, 65536, &[("host", "osd.3")]),
         told: Err(Refusal::BadName),
@@ -225,13 +225,13 @@ const REFUSED: [Line; 11] = [
 fn items_are_put(rt: HostRuntime) -> Result<(), Fail> {
     let alloc = rt.alloc();
     let all = [
-        NEW_BUCKETS.as_slice(),
-        ROUTE_ENDS.as_slice(),
-        OWN_WEIGHT.as_slice(),
-        MOVES.as_slice(),
-        NEW_ROOT.as_slice(),
-        WEIGHT_SET.as_slice(),
-        REFUSED.as_slice(),
+        NEW_BUCKETS,
+        ROUTE_ENDS,
+        OWN_WEIGHT,
+        MOVES,
+        NEW_ROOT,
+        WEIGHT_SET,
+        REFUSED,
     ];
     for lines in all {
         let mut map = example_map(&rt, alloc, alloc)?;
@@ -243,7 +243,7 @@ fn items_are_put(rt: HostRuntime) -> Result<(), Fail> {
 #[test]
 fn spare_devices_are_put(rt: HostRuntime) -> Result<(), Fail> {
     let alloc = rt.alloc();
-    for lines in [SPARE.as_slice(), SPARE_MOVED.as_slice()] {
+    for lines in [SPARE, SPARE_MOVED] {
         let mut map = map_with_spare(&rt, alloc)?;
         makes(&rt, alloc, &mut map, lines)?;
     }

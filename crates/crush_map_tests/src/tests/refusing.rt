@@ -4,7 +4,7 @@ use crush_map::{BuildFault, EditFault, Refusal, is_reserved};
 use std::test::Fail;
 
 /// The refusals in the order in which they are told, with their Linux errors.
-const REFUSALS: [(Refusal, &str, u8); 20] = [
+const REFUSALS: &[(Refusal, &str, u8)] = &[
     (Refusal::BadName, "BadName", 22),
     (Refusal::BadLocation, "BadLocation", 22),
     (Refusal::NoSuchType, "NoSuchType", 22),

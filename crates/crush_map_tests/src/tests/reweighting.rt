@@ -15,6 +15,17 @@ fn reweight(name: &[u8], units: u32, alloc: Global) -> Result<Edit, Fail> {
     Ok(Edit::Reweight { name, weight })
 }
 
+/// What a map answers to a new weight.
+fn told(
+    alloc: Global,
+    map: &mut CrushMap<Global>,
+    name: &[u8],
+    units: u32,
+) -> Result<Result<Done, EditFault>, Fail> {
+    let edit = reweight(name, units, alloc)?;
+    Ok(map.apply(&edit))
+}
+
 #[test]
 fn a_new_weight(rt: HostRuntime) -> Result<(), Fail> {
     let mut map = example_map(&rt, rt.alloc(), rt.alloc())?;
@@ -41,11 +52,8 @@ fn refused_new_weights(rt: HostRuntime) -> Result<(), Fail> {
         (b"default", 65536, Refusal::NotADevice),
     ];
     for (name, units, refusal) in refused {
-        let edit = reweight(name, units, rt.alloc())?;
-        assert!(rt;
-            map.apply(&edit) == Err(EditFault::Refused(refusal)),
-            "at {units}"
-        );
+        let told = told(rt.alloc(), &mut map, name, units)?;
+        assert!(rt; told == Err(EditFault::Refused(refusal)), "at {units}");
     }
     weighs(&rt, &map, "osd.9", 0);
     weighs(&rt, &map, "default", 163840);
@@ -92,15 +100,15 @@ fn make_all(
     map.apply_batch(edits)
 }
 
-#[test]
-fn a_batch_of_new_weights(rt: HostRuntime) -> Result<(), Fail> {
-    let mut map = example_map(&rt, rt.alloc(), rt.alloc())?;
-    let before = map.try_copy()?;
-    let mut edits = Vec::new(rt.alloc());
-    edits.push(reweight(b"osd.2", 65536, rt.alloc())?)?;
-    edits.push(reweight(b"osd.9", 65536, rt.alloc())?)?;
+/// A batch whose second edit is refused, and then the first alone.
+fn refuse_and_make(
+    rt: &impl Abort,
+    map: &mut CrushMap<Global>,
+    before: &CrushMap<Global>,
+    edits: &mut Vec<Edit>,
+) {
     let refused = BatchFault::Refused(1, Refusal::NoSuchItem);
-    assert!(rt; make_all(&rt, &mut map, edits.as_slice()) == Err(refused));
+    assert!(rt; make_all(rt, map, edits.as_slice()) == Err(refused));
     assert!(rt; map.forest().is_same(before.forest()));
     let _ = edits.pop();
     let done = Dones {
@@ -108,7 +116,23 @@ fn a_batch_of_new_weights(rt: HostRuntime) -> Result<(), Fail> {
         changed: 1,
         made: 0,
     };
-    assert!(rt; make_all(&rt, &mut map, edits.as_slice()) == Ok(done));
-    weighs(&rt, &map, "default", 196608);
+    assert!(rt; make_all(rt, map, edits.as_slice()) == Ok(done));
+    weighs(rt, map, "default", 196608);
+}
+
+/// A new weight of osd.2, and one of osd.9, which isn't there.
+fn new_weights(alloc: Global) -> Result<Vec<Edit>, Fail> {
+    let mut edits = Vec::new(alloc);
+    edits.push(reweight(b"osd.2", 65536, alloc)?)?;
+    edits.push(reweight(b"osd.9", 65536, alloc)?)?;
+    Ok(edits)
+}
+
+#[test]
+fn a_batch_of_new_weights(rt: HostRuntime) -> Result<(), Fail> {
+    let mut edits = new_weights(rt.alloc())?;
+    let mut map = example_map(&rt, rt.alloc(), rt.alloc())?;
+    let before = map.try_copy()?;
+    refuse_and_make(&rt, &mut map, &before, &mut edits);
     Ok(())
 }

@@ -24,7 +24,7 @@ enum Said {
 }
 
 /// The steps of the example map's rule.
-const REPLICATED: [Said; 3] = [
+const REPLICATED: &[Said] = &[
     Said::Take("default"),
     Said::ChooseLeaf(0, "host"),
     Said::Emit,
@@ -89,7 +89,7 @@ fn map_in_the_making(rt: &impl Abort, alloc: Global) -> Result<MapBuilder<Global
     add_tunable(rt, &mut builder, b"choose_total_tries", 50)?;
     add_buckets(rt, &mut builder)?;
     end_bucket(rt, &mut builder);
-    let told = add_rule(rt, &mut builder, alloc, b"replicated_rule", 0, &REPLICATED)?;
+    let told = add_rule(rt, &mut builder, alloc, b"replicated_rule", 0, REPLICATED)?;
     assert!(rt; told.is_ok());
     Ok(builder)
 }
@@ -105,9 +105,9 @@ fn the_tunable_and_the_rule_of_the_example_map(rt: HostRuntime) -> Result<(), Fa
     let map = whole_example_map(&rt, rt.alloc())?;
     let setting = map.setting();
     assert_eq!(rt; setting.tunables().len(), 1);
-    for tunable in setting.tunables() {
-        assert!(rt; tunable.name.is(b"choose_total_tries"));
-        assert_eq!(rt; tunable.value, 50);
+    for (name, value) in setting.tunables() {
+        assert!(rt; name.is(b"choose_total_tries"));
+        assert_eq!(rt; *value, 50);
     }
     assert_eq!(rt; setting.rules().len(), 1);
     for rule in setting.rules() {
@@ -131,7 +131,7 @@ struct Faulty {
 }
 
 /// Faulty rules. Where several parts have a fault, the first is told.
-const FAULTY: [Faulty; 7] = [
+const FAULTY: &[Faulty] = &[
     Faulty {
         name: b"replicated_rule",
         id: 0,
@@ -284,7 +284,7 @@ fn at_most_16_class_ids(rt: HostRuntime) -> Result<(), Fail> {
 }
 
 /// A bucket that a rule takes is empty at last.
-const TAKEN: [Line; 7] = [
+const TAKEN: &[Line] = &[
     Line {
         asked: Asked::Remove("default"),
         told: Err(Refusal::NotEmpty),
@@ -323,7 +323,7 @@ const TAKEN: [Line; 7] = [
 ];
 
 /// The bucket that a rule takes gets the name of another, and then a new one.
-const FOLLOWED: [Line; 6] = [
+const FOLLOWED: &[Line] = &[
     Line {
         asked: Asked::AddBucket("spare", "root"),
         told: Ok(Done {
@@ -362,7 +362,7 @@ const FOLLOWED: [Line; 6] = [
 #[test]
 fn a_rule_follows_the_id_that_it_takes(rt: HostRuntime) -> Result<(), Fail> {
     let alloc = rt.alloc();
-    for lines in [TAKEN.as_slice(), FOLLOWED.as_slice()] {
+    for lines in [TAKEN, FOLLOWED] {
         let mut map = whole_example_map(&rt, alloc)?;
         makes(&rt, alloc, &mut map, lines)?;
         assert!(rt; map.setting().takes(bucket(&rt, -1)));

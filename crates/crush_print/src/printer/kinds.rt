@@ -1,11 +1,13 @@
 //! The types of a printed map.
 
-ghost use Rattle.std.specs.Prelude.{◌≡◌, ◌++◌, OnOk, IfOk, map};
+ghost use Rattle.std.specs.Prelude.{◌≡◌, ◌++◌, OnOk, IfOk};
+ghost use Rattle.indexmap.specs.IndexMap.{keys};
 ghost use Rattle.crush_print.specs.MapText.{kind_text, kind_numbers, kind_section};
 
 use crate::lines;
-use crush_map::{Kind, Setting};
-use crush_units::TypeId;
+use crush_map::Setting;
+use crush_units::{Name, TypeId};
+use indexmap::IndexMap;
 use std::alloc::{AllocError, Global};
 
 /// The types, by ascending number.
@@ -35,10 +37,10 @@ fn numbers_in_order(alloc: Global, setting: &Setting) -> Result<Vec<u16>, AllocE
 }
 
 /// The numbers of the types.
-fn numbers_of(alloc: Global, kinds: &[Kind]) -> Result<Vec<u16>, AllocError>
-    ensures { IfOk result (λ numbers. numbers.items ≡ map (λ k. k.number) kinds.now) }
+fn numbers_of(alloc: Global, kinds: &IndexMap<TypeId, Name<Global>>) -> Result<Vec<u16>, AllocError>
+    ensures { IfOk result (λ numbers. numbers.items ≡ keys kinds.now) }
 {
-    kinds.iter().map(|kind| kind.number.number()).collect(alloc)
+    kinds.keys().map(|number| number.number()).collect(alloc)
 }
 
 /// The name of the type with this number, or nothing where the setting has none.

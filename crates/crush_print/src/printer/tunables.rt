@@ -6,9 +6,11 @@ ghost use Rattle.crush_print.specs.Lines.{tunable_line};
 ghost use Rattle.crush_print.specs.MapText.{tunable_section};
 
 use crate::lines::push_all;
-use crush_edits::{Setting, Tunable};
+use crush_edits::Setting;
+use crush_units::Name;
+use indexmap::IndexMap;
 use itoa::Buffer;
-use std::alloc::AllocError;
+use std::alloc::{AllocError, Global};
 
 /// The beginning of a map, and the tunables in their order.
 #[tactic(auto, unfolding(crate::specs::MapText::tunable_section))]
@@ -21,28 +23,31 @@ pub(crate) fn push_tunables(setting: &Setting, out: &mut Vec<u8>) -> Result<(), 
 }
 
 /// The tunables, in their order.
-fn push_all_tunables(tunables: &[Tunable], out: &mut Vec<u8>) -> Result<(), AllocError>
+fn push_all_tunables(
+    tunables: &IndexMap<Name<Global>, u32>,
+    out: &mut Vec<u8>,
+) -> Result<(), AllocError>
     ensures { OnOk result (out.new.items
-        ≡ out.old.items ++ flat_map tunable_line (map tunable_data tunables.now)) }
+        ≡ out.old.items ++ flat_map tunable_line (map tunable_data tunables.now.entries)) }
 {
-    for tunable in tunables {
-        push_tunable(tunable, out)?;
+    for (name, value) in tunables {
+        push_tunable(name, *value, out)?;
     }
     Ok(())
 }
 
 /// The line of a tunable.
 #[tactic(auto, unfolding(crate::specs::Lines::tunable_line))]
-fn push_tunable(tunable: &Tunable, out: &mut Vec<u8>) -> Result<(), AllocError>
+fn push_tunable(name: &Name<Global>, value: u32, out: &mut Vec<u8>) -> Result<(), AllocError>
     ensures { OnOk result (out.new.items
-        ≡ out.old.items ++ tunable_line (tunable_data tunable.now)) }
+        ≡ out.old.items ++ tunable_line (tunable_data (name.now, value))) }
 {
     let mut buffer = Buffer::new();
-    let value = buffer.format(tunable.value).as_bytes();
+    let value = buffer.format(value).as_bytes();
     push_all(
         &[
             b"tunable ".as_slice(),
-            tunable.name.as_bytes(),
+            name.as_bytes(),
             b" ".as_slice(),
             value,
             b"\n".as_slice(),

@@ -1,7 +1,8 @@
 //! Scripts that run one after the other, and the history of it.
 
+use crush_calls::{Entry, Reply, count_changes, history_text, run_in_turn};
 use crush_edits::{Done, Refusal};
-use crush_script::{Entry, Job, Reply, count_changes, history_text, read_job, run_in_turn};
+use crush_script::{Job, read_job};
 use std::test::Fail;
 
 /// A host with one device below a root, a device that no bucket holds, and four calls.

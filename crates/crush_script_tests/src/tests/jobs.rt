@@ -1,7 +1,8 @@
 //! Jobs, from their bytes.
 
+use crush_calls::Call;
 use crush_edits::Edit;
-use crush_script::{Call, JobFault, read_job};
+use crush_script::{JobFault, read_job};
 use crush_text::{TextFault, TextFaultKind};
 use std::test::Fail;
 

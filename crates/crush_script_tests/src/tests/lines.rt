@@ -1,7 +1,8 @@
 //! The lines of sections, read as those of whole jobs.
 
+use crush_calls::{Call, Script};
 use crush_edits::Edit;
-use crush_script::{Call, JobFault, Script, read_job};
+use crush_script::{JobFault, read_job};
 use crush_text::{TextFault, TextFaultKind};
 use std::test::Fail;
 

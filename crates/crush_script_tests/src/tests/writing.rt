@@ -1,8 +1,9 @@
 //! Lines of a history.
 
 use crush_bytes::WriteFault;
+use crush_calls::{Call, Edits, Reply, write_entry};
 use crush_edits::{Done, Dones, Edit, Refusal};
-use crush_script::{Call, Edits, JobFault, Reply, read_job, write_entry};
+use crush_script::{JobFault, read_job};
 use crush_units::{Name, Weight};
 use std::alloc::Global;
 use std::io::{self, Error, ErrorKind, Write};

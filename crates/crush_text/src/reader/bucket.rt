@@ -1,16 +1,18 @@
 //! The first lines of a bucket.
 
-ghost use Rattle.std.specs.Prelude.{◌≡◌, ◌≤◌, ◌<◌, length, false, IfOk, OnOk, Some, None, drop, if◌then◌else◌, ℕ};
+ghost use Rattle.std.specs.Prelude.{◌≡◌, ◌≤◌, ◌<◌, length, true, false, IfOk, OnOk, Some, None, drop, if◌then◌else◌, ℕ};
 ghost use Rattle.std.specs.Str.Parse.{digits_value};
 ghost use Rattle.crush_units.specs.Name.{IsName};
 ghost use Rattle.crush_edits.specs.Setting.{kind_number};
 ghost use Rattle.crush_map.specs.Built.{Draft};
-ghost use Rattle.crush_map.specs.Building.{IsDraft, has_bucket_id, is_begun, is_numbered, is_filling};
+ghost use Rattle.crush_map.specs.Building.{IsDraft, has_bucket_id, has_class, is_full_of_class_ids, is_begun, is_numbered, is_filling};
 ghost use Rattle.crush_text.specs.Forms.{is_negative};
 ghost use Rattle.crush_text.specs.Role.{bucket_id, id_or_alg, id_class, algorithm};
 ghost use Rattle.crush_text.specs.Form.{second, begun, numbered, filling, at};
 ghost use Rattle.crush_text.specs.Grammar.{bucket_line, id_line, class_id_line, alg_line, lines};
 ghost use Rattle.crush_text.specs.Flow.{between, outcome};
+ghost use Rattle.crush_text.specs.declared.reader.statement.Opening.TheVariants.{Bucket};
+ghost use Rattle.crush_text.specs.Room.{HasRoom};
 ghost use Rattle.crush_text.specs.Reads.{IsIdle, IsAmid, IsBehindId, behind_id, Gives, Reads, ReadsLine, ReadsOn, then_on, word_at, line_at};
 
 use crate::fault::{TextFault, TextFaultKind};
@@ -32,7 +34,7 @@ pub(crate) fn read_bucket<A: Allocator + Clone>(
 ) -> Result<(), TextFault>
     requires idle { IsIdle builder.old }
     requires known { (d : Draft) → IsDraft builder.old d
-        → (k : ℕ) × (kind_number d.setting kind.now ≡ Some k) }
+        → (k : ℕ) × (kind_number d.setting kind.now ≡ Some k) × HasRoom d (Bucket k) }
     ensures idle { OnOk result (IsIdle builder.new) }
     ensures reads { (d : Draft) (k : ℕ) → IsDraft builder.old d
         → kind_number d.setting kind.now ≡ Some k
@@ -55,7 +57,7 @@ fn read_name<A: Allocator + Clone>(
 ) -> Result<(), TextFault>
     requires idle { IsIdle builder.old }
     requires known { (d : Draft) → IsDraft builder.old d
-        → (k : ℕ) × (kind_number d.setting kind.now ≡ Some k) }
+        → (k : ℕ) × (kind_number d.setting kind.now ≡ Some k) × HasRoom d (Bucket k) }
     ensures begun { OnOk result (IsAmid is_begun builder.new) }
     ensures reads { (d : Draft) (k : ℕ) → IsDraft builder.old d
         → kind_number d.setting kind.now ≡ Some k
@@ -63,10 +65,10 @@ fn read_name<A: Allocator + Clone>(
     ensures shorter { OnOk result (length reader.new.words ≤ length reader.old.words) }
 {
     let name = read_new_name(reader, builder)?;
-    let Ok(()) = builder.begin(kind, name.text) else {
-        return Err(name.fault(TextFaultKind::OutOfMemory));
-    };
-    Ok(())
+    match builder.begin(kind, name.text) {
+        Ok(()) => Ok(()),
+        Err(fault) => Err(name.want(fault)),
+    }
 }
 
 /// The opening brace of a bucket and its id.
@@ -139,6 +141,7 @@ fn read_class_id<A: Allocator + Clone>(
     builder: &mut MapBuilder<A>,
 ) -> Result<(), TextFault>
     requires numbered { IsAmid is_numbered builder.old }
+    requires room { (d : Draft) → IsDraft builder.old d → is_full_of_class_ids d ≡ false }
     ensures numbered { OnOk result (IsAmid is_numbered builder.new) }
     ensures reads { (d : Draft) → IsDraft builder.old d
         → Reads numbered result builder.new reader.new (line_at d (class_id_line d) reader.old) }
@@ -147,10 +150,10 @@ fn read_class_id<A: Allocator + Clone>(
     let id = read_bucket_id(reader, builder)?;
     read_key(reader, b"class")?;
     let class = read_id_class(reader, builder)?;
-    let Ok(()) = builder.class_id(id, class.text) else {
-        return Err(class.fault(TextFaultKind::OutOfMemory));
-    };
-    Ok(())
+    match builder.class_id(id, class.text) {
+        Ok(()) => Ok(()),
+        Err(fault) => Err(class.want(fault)),
+    }
 }
 
 /// The algorithm of a bucket, and its hash where that is given, behind the word `alg`.
@@ -223,6 +226,8 @@ fn read_id_or_alg<A: Allocator>(
 ) -> Result<bool, TextFault>
     ensures gives { (d : Draft) → IsDraft builder.now d
         → Gives (λ x. (x, reader.new)) result (word_at d id_or_alg reader.old) }
+    ensures room { IfOk result (λ more. (d : Draft) → IsDraft builder.now d
+        → more ≡ true → is_full_of_class_ids d ≡ false) }
     ensures shorter { OnOk result (length reader.new.words < length reader.old.words) }
 {
     let word = next_word(reader)?;
@@ -247,6 +252,8 @@ fn read_id_class<'a, A: Allocator>(
     ensures gives { (d : Draft) → IsDraft builder.now d
         → Gives (λ x. (x.text.now, reader.new)) result (word_at d id_class reader.old) }
     ensures named { IfOk result (λ x. IsName x.text.now) }
+    ensures free { IfOk result (λ x. (d : Draft) → IsDraft builder.now d
+        → has_class d x.text.now ≡ false) }
     ensures shorter { OnOk result (length reader.new.words < length reader.old.words) }
 {
     let word = next_word(reader)?;

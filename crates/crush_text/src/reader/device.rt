@@ -1,8 +1,10 @@
 //! The line of a device.
 
-ghost use Rattle.std.specs.Prelude.{◌≡◌, ◌≤◌, ◌<◌, length, OnOk};
+ghost use Rattle.std.specs.Prelude.{◌≡◌, ◌≤◌, ◌<◌, length, false, IfOk, OnOk};
 ghost use Rattle.crush_map.specs.Built.{Draft};
-ghost use Rattle.crush_map.specs.Building.{IsDraft};
+ghost use Rattle.crush_map.specs.Building.{IsDraft, is_full_of_devices};
+ghost use Rattle.crush_table.specs.Table.{is_there};
+ghost use Rattle.crush_units.specs.declared.id.ItemId.TheVariants.{Device};
 ghost use Rattle.crush_text.specs.Role.{device_id};
 ghost use Rattle.crush_text.specs.Form.{first};
 ghost use Rattle.crush_text.specs.Grammar.{device_line};
@@ -25,6 +27,7 @@ pub(crate) fn read_device<A: Allocator + Clone>(
     builder: &mut MapBuilder<A>,
 ) -> Result<(), TextFault>
     requires idle { IsIdle builder.old }
+    requires room { (d : Draft) → IsDraft builder.old d → is_full_of_devices d ≡ false }
     ensures idle { OnOk result (IsIdle builder.new) }
     ensures reads { (d : Draft) → IsDraft builder.old d
         → Reads first result builder.new reader.new (line_at d (device_line d) reader.old) }
@@ -35,15 +38,15 @@ pub(crate) fn read_device<A: Allocator + Clone>(
     if reader.is_next(b"class") {
         read_key(reader, b"class")?;
         let class = read_word(reader)?;
-        let Ok(()) = builder.device(id, name.text, Some(class.text)) else {
-            return Err(class.fault(TextFaultKind::OutOfMemory));
+        return match builder.device(id, name.text, Some(class.text)) {
+            Ok(()) => Ok(()),
+            Err(fault) => Err(class.want(fault)),
         };
-        return Ok(());
     }
-    let Ok(()) = builder.device(id, name.text, None) else {
-        return Err(name.fault(TextFaultKind::OutOfMemory));
-    };
-    Ok(())
+    match builder.device(id, name.text, None) {
+        Ok(()) => Ok(()),
+        Err(fault) => Err(name.want(fault)),
+    }
 }
 
 /// The id of a device that isn't there.
@@ -54,6 +57,8 @@ fn read_device_id<A: Allocator>(
 ) -> Result<DeviceId, TextFault>
     ensures gives { (d : Draft) → IsDraft builder.now d
         → Gives (λ x. (x, reader.new)) result (word_at d device_id reader.old) }
+    ensures free { IfOk result (λ n. (d : Draft) → IsDraft builder.now d
+        → is_there d.table (Device n) ≡ false) }
     ensures shorter { OnOk result (length reader.new.words < length reader.old.words) }
 {
     let word = next_word(reader)?;

@@ -71,6 +71,8 @@ pub(crate) fn read_new_name<'a, A: Allocator>(
     ensures gives { (d : Draft) → IsDraft builder.now d
         → Gives (λ x. (x.text.now, reader.new)) result (word_at d new_name reader.old) }
     ensures named { IfOk result (λ x. IsName x.text.now) }
+    ensures free { IfOk result (λ x. (d : Draft) → IsDraft builder.now d
+        → has_name d x.text.now ≡ false) }
     ensures shorter { OnOk result (length reader.new.words < length reader.old.words) }
 {
     let word = next_word(reader)?;

@@ -1,6 +1,6 @@
 //! Statements, one after the other.
 
-ghost use Rattle.std.specs.Prelude.{◌≡◌, ◌≤◌, Result, Ok, Err, if◌then◌else◌, length, OnOk, IfOk, codes};
+ghost use Rattle.std.specs.Prelude.{◌≡◌, ◌≤◌, Result, Ok, Err, false, if◌then◌else◌, length, OnOk, IfOk, codes};
 ghost use Rattle.crush_map.specs.Built.{Draft};
 ghost use Rattle.crush_map.specs.Building.{IsDraft};
 ghost use Rattle.crush_text.specs.declared.fault.TextFault.{TextFault as DeclaredFault};
@@ -10,6 +10,7 @@ ghost use Rattle.crush_text.specs.Form.{first, at};
 ghost use Rattle.crush_text.specs.Grammar.{statement};
 ghost use Rattle.crush_text.specs.Tests.{is_out_of_place, comes_first, word_for};
 ghost use Rattle.crush_text.specs.Flow.{between, outcome, placed};
+ghost use Rattle.crush_text.specs.Room.{HasRoom};
 ghost use Rattle.crush_text.specs.Reads.{IsIdle, IsKnown, Shortens, behind, ReadsTo, ReadsNext, ReadsAll, then_on, line_at};
 
 use crate::fault::{TextFault, TextFaultKind};
@@ -99,6 +100,7 @@ fn read_statement<A: Allocator + Clone>(
     requires idle { IsIdle builder.old }
     requires known { (d : Draft) → IsDraft builder.old d
         → IsKnown d opening word.now }
+    requires room { (d : Draft) → IsDraft builder.old d → HasRoom d opening }
     ensures idle { OnOk result (IsIdle builder.new) }
     ensures reads { (d : Draft) (all : Result Draft DeclaredFault) → IsDraft builder.old d
         → all ≡ then_on (line_at d (statement d opening) reader.old)
@@ -139,6 +141,7 @@ fn opening_of<A: Allocator>(
         → result ≡ placed word.entry.place (word_for d (opening late) word.entry.text.now) }
     ensures known { (d : Draft) → IsDraft builder.now d
         → IfOk result (λ o. IsKnown d o word.entry.text.now) }
+    ensures room { IfOk result (λ o. (d : Draft) → IsDraft builder.now d → HasRoom d o) }
 {
     let text = word.text;
     if is_out_of_place(text, late) {
@@ -187,7 +190,8 @@ fn comes_first(text: &[u8]) -> bool
 
 /// What is opened, unless there is no room for one more.
 fn with_room(word: PlacedWord<'_>, opening: Opening, full: bool) -> Result<Opening, TextFault>
-    ensures { result ≡ placed word.entry.place (if full then Err TooMany else Ok opening) }
+    ensures opens { result ≡ placed word.entry.place (if full then Err TooMany else Ok opening) }
+    ensures room { IfOk result (λ o. (o ≡ opening) × (full ≡ false)) }
 {
     if full {
         return Err(word.fault(TextFaultKind::TooMany));

@@ -1,9 +1,9 @@
 //! The line of a tunable.
 
-ghost use Rattle.std.specs.Prelude.{◌≡◌, ◌≤◌, ◌<◌, length, IfOk, OnOk};
+ghost use Rattle.std.specs.Prelude.{◌≡◌, ◌≤◌, ◌<◌, length, false, IfOk, OnOk};
 ghost use Rattle.crush_units.specs.Name.{IsName};
 ghost use Rattle.crush_map.specs.Built.{Draft};
-ghost use Rattle.crush_map.specs.Building.{IsDraft};
+ghost use Rattle.crush_map.specs.Building.{IsDraft, has_tunable, is_full_of_tunables};
 ghost use Rattle.crush_text.specs.Role.{tunable_name};
 ghost use Rattle.crush_text.specs.Form.{first};
 ghost use Rattle.crush_text.specs.Grammar.{tunable_line};
@@ -23,6 +23,7 @@ pub(crate) fn read_tunable<A: Allocator>(
     builder: &mut MapBuilder<A>,
 ) -> Result<(), TextFault>
     requires idle { IsIdle builder.old }
+    requires room { (d : Draft) → IsDraft builder.old d → is_full_of_tunables d ≡ false }
     ensures idle { OnOk result (IsIdle builder.new) }
     ensures reads { (d : Draft) → IsDraft builder.old d
         → Reads first result builder.new reader.new (line_at d (tunable_line d) reader.old) }
@@ -30,10 +31,10 @@ pub(crate) fn read_tunable<A: Allocator>(
 {
     let name = read_name(reader, builder)?;
     let value = read_number(reader, u32::MAX)?;
-    let Ok(()) = builder.tunable(name.text, value) else {
-        return Err(name.fault(TextFaultKind::OutOfMemory));
-    };
-    Ok(())
+    match builder.tunable(name.text, value) {
+        Ok(()) => Ok(()),
+        Err(fault) => Err(name.want(fault)),
+    }
 }
 
 /// A name that no tunable has.
@@ -45,6 +46,8 @@ fn read_name<'a, A: Allocator>(
     ensures gives { (d : Draft) → IsDraft builder.now d
         → Gives (λ x. (x.text.now, reader.new)) result (word_at d tunable_name reader.old) }
     ensures named { IfOk result (λ x. IsName x.text.now) }
+    ensures free { IfOk result (λ x. (d : Draft) → IsDraft builder.now d
+        → has_tunable d.setting x.text.now ≡ false) }
     ensures shorter { OnOk result (length reader.new.words < length reader.old.words) }
 {
     let word = next_word(reader)?;

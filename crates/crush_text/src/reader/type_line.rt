@@ -4,7 +4,7 @@ ghost use Rattle.std.specs.Prelude.{◌≡◌, ◌≤◌, ◌<◌, length, false
 ghost use Rattle.crush_units.specs.Name.{IsName};
 ghost use Rattle.crush_edits.specs.Fits.{is_reserved as is_reserved_name};
 ghost use Rattle.crush_map.specs.Built.{Draft};
-ghost use Rattle.crush_map.specs.Building.{IsDraft};
+ghost use Rattle.crush_map.specs.Building.{IsDraft, has_kind_number, has_kind_name, is_full_of_kinds};
 ghost use Rattle.crush_text.specs.Role.{type_number, type_name};
 ghost use Rattle.crush_text.specs.Form.{first};
 ghost use Rattle.crush_text.specs.Grammar.{type_line};
@@ -26,6 +26,7 @@ pub(crate) fn read_type<A: Allocator>(
     builder: &mut MapBuilder<A>,
 ) -> Result<(), TextFault>
     requires idle { IsIdle builder.old }
+    requires room { (d : Draft) → IsDraft builder.old d → is_full_of_kinds d ≡ false }
     ensures idle { OnOk result (IsIdle builder.new) }
     ensures reads { (d : Draft) → IsDraft builder.old d
         → Reads first result builder.new reader.new (line_at d (type_line d) reader.old) }
@@ -33,10 +34,10 @@ pub(crate) fn read_type<A: Allocator>(
 {
     let number = read_type_number(reader, builder)?;
     let name = read_type_name(reader, builder, number)?;
-    let Ok(()) = builder.kind(number, name.text) else {
-        return Err(name.fault(TextFaultKind::OutOfMemory));
-    };
-    Ok(())
+    match builder.kind(number, name.text) {
+        Ok(()) => Ok(()),
+        Err(fault) => Err(name.want(fault)),
+    }
 }
 
 /// The number of a type that isn't there.
@@ -47,6 +48,8 @@ fn read_type_number<A: Allocator>(
 ) -> Result<TypeId, TextFault>
     ensures gives { (d : Draft) → IsDraft builder.now d
         → Gives (λ x. (x, reader.new)) result (word_at d type_number reader.old) }
+    ensures free { IfOk result (λ n. (d : Draft) → IsDraft builder.now d
+        → has_kind_number d.setting n ≡ false) }
     ensures shorter { OnOk result (length reader.new.words < length reader.old.words) }
 {
     let word = next_word(reader)?;
@@ -73,7 +76,9 @@ fn read_type_name<'a, A: Allocator>(
     ensures gives { (d : Draft) → IsDraft builder.now d
         → Gives (λ x. (x.text.now, reader.new)) result (word_at d (type_name number) reader.old) }
     ensures named { IfOk result (λ x. IsName x.text.now) }
-    ensures free { IfOk result (λ x. 0 < number → is_reserved_name x.text.now ≡ false) }
+    ensures form { IfOk result (λ x. 0 < number → is_reserved_name x.text.now ≡ false) }
+    ensures free { IfOk result (λ x. (d : Draft) → IsDraft builder.now d
+        → has_kind_name d.setting x.text.now ≡ false) }
     ensures shorter { OnOk result (length reader.new.words < length reader.old.words) }
 {
     let word = next_word(reader)?;

@@ -8,6 +8,7 @@ ghost use Rattle.crush_text.specs.Reads.{Gives, word_of, next_at};
 
 use crate::fault::{TextFault, TextFaultKind};
 use crush_bytes::{Reader, Token};
+use crush_map::BuildFault;
 use crush_units::Name;
 use std::alloc::Global;
 
@@ -47,6 +48,17 @@ impl<'a> PlacedWord<'a> {
             kind,
             place: self.place,
         }
+    }
+
+    /// What the builder refuses behind the word, where nothing is left that it can lack but memory.
+    pub(crate) fn want(self, fault: BuildFault) -> TextFault
+        requires { fault ≡ BuildFault.OutOfMemory }
+        ensures { result ≡ record { kind = OutOfMemory; place = self.entry.place } }
+    {
+        let BuildFault::OutOfMemory = fault else {
+            unreachable!()
+        };
+        self.fault(TextFaultKind::OutOfMemory)
     }
 
     /// Whether the word is a brace.

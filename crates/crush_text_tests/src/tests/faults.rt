@@ -1,27 +1,8 @@
 //! What a line is refused for, and where, behind two types and a device.
 
-use crate::tests::{fault_of, is_refused};
+use crate::tests::{are_refused, is_refused};
 use crush_text::{TextFault, TextFaultKind, read_map};
-use std::alloc::Global;
-use std::process::Abort;
 use std::test::Fail;
-
-/// Each line is refused for this, at the place beside it.
-fn are_refused(
-    rt: &impl Abort,
-    alloc: Global,
-    kind: TextFaultKind,
-    lines: &[(&[u8], usize)],
-) -> Result<(), Fail> {
-    for (line, place) in lines {
-        let Some(fault) = fault_of(alloc, *line)? else {
-            return Err("a line is read".into());
-        };
-        assert!(rt; fault.kind == kind, "{kind}, and not {fault}");
-        assert_eq!(rt; fault.place, *place, "{kind}");
-    }
-    Ok(())
-}
 
 #[test]
 fn words_of_more_than_255_bytes(rt: HostRuntime) -> Result<(), Fail> {

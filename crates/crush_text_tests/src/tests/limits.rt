@@ -150,26 +150,14 @@ fn at_most_256_types(rt: HostRuntime) -> Result<(), Fail> {
     Ok(())
 }
 
+/// The fault at the one too many says that all before it were taken. To read them takes long, so
+/// it is done once.
 #[test]
-fn reads_65536_devices(rt: HostRuntime) -> Result<(), Fail> {
-    let most = with_devices(rt.alloc(), 65536)?;
-    let (map, _) = read_map(rt.alloc(), most.as_slice())?;
-    assert_eq!(rt; map.counts().devices, 65536);
-    Ok(())
-}
-
-#[test]
-fn no_65537th_device(rt: HostRuntime) -> Result<(), Fail> {
-    let most = with_devices(rt.alloc(), 65536)?;
-    let more = with_devices(rt.alloc(), 65537)?;
-    assert!(rt;
-        is_refused(
-            rt.alloc(),
-            more.as_slice(),
-            TextFaultKind::TooMany,
-            most.len()
-        )
-    );
+fn at_most_65536_devices(rt: HostRuntime) -> Result<(), Fail> {
+    let mut text = with_devices(rt.alloc(), 65536)?;
+    let place = text.len();
+    text.extend_from_slice(b"device 65536 e")?;
+    assert!(rt; is_refused(rt.alloc(), text.as_slice(), TextFaultKind::TooMany, place));
     Ok(())
 }
 
@@ -184,14 +172,54 @@ fn a_chain_of_4096_buckets(rt: HostRuntime) -> Result<(), Fail> {
     Ok(())
 }
 
+/// One more is too many, unless its first word names no type.
 #[test]
 fn at_most_4096_buckets(rt: HostRuntime) -> Result<(), Fail> {
     let mut text = chain(rt.alloc())?;
     let place = text.len();
-    let (map, _) = read_map(rt.alloc(), text.as_slice())?;
-    assert_eq!(rt; map.counts().buckets, 4096);
+    let mut other = text.clone()?;
     add_link(rt.alloc(), &mut text, 4097)?;
     assert!(rt; is_refused(rt.alloc(), text.as_slice(), TextFaultKind::TooMany, place));
+    other.extend_from_slice(b"rack b4097 { id -4097 alg straw2 }")?;
+    assert!(rt;
+        is_refused(
+            rt.alloc(),
+            other.as_slice(),
+            TextFaultKind::UnknownType,
+            place
+        )
+    );
+    Ok(())
+}
+
+/// Behind a rule no type and no tunable may stand, also where there would be one too many.
+#[test]
+fn what_comes_too_late_and_is_too_many(rt: HostRuntime) -> Result<(), Fail> {
+    let mut types = with_types(rt.alloc(), 256)?;
+    types.extend_from_slice(b"rule x { id 0 type replicated }\n")?;
+    let place = types.len();
+    types.extend_from_slice(b"type 256 t256")?;
+    assert!(rt;
+        is_refused(
+            rt.alloc(),
+            types.as_slice(),
+            TextFaultKind::Unexpected,
+            place
+        )
+    );
+    let mut tunables = Vec::new(rt.alloc());
+    add_numbered(rt.alloc(), &mut tunables, ["tunable t", " ", "\n"], 64)?;
+    tunables.extend_from_slice(b"rule x { id 0 type replicated }\n")?;
+    let place = tunables.len();
+    tunables.extend_from_slice(b"tunable t 1")?;
+    assert!(rt;
+        is_refused(
+            rt.alloc(),
+            tunables.as_slice(),
+            TextFaultKind::Unexpected,
+            place
+        )
+    );
     Ok(())
 }
 

@@ -1,191 +1,134 @@
 //! Faults of rules.
 
-use crate::tests::are_refused_so;
+use crate::tests::are_refused;
 use crush_text::TextFaultKind;
 use std::test::Fail;
 
-#[test]
-fn faults_of_rules(rt: HostRuntime) -> Result<(), Fail> {
-    are_refused_so(
-        &rt,
-        rt.alloc(),
+/// Lines with faults of rules, by their kinds, each with the place.
+const FAULTS_OF_RULES: &[(TextFaultKind, &[(&[u8], usize)])] = &[
+    (
+        TextFaultKind::Ended,
         &[
-            (TextFaultKind::Ended, b"rule", 40),
-            (TextFaultKind::Ended, b"rule x { id 0 type", 54),
-            (TextFaultKind::Ended, b"rule x { id 0 type replicated", 65),
+            (b"rule", 40),
+            (b"rule x { id 0 type", 54),
+            (b"rule x { id 0 type replicated", 65),
+            (b"rule x { id 0 type replicated min_size", 74),
+            (b"rule x { id 0 type replicated step", 70),
             (
-                TextFaultKind::Ended,
-                b"rule x { id 0 type replicated min_size",
-                74,
-            ),
-            (
-                TextFaultKind::Ended,
-                b"rule x { id 0 type replicated step",
-                70,
-            ),
-            (
-                TextFaultKind::Ended,
                 b"rule x { id 0 type replicated step choose firstn 0 type",
                 91,
             ),
+            (b"rule x { id 0 type replicated step take", 75),
+        ],
+    ),
+    (
+        TextFaultKind::Unexpected,
+        &[
+            (b"rule {", 41),
+            (b"rule x id", 43),
+            (b"rule x { type", 45),
+            (b"rule x { id }", 48),
+            (b"rule x { id 0 step", 50),
+            (b"rule x { id 0 type }", 55),
+            (b"rule x { id 0 type replicated max_size 3 min_size 1 }", 77),
+            (b"rule x { id 0 type replicated min_size }", 75),
+            (b"rule x { id 0 type replicated emit }", 66),
+            (b"rule x { id 0 type replicated step }", 71),
+            (b"rule x { id 0 type replicated step set 1 }", 71),
             (
-                TextFaultKind::Ended,
-                b"rule x { id 0 type replicated step take",
-                75,
-            ),
-            (TextFaultKind::Unexpected, b"rule {", 41),
-            (TextFaultKind::Unexpected, b"rule x id", 43),
-            (TextFaultKind::Unexpected, b"rule x { type", 45),
-            (TextFaultKind::Unexpected, b"rule x { id }", 48),
-            (TextFaultKind::Unexpected, b"rule x { id 0 step", 50),
-            (TextFaultKind::Unexpected, b"rule x { id 0 type }", 55),
-            (
-                TextFaultKind::Unexpected,
-                b"rule x { id 0 type replicated max_size 3 min_size 1 }",
-                77,
-            ),
-            (
-                TextFaultKind::Unexpected,
-                b"rule x { id 0 type replicated min_size }",
-                75,
-            ),
-            (
-                TextFaultKind::Unexpected,
-                b"rule x { id 0 type replicated emit }",
-                66,
-            ),
-            (
-                TextFaultKind::Unexpected,
-                b"rule x { id 0 type replicated step }",
-                71,
-            ),
-            (
-                TextFaultKind::Unexpected,
-                b"rule x { id 0 type replicated step set 1 }",
-                71,
-            ),
-            (
-                TextFaultKind::Unexpected,
                 b"rule x { id 0 type replicated step choosemsr_firstn 0 type host }",
                 71,
             ),
+            (b"rule x { id 0 type replicated step take }", 76),
             (
-                TextFaultKind::Unexpected,
-                b"rule x { id 0 type replicated step take }",
-                76,
-            ),
-            (
-                TextFaultKind::Unexpected,
                 b"rule x { id 0 type replicated step choose 0 type host }",
                 78,
             ),
             (
-                TextFaultKind::Unexpected,
                 b"rule x { id 0 type replicated step choose firstn } type host }",
                 85,
             ),
             (
-                TextFaultKind::Unexpected,
                 b"rule x { id 0 type replicated step choose firstn 0 host }",
                 87,
             ),
             (
-                TextFaultKind::Unexpected,
                 b"rule x { id 0 type replicated step choose firstn 0 type } }",
                 92,
             ),
+            (b"rule x { id 0 type replicated step set_x } }", 77),
+            (b"rule x { id 0 type replicated step emit emit }", 76),
+            (b"rule x { id 0 type replicated }\ntunable t 1", 68),
+            (b"rule x { id 0 type replicated }\ntype 2 rack", 68),
+            (b"rule x { id 0 type replicated }\ndevice 1 e", 68),
+        ],
+    ),
+    (
+        TextFaultKind::BadNumber,
+        &[
+            (b"rule x { id -1", 48),
+            (b"rule x { ruleset 2147483648", 53),
+            (b"rule x { id 0 type replicated min_size 2147483648 }", 75),
+            (b"rule x { id 0 type replicated max_size x }", 75),
+            (b"rule x { id 0 type replicated step set_x -1 }", 77),
             (
-                TextFaultKind::Unexpected,
-                b"rule x { id 0 type replicated step set_x } }",
-                77,
-            ),
-            (
-                TextFaultKind::Unexpected,
-                b"rule x { id 0 type replicated step emit emit }",
-                76,
-            ),
-            (
-                TextFaultKind::Unexpected,
-                b"rule x { id 0 type replicated }\ntunable t 1",
-                68,
-            ),
-            (
-                TextFaultKind::Unexpected,
-                b"rule x { id 0 type replicated }\ntype 2 rack",
-                68,
-            ),
-            (
-                TextFaultKind::Unexpected,
-                b"rule x { id 0 type replicated }\ndevice 1 e",
-                68,
-            ),
-            (TextFaultKind::BadNumber, b"rule x { id -1", 48),
-            (TextFaultKind::BadNumber, b"rule x { ruleset 2147483648", 53),
-            (
-                TextFaultKind::BadNumber,
-                b"rule x { id 0 type replicated min_size 2147483648 }",
-                75,
-            ),
-            (
-                TextFaultKind::BadNumber,
-                b"rule x { id 0 type replicated max_size x }",
-                75,
-            ),
-            (
-                TextFaultKind::BadNumber,
-                b"rule x { id 0 type replicated step set_x -1 }",
-                77,
-            ),
-            (
-                TextFaultKind::BadNumber,
                 b"rule x { id 0 type replicated step choose firstn 2147483648 type host }",
                 85,
             ),
             (
-                TextFaultKind::BadNumber,
                 b"rule x { id 0 type replicated step choose indep -2147483649 type host }",
                 84,
             ),
             (
-                TextFaultKind::BadNumber,
                 b"rule x { id 0 type replicated step choose indep - type host }",
                 84,
             ),
+        ],
+    ),
+    (
+        TextFaultKind::DuplicateId,
+        &[(b"rule x { id 0 type replicated }\nrule y { ruleset 00", 85)],
+    ),
+    (
+        TextFaultKind::DuplicateName,
+        &[(b"rule x { id 0 type replicated }\nrule x {", 73)],
+    ),
+    (
+        TextFaultKind::UnknownType,
+        &[
             (
-                TextFaultKind::DuplicateId,
-                b"rule x { id 0 type replicated }\nrule y { ruleset 00",
-                85,
-            ),
-            (
-                TextFaultKind::DuplicateName,
-                b"rule x { id 0 type replicated }\nrule x {",
-                73,
-            ),
-            (
-                TextFaultKind::UnknownType,
                 b"rule x { id 0 type replicated step choose firstn 0 type rack }",
                 92,
             ),
             (
-                TextFaultKind::UnknownType,
                 b"rule x { id 0 type replicated step chooseleaf firstn 0 type osd }",
                 96,
             ),
+        ],
+    ),
+    (
+        TextFaultKind::LeftOut,
+        &[(
+            b"rule x { id 0 type replicated step choosemsr 0 type host }",
+            71,
+        )],
+    ),
+    (
+        TextFaultKind::UnknownBucketInRule,
+        &[
+            (b"rule x { id 0 type replicated step take d }", 76),
             (
-                TextFaultKind::LeftOut,
-                b"rule x { id 0 type replicated step choosemsr 0 type host }",
-                71,
-            ),
-            (
-                TextFaultKind::UnknownBucketInRule,
-                b"rule x { id 0 type replicated step take d }",
-                76,
-            ),
-            (
-                TextFaultKind::UnknownBucketInRule,
                 b"rule x { id 0 type replicated step take a }\nhost a { id -1 alg straw2 }",
                 76,
             ),
         ],
-    )
+    ),
+];
+
+#[test]
+fn faults_of_rules(rt: HostRuntime) -> Result<(), Fail> {
+    for (kind, lines) in FAULTS_OF_RULES {
+        are_refused(&rt, rt.alloc(), *kind, *lines)?;
+    }
+    Ok(())
 }

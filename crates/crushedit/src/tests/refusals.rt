@@ -19,7 +19,7 @@ const DEVICE: &[u8] = b"type 1 host\ntype 11 root\ndevice 0 d\n";
 const DEVICES: &[u8] = b"type 1 host device 0 a device 1 b device 2 c ";
 
 /// A text, what stands behind it, and the line of standard error.
-const REFUSED: [(&[u8], &[u8], &[u8]); 25] = [
+const REFUSED: &[(&[u8], &[u8], &[u8])] = &[
     (
         PLAIN,
         b"%operator a\nreweight osd.0 0.0000000000000000001\n",

@@ -45,7 +45,7 @@ fn written_weights_that_are_no_sums_are_replaced(rt: HostRuntime) {
 const DEVICE: &[u8] = b"type 1 host\ntype 11 root\ndevice 0 d\n";
 
 /// What stands behind them, and the line of standard error.
-const FLAWED: [(&[u8], &[u8]); 13] = [
+const FLAWED: &[(&[u8], &[u8])] = &[
     (
         b"host a { id -1 alg straw2 item d }\nhost b { id -2 alg straw2 item d }\n",
         b"crushedit: byte 102: SecondParent\n",

@@ -26,7 +26,7 @@ fn is_written(rt: &impl AllocGlobal, worked: &Worked) -> Result<bool, Fail> {
 }
 
 /// Commands that put an item somewhere.
-const PLACING: [Worked; 8] = [
+const PLACING: &[Worked] = &[
     Worked {
         script: b"%operator a\nadd osd.3 0.333 host=h3 rack=r1 root=default\n",
         history: b"# end crush map\n# 1 a add osd.3 0.33299 host=h3 rack=r1 root=default = done changed 1 made 2\n",
@@ -82,7 +82,7 @@ const PLACING: [Worked; 8] = [
 ];
 
 /// Commands without a location.
-const OTHERS: [Worked; 6] = [
+const OTHERS: &[Worked] = &[
     Worked {
         script: b"%operator a\nswap-bucket h1 h2\n",
         history: b"# 1 a swap-bucket h1 h2 = done changed 1 made 0\n",
@@ -127,7 +127,7 @@ const OTHERS: [Worked; 6] = [
 ];
 
 /// Batches.
-const BATCHES: [Worked; 3] = [
+const BATCHES: &[Worked] = &[
     Worked {
         script: b"%operator a\nbegin\nadd osd.3 1 host=h2\nrename-bucket h1 hq\nrm h2\ncommit\n",
         history: b"\titem h1 weight 2.00000\n\titem h2 weight 0.50000\n}\n\n# rules\n\n# end crush map\n# 1 a begin ; add osd.3 1.00000 host=h2 ; rename-bucket h1 hq ; rm h2 ; commit = refused at 2 NotEmpty 39\n",

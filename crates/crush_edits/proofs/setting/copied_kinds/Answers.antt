@@ -1,10 +1,19 @@
-use Rattle.std.proofs.Common.{◌≡◌, [], ◌∷◌, ◌++◌, sym, ◌∙◌}
-use Rattle.std.proofs.lemmas.List.{take_more}
+use Rattle.std.proofs.Common.{◌++◌, ap, sym, ◌∙◌, nat_eq}
+use Rattle.std.specs.Cmp.{nat_eq_equiv}
+use Rattle.indexmap.specs.IndexMap.{insert_entry}
+use Rattle.crush_edits.proofs.SettingLaws.{entry_copied}
 use Rattle.crush_edits.proofs.setting.copied_kinds.Goals as goal
 
-pub loop-kind-preserved : goal.loop-kind-preserved
-loop-kind-preserved c =
-    let one : c.in_ok-kind.kind ≡ c.kind-item.result = c.in_ok-kind.ensures in
-    c.in_ok-push.ensures.items
-    ∙ (λ k. c.loop-kind.invariant k ++ (one ∙ c.kind-item.is) k ∷ [])
-    ∙ sym (take_more _ c.loop-kind.kind-index c.kind-item.result c.loop-kind-test.true)
+pub loop-number-preserved-in_ok-insert : goal.loop-number-preserved-in_ok-insert
+loop-number-preserved-in_ok-insert c =
+    entry_copied nat_eq nat_eq_equiv c.loop-number.copies c.insert.new.self c.in-Some.number.now c.in-Some.name.now c.next.new.self c.args.kinds.now.entries
+    c.into_iter-number-iterator.ensures.into_iter_gives.4
+    (ap (λ es. c.loop-number.copies.entries ++ es) (sym c.in-Some.ensures.steps) ∙ c.loop-number.invariant)
+    (c.in_ok-insert.ensures.entries ∙ ap (λ n. insert_entry nat_eq c.loop-number.copies.entries c.in-Some.number.now n) c.in_ok-name.ensures)
+
+pub loop-number-preserved : goal.loop-number-preserved
+loop-number-preserved c =
+    entry_copied nat_eq nat_eq_equiv c.loop-number.copies c.insert.new.self c.in-Some.number.now c.in-Some.name.now c.next.new.self c.args.kinds.now.entries
+    c.into_iter-number-iterator.ensures.into_iter_gives.4
+    (ap (λ es. c.loop-number.copies.entries ++ es) (sym c.in-Some.ensures.steps) ∙ c.loop-number.invariant)
+    (c.in_ok-insert.ensures.entries ∙ ap (λ n. insert_entry nat_eq c.loop-number.copies.entries c.in-Some.number.now n) c.in_ok-name.ensures)

@@ -1,6 +1,6 @@
-use Rattle.std.proofs.Common.{◌≡◌, take}
+use Rattle.std.proofs.Common.{◌≡◌, ◌++◌}
 use Rattle.crush_edits.proofs.setting.copied_kinds.Given as goal
 
 -- those so far are copied
-abbrev pub invariant-loop-kind : goal.invariant-loop-kind
-invariant-loop-kind l = l.copies.items ≡ take l.kind-index l.kinds
+abbrev pub invariant-loop-number : goal.invariant-loop-number
+invariant-loop-number l = l.copies.entries ++ l.number-iterator ≡ l.kinds.entries

@@ -1,10 +1,13 @@
-use Rattle.std.proofs.Common.{◌≡◌, [], ◌∷◌, ◌++◌, sym, ◌∙◌}
-use Rattle.std.proofs.lemmas.List.{take_more}
+use Rattle.std.proofs.Common.{◌++◌, ap, sym, ◌∙◌}
+use Rattle.std.specs.Cmp.Lexicographic.{nat_list_eq_equiv}
+use Rattle.std.specs.Prelude.{bytes_eq}
+use Rattle.indexmap.specs.IndexMap.{insert_entry}
+use Rattle.crush_edits.proofs.SettingLaws.{entry_copied}
 use Rattle.crush_edits.proofs.setting.copied_tunables.Goals as goal
 
-pub loop-tunable-preserved : goal.loop-tunable-preserved
-loop-tunable-preserved c =
-    let one : c.in_ok-tunable.tunable ≡ c.tunable-item.result = c.in_ok-tunable.ensures in
-    c.in_ok-push.ensures.items
-    ∙ (λ k. c.loop-tunable.invariant k ++ (one ∙ c.tunable-item.is) k ∷ [])
-    ∙ sym (take_more _ c.loop-tunable.tunable-index c.tunable-item.result c.loop-tunable-test.true)
+pub loop-name-preserved : goal.loop-name-preserved
+loop-name-preserved c =
+    entry_copied bytes_eq nat_list_eq_equiv c.loop-name.copies c.insert.new.self c.in-Some.name.now c.in-Some.value.now c.next.new.self c.args.tunables.now.entries
+    c.into_iter-name-iterator.ensures.into_iter_gives.4
+    (ap (λ es. c.loop-name.copies.entries ++ es) (sym c.in-Some.ensures.steps) ∙ c.loop-name.invariant)
+    (c.in_ok-insert.ensures.entries ∙ ap (λ n. insert_entry bytes_eq c.loop-name.copies.entries n c.in-Some.value.now) c.in_ok-name.ensures)

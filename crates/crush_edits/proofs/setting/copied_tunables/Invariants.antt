@@ -1,6 +1,6 @@
-use Rattle.std.proofs.Common.{◌≡◌, take}
+use Rattle.std.proofs.Common.{◌≡◌, ◌++◌}
 use Rattle.crush_edits.proofs.setting.copied_tunables.Given as goal
 
 -- those so far are copied
-abbrev pub invariant-loop-tunable : goal.invariant-loop-tunable
-invariant-loop-tunable l = l.copies.items ≡ take l.tunable-index l.tunables
+abbrev pub invariant-loop-name : goal.invariant-loop-name
+invariant-loop-name l = l.copies.entries ++ l.name-iterator ≡ l.tunables.entries

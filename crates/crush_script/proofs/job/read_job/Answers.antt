@@ -2,7 +2,8 @@ use Rattle.std.proofs.Common.{◌≡◌, ℕ, ◌+◌, ◌==◌, List, [], Resul
 use Rattle.std.proofs.lemmas.Result.{err_from_is_err_and}
 use Rattle.crush_text.specs.Document.{IsMapText}
 use Rattle.crush_script.specs.Lines.{lines, map_part, section_part, section_line}
-use Rattle.crush_script.specs.Sections.{ScriptData, SectionsData, no_sections, scripts_data, sections_data, sections_of, with_lines}
+use Rattle.crush_calls.specs.Script.{ScriptData, scripts_data}
+use Rattle.crush_script.specs.Sections.{SectionsData, no_sections, sections_data, sections_of, with_lines}
 use Rattle.crush_script.specs.Job.{JobData}
 use Rattle.crush_script.specs.declared.fault.JobFault.{JobFault}
 use Rattle.crush_script.proofs.Few.{calls_few}

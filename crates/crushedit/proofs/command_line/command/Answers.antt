@@ -1,7 +1,7 @@
 use Rattle.std.proofs.Common.{rules, ◌≡◌, ◌∙◌, ap₂, codes}
 use Rattle.std.proofs.lemmas.Result.{IfOk-weaker}
 use Rattle.clap.specs.Words.{app_of, with_rule}
-use Rattle.crushedit.specs.Options.{flag, named, program}
+use Rattle.crushedit.specs.Options.{flag, named}
 use Rattle.crushedit.proofs.command_line.command.Goals as goal
 
 pub returns : goal.returns

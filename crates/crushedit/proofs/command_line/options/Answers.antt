@@ -1,7 +1,7 @@
 use Rattle.std.proofs.Common.{◌≡◌, ◌⊎◌, ◌∙◌, ap, codes, map, not, refl, sym, subst, true, inl, inr}
 use Rattle.clap.specs.declared.error.kind.ErrorKind.{ErrorKind}
 use Rattle.clap.specs.declared.error.kind.ErrorKind.TheVariants.{OutOfMemory}
-use Rattle.clap.specs.Words.{App, IsAmong, Kinds, app_of, fault_of, first_of, found_of, is_simple, is_simple_and_free, kind_of, matches_of, one_of, one_text, rows_of}
+use Rattle.clap.specs.Words.{App, IsAmong, Kinds, fault_of, first_of, found_of, is_simple, is_simple_and_free, kind_of, matches_of, one_of, rows_of}
 use Rattle.clap.proofs.OnLiterals.{clap_on_literals}
 use Rattle.clap.proofs.WalkLemmas.{first_value-rows, one_text-rows}
 use Rattle.crushedit.specs.declared.options.OptionsFault.{OptionsFault}

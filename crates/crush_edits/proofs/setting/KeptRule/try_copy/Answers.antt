@@ -1,4 +1,4 @@
-use Rattle.std.proofs.Common.{◌≡◌, ap, ◌∙◌}
+use Rattle.std.proofs.Common.{◌∙◌}
 use Rattle.std.specs.Prelude.{map}
 use Rattle.crush_edits.specs.SettingSeen.{step_data}
 use Rattle.crush_edits.proofs.setting.KeptRule.try_copy.Goals as goal

@@ -1,15 +1,25 @@
 use Rattle.std.proofs.Common.{◌≡◌, [], ◌∷◌, ◌++◌, subst, sym, ap, ◌∙◌, arith}
 use Rattle.std.specs.Prelude.{None}
 use Rattle.crush_map.specs.declared.fault.BuildFault.TheVariants.{DuplicateName, TooMany}
+use Rattle.crush_edits.specs.Setting.{has_tunable}
 use Rattle.crush_edits.specs.Fits.{IsTunable}
 use Rattle.crush_map.specs.Faults.{tunable_fault}
 use Rattle.crush_map.specs.Pending.{pending_data}
 use Rattle.crush_map.specs.Built.{Draft, with_tunable}
-use Rattle.crush_map.specs.Building.{BuilderData, IsDraft, own_draft, has_tunable, is_full_of_tunables}
+use Rattle.crush_map.specs.Building.{BuilderData, IsDraft, own_draft, is_full_of_tunables}
 use Rattle.crush_map.proofs.Faults.{none_of_two}
 use Rattle.crush_map.proofs.Drafts.{own_is_draft, draft_fits}
 use Rattle.crush_map.proofs.TunableSteps.{tunable_step}
 use Rattle.crush_map.proofs.builder.MapBuilder.tunable.Goals as goal
+
+pub push_tunable-requires : goal.push_tunable-requires
+push_tunable-requires g c =
+    let b : BuilderData = record { setting = c.self.inside.setting; forest = c.self.inside.forest; pending = pending_data c.self.inside.pending; adjusted = c.self.inside.adjusted } in
+    let d : Draft = own_draft b in
+    let at : IsDraft c.args.self.now d = subst (λ (x : BuilderData). IsDraft x d) c.self.view_is (own_is_draft b c.recall_invariant.ensures c.self.invariant) in
+    let clear : tunable_fault d c.args.name.now ≡ None = sym (c.in_default.ensures d at) in
+    let none = none_of_two DuplicateName TooMany (has_tunable d.setting c.args.name.now) (is_full_of_tunables d) clear in
+    ap (has_tunable c.self.inside.setting) c.in-Ok.ensures.value ∙ none.0
 
 pub invariant_of-self-2 : goal.invariant_of-self-2
 invariant_of-self-2 g c =

@@ -11,4 +11,4 @@ pub returns : goal.returns
 unfolding kind_numbers
 returns c =
     numbers_sorted _ _ c.sort_unstable.ensures.permutation (IsNonDecreasingBy-from_sort (λ n. n) _ c.sort_unstable.ensures.sorted)
-    ∙ ap ascending (c.in_ok-numbers.ensures ∙ numbers_seen (λ (k : KindData). k.number) kind_data c.kinds.result.now _ c.kinds.ensures)
+    ∙ ap ascending (c.in_ok-numbers.ensures ∙ numbers_seen (λ (k : KindData). k.number) kind_data c.kinds.result.now.entries _ c.kinds.ensures)

@@ -12,3 +12,6 @@ pub returns-clause-reads : goal.returns-clause-reads
 returns-clause-reads g c = λ d h.
     let k = c.in_ok-read_class_id.ensures.reads d h in
     (k.0, k.1, id_or_alg_goes d _ _ _ (c.in_ok-more.ensures.gives d h ∙ ap (λ (b : Bool). Ok (b, c.read_id_or_alg.new.reader)) c.if-not-more.false) ∙ k.2)
+
+pub read_class_id-requires-clause-room : goal.read_class_id-requires-clause-room
+read_class_id-requires-clause-room g c = λ d h. c.in_ok-more.ensures.room d h c.if-not-more.false

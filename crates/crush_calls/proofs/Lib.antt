@@ -1,0 +1,7 @@
+pub mod Writing
+pub mod Histories
+pub mod RunLaws
+pub mod SameForests
+pub mod InTurn
+pub mod EntryLines
+pub mod Examples

@@ -1,0 +1,6 @@
+pub mod Script
+pub mod History
+pub mod Entries
+pub mod HistoryText
+pub mod Turns
+pub mod LawRun

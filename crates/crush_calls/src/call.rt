@@ -1,0 +1,107 @@
+//! What an operator asks of a map, and what it is told.
+
+ghost use Rattle.std.specs.Prelude.{◌≡◌, ◌≤◌, ◌<◌, ◌++◌, ◌∷◌, [], length, nat_lt, IfOk, OnOk};
+ghost use Rattle.crush_units.specs.declared.limits.TheConstants.{MOST_EDITS};
+
+use crush_edits::{Done, Dones, Edit, Refusal};
+use crush_units::limits::MOST_EDITS;
+use std::alloc::{AllocError, AllocFailed, Global};
+use std::marker::Model;
+
+/// The edits of a batch, at most 65,536. Contracts see their list.
+#[derive(Debug, Drop)]
+pub struct Edits {
+    edits: Vec<Edit>,
+}
+
+impl Model for Edits {
+    ghost use Rattle.std.specs.Prelude.{List, ◌≤◌, length};
+    ghost use Rattle.crush_edits.specs.declared.edit.Edit.{Edit};
+    ghost use Rattle.crush_units.specs.declared.limits.TheConstants.{MOST_EDITS};
+
+    ghost Value = { List Edit };
+
+    ghost view = { λ batch. batch.edits.items };
+
+    ghost invariant = { λ batch. length batch.edits.items ≤ MOST_EDITS };
+}
+
+/// One call of an operator, which is made as a whole.
+#[derive(Debug, Drop)]
+pub enum Call {
+    /// A single edit.
+    One(Edit),
+    /// Edits of which each is made of the map that the ones before it made, or none of them.
+    Batch(Edits),
+}
+
+/// What a call is answered.
+#[derive(Clone, Copy, Debug, PartialEq, Eq)]
+pub enum Reply {
+    /// The edit was made.
+    Done(Done),
+    /// All edits of the batch were made.
+    Dones(Dones),
+    /// The edit was refused, and the map is as before.
+    Refused(Refusal),
+    /// The edit of the batch at this index, counted from 0, was refused, and none before it. The
+    /// map is as before the batch.
+    BatchRefused(u32, Refusal),
+}
+
+impl Edits {
+    /// A batch of these edits, which are at most 65,536. Takes no memory.
+    pub fn new(edits: Vec<Edit>) -> Edits
+        requires { length edits.items ≤ MOST_EDITS }
+        ensures { result ≡ edits.items }
+    {
+        Edits { edits }
+    }
+
+    /// The edits in order, at most 65,536.
+    pub fn as_slice(&self) -> &[Edit]
+        ensures value { result.now ≡ self.now }
+        ensures few { length self.now ≤ MOST_EDITS }
+    {
+        self.edits.as_slice()
+    }
+
+    /// Whether there can be one edit more.
+    pub fn has_room(&self) -> bool
+        ensures { result ≡ nat_lt (length self.now) MOST_EDITS }
+    {
+        self.edits.len() < MOST_EDITS
+    }
+
+    /// Adds an edit behind the others. An Err is want of memory.
+    pub fn push(&mut self, edit: Edit) -> Result<(), AllocFailed<Edit>>
+        requires { length self.old < MOST_EDITS }
+        ensures { OnOk result (self.new ≡ self.old ++ edit ∷ []) }
+    {
+        self.edits.push(edit)
+    }
+
+    /// A copy of the batch. An Err is want of memory.
+    pub(crate) fn try_copy(&self, alloc: Global) -> Result<Edits, AllocError>
+        ensures { IfOk result (λ copy. copy ≡ self.now) }
+    {
+        let mut edits = Vec::new(alloc);
+        for edit in &self.edits {
+            let edit = edit.try_copy(alloc)?;
+            edits.push(edit)?;
+        }
+        Ok(Edits { edits })
+    }
+}
+
+impl Call {
+    /// A copy of the call. An Err is want of memory.
+    pub fn try_copy(&self, alloc: Global) -> Result<Call, AllocError>
+        ensures { IfOk result (λ copy. copy ≡ self.now) }
+    {
+        match self {
+            Call::One(edit) => Ok(Call::One(edit.try_copy(alloc)?)),
+            Call::Batch(edits) => Ok(Call::Batch(edits.try_copy(alloc)?)),
+        }
+    }
+}

@@ -1,0 +1,45 @@
+//! The entries of a history.
+
+ghost use Rattle.std.specs.Prelude.{◌≡◌, ◌<◌, ◌^◌, length};
+ghost use Rattle.crush_calls.specs.Entries.{history_data};
+ghost use Rattle.crush_calls.specs.History.{changes, is_change};
+
+use crate::call::{Call, Reply};
+
+/// A call that was answered.
+#[derive(Drop)]
+pub struct Entry<'a> {
+    /// The number of the operator that made it, counted from 0 in the order of the sections.
+    pub operator: usize,
+    /// What was asked.
+    pub call: &'a Call,
+    /// What the map answered at that point.
+    pub reply: Reply,
+}
+
+/// Whether a reply tells of a change of the map.
+fn is_change(reply: Reply) -> bool
+    ensures { result ≡ is_change reply }
+{
+    match reply {
+        Reply::Done(done) => done.changed,
+        Reply::Dones(dones) => dones.changed > 0,
+        Reply::Refused(_) => false,
+        Reply::BatchRefused(_, _) => false,
+    }
+}
+
+/// How many entries are a change of the map. There are fewer than 2^32 of them, so that the count
+/// has room.
+pub fn count_changes(entries: &[Entry<'_>]) -> u32
+    requires { length entries.now < 2 ^ 32 }
+    ensures { result ≡ changes (history_data entries.now) }
+{
+    let mut count: u32 = 0;
+    for entry in entries {
+        if is_change(entry.reply) {
+            count += 1;
+        }
+    }
+    count
+}

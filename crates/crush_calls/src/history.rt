@@ -1,0 +1,218 @@
+//! The lines of a history.
+
+ghost use Rattle.std.specs.Prelude.{◌≡◌, ◌<◌, ◌^◌, [], length, slice_index_or, IfErr, IfOk};
+ghost use Rattle.crush_bytes.specs.Writes.{Writes};
+ghost use Rattle.crush_calls.specs.Entries.{history_data};
+ghost use Rattle.crush_calls.specs.HistoryText.{digit_of, line_front, refusal_text, refused_at_text, line_end, line_text, entries_text, names_of};
+ghost use Rattle.crush_calls.specs.Script.{scripts_data};
+
+use crate::call::{Call, Reply};
+use crate::entry::Entry;
+use crate::printed::write_call;
+use crate::script::Script;
+use crush_bytes::{WriteFault, put, put_all};
+use crush_edits::{Done, Dones, Refusal};
+use itoa::Buffer;
+use std::alloc::{AllocError, Global};
+use std::io::Write;
+
+/// Writes what stands before the call.
+#[tactic(auto, unfolding(crate::specs::HistoryText::line_front))]
+fn write_front<W: Write>(number: u32, operator: &[u8], out: &mut W) -> Result<(), WriteFault>
+    ensures writes { Writes result (W.contents out.old) (W.contents out.new)
+        (line_front number operator.now) }
+    ensures fault { IfErr result (λ fault. fault ≡ WriteFault.Write) }
+{
+    let mut buffer = Buffer::new();
+    let number = buffer.format(number).as_bytes();
+    put_all(
+        out,
+        &[
+            b"# ".as_slice(),
+            number,
+            b" ".as_slice(),
+            operator,
+            b" ".as_slice(),
+        ],
+    )
+}
+
+/// A truth as a digit.
+fn digit_of(is_true: bool) -> &'static [u8]
+    ensures { result.now ≡ digit_of is_true }
+{
+    if is_true { b"1" } else { b"0" }
+}
+
+/// Writes the reply to an edit that was made, and ends the line.
+#[tactic(auto, unfolding(crate::specs::HistoryText::line_end))]
+fn write_done<W: Write>(done: Done, out: &mut W) -> Result<(), WriteFault>
+    ensures writes { Writes result (W.contents out.old) (W.contents out.new)
+        (line_end (Reply.Done done)) }
+    ensures fault { IfErr result (λ fault. fault ≡ WriteFault.Write) }
+{
+    let mut buffer = Buffer::new();
+    let made = buffer.format(done.made).as_bytes();
+    let changed = digit_of(done.changed);
+    put_all(
+        out,
+        &[
+            b" = done changed ".as_slice(),
+            changed,
+            b" made ".as_slice(),
+            made,
+            b"\n".as_slice(),
+        ],
+    )
+}
+
+/// Writes the reply to a batch that was made, and ends the line.
+#[tactic(auto, unfolding(crate::specs::HistoryText::line_end))]
+fn write_dones<W: Write>(dones: Dones, out: &mut W) -> Result<(), WriteFault>
+    ensures writes { Writes result (W.contents out.old) (W.contents out.new)
+        (line_end (Reply.Dones dones)) }
+    ensures fault { IfErr result (λ fault. fault ≡ WriteFault.Write) }
+{
+    let mut edits_buffer = Buffer::new();
+    let edits = edits_buffer.format(dones.edits).as_bytes();
+    let mut changed_buffer = Buffer::new();
+    let changed = changed_buffer.format(dones.changed).as_bytes();
+    let mut made_buffer = Buffer::new();
+    let made = made_buffer.format(dones.made).as_bytes();
+    put_all(
+        out,
+        &[
+            b" = dones ".as_slice(),
+            edits,
+            b" changed ".as_slice(),
+            changed,
+            b" made ".as_slice(),
+            made,
+            b"\n".as_slice(),
+        ],
+    )
+}
+
+/// Writes a refusal's name and its error, and ends the line.
+fn write_refusal<W: Write>(refusal: Refusal, out: &mut W) -> Result<(), WriteFault>
+    ensures writes { Writes result (W.contents out.old) (W.contents out.new)
+        (refusal_text refusal) }
+    ensures fault { IfErr result (λ fault. fault ≡ WriteFault.Write) }
+{
+    let mut buffer = Buffer::new();
+    let error = buffer.format(refusal.error()).as_bytes();
+    let name = refusal.name().as_bytes();
+    put_all(out, &[name, b" ".as_slice(), error, b"\n".as_slice()])
+}
+
+/// Writes the reply to an edit that was refused, and ends the line.
+#[tactic(auto, unfolding(crate::specs::HistoryText::line_end))]
+fn write_refused<W: Write>(refusal: Refusal, out: &mut W) -> Result<(), WriteFault>
+    ensures writes { Writes result (W.contents out.old) (W.contents out.new)
+        (line_end (Reply.Refused refusal)) }
+    ensures fault { IfErr result (λ fault. fault ≡ WriteFault.Write) }
+{
+    put(out, b" = refused ")?;
+    write_refusal(refusal, out)
+}
+
+/// Writes what stands before the refusal of an edit of a batch.
+fn write_refused_at<W: Write>(index: u32, out: &mut W) -> Result<(), WriteFault>
+    ensures writes { Writes result (W.contents out.old) (W.contents out.new)
+        (refused_at_text index) }
+    ensures fault { IfErr result (λ fault. fault ≡ WriteFault.Write) }
+{
+    let mut buffer = Buffer::new();
+    let index = buffer.format(index).as_bytes();
+    put_all(out, &[b" = refused at ".as_slice(), index, b" ".as_slice()])
+}
+
+/// Writes the reply to a batch that was refused, and ends the line.
+#[tactic(auto, unfolding(crate::specs::HistoryText::line_end))]
+fn write_batch_refused<W: Write>(
+    index: u32,
+    refusal: Refusal,
+    out: &mut W,
+) -> Result<(), WriteFault>
+    ensures writes { Writes result (W.contents out.old) (W.contents out.new)
+        (line_end (Reply.BatchRefused index refusal)) }
+    ensures fault { IfErr result (λ fault. fault ≡ WriteFault.Write) }
+{
+    write_refused_at(index, out)?;
+    write_refusal(refusal, out)
+}
+
+/// Writes a reply, and ends the line.
+fn write_reply<W: Write>(reply: Reply, out: &mut W) -> Result<(), WriteFault>
+    ensures writes { Writes result (W.contents out.old) (W.contents out.new) (line_end reply) }
+    ensures fault { IfErr result (λ fault. fault ≡ WriteFault.Write) }
+{
+    match reply {
+        Reply::Done(done) => write_done(done, out),
+        Reply::Dones(dones) => write_dones(dones, out),
+        Reply::Refused(refusal) => write_refused(refusal, out),
+        Reply::BatchRefused(index, refusal) => write_batch_refused(index, refusal, out),
+    }
+}
+
+/// Writes the line of an entry: `# NUMBER OPERATOR CALL = REPLY`.
+///
+/// Entries count from 1. An edit shows as its command, its weight with five decimals, and a batch
+/// as `begin ; EDIT ; .. ; commit`. The reply is `done changed C made M`, where C is 1 or 0,
+/// `dones N changed C made M`, `refused NAME ERROR` or `refused at INDEX NAME ERROR`;
+/// `docs/FORMATS.md` has the form. The line begins with `#`, and so is a comment by the grammar of
+/// a map's text.
+///
+/// It takes no memory, so the one fault is [`WriteFault::Write`], after which the writer holds a
+/// front of the line.
+pub fn write_entry<W: Write>(
+    number: u32,
+    operator: &[u8],
+    call: &Call,
+    reply: Reply,
+    out: &mut W,
+) -> Result<(), WriteFault>
+    ensures writes { Writes result (W.contents out.old) (W.contents out.new)
+        (line_text number operator.now call.now reply) }
+    ensures fault { IfErr result (λ fault. fault ≡ WriteFault.Write) }
+{
+    write_front(number, operator, out)?;
+    write_call(call, out)?;
+    write_reply(reply, out)
+}
+
+/// The name of an operator, by its number.
+fn operator_name(scripts: &[Script], operator: usize) -> &[u8]
+    ensures { result.now ≡ slice_index_or (names_of (scripts_data scripts.now)) operator [] }
+{
+    match scripts.get(operator) {
+        Some(script) => script.name.as_bytes(),
+        None => b"".as_slice(),
+    }
+}
+
+/// The lines of a history, one for each entry, as [`write_entry`] writes it; they count from 1, and
+/// each entry has the name of the script of its operator's number.
+///
+/// They are laid out in memory, so that a whole history is one write, and so that want of memory
+/// shows before anything is written. There are fewer than 2^32 entries, so that each has a number;
+/// a job's are at most 65,536.
+pub fn history_text(
+    alloc: Global,
+    scripts: &[Script],
+    entries: &[Entry<'_>],
+) -> Result<Vec<u8>, AllocError>
+    requires { length entries.now < 2 ^ 32 }
+    ensures { IfOk result (λ text. text.items
+        ≡ entries_text (names_of (scripts_data scripts.now)) 1 (history_data entries.now)) }
+{
+    let mut text = Vec::new(alloc);
+    for (place, entry) in entries.iter().enumerate() {
+        let number = place as u32 + 1;
+        let name = operator_name(scripts, entry.operator);
+        let Ok(()) = write_entry(number, name, entry.call, entry.reply, &mut text) else {
+            return Err(AllocError);
+        };
+    }
+    Ok(text)
+}

@@ -1,0 +1,18 @@
+//! What operators ask of a map and what it answers: calls and replies, scripts of calls, their runs
+//! in turn, and the lines of a history.
+#![tactic(auto)]
+
+mod call;
+mod entry;
+mod history;
+mod law;
+mod printed;
+mod script;
+mod turns;
+
+pub use call::{Call, Edits, Reply};
+pub use entry::{Entry, count_changes};
+pub use history::{history_text, write_entry};
+pub use law::{runs_keep_lawful, turns_are_history};
+pub use script::Script;
+pub use turns::run_in_turn;

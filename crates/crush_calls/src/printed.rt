@@ -1,0 +1,208 @@
+//! Calls, as the lines of a history show them.
+
+ghost use Rattle.std.specs.Prelude.{◌≡◌, ◌++◌, codes, IfErr};
+ghost use Rattle.crush_bytes.specs.Writes.{Writes};
+ghost use Rattle.crush_calls.specs.HistoryText.{pair_text, pairs_text, one_name, two_names, weighed, edit_text, edits_text, call_text};
+
+use crate::call::Call;
+use crush_bytes::{WriteFault, put, put_all};
+use crush_edits::{Edit, Location, Pair};
+use crush_units::{Name, Weight};
+use std::alloc::Global;
+use std::io::Write;
+
+/// Writes a first word and a name.
+fn write_one_name<W: Write>(
+    first: &[u8],
+    name: &Name<Global>,
+    out: &mut W,
+) -> Result<(), WriteFault>
+    ensures writes { Writes result (W.contents out.old) (W.contents out.new)
+        (one_name first.now name.now) }
+    ensures fault { IfErr result (λ fault. fault ≡ WriteFault.Write) }
+{
+    put_all(out, &[first, b" ".as_slice(), name.as_bytes()])
+}
+
+/// Writes a first word and two names.
+fn write_two_names<W: Write>(
+    first: &[u8],
+    a: &Name<Global>,
+    b: &Name<Global>,
+    out: &mut W,
+) -> Result<(), WriteFault>
+    ensures writes { Writes result (W.contents out.old) (W.contents out.new)
+        (two_names first.now a.now b.now) }
+    ensures fault { IfErr result (λ fault. fault ≡ WriteFault.Write) }
+{
+    put_all(
+        out,
+        &[
+            first,
+            b" ".as_slice(),
+            a.as_bytes(),
+            b" ".as_slice(),
+            b.as_bytes(),
+        ],
+    )
+}
+
+/// Writes a first word, a name and a weight.
+fn write_weighed<W: Write>(
+    first: &[u8],
+    name: &Name<Global>,
+    weight: Weight,
+    out: &mut W,
+) -> Result<(), WriteFault>
+    ensures writes { Writes result (W.contents out.old) (W.contents out.new)
+        (weighed first.now name.now weight) }
+    ensures fault { IfErr result (λ fault. fault ≡ WriteFault.Write) }
+{
+    let mut digits = [0u8; 16];
+    let len = weight.text(&mut digits);
+    let (weight, _) = digits.split_at(len);
+    put_all(
+        out,
+        &[
+            first,
+            b" ".as_slice(),
+            name.as_bytes(),
+            b" ".as_slice(),
+            weight,
+        ],
+    )
+}
+
+/// Writes a pair, behind a space.
+fn write_pair<W: Write>(pair: &Pair, out: &mut W) -> Result<(), WriteFault>
+    ensures writes { Writes result (W.contents out.old) (W.contents out.new) (pair_text pair.now) }
+    ensures fault { IfErr result (λ fault. fault ≡ WriteFault.Write) }
+{
+    put_all(
+        out,
+        &[
+            b" ".as_slice(),
+            pair.kind.as_bytes(),
+            b"=".as_slice(),
+            pair.name.as_bytes(),
+        ],
+    )
+}
+
+/// Writes the pairs of a location, in order.
+fn write_pairs<W: Write>(pairs: &[Pair], out: &mut W) -> Result<(), WriteFault>
+    ensures writes { Writes result (W.contents out.old) (W.contents out.new)
+        (pairs_text pairs.now) }
+    ensures fault { IfErr result (λ fault. fault ≡ WriteFault.Write) }
+{
+    for pair in pairs {
+        write_pair(pair, out)?;
+    }
+    Ok(())
+}
+
+/// Writes a first word, a device with its weight, and its location.
+fn write_placing<W: Write>(
+    first: &[u8],
+    name: &Name<Global>,
+    weight: Weight,
+    at: &Location,
+    out: &mut W,
+) -> Result<(), WriteFault>
+    ensures writes { Writes result (W.contents out.old) (W.contents out.new)
+        (weighed first.now name.now weight ++ pairs_text at.now) }
+    ensures fault { IfErr result (λ fault. fault ≡ WriteFault.Write) }
+{
+    write_weighed(first, name, weight, out)?;
+    write_pairs(at.pairs(), out)
+}
+
+/// Writes a move of an item.
+fn write_move<W: Write>(name: &Name<Global>, at: &Location, out: &mut W) -> Result<(), WriteFault>
+    ensures writes { Writes result (W.contents out.old) (W.contents out.new)
+        (one_name (codes "move") name.now ++ pairs_text at.now) }
+    ensures fault { IfErr result (λ fault. fault ≡ WriteFault.Write) }
+{
+    write_one_name(b"move", name, out)?;
+    write_pairs(at.pairs(), out)
+}
+
+/// Writes the command of an edit.
+fn write_edit<W: Write>(edit: &Edit, out: &mut W) -> Result<(), WriteFault>
+    ensures writes { Writes result (W.contents out.old) (W.contents out.new) (edit_text edit.now) }
+    ensures fault { IfErr result (λ fault. fault ≡ WriteFault.Write) }
+{
+    match edit {
+        Edit::Insert {
+            name,
+            weight,
+            at,
+            ..
+        } => write_placing(b"add", name, *weight, at, out),
+        Edit::CreateOrMove {
+            name,
+            weight,
+            at,
+            ..
+        } => write_placing(b"create-or-move", name, *weight, at, out),
+        Edit::Update {
+            name,
+            weight,
+            at,
+            ..
+        } => write_placing(b"set", name, *weight, at, out),
+        Edit::Move { name, at } => write_move(name, at, out),
+        Edit::Swap { a, b } => write_two_names(b"swap-bucket", a, b, out),
+        Edit::Reweight { name, weight } => write_weighed(b"reweight", name, *weight, out),
+        Edit::ReweightSubtree { name, weight } => {
+            write_weighed(b"reweight-subtree", name, *weight, out)
+        }
+        Edit::Remove { name } => write_one_name(b"rm", name, out),
+        Edit::AddBucket { name, kind } => write_two_names(b"add-bucket", name, kind, out),
+        Edit::Rename { from, to } => write_two_names(b"rename-bucket", from, to, out),
+    }
+}
+
+/// Writes an edit of a batch, and what separates it from what follows.
+fn write_edit_of_batch<W: Write>(edit: &Edit, out: &mut W) -> Result<(), WriteFault>
+    ensures writes { Writes result (W.contents out.old) (W.contents out.new)
+        (edit_text edit.now ++ codes " ; ") }
+    ensures fault { IfErr result (λ fault. fault ≡ WriteFault.Write) }
+{
+    write_edit(edit, out)?;
+    put(out, b" ; ")
+}
+
+/// Writes the edits of a batch.
+fn write_edits<W: Write>(edits: &[Edit], out: &mut W) -> Result<(), WriteFault>
+    ensures writes { Writes result (W.contents out.old) (W.contents out.new)
+        (edits_text edits.now) }
+    ensures fault { IfErr result (λ fault. fault ≡ WriteFault.Write) }
+{
+    for edit in edits {
+        write_edit_of_batch(edit, out)?;
+    }
+    Ok(())
+}
+
+/// Writes a batch.
+fn write_batch<W: Write>(edits: &[Edit], out: &mut W) -> Result<(), WriteFault>
+    ensures writes { Writes result (W.contents out.old) (W.contents out.new)
+        (codes "begin ; " ++ (edits_text edits.now ++ codes "commit")) }
+    ensures fault { IfErr result (λ fault. fault ≡ WriteFault.Write) }
+{
+    put(out, b"begin ; ")?;
+    write_edits(edits, out)?;
+    put(out, b"commit")
+}
+
+/// Writes a call.
+pub(crate) fn write_call<W: Write>(call: &Call, out: &mut W) -> Result<(), WriteFault>
+    ensures writes { Writes result (W.contents out.old) (W.contents out.new) (call_text call.now) }
+    ensures fault { IfErr result (λ fault. fault ≡ WriteFault.Write) }
+{
+    match call {
+        Call::One(edit) => write_edit(edit, out),
+        Call::Batch(edits) => write_batch(edits.as_slice(), out),
+    }
+}

@@ -1,7 +1,0 @@
-use Rattle.std.proofs.Common.{ap, ◌∙◌}
-use Rattle.crush_edits.specs.Setting.{kind_number}
-use Rattle.crush_edits.proofs.SettingLaws.{number_found}
-use Rattle.crush_edits.proofs.setting.Setting.kind_number.Goals as goal
-
-pub returns : goal.returns
-returns c = c.number_of.ensures ∙ rw c.deref.ensures.value (number_found c.args.name.now c.self.inside.kinds.items) ∙ ap (λ s. kind_number s c.args.name.now) c.self.view_is

@@ -1,0 +1,163 @@
+-- The edits that lines say are of the forms that are printed and read.
+use Rattle.std.proofs.Common.{◌≡◌, ℕ, ◌<◌, ◌^◌, ◌&&◌, true, List, [], ◌∷◌, ◌++◌, Option, Some, None, Result, Ok, Err, length, nat_lt, nat_le, refl, arith, length-append}
+use Rattle.std.proofs.lemmas.Bool.Decides.{nat_tests}
+use Rattle.std.proofs.lemmas.List.Elements.{All-nil, All-push}
+use Rattle.std.specs.Prelude.{IfOk, bytes_eq, codes}
+use Rattle.crush_units.specs.Name.{IsName, is_name}
+use Rattle.crush_units.specs.Weight.{weight_of_text, is_weight_text, units_of, number_in, fraction_of}
+use Rattle.crush_units.specs.declared.weight.WeightFault.{WeightFault}
+use Rattle.crush_units.proofs.Names.{is_name_holds, both_true}
+use Rattle.crush_edits.specs.declared.location.Pair.{Pair}
+use Rattle.crush_edits.specs.Pushed.{IsLocation}
+use Rattle.crush_script.specs.declared.command.Command.{Command}
+use Rattle.crush_script.specs.declared.command.Command.TheVariants as says
+use Rattle.crush_script.specs.declared.command.Keyword.{Keyword}
+use Rattle.crush_script.specs.declared.command.Keyword.TheVariants as word
+use Rattle.crush_script.specs.declared.command.Placement.{Placement}
+use Rattle.crush_script.specs.declared.command.Placement.TheVariants as place
+use Rattle.crush_script.specs.declared.command.Placing.{Placing}
+use Rattle.crush_script.specs.Words.{pair_of, can_add, device_named}
+use Rattle.crush_script.specs.Command.{name_at, read_weight, weight_at, end_at, with_pair, with_pairs, location_at, the_device, placing_at, located_at, one_name_at, two_names_at, weighed_at, keyword_of, placed, edit_of, edit_by, edit_at, command, operator}
+use Rattle.crush_script.specs.Printed.{IsPlacing, IsSaid, ReadIsSaid}
+use Rattle.crush_script.proofs.Oks.{bind-if_ok_at, if_ok-either, if_ok-then, if_ok-passed, if_ok-at}
+
+-- WORDS: a name
+name_said : (words : List (List ℕ)) → IfOk (name_at words) (λ r. IsName r.value)
+unfolding name_at
+name_said [] = tt
+name_said (word ∷ rest) = if_ok-passed _ _ (is_name word) (λ r. IsName r.value) (is_name_holds word)
+
+-- a weight
+units_said : (text : List ℕ) → IfOk (weight_of_text text) (λ units. units < 2 ^ 32)
+units_said text =
+    let units = units_of (number_in text) (length (fraction_of text)) in
+    if_ok-then _ _ (is_weight_text text) (λ u. u < 2 ^ 32) (if_ok-passed units _ (nat_le units 4294967295) (λ u. u < 2 ^ 32) (λ few. grind (arith, nat_tests, few)))
+
+weight_said : (words : List (List ℕ)) → IfOk (weight_at words) (λ r. r.value < 2 ^ 32)
+unfolding weight_at
+weight_said [] = tt
+weight_said (word ∷ rest) = at (weight_of_text word) (units_said word)
+  where
+    at : (r : Result ℕ WeightFault) → IfOk r (λ units. units < 2 ^ 32) → IfOk (read_weight r rest) (λ r. r.value < 2 ^ 32)
+    at (Ok units) few = few
+    at (Err fault) few = tt
+
+-- a device
+device_said : (o : Option ℕ) → IfOk (the_device o) (λ d. o ≡ Some d)
+device_said None = tt
+device_said (Some d) = refl
+
+-- a location
+pair_said : (l : List Pair) (word : List ℕ) → IsLocation l → IfOk (with_pair l word) IsLocation
+unfolding with_pair
+pair_said l word is = if_ok-passed _ _ (can_add l (pair_of word)) IsLocation one_more
+  where
+    one_more : can_add l (pair_of word) ≡ true → IsLocation (l ++ pair_of word ∷ [])
+    one_more can =
+        let p = pair_of word in
+        let outer = both_true (nat_lt (length l) 16) (is_name p.kind && is_name p.name) can in
+        let inner = both_true (is_name p.kind) (is_name p.name) outer.1 in
+        let room : length l < 16 = grind (arith, nat_tests, outer.0) in
+        record {
+          few = omega (arith, length-append l (p ∷ []), room);
+          kinds = All-push (λ (q : Pair). IsName q.kind) l p is.kinds (is_name_holds p.kind inner.0);
+          names = All-push (λ (q : Pair). IsName q.name) l p is.names (is_name_holds p.name inner.1);
+        }
+
+pairs_said : (l : List Pair) (words : List (List ℕ)) → IsLocation l → IfOk (with_pairs l words) IsLocation
+unfolding with_pairs
+pairs_said l [] is = is
+pairs_said l (word ∷ rest) is = bind-if_ok_at (with_pair l word) (λ more. with_pairs more rest) IsLocation IsLocation (pair_said l word is) (λ more. pairs_said more rest)
+
+location_said : (words : List (List ℕ)) → IfOk (location_at words) IsLocation
+unfolding location_at
+location_said words = pairs_said [] words (record { few = omega arith; kinds = All-nil (λ (q : Pair). IsName q.kind); names = All-nil (λ (q : Pair). IsName q.name) })
+
+-- no word is left
+end_said : {X : Type 0} (value : X) (words : List (List ℕ)) (P : X → Type 0) → P value → IfOk (end_at value words) P
+unfolding end_at
+end_said value [] P h = h
+end_said value (word ∷ rest) P h = tt
+
+-- FORMS of commands
+placing_said : (words : List (List ℕ)) → IfOk (placing_at words) (λ p. IsPlacing p.device p.name p.weight p.at)
+unfolding placing_at
+placing_said words =
+    bind-if_ok_at (name_at words) _ _ (λ r. IsName r.value) (name_said words) (λ name is_name.
+    bind-if_ok_at (the_device (device_named name.value)) _ _ (λ d. device_named name.value ≡ Some d) (device_said (device_named name.value)) (λ device is_device.
+    bind-if_ok_at (weight_at name.rest) _ _ (λ r. r.value < 2 ^ 32) (weight_said name.rest) (λ weight is_weight.
+    bind-if_ok_at (location_at weight.rest) _ _ IsLocation (location_said weight.rest) (λ at is_location.
+    record { name = is_name; device = is_device; weight = is_weight; at = is_location }))))
+
+located_said : (words : List (List ℕ)) → IfOk (located_at words) (λ p. IsName p.0 × IsLocation p.1)
+unfolding located_at
+located_said words =
+    bind-if_ok_at (name_at words) _ _ (λ r. IsName r.value) (name_said words) (λ name is_name.
+    bind-if_ok_at (location_at name.rest) _ _ IsLocation (location_said name.rest) (λ at is_location. (is_name, is_location)))
+
+one_name_said : (words : List (List ℕ)) → IfOk (one_name_at words) IsName
+unfolding one_name_at
+one_name_said words = bind-if_ok_at (name_at words) _ _ (λ r. IsName r.value) (name_said words) (λ name is_name. end_said name.value name.rest IsName is_name)
+
+two_names_said : (words : List (List ℕ)) → IfOk (two_names_at words) (λ p. IsName p.0 × IsName p.1)
+unfolding two_names_at
+two_names_said words =
+    bind-if_ok_at (name_at words) _ _ (λ r. IsName r.value) (name_said words) (λ first is_first.
+    bind-if_ok_at (name_at first.rest) _ _ (λ r. IsName r.value) (name_said first.rest) (λ second is_second.
+    end_said (first.value, second.value) second.rest (λ p. IsName p.0 × IsName p.1) (is_first, is_second)))
+
+weighed_said : (words : List (List ℕ)) → IfOk (weighed_at words) (λ p. IsName p.0 × (p.1 < 2 ^ 32))
+unfolding weighed_at
+weighed_said words =
+    bind-if_ok_at (name_at words) _ _ (λ r. IsName r.value) (name_said words) (λ name is_name.
+    bind-if_ok_at (weight_at name.rest) _ _ (λ r. r.value < 2 ^ 32) (weight_said name.rest) (λ weight is_weight.
+    end_said (name.value, weight.value) weight.rest (λ p. IsName p.0 × (p.1 < 2 ^ 32)) (is_name, is_weight)))
+
+-- COMMANDS
+placed_said : (how : Placement) (p : Placing) → IsPlacing p.device p.name p.weight p.at → IsSaid (placed how p)
+placed_said place.Add p is = is
+placed_said place.Set p is = is
+placed_said place.CreateOrMove p is = is
+
+edit_of_said : (keyword : Keyword) (rest : List (List ℕ)) → IfOk (edit_of keyword rest) IsSaid
+edit_of_said (word.Place how) rest = bind-if_ok_at (placing_at rest) _ IsSaid _ (placing_said rest) (placed_said how)
+edit_of_said word.Move rest = bind-if_ok_at (located_at rest) _ IsSaid _ (located_said rest) (λ p is. is)
+edit_of_said word.SwapBucket rest = bind-if_ok_at (two_names_at rest) _ IsSaid _ (two_names_said rest) (λ p is. is)
+edit_of_said word.Reweight rest = bind-if_ok_at (weighed_at rest) _ IsSaid _ (weighed_said rest) (λ p is. is)
+edit_of_said word.ReweightSubtree rest = bind-if_ok_at (weighed_at rest) _ IsSaid _ (weighed_said rest) (λ p is. is)
+edit_of_said word.Rm rest = bind-if_ok_at (one_name_at rest) _ IsSaid _ (one_name_said rest) (λ name is. is)
+edit_of_said word.AddBucket rest = bind-if_ok_at (two_names_at rest) _ IsSaid _ (two_names_said rest) (λ p is. is)
+edit_of_said word.RenameBucket rest = bind-if_ok_at (two_names_at rest) _ IsSaid _ (two_names_said rest) (λ p is. is)
+
+edit_said : (first : List ℕ) (rest : List (List ℕ)) → IfOk (edit_at first rest) IsSaid
+unfolding edit_at
+edit_said first rest = at (keyword_of first)
+  where
+    at : (o : Option Keyword) → IfOk (edit_by o rest) IsSaid
+    at None = tt
+    at (Some keyword) = edit_of_said keyword rest
+
+-- a line that begins no section, and has an edit
+abbrev pub HasSaid : Command → Type 0
+HasSaid says.Nothing = Unit {0}
+HasSaid (says.Edit e) = IsSaid e
+HasSaid says.Begin = Unit {0}
+HasSaid says.Commit = Unit {0}
+
+pub command_said : (words : List (List ℕ)) → IfOk (command words) HasSaid
+unfolding command
+command_said [] = tt
+command_said (first ∷ rest) =
+    if_ok-either _ _ (bytes_eq first (codes "begin")) HasSaid (end_said says.Begin rest HasSaid tt)
+    (if_ok-either _ _ (bytes_eq first (codes "commit")) HasSaid (end_said says.Commit rest HasSaid tt)
+    (bind-if_ok_at (edit_at first rest) (λ edit. Ok (says.Edit edit)) HasSaid IsSaid (edit_said first rest) (λ e is. is)))
+
+pub read_is_said : ReadIsSaid
+read_is_said words e is = if_ok-at (command words) (says.Edit e) HasSaid is (command_said words)
+
+-- a line that begins a section
+pub operator_said : (words : List (List ℕ)) → IfOk (operator words) IsName
+unfolding operator
+operator_said [] = tt
+operator_said (first ∷ rest) =
+    if_ok-then _ _ (bytes_eq first (codes "%operator")) IsName (bind-if_ok_at (name_at rest) _ IsName (λ r. IsName r.value) (name_said rest) (λ name is. end_said name.value name.rest IsName is))

@@ -1,0 +1,103 @@
+-- The scripts of a job are of the forms that are printed and read.
+use Rattle.std.proofs.Common.{ℕ, ◌+◌, List, [], ◌∷◌, Option, Some, None, Result, Ok, Err, length, nat_le, subst}
+use Rattle.std.proofs.lemmas.List.Elements.{All-nil, All-cons, All-head, All-tail, All-push}
+use Rattle.std.specs.Prelude.{All, IfOk, IfSome}
+use Rattle.crush_units.specs.Name.{IsName}
+use Rattle.crush_edits.specs.declared.edit.Edit.{Edit}
+use Rattle.crush_calls.specs.declared.call.Call.{Call}
+use Rattle.crush_calls.specs.declared.call.Call.TheVariants.{One, Batch}
+use Rattle.crush_calls.specs.Script.{ScriptData}
+use Rattle.crush_script.specs.declared.command.Command.{Command}
+use Rattle.crush_script.specs.declared.command.Command.TheVariants as says
+use Rattle.crush_script.specs.declared.command.LineFault.{LineFault}
+use Rattle.crush_script.specs.declared.sections.BegunBatch.{BegunBatch}
+use Rattle.crush_script.specs.Command.{◌>>=◌, command, operator}
+use Rattle.crush_script.specs.Lines.{lines, section_part, section_line, line_words, begins_section}
+use Rattle.crush_script.specs.Sections.{SectionsData, no_sections, call_in_last, in_line, without_batch, closed, has_operator, with_section, counted, with_call, with_edit, with_begin, with_commit, with_command, with_line, with_lines, sections_of}
+use Rattle.crush_script.specs.Job.{JobData, IsJob}
+use Rattle.crush_script.specs.Printed.{IsSaid}
+use Rattle.crush_script.proofs.Oks.{bind-if_ok_at, if_ok-either, if_ok-else, if_ok-at}
+use Rattle.crush_script.proofs.Said.{HasSaid, command_said, operator_said}
+
+-- the edits of a call
+abbrev pub IsSaidCall : Call → Type 0
+IsSaidCall (One e) = IsSaid e
+IsSaidCall (Batch es) = All IsSaid es
+
+-- a script
+pub record IsSaidScript (x : ScriptData) : Type 0 where
+  pub name : IsName x.name
+  pub calls : All IsSaidCall x.calls
+
+-- what the lines so far say
+record AreSaid (s : SectionsData) : Type 0 where
+  scripts : All IsSaidScript s.scripts
+  begun : IfSome s.begun (λ b. All IsSaid b.edits)
+
+section_said : (number : ℕ) (s : SectionsData) (name : List ℕ) → AreSaid s → IsName name → IfOk (with_section number s name) AreSaid
+section_said number s name said is =
+    let script : ScriptData = record { name = name; calls = [] } in
+    if_ok-else _ _ (nat_le 16 (length s.scripts)) AreSaid
+    (if_ok-else _ _ (has_operator s.scripts name) AreSaid (record { scripts = All-push IsSaidScript s.scripts script said.scripts (record { name = is; calls = All-nil IsSaidCall }); begun = said.begun }))
+
+closed_said : (s : SectionsData) → AreSaid s → IfOk (closed s) AreSaid
+closed_said s said = at s.begun
+  where
+    at : (o : Option BegunBatch) → IfOk (without_batch s o) AreSaid
+    at None = said
+    at (Some b) = tt
+
+counted_said : (number : ℕ) (s : SectionsData) → AreSaid s → IfOk (counted number s) AreSaid
+counted_said number s said = if_ok-else _ _ (nat_le 65536 s.calls) AreSaid (record { scripts = said.scripts; begun = said.begun })
+
+in_last_said : (c : Call) (scripts : List ScriptData) → IsSaidCall c → All IsSaidScript scripts → All IsSaidScript (call_in_last c scripts)
+in_last_said c [] is all = all
+in_last_said c (x ∷ []) is all =
+    let own = All-head IsSaidScript x [] all in
+    All-cons IsSaidScript _ [] (record { name = own.name; calls = All-push IsSaidCall x.calls c own.calls is }) (All-nil IsSaidScript)
+in_last_said c (x ∷ y ∷ rest) is all = All-cons IsSaidScript x _ (All-head IsSaidScript x (y ∷ rest) all) (in_last_said c (y ∷ rest) is (All-tail IsSaidScript x (y ∷ rest) all))
+
+edit_said : (number : ℕ) (s : SectionsData) (o : Option BegunBatch) (e : Edit) → IfSome o (λ b. All IsSaid b.edits) → AreSaid s → IsSaid e → IfOk (with_edit number s o e) AreSaid
+edit_said number s None e begun said is =
+    bind-if_ok_at (counted number s) (λ more. Ok (with_call (One e) more)) AreSaid AreSaid (counted_said number s said) (λ more h. record { scripts = in_last_said (One e) more.scripts is h.scripts; begun = h.begun })
+edit_said number s (Some b) e begun said is = if_ok-else _ _ (nat_le 65536 (length b.edits)) AreSaid (record { scripts = said.scripts; begun = All-push IsSaid b.edits e begun is })
+
+begin_said : (number : ℕ) (s : SectionsData) (o : Option BegunBatch) → AreSaid s → IfOk (with_begin number s o) AreSaid
+begin_said number s None said =
+    bind-if_ok_at (counted number s) (λ more. Ok (record more { begun = Some (record { line = number; edits = [] }) })) AreSaid AreSaid (counted_said number s said) (λ more h. record { scripts = h.scripts; begun = All-nil IsSaid })
+begin_said number s (Some b) said = tt
+
+commit_said : (number : ℕ) (s : SectionsData) (o : Option BegunBatch) → IfSome o (λ b. All IsSaid b.edits) → AreSaid s → IfOk (with_commit number s o) AreSaid
+commit_said number s None begun said = tt
+commit_said number s (Some b) begun said = record { scripts = in_last_said (Batch b.edits) s.scripts begun said.scripts; begun = tt }
+
+obeyed_said : (number : ℕ) (s : SectionsData) (c : Command) → AreSaid s → HasSaid c → IfOk (with_command number s c) AreSaid
+obeyed_said number s says.Nothing said is = said
+obeyed_said number s (says.Edit e) said is = edit_said number s s.begun e said.begun said is
+obeyed_said number s says.Begin said is = begin_said number s s.begun said
+obeyed_said number s says.Commit said is = commit_said number s s.begun said.begun said
+
+-- told with the number of its line, a result is the same
+in_line_said : {X : Type 0} (number : ℕ) (r : Result X LineFault) (P : X → Type 0) → IfOk r P → IfOk (in_line number r) P
+in_line_said number (Ok x) P h = h
+in_line_said number (Err fault) P h = tt
+
+line_said : (number : ℕ) (s : SectionsData) (text : List ℕ) → AreSaid s → IfOk (with_line number s text) AreSaid
+unfolding with_line
+line_said number s text said =
+    if_ok-either _ _ (begins_section text) AreSaid
+    (bind-if_ok_at (closed s) (λ r. in_line number (operator (line_words text)) >>= λ name. with_section number r name) AreSaid AreSaid (closed_said s said) (λ r h.
+    bind-if_ok_at (in_line number (operator (line_words text))) (λ name. with_section number r name) AreSaid IsName (in_line_said number _ IsName (operator_said (line_words text))) (λ name is. section_said number r name h is)))
+    (bind-if_ok_at (in_line number (command (line_words text))) (λ c. with_command number s c) AreSaid HasSaid (in_line_said number _ HasSaid (command_said (line_words text))) (λ c is. obeyed_said number s c said is))
+
+lines_said : (number : ℕ) (s : SectionsData) (lines : List (List ℕ)) → AreSaid s → IfOk (with_lines number s lines) AreSaid
+unfolding with_lines
+lines_said number s [] said = closed_said s said
+lines_said number s (text ∷ rest) said =
+    bind-if_ok_at (with_line number s text) (λ next. with_lines (number + 1) next rest) AreSaid AreSaid (line_said number s text said) (λ next h. lines_said (number + 1) next rest h)
+
+pub job_said : (bytes : List ℕ) (job : JobData) → IsJob bytes job → All IsSaidScript job.scripts
+job_said bytes job is =
+    let none : AreSaid no_sections = record { scripts = All-nil IsSaidScript; begun = tt } in
+    let said : AreSaid is.said = if_ok-at (sections_of bytes) is.said AreSaid is.sections (lines_said (section_line bytes) no_sections (lines (section_part bytes)) none) in
+    subst (λ (xs : List ScriptData). All IsSaidScript xs) is.scripts said.scripts
