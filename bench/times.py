@@ -1,12 +1,16 @@
-"""Measures jobs of crushedit beside Ceph's crushtool and `wc` on the same bytes, in one run.
+"""Measures jobs of crushedit beside Ceph's crushtool and `wc` on the same bytes, in one run, and beside another
+program that does such jobs, as an earlier crushedit.
 
     python3 bench/times.py crates/crushedit/out/crushedit
     python3 bench/times.py crates/crushedit/out/crushedit --devices 1000 --calls 1 1000 --rules --repeat 5
+    python3 bench/times.py crates/crushedit/out/crushedit --beside earlier/crushedit
 
-For each size of a map and each number of calls it prints the seconds of crushedit on the job, of crushtool,
-which compiles the map and decompiles it again and makes no call, and of `wc`, and how often crushedit takes
-the time of each of the two. Each time is the least of the repeats, of the whole process. A `-` stands where a
-run takes longer than the limit, or where there is no crushtool.
+For each size of a map and each number of calls it prints the seconds of crushedit on the job, of the program
+beside it, of crushtool, which compiles the map and decompiles it again and makes no call, and of `wc`, and how
+often crushedit takes the time of each of them. Each time is the least of the repeats, of the whole process; the
+programs take turns, so that all are measured on the same machine as busy as it is. Then it prints the most
+memory that crushedit, the program beside it and crushtool had, in MiB, each of one more run under GNU `time`.
+A `-` stands where a run takes longer than the limit, or where there is no crushtool or no GNU `time`.
 """
 
 import argparse
@@ -31,57 +35,90 @@ def seconds(commands, limit):
     return time.perf_counter() - start
 
 
-def least(commands, limit, repeat):
-    times = []
+def least(contenders, limit, repeat):
+    """The least time of each contender that there is. They take turns; one that was past the limit gets no more."""
+    times = {name: [] for name in contenders}
     for _ in range(repeat):
-        times.append(seconds(commands, limit))
-        if times[-1] is None:
-            return None
-    return min(times)
+        for name, commands in contenders.items():
+            if None not in times[name]:
+                times[name].append(seconds(commands, limit))
+    return {name: None if None in taken else min(taken) for name, taken in times.items()}
 
 
-def shown(time_taken):
-    return "-" if time_taken is None else f"{time_taken:.3f}"
+def memory(commands):
+    """The most memory that one of the commands has, in MiB; None without GNU time.
+
+    It is GNU time that starts them: what the system tells of a process counts what the starting one had, and
+    Python has more than a small job takes."""
+    teller = shutil.which("time")
+    if teller is None:
+        return None
+    most = 0
+    for words, path in commands:
+        with open(path, "rb") as stdin, tempfile.NamedTemporaryFile("r") as told:
+            words = [teller, "-f", "%M", "-o", told.name, *words]
+            subprocess.run(words, stdin=stdin, stdout=subprocess.DEVNULL, check=True)
+            most = max(most, int(told.read()))
+    return most / 1024
+
+
+def shown(number, decimals):
+    return "-" if number is None else f"{number:.{decimals}f}"
 
 
 def ratio(ours, other):
-    return "-" if ours is None or other is None else f"{ours / other:.2f}"
+    return None if ours is None or other is None else ours / other
 
 
-def row(program, folder, devices, calls, options):
+def row(folder, devices, calls, options):
     text = map_text(devices, options.rules)
     files = {name: os.path.join(folder, name) for name in ["map.txt", "map.bin", "job"]}
     with open(files["map.txt"], "w") as out:
         out.write(text)
     with open(files["job"], "w") as out:
         out.write(text + script(devices, calls))
-    ours = least([([program], files["job"])], options.limit, options.repeat)
-    words = least([(["wc"], files["job"])], options.limit, options.repeat)
-    theirs = None
+    contenders = {"crushedit": [([os.path.abspath(options.program)], files["job"])]}
+    if options.beside:
+        contenders["beside"] = [([os.path.abspath(options.beside)], files["job"])]
     if shutil.which("crushtool"):
         compiled = ["crushtool", "-c", files["map.txt"], "-o", files["map.bin"]]
         printed = ["crushtool", "-d", files["map.bin"]]
-        theirs = least([(compiled, os.devnull), (printed, os.devnull)], options.limit, options.repeat)
-    times = [shown(one) for one in [ours, theirs, words]]
-    return [str(devices), str(calls), *times, ratio(ours, theirs), ratio(ours, words)]
+        contenders["crushtool"] = [(compiled, os.devnull), (printed, os.devnull)]
+    contenders["wc"] = [(["wc"], files["job"])]
+    times = least(contenders, options.limit, options.repeat)
+    cells = [str(devices), str(calls)]
+    cells += [shown(times.get(name), 3) for name in names(options)]
+    cells += [shown(ratio(times["crushedit"], times.get(name)), 2) for name in names(options)[1:]]
+    for name in names(options)[:-1]:
+        within = times.get(name) is not None
+        cells.append(shown(memory(contenders[name]) if within else None, 1))
+    return cells
+
+
+def names(options):
+    return ["crushedit"] + (["beside"] if options.beside else []) + ["crushtool", "wc"]
 
 
 def main():
     parser = argparse.ArgumentParser(description=__doc__.splitlines()[0])
     parser.add_argument("program")
+    parser.add_argument("--beside", metavar="PROGRAM", help="another program that does the same jobs")
     parser.add_argument("--devices", type=int, nargs="+", default=[1000, 10000])
     parser.add_argument("--calls", type=int, nargs="+", default=[1, 1000, 10000])
     parser.add_argument("--rules", action="store_true", help="maps with tunables and a rule")
     parser.add_argument("--repeat", type=int, default=3)
     parser.add_argument("--limit", type=float, default=300.0, help="seconds that a run may take")
     options = parser.parse_args()
-    head = ["devices", "calls", "crushedit", "crushtool", "wc", "/crushtool", "/wc"]
-    print(" ".join(f"{cell:>10}" for cell in head))
+    head = ["devices", "calls", *names(options)]
+    head += [f"/{name}" for name in names(options)[1:]]
+    head += ["MiB"] + [f"{name} MiB" for name in names(options)[1:-1]]
+    widths = [max(10, len(cell)) for cell in head]
+    print(" ".join(f"{cell:>{width}}" for cell, width in zip(head, widths)))
     with tempfile.TemporaryDirectory() as folder:
         for devices in options.devices:
             for calls in options.calls:
-                cells = row(os.path.abspath(options.program), folder, devices, calls, options)
-                print(" ".join(f"{cell:>10}" for cell in cells), flush=True)
+                cells = row(folder, devices, calls, options)
+                print(" ".join(f"{cell:>{width}}" for cell, width in zip(cells, widths)), flush=True)
 
 
 if __name__ == "__main__":

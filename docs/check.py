@@ -3,7 +3,10 @@
 
 Each name in backticks has to stand in the crates: a function, a type, a definition, a clause, a file or
 an edit that must fail. In a table whose head has a column of must-fail edits, each name of that column has
-to be the file of one; and each such file has to be named by a page. Prints what is missing, and ends with
+to be the file of one; and each such file has to be named by a page. In a table that has a column of code
+too, each cell of it has to name files of the crates in backticks, from the crate down, and each edit of
+the row has to change one of them. Of FORMATS.md, DECISIONS.md and README.md, which name words of jobs and
+of Ceph beside names of the code, only those columns are looked at. Prints what is missing, and ends with
 status 1 where anything is.
 """
 import pathlib
@@ -57,14 +60,37 @@ def quoted(text):
     return re.findall(r"`([^`]+)`", text)
 
 
+def changed_file(edit):
+    """The file that an edit changes, from the crate down."""
+    changed = re.match(r"file: *(\S+)", edit.read_text()).group(1)
+    return f"{edit.parent.parent.name}/{changed}"
+
+
+def code_faults(head, rows, changed):
+    """What is wrong with the column of code of a table, if it has one."""
+    for row in (dict(zip(head, row)) for row in rows):
+        code = quoted(row.get("Code", ""))
+        if row.get("Code") and not code:
+            yield f"no file in {row['Code']}"
+        for name in code:
+            if not (TOP / "crates" / name).is_file():
+                yield f"no file crates/{name}"
+        for column in (column for column in row if code and "ust-fail" in column):
+            for name in quoted(row[column]):
+                if changed.get(name, code[0]) not in code:
+                    yield f"{name} changes {changed[name]}"
+
+
 def main():
     words = known_words()
-    edits = {path.stem for path in crate_files() if path.suffix == ".edit"}
+    changed = {path.stem: changed_file(path) for path in crate_files() if path.suffix == ".edit"}
+    edits = set(changed)
     files = {str(path.relative_to(TOP)) for path in TOP.rglob("*") if ".git" not in path.parts}
     faults, named = [], set()
     for page in PAGES:
         text = re.sub(r"```.*?```", "", page.read_text(), flags=re.S)
         for head, rows in tables(text):
+            faults += [f"{page.name}: {fault}" for fault in code_faults(head, rows, changed)]
             columns = [i for i, cell in enumerate(head) if "ust-fail" in cell]
             for row in rows:
                 for name in (n for i in columns if i < len(row) for n in quoted(row[i])):

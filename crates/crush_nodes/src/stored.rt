@@ -25,7 +25,7 @@ impl<A: Allocator> Node<A> {
     }
 
     /// Whether each bucket of the item, itself or at any depth below it, stores the sum of the
-    /// weights of its items, as [`Forest::attach`](crate::Forest::attach) requires. A sum above
+    /// weights of its items, as a hierarchy requires of an item that comes into it. A sum above
     /// 4294967295 units can't be stored.
     pub fn stores_sums(&self) -> bool
         ensures { IsTrue result ↔ StoresSums (items_of (self.now ∷ [])) }

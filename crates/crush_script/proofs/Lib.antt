@@ -1,12 +1,10 @@
-pub mod Oks
-pub mod Cuts
-pub mod Pairs
 pub mod Calls
+pub mod Cuts
+pub mod Examples
 pub mod Few
-pub mod PrintedWords
+pub mod Oks
+pub mod Pairs
 pub mod PrintedLaws
+pub mod PrintedWords
 pub mod Said
 pub mod SaidJobs
-pub mod HistoryComments
-pub mod JobTexts
-pub mod Examples

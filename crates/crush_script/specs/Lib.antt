@@ -1,10 +1,10 @@
-pub mod Lines
-pub mod Words
-pub mod Command
 pub mod AnswersAs
+pub mod Command
+pub mod Job
+pub mod JobText
+pub mod Lines
+pub mod MapPart
+pub mod Printed
 pub mod Sections
 pub mod Steps
-pub mod MapPart
-pub mod Job
-pub mod Printed
-pub mod Written
+pub mod Words

@@ -11,4 +11,4 @@ mod word;
 
 pub use fault::JobFault;
 pub use job::{Job, read_job};
-pub use law::{printed_is_read, what_is_written_is_read_back};
+pub use law::printed_is_read;

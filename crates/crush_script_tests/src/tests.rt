@@ -5,3 +5,76 @@ mod jobs;
 mod lines;
 mod numbers;
 mod writing;
+
+use crush_calls::{Call, Script};
+use crush_edits::Edit;
+use crush_script::{Job, JobFault, read_job};
+use std::process::Abort;
+
+/// The bytes of both, one behind the other.
+fn joined(rt: &(impl Abort + AllocGlobal), first: &[u8], second: &[u8]) -> Vec<u8> {
+    [first, second].concat(rt.alloc()).expect(rt, "no memory")
+}
+
+/// The text behind which so many of the lines stand.
+fn with_lines(rt: &(impl Abort + AllocGlobal), text: &[u8], line: &[u8], count: usize) -> Vec<u8> {
+    let lines = line.repeat(rt.alloc(), count).expect(rt, "no memory");
+    joined(rt, text, lines.as_slice())
+}
+
+/// The job of a text that is one.
+fn job_of(rt: &(impl Abort + AllocGlobal), text: &[u8]) -> Job {
+    read_job(rt.alloc(), text).expect(rt, "no job")
+}
+
+/// What is seen of the job of a text that is one.
+fn with_job<T, F: FnOnce(&Job) -> T>(rt: &(impl Abort + AllocGlobal), text: &[u8], look: F) -> T
+    requires { F.IsAlwaysCallable look }
+{
+    let job = job_of(rt, text);
+    look(&job)
+}
+
+/// The number of scripts in the job of a text that is one.
+fn script_count(rt: &(impl Abort + AllocGlobal), text: &[u8]) -> usize {
+    with_job(rt, text, |job| job.scripts.len())
+}
+
+/// The only script of a job.
+fn only_script<'a>(rt: &impl Abort, job: &'a Job) -> &'a Script {
+    assert_eq!(rt; job.scripts.len(), 1);
+    &job.scripts[0]
+}
+
+/// The number of calls in the only script of a text's job.
+fn call_count(rt: &(impl Abort + AllocGlobal), text: &[u8]) -> usize {
+    with_job(rt, text, |job| only_script(rt, job).calls.len())
+}
+
+/// The first call of the only script.
+fn first_call<'a>(rt: &impl Abort, job: &'a Job) -> &'a Call {
+    only_script(rt, job).calls.first().expect(rt, "no call")
+}
+
+/// Whether the call is `reweight NAME UNITS`.
+fn is_reweight(call: &Call, name: &[u8], units: u32) -> bool {
+    match call {
+        Call::One(Edit::Reweight { name: item, weight }) => {
+            item.is(name) && weight.units() == units
+        }
+        _ => false,
+    }
+}
+
+/// Why the text is no job, or `None` where it is one.
+fn fault_of(rt: &(impl Abort + AllocGlobal), text: &[u8]) -> Option<JobFault> {
+    read_job(rt.alloc(), text).err()
+}
+
+/// Each text is no job where it stands behind the front, for the reason beside it.
+fn are_no_jobs(rt: &(impl Abort + AllocGlobal), front: &[u8], texts: &[(&[u8], JobFault)]) {
+    for (text, fault) in texts {
+        let text = joined(rt, front, *text);
+        assert_eq!(rt; fault_of(rt, text.as_slice()), Some(*fault));
+    }
+}

@@ -1,4 +1,4 @@
--- Tables that break one condition of a lawful table alone, and what the limits are, computed. That a parent is a device can't be
+-- Tables that break one condition of a lawful table, but for total and counts alone, and what the limits are, computed. That a parent is a device can't be
 -- written: a row's parent is the number of a bucket.
 use Rattle.std.proofs.Common.{◌≡◌, ℕ, zero, suc, ◌*◌, Bool, true, false, List, [], ◌∷◌, ◌++◌, ◌∙◌, refl, arith}
 use Rattle.std.specs.Prelude.{Option, Some, None, codes, replicate, nat_lt, ◌||◌}

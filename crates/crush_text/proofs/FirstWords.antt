@@ -4,7 +4,7 @@ use Rattle.crush_map.specs.Built.{Draft}
 use Rattle.crush_bytes.specs.Words.{Text, first as first_word, stopped, ended, bad}
 use Rattle.crush_text.specs.declared.fault.TextFaultKind.TheVariants.{BadWord}
 use Rattle.crush_text.specs.declared.fault.TextFault.{TextFault}
-use Rattle.crush_text.specs.declared.reader.statement.Opening.{Opening}
+use Rattle.crush_text.specs.declared.opening.Opening.{Opening}
 use Rattle.crush_text.specs.Role.{opening}
 use Rattle.crush_text.specs.Form.{at}
 use Rattle.crush_text.specs.Grammar.{statement, lines}

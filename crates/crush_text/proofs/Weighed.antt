@@ -59,26 +59,6 @@ told_err : {A B : Type 0} (p : ℕ) (f : TextFault) (r : Result A TextFaultKind)
 told_err p f (Ok y) go e = absurd cc
 told_err p f (Err g) go e = let k : f ≡ record { kind = g; place = p } = cc in ap (λ (x : TextFault). Err x) (sym k)
 
--- of the four tests that the builder makes the last is that of the weights
-abbrev pub last_test : Bool → Bool → Bool → Bool → Option BuildFault
-last_test a b c h = if a then Some build.BadWeight else (if b then Some build.UnknownItem else (if c then Some build.SecondParent else (if h then Some build.SumTooLarge else None)))
-
--- nothing is too heavy where the builder took it
-pub light_of : (a b c h : Bool) → last_test a b c h ≡ None → h ≡ false
-light_of true b c h e = absurd (let no : ◌≡◌ {A = Option BuildFault} (Some build.BadWeight) None = e in cc)
-light_of false true c h e = absurd (let no : ◌≡◌ {A = Option BuildFault} (Some build.UnknownItem) None = e in cc)
-light_of false false true h e = absurd (let no : ◌≡◌ {A = Option BuildFault} (Some build.SecondParent) None = e in cc)
-light_of false false false true e = absurd (let no : ◌≡◌ {A = Option BuildFault} (Some build.SumTooLarge) None = e in cc)
-light_of false false false false e = refl
-
--- and something is where it tells so
-pub heavy_of : (a b c h : Bool) → last_test a b c h ≡ Some build.SumTooLarge → h ≡ true
-heavy_of true b c h e = absurd (let no : build.BadWeight ≡ build.SumTooLarge = cc in cc)
-heavy_of false true c h e = absurd (let no : build.UnknownItem ≡ build.SumTooLarge = cc in cc)
-heavy_of false false true h e = absurd (let no : build.SecondParent ≡ build.SumTooLarge = cc in cc)
-heavy_of false false false true e = refl
-heavy_of false false false false e = absurd (let no : ◌≡◌ {A = Option BuildFault} None (Some build.SumTooLarge) = e in cc)
-
 -- an item of a name, as the builder tells it
 pub some_named : (o : Option ItemId) (i : ItemId) → Ok i ≡ ok_or o build.UnknownItem → Some i ≡ o
 some_named (Some j) i e = let k : i ≡ j = cc in ap Some k

@@ -1,4 +1,3 @@
-pub mod Admitted
 pub mod Document
 pub mod Fault
 pub mod Flaw
@@ -6,8 +5,6 @@ pub mod Flow
 pub mod Form
 pub mod Forms
 pub mod Grammar
-pub mod MapOrFlaw
-pub mod ReadingBack
 pub mod Reads
 pub mod Role
 pub mod Room

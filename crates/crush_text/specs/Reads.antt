@@ -16,8 +16,8 @@ use Rattle.crush_bytes.specs.Words.{Word, Stop, ended, bad, Text, begins, past}
 use Rattle.crush_text.specs.declared.reader.word.PlacedWord.{PlacedWord}
 use Rattle.crush_text.specs.declared.reader.step.FirstOfStep.{FirstOfStep}
 use Rattle.crush_text.specs.declared.reader.step.FirstOfStep.TheVariants as steps
-use Rattle.crush_text.specs.declared.reader.statement.Opening.{Opening}
-use Rattle.crush_text.specs.declared.reader.statement.Opening.TheVariants as openings
+use Rattle.crush_text.specs.declared.opening.Opening.{Opening}
+use Rattle.crush_text.specs.declared.opening.Opening.TheVariants as openings
 use Rattle.crush_text.specs.Role.{Role, El, units, key, number, StepWord, takes, chooses, sets, emits}
 use Rattle.crush_text.specs.Form.{Mode, first, second, numbered, filling, ruled, Progress, at, Form, done, word, optional, ahead}
 use Rattle.crush_text.specs.Tests.{unless, weight_tests, word_for}

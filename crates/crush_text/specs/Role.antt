@@ -12,8 +12,8 @@ use Rattle.crush_edits.specs.Setting.{kind_number}
 use Rattle.crush_map.specs.Built.{Draft}
 use Rattle.crush_map.specs.Building.{item_named}
 use Rattle.crush_map.specs.Rules.{bucket_named}
-use Rattle.crush_text.specs.declared.reader.statement.Opening.{Opening}
-use Rattle.crush_text.specs.declared.reader.statement.Opening.TheVariants as openings
+use Rattle.crush_text.specs.declared.opening.Opening.{Opening}
+use Rattle.crush_text.specs.declared.opening.Opening.TheVariants as openings
 use Rattle.crush_text.specs.Forms.{signed_value}
 
 -- what a word is for. The Bool of `opening` says that a bucket or a rule stands before it, that of `item_or_end` that an item

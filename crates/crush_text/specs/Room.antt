@@ -3,8 +3,8 @@ use Rattle.std.specs.Prelude.{◌≡◌, true, false, nat_lt}
 use Rattle.crush_map.specs.Built.{Draft}
 use Rattle.crush_map.specs.Building.{is_full_of_tunables, is_full_of_devices, is_full_of_kinds, is_full_of_buckets}
 use Rattle.crush_map.specs.Rules.{is_full_of_rules}
-use Rattle.crush_text.specs.declared.reader.statement.Opening.{Opening}
-use Rattle.crush_text.specs.declared.reader.statement.Opening.TheVariants as openings
+use Rattle.crush_text.specs.declared.opening.Opening.{Opening}
+use Rattle.crush_text.specs.declared.opening.Opening.TheVariants as openings
 
 -- a map has room for one more, and a bucket is of a type of buckets
 abbrev pub HasRoom : Draft → Opening → Type 0

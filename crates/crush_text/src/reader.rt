@@ -9,7 +9,6 @@ ghost use Rattle.crush_map.specs.Built.{Draft};
 ghost use Rattle.crush_map.specs.Building.{IsDraft};
 ghost use Rattle.crush_text.specs.Document.{IsMapText};
 ghost use Rattle.crush_text.specs.Flaw.{IsWant, IsFlawOrWant};
-ghost use Rattle.crush_text.specs.MapOrFlaw.{WordsAreJudgedByTheTable, AFlawExcludesTheMap, AtMostOneFlaw, SameWordsSameFlaw, AtMostOneMap, EachMapIsLawful, MapsAreTheLawfulTexts, AMapOrAFlaw};
 
 mod bucket;
 mod device;
@@ -79,19 +78,3 @@ pub fn read_map_in<A: Allocator + Clone>(
     let adjusted = builder.adjusted();
     Ok((builder.finish(), adjusted))
 }
-
-/// Bytes are the text of one map or have one flaw, and never both: where there is a flaw no map is
-/// spelled, nor is one whatever else follows the fault's word. Each map of a text is lawful, and
-/// the texts of maps are those whose words build a lawful map line by line: no row of the table of
-/// faults refuses more. A word has the fault whose row holds and that has the least number. There
-/// is nothing to run: the contract is the law.
-pub fn a_text_has_one_map_or_one_flaw()
-    ensures table { WordsAreJudgedByTheTable }
-    ensures excludes { AFlawExcludesTheMap }
-    ensures flaw { AtMostOneFlaw }
-    ensures same { SameWordsSameFlaw }
-    ensures map { AtMostOneMap }
-    ensures lawful { EachMapIsLawful }
-    ensures admitted { MapsAreTheLawfulTexts }
-    ensures either { AMapOrAFlaw }
-{}

@@ -11,10 +11,83 @@ mod statements;
 mod words;
 mod writing;
 
-use crush_text::{TextFault, TextFaultKind, read_map, write_map};
-use std::alloc::Global;
+use crush_map::CrushMap;
+use crush_print::write_map;
+use crush_text::{TextFault, TextFaultKind, read_map};
+use std::alloc::{Allocator, Global};
 use std::process::Abort;
-use std::test::Fail;
+
+/// The bytes of all parts, one behind the other.
+fn joined(rt: &(impl Abort + AllocGlobal), parts: &[&[u8]]) -> Vec<u8> {
+    parts.concat(rt.alloc()).expect(rt, "no memory")
+}
+
+/// Puts the bytes behind a text.
+fn put_behind(rt: &impl Abort, text: &mut Vec<u8>, bytes: &[u8]) {
+    text.extend_from_slice(bytes).expect(rt, "no memory");
+}
+
+/// The map of a text that spells one, and how many weights were adjusted in it.
+fn map_of(rt: &(impl Abort + AllocGlobal), text: &[u8]) -> (CrushMap<Global>, u32) {
+    read_map(rt.alloc(), text).expect(rt, "no map")
+}
+
+/// What is seen of the map of a text that spells one.
+fn with_map<T, F: FnOnce(&CrushMap<Global>) -> T>(
+    rt: &(impl Abort + AllocGlobal),
+    text: &[u8],
+    look: F,
+) -> T
+    requires { F.IsAlwaysCallable look }
+{
+    let (map, _) = map_of(rt, text);
+    look(&map)
+}
+
+/// How many weights are adjusted in a text that spells a map.
+fn adjusted_in(rt: &(impl Abort + AllocGlobal), text: &[u8]) -> u32 {
+    let (_, adjusted) = map_of(rt, text);
+    adjusted
+}
+
+/// The text of a map.
+fn text_of<A: Allocator>(rt: &(impl Abort + AllocGlobal), map: &CrushMap<A>) -> Vec<u8> {
+    let mut text = Vec::new(rt.alloc());
+    write_map(rt.alloc(), map, &mut text).expect(rt, "no text");
+    text
+}
+
+/// What is printed of the map that the text spells.
+fn printed(rt: &(impl Abort + AllocGlobal), text: &[u8]) -> Vec<u8> {
+    with_map(rt, text, |map| text_of(rt, map))
+}
+
+/// What is wrong with the text, or `None` where nothing is.
+fn fault_of(rt: &impl AllocGlobal, text: &[u8]) -> Option<TextFault> {
+    read_map(rt.alloc(), text).err()
+}
+
+/// Whether the text is refused for this at this place.
+fn is_refused(rt: &impl AllocGlobal, text: &[u8], kind: TextFaultKind, place: usize) -> bool {
+    fault_of(rt, text) == Some(TextFault { kind, place })
+}
+
+/// The text where these two types and this device stand before it, in 36 bytes.
+fn behind_a_device(rt: &(impl Abort + AllocGlobal), text: &[u8]) -> Vec<u8> {
+    joined(rt, &[b"type 1 host\ntype 11 root\ndevice 0 d\n", text])
+}
+
+/// Each line is refused for this behind these types and this device, at the place beside it.
+fn are_refused(rt: &(impl Abort + AllocGlobal), kind: TextFaultKind, lines: &[(&[u8], usize)]) {
+    for (line, place) in lines {
+        let text = behind_a_device(rt, *line);
+        let fault = TextFault {
+            kind,
+            place: *place,
+        };
+        assert_eq!(rt; fault_of(rt, text.as_slice()), Some(fault));
+    }
+}
 
 /// The plain example map: two hosts below a root, without tunables and rules.
 const PLAIN_EXAMPLE_MAP: &[&[u8]] = &[
@@ -62,12 +135,8 @@ const PLAIN_EXAMPLE_MAP: &[&[u8]] = &[
 ];
 
 /// The text of the plain example map.
-fn plain_example_map(alloc: Global) -> Result<Vec<u8>, Fail> {
-    let mut text = Vec::new(alloc);
-    for line in PLAIN_EXAMPLE_MAP {
-        text.extend_from_slice(line)?;
-    }
-    Ok(text)
+fn plain_example_map(rt: &(impl Abort + AllocGlobal)) -> Vec<u8> {
+    joined(rt, PLAIN_EXAMPLE_MAP)
 }
 
 /// The rule of the example map.
@@ -75,64 +144,22 @@ const RULE: &[u8] =
     b"rule replicated_rule {\n\tid 0\n\ttype replicated\n\tstep take default\n\tstep chooseleaf firstn 0 type host\n\tstep emit\n}\n";
 
 /// The text of the example map, which has a tunable and a rule, with such a weight of h1.
-fn example_map(alloc: Global, weight: &[u8]) -> Result<Vec<u8>, Fail> {
-    let mut text = Vec::new(alloc);
+fn example_map(rt: &(impl Abort + AllocGlobal), weight: &[u8]) -> Vec<u8> {
+    let mut text = Vec::new(rt.alloc());
     for line in PLAIN_EXAMPLE_MAP {
         if *line == b"\titem h1 weight 2.00000\n".as_slice() {
-            text.extend_from_slice(b"\titem h1")?;
-            text.extend_from_slice(weight)?;
-            text.extend_from_slice(b"\n")?;
+            put_behind(rt, &mut text, b"\titem h1");
+            put_behind(rt, &mut text, weight);
+            put_behind(rt, &mut text, b"\n");
         } else {
-            text.extend_from_slice(line)?;
+            put_behind(rt, &mut text, *line);
         }
         if *line == b"# begin crush map\n".as_slice() {
-            text.extend_from_slice(b"tunable choose_total_tries 50\n")?;
+            put_behind(rt, &mut text, b"tunable choose_total_tries 50\n");
         }
         if *line == b"# rules\n".as_slice() {
-            text.extend_from_slice(RULE)?;
+            put_behind(rt, &mut text, RULE);
         }
     }
-    Ok(text)
-}
-
-/// What is wrong with the text where these two types and this device stand before it, in 36 bytes,
-/// or `None` where nothing is.
-fn fault_of(alloc: Global, line: &[u8]) -> Result<Option<TextFault>, Fail> {
-    let mut text = Vec::new(alloc);
-    text.extend_from_slice(b"type 1 host\ntype 11 root\ndevice 0 d\n")?;
-    text.extend_from_slice(line)?;
-    Ok(read_map(alloc, text.as_slice()).err())
-}
-
-/// Each line is refused for this behind these types and this device, at the place beside it.
-fn are_refused(
-    rt: &impl Abort,
-    alloc: Global,
-    kind: TextFaultKind,
-    lines: &[(&[u8], usize)],
-) -> Result<(), Fail> {
-    for (line, place) in lines {
-        let Some(fault) = fault_of(alloc, *line)? else {
-            return Err("a line is read".into());
-        };
-        assert!(rt; fault.kind == kind, "{kind}, and not {fault}");
-        assert_eq!(rt; fault.place, *place, "{kind}");
-    }
-    Ok(())
-}
-
-/// Whether the text is refused for this at this place.
-fn is_refused(alloc: Global, text: &[u8], kind: TextFaultKind, place: usize) -> bool {
-    match read_map(alloc, text) {
-        Ok(_) => false,
-        Err(fault) => fault.kind == kind && fault.place == place,
-    }
-}
-
-/// What is printed of the map that the text spells.
-fn printed(alloc: Global, text: &[u8]) -> Result<Vec<u8>, Fail> {
-    let (map, _) = read_map(alloc, text)?;
-    let mut out = Vec::new(alloc);
-    write_map(alloc, &map, &mut out)?;
-    Ok(out)
+    text
 }

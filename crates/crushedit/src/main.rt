@@ -1,18 +1,9 @@
 //! Edits the hierarchy of a CRUSH map by the scripts of its operators.
 #![tactic(auto)]
 
-mod command_line;
-mod fault;
-mod input;
-mod options;
-mod report;
-mod run;
-
-use command_line::options;
-use fault::RunFault;
-use options::{Options, OptionsFault};
-use report::{report, tell};
-use run::{Summary, run_job};
+use crush_options::{Options, OptionsFault, options};
+use crush_report::{RunFault, Summary, report, tell};
+use crush_run::run_job;
 use std::fs::File;
 use std::io::ErrorKind;
 use std::process::ExitCode;
@@ -58,6 +49,3 @@ fn run_options(rt: &HostRuntime, options: &Options) -> Result<Summary, RunFault>
     };
     run_job(rt, options.mode, &mut file, &mut rt.stdout())
 }
-
-#[cfg(test)]
-mod tests;

@@ -77,6 +77,20 @@ weight_and_name_hold = refl
 weight_and_name : edit example_setting table_with_spare (Insert 9 (codes "disk") 2147483648 (host (codes "h1") ∷ [])) ≡ refused WeightTooLarge
 weight_and_name = refl
 
+-- 5 and 9
+weight_and_unplaced_hold : holding example_setting table_with_spare (Reweight (codes "osd.9") 2147483648) ≡ 5 ∷ (9 ∷ [])
+weight_and_unplaced_hold = refl
+
+weight_and_unplaced : edit example_setting table_with_spare (Reweight (codes "osd.9") 2147483648) ≡ refused WeightTooLarge
+weight_and_unplaced = refl
+
+-- 5 and 10
+weight_and_bucket_hold : holding example_setting table_with_spare (Reweight (codes "h1") 2621440000) ≡ 5 ∷ (10 ∷ [])
+weight_and_bucket_hold = refl
+
+weight_and_bucket : edit example_setting table_with_spare (Reweight (codes "h1") 2621440000) ≡ refused WeightTooLarge
+weight_and_bucket = refl
+
 -- 5 and 11
 weight_and_device_hold : holding example_setting table_with_spare (ReweightSubtree (codes "osd.0") 2147483648) ≡ 5 ∷ (11 ∷ [])
 weight_and_device_hold = refl

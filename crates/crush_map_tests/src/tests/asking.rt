@@ -1,11 +1,11 @@
-//! Worked lines: an edit as it is asked, what it is answered, and which items buckets then have.
+//! Worked lines: an edit as it is asked, what it is answered, and what is then true of the map.
 
+use crate::tests::owning::with;
 use crush_map::{BatchFault, CrushMap, Done, Dones, Edit, EditFault, Location, Refusal};
 use crush_tree::Node;
 use crush_units::{DeviceId, ItemId, Name, Weight};
 use std::alloc::{Allocator, Global};
 use std::process::Abort;
-use std::test::Fail;
 
 /// The pairs of a location: a type name and a bucket name each.
 pub type Pairs = &'static [(&'static str, &'static str)];
@@ -25,15 +25,24 @@ pub enum Asked {
     Rename(&'static str, &'static str),
 }
 
-/// The name of a bucket, the names of its items in order, and its weight in units.
-pub type Held = (&'static str, &'static [&'static str], u32);
+/// What may be true of a map, with weights in units.
+#[derive(Clone, Copy, Debug)]
+pub enum Fact {
+    /// The bucket of this name holds the items of these names, in order, and weighs so much.
+    Holds(&'static str, &'static [&'static str], u32),
+    /// The item of this name has the id of this number.
+    HasId(&'static str, i32),
+    /// The bucket of this name stands in no other.
+    IsRoot(&'static str),
+    /// No item has this name.
+    IsAbsent(&'static str),
+}
 
-/// An edit, its answer, and what buckets hold then.
-#[derive(Clone, Copy)]
+/// An edit, its answer, and what is then true of the map.
 pub struct Line {
     pub asked: Asked,
     pub told: Result<Done, Refusal>,
-    pub holds: &'static [Held],
+    pub then: &'static [Fact],
 }
 
 /// The edit is made, and the map is another; no bucket is made.
@@ -49,106 +58,110 @@ pub const SAME: Result<Done, Refusal> = Ok(Done {
 });
 
 /// A name in the machine's memory.
-fn name(alloc: Global, text: &str) -> Result<Name<Global>, Fail> {
-    Ok(Name::read(alloc, text.as_bytes())?)
+pub fn name(rt: &impl Abort, alloc: Global, text: &str) -> Name<Global> {
+    Name::read(alloc, text.as_bytes()).expect(rt, text)
 }
 
-/// The device's name and id.
-fn device(alloc: Global, number: i32) -> Result<(Name<Global>, DeviceId), Fail> {
-    let text = format!(in alloc; "osd.{number}")?;
-    let id = DeviceId::new(number).ok_or("a device")?;
-    Ok((name(alloc, text.as_str())?, id))
+/// The device of this number.
+fn device(rt: &impl Abort, number: i32) -> DeviceId {
+    DeviceId::new(number).expect(rt, "a device")
+}
+
+/// The name of the device of this number.
+fn device_name(rt: &impl Abort, alloc: Global, number: i32) -> Name<Global> {
+    let text = format!(in alloc; "osd.{number}").expect(rt, "memory");
+    name(rt, alloc, text.as_str())
 }
 
 /// A location of these pairs.
-fn location(alloc: Global, pairs: Pairs) -> Result<Location, Fail> {
+fn location(rt: &impl Abort, alloc: Global, pairs: Pairs) -> Location {
     let mut at = Location::new(alloc);
     for (kind, bucket) in pairs {
-        at.push(kind.as_bytes(), bucket.as_bytes())?;
+        at.push(kind.as_bytes(), bucket.as_bytes())
+            .expect(rt, "a pair");
     }
-    Ok(at)
+    at
 }
 
 /// The edit that is asked for.
-pub fn edit(alloc: Global, asked: Asked) -> Result<Edit, Fail> {
+pub fn edit(rt: &impl Abort, alloc: Global, asked: Asked) -> Edit {
     match asked {
-        Asked::Add(number, units, pairs) => {
-            let (name, device) = device(alloc, number)?;
-            Ok(Edit::Insert {
-                device,
-                name,
-                weight: Weight::from_units(units),
-                at: location(alloc, pairs)?,
-            })
-        }
-        Asked::CreateOrMove(number, units, pairs) => {
-            let (name, device) = device(alloc, number)?;
-            Ok(Edit::CreateOrMove {
-                device,
-                name,
-                weight: Weight::from_units(units),
-                at: location(alloc, pairs)?,
-            })
-        }
-        Asked::Set(number, units, pairs) => {
-            let (name, device) = device(alloc, number)?;
-            Ok(Edit::Update {
-                device,
-                name,
-                weight: Weight::from_units(units),
-                at: location(alloc, pairs)?,
-            })
-        }
-        Asked::Move(item, pairs) => Ok(Edit::Move {
-            name: name(alloc, item)?,
-            at: location(alloc, pairs)?,
-        }),
-        Asked::Swap(a, b) => Ok(Edit::Swap {
-            a: name(alloc, a)?,
-            b: name(alloc, b)?,
-        }),
-        Asked::Reweight(item, units) => Ok(Edit::Reweight {
-            name: name(alloc, item)?,
+        Asked::Add(number, units, pairs) => Edit::Insert {
+            device: device(rt, number),
+            name: device_name(rt, alloc, number),
             weight: Weight::from_units(units),
-        }),
-        Asked::ReweightSubtree(bucket, units) => Ok(Edit::ReweightSubtree {
-            name: name(alloc, bucket)?,
+            at: location(rt, alloc, pairs),
+        },
+        Asked::CreateOrMove(number, units, pairs) => Edit::CreateOrMove {
+            device: device(rt, number),
+            name: device_name(rt, alloc, number),
             weight: Weight::from_units(units),
-        }),
-        Asked::Remove(item) => Ok(Edit::Remove {
-            name: name(alloc, item)?,
-        }),
-        Asked::AddBucket(bucket, kind) => Ok(Edit::AddBucket {
-            name: name(alloc, bucket)?,
-            kind: name(alloc, kind)?,
-        }),
-        Asked::Rename(from, to) => Ok(Edit::Rename {
-            from: name(alloc, from)?,
-            to: name(alloc, to)?,
-        }),
+            at: location(rt, alloc, pairs),
+        },
+        Asked::Set(number, units, pairs) => Edit::Update {
+            device: device(rt, number),
+            name: device_name(rt, alloc, number),
+            weight: Weight::from_units(units),
+            at: location(rt, alloc, pairs),
+        },
+        Asked::Move(item, pairs) => Edit::Move {
+            name: name(rt, alloc, item),
+            at: location(rt, alloc, pairs),
+        },
+        Asked::Swap(a, b) => Edit::Swap {
+            a: name(rt, alloc, a),
+            b: name(rt, alloc, b),
+        },
+        Asked::Reweight(item, units) => Edit::Reweight {
+            name: name(rt, alloc, item),
+            weight: Weight::from_units(units),
+        },
+        Asked::ReweightSubtree(bucket, units) => Edit::ReweightSubtree {
+            name: name(rt, alloc, bucket),
+            weight: Weight::from_units(units),
+        },
+        Asked::Remove(item) => Edit::Remove {
+            name: name(rt, alloc, item),
+        },
+        Asked::AddBucket(bucket, kind) => Edit::AddBucket {
+            name: name(rt, alloc, bucket),
+            kind: name(rt, alloc, kind),
+        },
+        Asked::Rename(from, to) => Edit::Rename {
+            from: name(rt, alloc, from),
+            to: name(rt, alloc, to),
+        },
     }
 }
 
 /// The edits that are asked for.
-pub fn edits(alloc: Global, all: &[Asked]) -> Result<Vec<Edit>, Fail> {
+pub fn edits(rt: &impl Abort, alloc: Global, all: &[Asked]) -> Vec<Edit> {
     let mut made = Vec::new(alloc);
     for asked in all {
-        made.push(edit(alloc, *asked)?)?;
+        made.push(edit(rt, alloc, *asked)).expect(rt, "memory");
     }
-    Ok(made)
+    made
 }
 
-/// The name of an item of a bucket.
-fn name_of(node: &Node<Global>) -> &str {
+/// The name of an item.
+fn name_of<A: Allocator>(node: &Node<A>) -> &str {
     match node {
         Node::Device(leaf) => leaf.name.as_str(),
         Node::Bucket(bucket) => bucket.header.name.as_str(),
     }
 }
 
-/// Whether a bucket holds these items in order, and weighs so much.
-pub fn holds(map: &CrushMap<Global>, held: &Held) -> bool {
-    let (bucket, items, units) = *held;
+/// Whether these are the items of these names, in order.
+fn are_named<A: Allocator>(nodes: &[Node<A>], names: &[&str]) -> bool {
+    nodes.len() == names.len()
+        && nodes
+            .iter()
+            .zip(names)
+            .all(|(node, name)| name_of(node) == *name)
+}
+
+/// Whether the bucket of this name holds the items of these names, in order.
+fn holds<A: Allocator>(map: &CrushMap<A>, bucket: &str, items: &[&str]) -> bool {
     let Some(id) = map.locate(bucket) else {
         return false;
     };
@@ -158,38 +171,88 @@ pub fn holds(map: &CrushMap<Global>, held: &Held) -> bool {
     let Some(nodes) = map.forest().items(id) else {
         return false;
     };
-    nodes.len() == items.len()
-        && nodes
-            .iter()
-            .zip(items)
-            .all(|(node, item)| name_of(node) == *item)
-        && map.weight_of(bucket) == Some(Weight::from_units(units))
+    are_named(nodes, items)
 }
 
-/// Makes the edits of the lines, and asserts what each is answered and what buckets hold then. A
-/// refused edit leaves the map as it was.
-pub fn makes(
+/// Whether the item of this name has the id of this number.
+fn has_id<A: Allocator>(map: &CrushMap<A>, item: &str, number: i32) -> bool {
+    match map.locate(item) {
+        Some(id) => id.number() == number,
+        None => false,
+    }
+}
+
+/// Whether the bucket of this name stands in no other.
+fn is_root<A: Allocator>(map: &CrushMap<A>, bucket: &str) -> bool {
+    map.forest()
+        .roots()
+        .iter()
+        .any(|node| name_of(node) == bucket)
+}
+
+/// Whether it is true of the map.
+fn is_true_of<A: Allocator>(map: &CrushMap<A>, fact: Fact) -> bool {
+    match fact {
+        Fact::Holds(bucket, items, units) => {
+            holds(map, bucket, items) && map.weight_of(bucket) == Some(Weight::from_units(units))
+        }
+        Fact::HasId(item, number) => has_id(map, item, number),
+        Fact::IsRoot(bucket) => is_root(map, bucket),
+        Fact::IsAbsent(item) => map.locate(item).is_none(),
+    }
+}
+
+/// Asserts that all that is said in a line is true of the map.
+pub fn are_true_of<A: Allocator>(rt: &impl Abort, map: &CrushMap<A>, place: usize, facts: &[Fact]) {
+    for fact in facts {
+        assert!(rt; is_true_of(map, *fact), "line {place}: {fact:?}");
+    }
+}
+
+/// What a map in the machine's memory answers to an edit.
+pub fn told(
     rt: &impl Abort,
     alloc: Global,
     map: &mut CrushMap<Global>,
-    lines: &[Line],
-) -> Result<(), Fail> {
-    for (place, line) in lines.iter().enumerate() {
-        let before = map.try_copy()?;
-        let told = map.apply(&edit(alloc, line.asked)?);
-        assert!(rt;
-            told == line.told.map_err(EditFault::Refused),
-            "line {place}: {told:?}"
-        );
-        assert!(rt;
-            told.is_ok() || map.forest().is_same(before.forest()),
-            "line {place}"
-        );
-        for held in line.holds {
-            assert!(rt; holds(map, held), "line {place}: {}", held.0);
-        }
+    asked: Asked,
+) -> Result<Done, Refusal> {
+    match with(edit(rt, alloc, asked), |edit| map.apply(edit)) {
+        Ok(done) => Ok(done),
+        Err(EditFault::Refused(refusal)) => Err(refusal),
+        Err(EditFault::OutOfMemory) => panic!(rt; "out of memory"),
     }
-    Ok(())
+}
+
+/// What a map answers to an edit, and whether its items are then as they were.
+fn told_and_same(
+    rt: &impl Abort,
+    alloc: Global,
+    map: &mut CrushMap<Global>,
+    asked: Asked,
+) -> (Result<Done, Refusal>, bool) {
+    with(map.try_copy().expect(rt, "memory"), |before| {
+        let told = told(rt, alloc, map, asked);
+        (told, map.forest().is_same(before.forest()))
+    })
+}
+
+/// Whether the answer says that the map is another.
+fn is_change(told: Result<Done, Refusal>) -> bool {
+    match told {
+        Ok(done) => done.changed,
+        Err(_) => false,
+    }
+}
+
+/// Makes the edits of the lines, and asserts what each is answered and what is then true of the
+/// map. It is another map exactly where the answer says so.
+pub fn makes(rt: &impl Abort, alloc: Global, map: &mut CrushMap<Global>, lines: &[Line]) {
+    for (place, line) in lines.iter().enumerate() {
+        let (told, same) = told_and_same(rt, alloc, map, line.asked);
+        assert!(rt; told == line.told, "line {place}: {told:?}");
+        assert!(rt; same != is_change(told), "line {place}: as before: {same}");
+        are_true_of(rt, map, place, line.then);
+    }
 }
 
 /// Makes a batch of at most 65,536 edits.
@@ -200,4 +263,28 @@ pub fn make_batch<A: Allocator + Clone>(
 ) -> Result<Dones, BatchFault> {
     assert!(rt; edits.len() <= 65536);
     map.apply_batch(edits)
+}
+
+/// What a map answers to a batch. Asserts that it is as it was where no edit changed it, and so
+/// where the batch is refused.
+pub fn told_of_batch(
+    rt: &impl Abort,
+    alloc: Global,
+    map: &mut CrushMap<Global>,
+    asked: &[Asked],
+) -> Result<Dones, BatchFault> {
+    with(map.try_copy().expect(rt, "memory"), |before| {
+        let told = with(edits(rt, alloc, asked), |edits| {
+            make_batch(rt, map, edits.as_slice())
+        });
+        let changed = match told {
+            Ok(dones) => dones.changed > 0,
+            Err(_) => false,
+        };
+        assert!(rt;
+            changed || map.forest().is_same(before.forest()),
+            "{told:?}"
+        );
+        told
+    })
 }

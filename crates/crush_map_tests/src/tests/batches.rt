@@ -1,30 +1,17 @@
 //! Batches on the plain example map.
 
-use crate::tests::asking::{Asked, Held, edits, holds, make_batch};
+use crate::tests::asking::{Asked, Fact, are_true_of, told_of_batch};
 use crate::tests::building::example_map;
-use crush_map::{BatchFault, Dones, Refusal};
+use crate::tests::owning::with;
+use crush_map::{BatchFault, CrushMap, Dones, Refusal};
 use std::alloc::Global;
 use std::process::Abort;
-use std::test::Fail;
 
-/// Asserts what a batch is answered on the plain example map, and what buckets hold then.
-fn makes_batch(
-    rt: &impl Abort,
-    alloc: Global,
-    asked: &[Asked],
+/// A batch that is asked, its answer, and what is then true of the map.
+struct Batch {
+    asked: &'static [Asked],
     told: Result<Dones, BatchFault>,
-    held: &[Held],
-) -> Result<(), Fail> {
-    let mut map = example_map(rt, alloc, alloc)?;
-    let whole = map.try_copy()?;
-    let edits = edits(alloc, asked)?;
-    let answer = make_batch(rt, &mut map, edits.as_slice());
-    assert!(rt; answer == told, "{answer:?}");
-    assert!(rt; told.is_ok() || map.forest().is_same(whole.forest()));
-    for bucket in held {
-        assert!(rt; holds(&map, bucket), "{}", bucket.0);
-    }
-    Ok(())
+    then: &'static [Fact],
 }
 
 /// One that is refused at its third edit.
@@ -47,45 +34,98 @@ const AGAIN: &[Asked] = &[
     Asked::Add(2, 32768, &[("host", "h2")]),
 ];
 
-#[test]
-fn batches_are_made(rt: HostRuntime) -> Result<(), Fail> {
-    let alloc = rt.alloc();
-    let refused = Err(BatchFault::Refused(2, Refusal::NotEmpty));
-    makes_batch(&rt, alloc, REFUSED, refused, &[])?;
-    let moved = Ok(Dones {
-        edits: 2,
-        changed: 2,
-        made: 1,
-    });
-    let held: [Held; 1] = [("default", &["h1", "h2", "h9"], 163840)];
-    makes_batch(&rt, alloc, MOVED, moved, held.as_slice())?;
-    let again = Ok(Dones {
-        edits: 3,
-        changed: 3,
-        made: 1,
-    });
-    let held: [Held; 2] = [("h2", &["osd.2"], 32768), ("default", &["h1"], 131072)];
-    makes_batch(&rt, alloc, AGAIN, again, held.as_slice())?;
-    let nothing = Ok(Dones {
-        edits: 0,
-        changed: 0,
-        made: 0,
-    });
-    makes_batch(&rt, alloc, &[], nothing, &[])
+/// The batches, each on a map of its own.
+const BATCHES: &[Batch] = &[
+    Batch {
+        asked: REFUSED,
+        told: Err(BatchFault::Refused(2, Refusal::NotEmpty)),
+        then: &[],
+    },
+    Batch {
+        asked: MOVED,
+        told: Ok(Dones {
+            edits: 2,
+            changed: 2,
+            made: 1,
+        }),
+        then: &[
+            Fact::Holds("default", &["h1", "h2", "h9"], 163840),
+            Fact::Holds("h9", &[], 0),
+            Fact::HasId("h9", -4),
+        ],
+    },
+    Batch {
+        asked: AGAIN,
+        told: Ok(Dones {
+            edits: 3,
+            changed: 3,
+            made: 1,
+        }),
+        then: &[
+            Fact::Holds("h2", &["osd.2"], 32768),
+            Fact::HasId("h2", -3),
+            Fact::IsRoot("h2"),
+            Fact::Holds("default", &["h1"], 131072),
+        ],
+    },
+    Batch {
+        asked: &[],
+        told: Ok(Dones {
+            edits: 0,
+            changed: 0,
+            made: 0,
+        }),
+        then: &[],
+    },
+];
+
+/// Asserts what a batch is answered, and what is then true of the map.
+fn makes_batch(
+    rt: &impl Abort,
+    alloc: Global,
+    map: &mut CrushMap<Global>,
+    place: usize,
+    batch: &Batch,
+) {
+    let told = told_of_batch(rt, alloc, map, batch.asked);
+    assert!(rt; told == batch.told, "batch {place}: {told:?}");
+    are_true_of(rt, map, place, batch.then);
 }
 
 #[test]
-fn as_many_edits_as_there_may_be(rt: HostRuntime) -> Result<(), Fail> {
-    let alloc = rt.alloc();
+fn batches_are_made(rt: HostRuntime) {
+    for (place, batch) in BATCHES.iter().enumerate() {
+        with(example_map(&rt, rt.alloc()), |map| {
+            makes_batch(&rt, rt.alloc(), map, place, batch);
+        });
+    }
+}
+
+/// As many new weights as a batch may have.
+fn new_weights(rt: &impl Abort, alloc: Global) -> Vec<Asked> {
     let mut asked = Vec::new(alloc);
     for number in 0..65536 {
-        asked.push(Asked::Reweight("osd.0", number))?;
+        asked
+            .push(Asked::Reweight("osd.0", number))
+            .expect(rt, "memory");
     }
-    let all = Ok(Dones {
-        edits: 65536,
-        changed: 65536,
-        made: 0,
+    asked
+}
+
+/// What is true after the last of them.
+const LAST: &[Fact] = &[Fact::Holds("default", &["h1", "h2"], 163839)];
+
+#[test]
+fn as_many_edits_as_there_may_be(rt: HostRuntime) {
+    let asked = new_weights(&rt, rt.alloc());
+    with(example_map(&rt, rt.alloc()), |map| {
+        let told = told_of_batch(&rt, rt.alloc(), map, asked.as_slice());
+        let all = Dones {
+            edits: 65536,
+            changed: 65536,
+            made: 0,
+        };
+        assert!(rt; told == Ok(all), "{told:?}");
+        are_true_of(&rt, map, 65535, LAST);
     });
-    let held: [Held; 1] = [("default", &["h1", "h2"], 163839)];
-    makes_batch(&rt, alloc, asked.as_slice(), all, held.as_slice())
 }

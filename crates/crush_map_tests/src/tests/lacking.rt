@@ -1,13 +1,13 @@
 //! Edits and batches for which memory lacks at each of their growths: the map is then as before,
-//! and the same call, made again where there is memory, answers as ever.
+//! and the same call, made again where there is memory, answers and does as ever.
 
-use crate::tests::asking::{Asked, edits, make_batch};
-use crate::tests::building::example_map;
-use crush_map::{BatchFault, CrushMap, Dones, Edit, EditFault, Refusal};
+use crate::tests::asking::{Asked, Fact, are_true_of, edit, edits, make_batch};
+use crate::tests::owning::with;
+use crate::tests::whole::{has_the_setting, whole_example_map, whole_example_map_in};
+use crush_map::{BatchFault, CrushMap, Done, Dones, Edit, EditFault, Refusal};
 use linked_list_allocator::LocalHeap;
 use std::alloc::Global;
 use std::process::Abort;
-use std::test::Fail;
 
 /// How many bytes a heap of these tests has.
 const HEAP: usize = 65536;
@@ -24,98 +24,217 @@ fn largest_piece(heap: &LocalHeap) -> usize {
     0
 }
 
-/// Whether the call, of one edit by itself or of several as a batch, lacks memory.
-fn lacks_memory(
-    rt: &impl Abort,
-    map: &mut CrushMap<&LocalHeap>,
-    edits: &[Edit],
-    told: Result<Dones, BatchFault>,
-) -> bool {
-    if let [edit] = edits {
-        return map.apply(edit) == Err(EditFault::OutOfMemory);
-    }
-    let answer = make_batch(rt, map, edits);
-    assert!(rt;
-        answer == told || answer == Err(BatchFault::OutOfMemory),
-        "{answer:?}"
-    );
-    answer == Err(BatchFault::OutOfMemory)
+/// What a call is answered.
+#[derive(Clone, Copy, Debug, PartialEq)]
+enum Told {
+    /// Of an edit by itself.
+    One(Result<Done, EditFault>),
+    /// Of a batch.
+    Batch(Result<Dones, BatchFault>),
 }
 
-/// Asks it of the plain example map in a heap that has hardly any memory left, then 64 bytes more,
-/// and so on until there is enough. Asserts that memory lacked at least so often.
-fn lacks_at_each_growth(
+/// A call on the example map, of one edit by itself or of several as a batch.
+struct Call {
+    asked: &'static [Asked],
+    /// What it is answered where there is memory.
+    told: Told,
+    /// What is then true of the map.
+    then: &'static [Fact],
+    /// How often memory lacks for it at least.
+    least: usize,
+}
+
+/// What the map answers to the call.
+fn answer(rt: &impl Abort, map: &mut CrushMap<&LocalHeap>, edits: &[Edit]) -> Told {
+    if let [edit] = edits {
+        return Told::One(map.apply(edit));
+    }
+    Told::Batch(make_batch(rt, map, edits))
+}
+
+/// Whether memory lacked.
+fn is_want_of_memory(told: Told) -> bool {
+    match told {
+        Told::One(answer) => answer == Err(EditFault::OutOfMemory),
+        Told::Batch(answer) => answer == Err(BatchFault::OutOfMemory),
+    }
+}
+
+/// Asserts that the call is answered as where there is memory, and that the map is as it then is.
+fn is_made(rt: &impl Abort, map: &CrushMap<&LocalHeap>, place: usize, call: &Call, told: Told) {
+    assert!(rt; told == call.told, "call {place}: {told:?}");
+    are_true_of(rt, map, place, call.then);
+    has_the_setting(rt, map.setting());
+}
+
+/// Asserts that the map is the example map.
+fn is_the_example_map(rt: &impl Abort, alloc: Global, map: &CrushMap<&LocalHeap>) {
+    with(whole_example_map(rt, alloc), |whole| {
+        assert!(rt; map.forest().is_same(whole.forest()));
+    });
+    has_the_setting(rt, map.setting());
+}
+
+/// Whether memory lacks for the call on the example map in a heap whose largest piece is then
+/// `spare` bytes. The map is then as before. With memory again the same call is made.
+fn lacks_with(
     rt: &impl Abort,
     alloc: Global,
-    asked: &[Asked],
-    told: Result<Dones, BatchFault>,
-    least: usize,
-) -> Result<(), Fail> {
-    let whole = example_map(rt, alloc, alloc)?;
-    let edits = edits(alloc, asked)?;
-    for spare in 0..256 {
-        let heap = LocalHeap::new(alloc, HEAP)?;
-        let mut map = example_map(rt, alloc, &heap)?;
-        let size = largest_piece(&heap).saturating_sub(64 * spare);
-        let ballast: Vec<u8, &LocalHeap> = Vec::with_capacity(&heap, size)?;
-        if !lacks_memory(rt, &mut map, edits.as_slice(), told) {
-            assert!(rt; spare >= least, "memory lacked {spare} times");
-            return Ok(());
-        }
-        assert!(rt; map.forest().is_same(whole.forest()));
+    spare: usize,
+    place: usize,
+    call: &Call,
+    edits: &[Edit],
+) -> bool {
+    let heap = LocalHeap::new(alloc, HEAP).expect(rt, "a heap");
+    let map = whole_example_map_in(rt, alloc, &heap).expect(rt, "a map");
+    with(map, |map| {
+        let size = largest_piece(&heap).saturating_sub(spare);
+        let ballast: Vec<u8, &LocalHeap> = Vec::with_capacity(&heap, size).expect(rt, "a piece");
+        let mut told = answer(rt, map, edits);
         drop(ballast);
-        assert!(rt; !lacks_memory(rt, &mut map, edits.as_slice(), told));
-    }
-    Err("no heap has enough memory".into())
+        let lacks = is_want_of_memory(told);
+        if lacks {
+            is_the_example_map(rt, alloc, map);
+            told = answer(rt, map, edits);
+        }
+        is_made(rt, map, place, call, told);
+        lacks
+    })
 }
 
+/// How often memory lacks for the call in a heap that has hardly any memory left, then 64 bytes
+/// more, and so on until there is enough.
+fn times_lacking(
+    rt: &impl Abort,
+    alloc: Global,
+    place: usize,
+    call: &Call,
+    edits: &[Edit],
+) -> usize {
+    for times in 0..256 {
+        if !lacks_with(rt, alloc, 64 * times, place, call, edits) {
+            return times;
+        }
+    }
+    panic!(rt; "no heap has enough memory")
+}
+
+/// The calls, each made on maps of its own.
+const CALLS: &[Call] = &[NEW_BUCKETS, MOVE, BATCH, REFUSED];
+
 /// A device in new buckets.
-const NEW_BUCKETS: &[Asked] = &[Asked::Add(
-    3,
-    21823,
-    &[("host", "h3"), ("rack", "r1"), ("root", "default")],
-)];
+const NEW_BUCKETS: Call = Call {
+    asked: &[Asked::Add(
+        3,
+        21823,
+        &[("host", "h3"), ("rack", "r1"), ("root", "default")],
+    )],
+    told: Told::One(Ok(Done {
+        changed: true,
+        made: 2,
+    })),
+    then: &[
+        Fact::Holds("h3", &["osd.3"], 21823),
+        Fact::Holds("r1", &["h3"], 21823),
+        Fact::Holds("default", &["h1", "h2", "r1"], 185663),
+        Fact::HasId("h3", -4),
+        Fact::HasId("r1", -5),
+    ],
+    least: 2,
+};
 
 /// A device that moves.
-const MOVE: &[Asked] = &[Asked::CreateOrMove(0, 327680, &[("host", "h2")])];
+const MOVE: Call = Call {
+    asked: &[Asked::CreateOrMove(0, 327680, &[("host", "h2")])],
+    told: Told::One(Ok(Done {
+        changed: true,
+        made: 0,
+    })),
+    then: &[
+        Fact::Holds("h1", &["osd.1"], 65536),
+        Fact::Holds("h2", &["osd.2", "osd.0"], 98304),
+        Fact::Holds("default", &["h1", "h2"], 163840),
+    ],
+    least: 1,
+};
 
 /// A batch that is made.
-const BATCH: &[Asked] = &[
-    Asked::AddBucket("h9", "host"),
-    Asked::Move("h9", &[("root", "default")]),
-];
-
-/// A batch that is refused.
-const REFUSED: &[Asked] = &[
-    Asked::Add(3, 65536, &[("host", "h2")]),
-    Asked::Rename("h1", "hq"),
-    Asked::Remove("h2"),
-];
-
-#[test]
-fn memory_lacks_at_each_growth(rt: HostRuntime) -> Result<(), Fail> {
-    let alloc = rt.alloc();
-    let dones = Ok(Dones {
+const BATCH: Call = Call {
+    asked: &[
+        Asked::AddBucket("h9", "host"),
+        Asked::Move("h9", &[("root", "default")]),
+    ],
+    told: Told::Batch(Ok(Dones {
         edits: 2,
         changed: 2,
         made: 1,
-    });
-    let refused = Err(BatchFault::Refused(2, Refusal::NotEmpty));
-    lacks_at_each_growth(&rt, alloc, NEW_BUCKETS, dones, 2)?;
-    lacks_at_each_growth(&rt, alloc, MOVE, dones, 1)?;
-    lacks_at_each_growth(&rt, alloc, BATCH, dones, 2)?;
-    lacks_at_each_growth(&rt, alloc, REFUSED, refused, 2)
-}
+    })),
+    then: &[
+        Fact::Holds("default", &["h1", "h2", "h9"], 163840),
+        Fact::Holds("h9", &[], 0),
+        Fact::HasId("h9", -4),
+    ],
+    least: 2,
+};
+
+/// A batch that is refused.
+const REFUSED: Call = Call {
+    asked: &[
+        Asked::Add(3, 65536, &[("host", "h2")]),
+        Asked::Rename("h1", "hq"),
+        Asked::Remove("h2"),
+    ],
+    told: Told::Batch(Err(BatchFault::Refused(2, Refusal::NotEmpty))),
+    then: &[
+        Fact::Holds("h1", &["osd.0", "osd.1"], 131072),
+        Fact::Holds("h2", &["osd.2"], 32768),
+        Fact::Holds("default", &["h1", "h2"], 163840),
+        Fact::IsAbsent("osd.3"),
+        Fact::IsAbsent("hq"),
+    ],
+    least: 2,
+};
 
 #[test]
-fn exchanges_and_removals_lack_none(rt: HostRuntime) -> Result<(), Fail> {
-    let alloc = rt.alloc();
-    let heap = LocalHeap::new(alloc, HEAP)?;
-    let mut map = example_map(&rt, alloc, &heap)?;
-    let _ballast: Vec<u8, &LocalHeap> = Vec::with_capacity(&heap, largest_piece(&heap))?;
-    let all = edits(alloc, &[Asked::Swap("h1", "h2"), Asked::Remove("osd.0")])?;
-    for edit in all.iter() {
-        assert!(rt; map.apply(edit).is_ok());
+fn memory_lacks_at_each_growth(rt: HostRuntime) {
+    for (place, call) in CALLS.iter().enumerate() {
+        with(edits(&rt, rt.alloc(), call.asked), |edits| {
+            let times = times_lacking(&rt, rt.alloc(), place, call, edits.as_slice());
+            assert!(rt;
+                times >= call.least,
+                "call {place}: memory lacked {times} times"
+            );
+        });
     }
-    Ok(())
+}
+
+/// An exchange, and a removal.
+const NO_GROWTH: &[Asked] = &[Asked::Swap("h1", "h2"), Asked::Remove("osd.0")];
+
+/// What is true of the map after both.
+const EXCHANGED: &[Fact] = &[
+    Fact::Holds("h2", &["osd.2"], 32768),
+    Fact::Holds("h1", &["osd.1"], 65536),
+    Fact::Holds("default", &["h2", "h1"], 98304),
+    Fact::HasId("h2", -2),
+    Fact::HasId("h1", -3),
+];
+
+#[test]
+fn exchanges_and_removals_lack_none(rt: HostRuntime) {
+    let heap = LocalHeap::new(rt.alloc(), HEAP).expect(&rt, "a heap");
+    let map = whole_example_map_in(&rt, rt.alloc(), &heap).expect(&rt, "a map");
+    with(map, |map| {
+        let size = largest_piece(&heap);
+        let _ballast: Vec<u8, &LocalHeap> = Vec::with_capacity(&heap, size).expect(&rt, "a piece");
+        for asked in NO_GROWTH {
+            let told = with(edit(&rt, rt.alloc(), *asked), |edit| map.apply(edit));
+            let done = Done {
+                changed: true,
+                made: 0,
+            };
+            assert!(rt; told == Ok(done), "{told:?}");
+        }
+        are_true_of(&rt, map, NO_GROWTH.len(), EXCHANGED);
+    });
 }

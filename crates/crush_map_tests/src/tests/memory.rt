@@ -1,40 +1,45 @@
-//! The plain example map in heaps of each size.
+//! The example map in heaps of each size. Only its hierarchy is there: a setting is in the
+//! machine's memory, of which a test can refuse nothing.
 
-use crate::tests::building::example_map;
-use crate::tests::statements::add_device;
+use crate::tests::asking::{Asked, edit};
+use crate::tests::owning::with;
+use crate::tests::statements::{Statement, make};
+use crate::tests::whole::{has_the_setting, whole_example_map, whole_example_map_in};
 use crush_map::{BuildFault, CrushMap, Done, Edit, MapBuilder};
-use crush_units::{Name, Weight};
 use linked_list_allocator::LocalHeap;
-use std::alloc::{Allocator, Global};
+use std::alloc::Global;
 use std::process::Abort;
-use std::test::Fail;
 
 #[test]
-fn a_device_in_a_heap(rt: HostRuntime) -> Result<(), Fail> {
-    let heap = LocalHeap::new(rt.alloc(), 65536)?;
-    let mut builder = MapBuilder::new(rt.alloc(), &heap)?;
-    add_device(&rt, &mut builder, 0, b"osd.0")?;
-    assert!(rt; builder.has_name(b"osd.0"));
-    Ok(())
+fn a_device_in_a_heap(rt: HostRuntime) {
+    let heap = LocalHeap::new(rt.alloc(), 65536).expect(&rt, "a heap");
+    let builder = MapBuilder::new(rt.alloc(), &heap).expect(&rt, "memory");
+    with(builder, |builder| {
+        let told = make(&rt, builder, Statement::Device(0, "osd.0"));
+        assert!(rt; told.is_ok());
+        assert!(rt; builder.has_name(b"osd.0"));
+    });
 }
 
 #[test]
-fn a_device_without_memory(rt: HostRuntime) -> Result<(), Fail> {
-    let heap = LocalHeap::new(rt.alloc(), 64)?;
-    let mut builder = MapBuilder::new(rt.alloc(), &heap)?;
-    let told = add_device(&rt, &mut builder, 0, b"osd.0");
-    assert!(rt; told == Err(BuildFault::OutOfMemory));
-    Ok(())
+fn a_device_without_memory(rt: HostRuntime) {
+    let heap = LocalHeap::new(rt.alloc(), 64).expect(&rt, "a heap");
+    let builder = MapBuilder::new(rt.alloc(), &heap).expect(&rt, "memory");
+    with(builder, |builder| {
+        let told = make(&rt, builder, Statement::Device(0, "osd.0"));
+        assert!(rt; told == Err(BuildFault::OutOfMemory));
+    });
 }
 
 /// Asserts that the map is this one, and has no memory for a copy. A new weight needs none.
-fn is_in_full_memory<A: Allocator + Clone>(
+fn is_in_full_memory(
     rt: &impl Abort,
-    map: &mut CrushMap<A>,
+    map: &mut CrushMap<&LocalHeap>,
     whole: &CrushMap<Global>,
     new_weight: &Edit,
 ) {
     assert!(rt; map.forest().is_same(whole.forest()));
+    has_the_setting(rt, map.setting());
     assert!(rt; map.forest().try_copy().is_err());
     let done = Done {
         changed: true,
@@ -43,23 +48,42 @@ fn is_in_full_memory<A: Allocator + Clone>(
     assert!(rt; map.apply(new_weight) == Ok(done));
 }
 
-/// Heaps that are too small have no memory for a statement of the map. The first that holds the map
-/// has the map that the machine's memory has.
-#[test]
-fn in_heaps_of_each_size(rt: HostRuntime) -> Result<(), Fail> {
-    let whole = example_map(&rt, rt.alloc(), rt.alloc())?;
-    let name = Name::read(rt.alloc(), b"osd.2")?;
-    let weight = Weight::from_units(65536);
-    let new_weight = Edit::Reweight { name, weight };
-    for i in 1..1024 {
-        let heap = LocalHeap::new(rt.alloc(), 64 * i)?;
-        match example_map(&rt, rt.alloc(), &heap) {
-            Ok(mut map) => {
-                is_in_full_memory(&rt, &mut map, &whole, &new_weight);
-                return Ok(());
-            }
-            Err(fault) => assert!(rt; fault == BuildFault::OutOfMemory),
+/// Whether a heap of this size has the map that the machine's memory has. A heap that is too small
+/// has no memory for a statement of the map.
+fn holds_the_map(
+    rt: &impl Abort,
+    alloc: Global,
+    size: usize,
+    whole: &CrushMap<Global>,
+    new_weight: &Edit,
+) -> bool {
+    let heap = LocalHeap::new(alloc, size).expect(rt, "a heap");
+    match whole_example_map_in(rt, alloc, &heap) {
+        Ok(map) => {
+            with(map, |map| is_in_full_memory(rt, map, whole, new_weight));
+            true
+        }
+        Err(fault) => {
+            assert!(rt; fault == BuildFault::OutOfMemory);
+            false
         }
     }
-    Err("no heap holds the map".into())
+}
+
+#[test]
+fn in_heaps_of_each_size(rt: HostRuntime) {
+    let new_weight = edit(&rt, rt.alloc(), Asked::Reweight("osd.2", 65536));
+    with(
+        (whole_example_map(&rt, rt.alloc()), new_weight),
+        |(whole, new_weight)| {
+            let holds = (1..1024).any(|i| holds_the_map(
+                &rt,
+                rt.alloc(),
+                64 * i,
+                whole,
+                new_weight,
+            ));
+            assert!(rt; holds, "no heap holds the map");
+        },
+    );
 }

@@ -1,39 +1,42 @@
 //! Edits without a location, on the plain example map.
 
-use crate::tests::asking::{Asked, CHANGED, Line, SAME, makes};
-use crate::tests::building::{example_map, map_with_spare};
+use crate::tests::asking::{Asked, CHANGED, Fact, Line, SAME, makes};
+use crate::tests::building::{example_map, map_of, map_with_spare};
+use crate::tests::owning::with;
+use crate::tests::statements::Statement;
 use crush_map::{Done, Refusal};
-use std::test::Fail;
 
 /// Two buckets exchange names and items.
 const SWAPPED: &[Line] = &[
     Line {
         asked: Asked::Swap("h1", "default"),
         told: Err(Refusal::Nested),
-        holds: &[],
+        then: &[],
     },
     Line {
         asked: Asked::Swap("h1", "h1"),
         told: Err(Refusal::Nested),
-        holds: &[],
+        then: &[],
     },
     Line {
         asked: Asked::Swap("h1", "osd.2"),
         told: Err(Refusal::NotABucket),
-        holds: &[],
+        then: &[],
     },
     Line {
         asked: Asked::Swap("osd.2", "x"),
         told: Err(Refusal::NoSuchItem),
-        holds: &[],
+        then: &[],
     },
     Line {
         asked: Asked::Swap("h1", "h2"),
         told: CHANGED,
-        holds: &[
-            ("h2", &["osd.2"], 32768),
-            ("h1", &["osd.0", "osd.1"], 131072),
-            ("default", &["h2", "h1"], 163840),
+        then: &[
+            Fact::Holds("h2", &["osd.2"], 32768),
+            Fact::Holds("h1", &["osd.0", "osd.1"], 131072),
+            Fact::Holds("default", &["h2", "h1"], 163840),
+            Fact::HasId("h2", -2),
+            Fact::HasId("h1", -3),
         ],
     },
 ];
@@ -43,42 +46,42 @@ const REMOVED: &[Line] = &[
     Line {
         asked: Asked::Remove("default"),
         told: Err(Refusal::NotEmpty),
-        holds: &[],
+        then: &[],
     },
     Line {
         asked: Asked::Remove("osd.0"),
         told: CHANGED,
-        holds: &[],
+        then: &[],
     },
     Line {
         asked: Asked::Remove("osd.1"),
         told: CHANGED,
-        holds: &[],
+        then: &[],
     },
     Line {
         asked: Asked::Remove("h1"),
         told: CHANGED,
-        holds: &[],
+        then: &[],
     },
     Line {
         asked: Asked::Remove("osd.2"),
         told: CHANGED,
-        holds: &[],
+        then: &[],
     },
     Line {
         asked: Asked::Remove("h2"),
         told: CHANGED,
-        holds: &[],
+        then: &[],
     },
     Line {
         asked: Asked::Remove("default"),
         told: CHANGED,
-        holds: &[],
+        then: &[],
     },
     Line {
         asked: Asked::Remove("default"),
         told: Err(Refusal::NoSuchItem),
-        holds: &[],
+        then: &[],
     },
 ];
 
@@ -87,17 +90,17 @@ const ADDED: &[Line] = &[
     Line {
         asked: Asked::AddBucket("h1", "host"),
         told: Err(Refusal::NameTaken),
-        holds: &[],
+        then: &[],
     },
     Line {
         asked: Asked::AddBucket("x", "osd"),
         told: Err(Refusal::WrongType),
-        holds: &[],
+        then: &[],
     },
     Line {
         asked: Asked::AddBucket("x", "pod"),
         told: Err(Refusal::NoSuchType),
-        holds: &[],
+        then: &[],
     },
     Line {
         asked: Asked::AddBucket("h9", "host"),
@@ -105,7 +108,11 @@ const ADDED: &[Line] = &[
             changed: true,
             made: 1,
         }),
-        holds: &[("h9", &[], 0)],
+        then: &[
+            Fact::Holds("h9", &[], 0),
+            Fact::HasId("h9", -4),
+            Fact::IsRoot("h9"),
+        ],
     },
 ];
 
@@ -114,39 +121,39 @@ const RENAMED: &[Line] = &[
     Line {
         asked: Asked::Rename("x", "h1"),
         told: Err(Refusal::AlreadyRenamed),
-        holds: &[],
+        then: &[],
     },
     Line {
         asked: Asked::Rename("osd.0", "y"),
         told: Err(Refusal::NotDirectory),
-        holds: &[],
+        then: &[],
     },
     Line {
         asked: Asked::Rename("h1", "h2"),
         told: Err(Refusal::NameTaken),
-        holds: &[],
+        then: &[],
     },
     Line {
         asked: Asked::Rename("h1", "h1"),
         told: Err(Refusal::NameTaken),
-        holds: &[],
+        then: &[],
     },
     Line {
         asked: Asked::Rename("x", "y"),
         told: Err(Refusal::NoSuchItem),
-        holds: &[],
+        then: &[],
     },
     Line {
         asked: Asked::Rename("osd.0", "h1"),
         told: Err(Refusal::NameTaken),
-        holds: &[],
+        then: &[],
     },
     Line {
         asked: Asked::Rename("h1", "hq"),
         told: CHANGED,
-        holds: &[
-            ("hq", &["osd.0", "osd.1"], 131072),
-            ("default", &["hq", "h2"], 163840),
+        then: &[
+            Fact::Holds("hq", &["osd.0", "osd.1"], 131072),
+            Fact::Holds("default", &["hq", "h2"], 163840),
         ],
     },
 ];
@@ -156,20 +163,20 @@ const WEIGHED: &[Line] = &[
     Line {
         asked: Asked::ReweightSubtree("h1", 16384),
         told: CHANGED,
-        holds: &[
-            ("h1", &["osd.0", "osd.1"], 32768),
-            ("default", &["h1", "h2"], 65536),
+        then: &[
+            Fact::Holds("h1", &["osd.0", "osd.1"], 32768),
+            Fact::Holds("default", &["h1", "h2"], 65536),
         ],
     },
     Line {
         asked: Asked::ReweightSubtree("h1", 16384),
         told: SAME,
-        holds: &[],
+        then: &[],
     },
     Line {
         asked: Asked::ReweightSubtree("osd.0", 65536),
         told: Err(Refusal::NotABucket),
-        holds: &[],
+        then: &[],
     },
 ];
 
@@ -178,39 +185,87 @@ const REFUSED: &[Line] = &[
     Line {
         asked: Asked::Reweight("osd.0", 2147483648),
         told: Err(Refusal::WeightTooLarge),
-        holds: &[],
+        then: &[],
     },
     Line {
         asked: Asked::Reweight("x", 65536),
         told: Err(Refusal::NoSuchItem),
-        holds: &[],
+        then: &[],
     },
     Line {
         asked: Asked::Reweight("osd.9", 65536),
         told: Err(Refusal::NotPlaced),
-        holds: &[],
+        then: &[],
     },
     Line {
         asked: Asked::Reweight("h1", 65536),
         told: Err(Refusal::NotADevice),
-        holds: &[],
+        then: &[],
     },
 ];
 
+/// What is asked of the plain example map, each time from the beginning.
+const ALL: &[&[Line]] = &[SWAPPED, REMOVED, ADDED, RENAMED, WEIGHED];
+
 #[test]
-fn edits_are_made(rt: HostRuntime) -> Result<(), Fail> {
-    let alloc = rt.alloc();
-    let all = [SWAPPED, REMOVED, ADDED, RENAMED, WEIGHED];
-    for lines in all {
-        let mut map = example_map(&rt, alloc, alloc)?;
-        makes(&rt, alloc, &mut map, lines)?;
+fn edits_are_made(rt: HostRuntime) {
+    for lines in ALL {
+        with(example_map(&rt, rt.alloc()), |map| {
+            makes(&rt, rt.alloc(), map, lines);
+        });
     }
-    Ok(())
 }
 
 #[test]
-fn weights_are_refused(rt: HostRuntime) -> Result<(), Fail> {
-    let alloc = rt.alloc();
-    let mut map = map_with_spare(&rt, alloc)?;
-    makes(&rt, alloc, &mut map, REFUSED)
+fn weights_are_refused(rt: HostRuntime) {
+    with(map_with_spare(&rt, rt.alloc()), |map| {
+        makes(&rt, rt.alloc(), map, REFUSED);
+    });
+}
+
+/// The root p with the host a, which has the device d0, and with d1; the root q with d2 and d3.
+/// Each device has the largest weight.
+const HEAVY: &[Statement] = &[
+    Statement::Type(0, "osd"),
+    Statement::Type(1, "host"),
+    Statement::Type(11, "root"),
+    Statement::Device(0, "d0"),
+    Statement::Device(1, "d1"),
+    Statement::Device(2, "d2"),
+    Statement::Device(3, "d3"),
+    Statement::Begin("host", "a"),
+    Statement::Id(-2),
+    Statement::Alg,
+    Statement::Item("d0", 2147483647),
+    Statement::End,
+    Statement::Begin("root", "p"),
+    Statement::Id(-1),
+    Statement::Alg,
+    Statement::ItemAsItIs("a"),
+    Statement::Item("d1", 2147483647),
+    Statement::End,
+    Statement::Begin("root", "q"),
+    Statement::Id(-3),
+    Statement::Alg,
+    Statement::Item("d2", 2147483647),
+    Statement::Item("d3", 2147483647),
+    Statement::End,
+];
+
+/// The root p would weigh 6442450941 units.
+const HEAVY_SWAP: &[Line] = &[Line {
+    asked: Asked::Swap("a", "q"),
+    told: Err(Refusal::SumTooLarge),
+    then: &[
+        Fact::Holds("p", &["a", "d1"], 4294967294),
+        Fact::Holds("a", &["d0"], 2147483647),
+        Fact::Holds("q", &["d2", "d3"], 4294967294),
+    ],
+}];
+
+#[test]
+fn an_exchange_that_is_too_heavy(rt: HostRuntime) {
+    with(map_of(&rt, rt.alloc(), &[HEAVY]), |map| {
+        makes(&rt, rt.alloc(), map, HEAVY_SWAP);
+    });
 }

@@ -1,11 +1,14 @@
 //! Items put at the end of a location's route, on the plain example map.
 
-use crate::tests::asking::{Asked, CHANGED, Line, SAME, makes};
-use crate::tests::building::{example_map, map_with_spare};
+use crate::tests::asking::{Asked, CHANGED, Fact, Line, SAME, makes};
+use crate::tests::building::{
+    OTHER_BUCKETS, TYPES_AND_DEVICES, example_map, map_of, map_with_spare,
+};
+use crate::tests::owning::with;
+use crate::tests::statements::Statement;
 use crush_map::{Done, Refusal};
-use std::test::Fail;
 
-/// A device in new buckets, whose ids are the free ones nearest to 0; then a batch of one.
+/// A device in new buckets, whose ids are the free ones nearest to 0.
 const NEW_BUCKETS: &[Line] = &[Line {
     asked: Asked::Add(
         3,
@@ -16,10 +19,12 @@ const NEW_BUCKETS: &[Line] = &[Line {
         changed: true,
         made: 2,
     }),
-    holds: &[
-        ("h3", &["osd.3"], 21823),
-        ("r1", &["h3"], 21823),
-        ("default", &["h1", "h2", "r1"], 185663),
+    then: &[
+        Fact::Holds("h3", &["osd.3"], 21823),
+        Fact::Holds("r1", &["h3"], 21823),
+        Fact::Holds("default", &["h1", "h2", "r1"], 185663),
+        Fact::HasId("h3", -4),
+        Fact::HasId("r1", -5),
     ],
 }];
 
@@ -31,9 +36,11 @@ const ROUTE_ENDS: &[Line] = &[Line {
         &[("host", "h1"), ("rack", "r9"), ("root", "other")],
     ),
     told: CHANGED,
-    holds: &[
-        ("h1", &["osd.0", "osd.1", "osd.3"], 196608),
-        ("default", &["h1", "h2"], 229376),
+    then: &[
+        Fact::Holds("h1", &["osd.0", "osd.1", "osd.3"], 196608),
+        Fact::Holds("default", &["h1", "h2"], 229376),
+        Fact::IsAbsent("r9"),
+        Fact::IsAbsent("other"),
     ],
 }];
 
@@ -42,20 +49,20 @@ const OWN_WEIGHT: &[Line] = &[
     Line {
         asked: Asked::CreateOrMove(0, 327680, &[("host", "h1"), ("root", "other")]),
         told: SAME,
-        holds: &[("h1", &["osd.0", "osd.1"], 131072)],
+        then: &[Fact::Holds("h1", &["osd.0", "osd.1"], 131072)],
     },
     Line {
         asked: Asked::Move("h1", &[("root", "default")]),
         told: SAME,
-        holds: &[("default", &["h1", "h2"], 163840)],
+        then: &[Fact::Holds("default", &["h1", "h2"], 163840)],
     },
     Line {
         asked: Asked::CreateOrMove(0, 327680, &[("host", "h2")]),
         told: CHANGED,
-        holds: &[
-            ("h1", &["osd.1"], 65536),
-            ("h2", &["osd.2", "osd.0"], 98304),
-            ("default", &["h1", "h2"], 163840),
+        then: &[
+            Fact::Holds("h1", &["osd.1"], 65536),
+            Fact::Holds("h2", &["osd.2", "osd.0"], 98304),
+            Fact::Holds("default", &["h1", "h2"], 163840),
         ],
     },
 ];
@@ -65,12 +72,12 @@ const MOVES: &[Line] = &[
     Line {
         asked: Asked::Move("default", &[("host", "h1")]),
         told: Err(Refusal::Loop),
-        holds: &[],
+        then: &[],
     },
     Line {
         asked: Asked::Move("h1", &[("host", "h1")]),
         told: Err(Refusal::Loop),
-        holds: &[],
+        then: &[],
     },
     Line {
         asked: Asked::Move("h2", &[("rack", "r1"), ("root", "default")]),
@@ -78,10 +85,11 @@ const MOVES: &[Line] = &[
             changed: true,
             made: 1,
         }),
-        holds: &[
-            ("r1", &["h2"], 32768),
-            ("h2", &["osd.2"], 32768),
-            ("default", &["h1", "r1"], 163840),
+        then: &[
+            Fact::Holds("r1", &["h2"], 32768),
+            Fact::HasId("r1", -4),
+            Fact::Holds("h2", &["osd.2"], 32768),
+            Fact::Holds("default", &["h1", "r1"], 163840),
         ],
     },
 ];
@@ -94,27 +102,31 @@ const NEW_ROOT: &[Line] = &[
             changed: true,
             made: 2,
         }),
-        holds: &[],
+        then: &[Fact::Holds("rx", &["hx"], 2147483647)],
     },
     Line {
         asked: Asked::Add(11, 2147483647, &[("host", "hx")]),
         told: CHANGED,
-        holds: &[("rx", &["hx"], 4294967294)],
+        then: &[
+            Fact::IsRoot("rx"),
+            Fact::Holds("rx", &["hx"], 4294967294),
+            Fact::Holds("hx", &["osd.10", "osd.11"], 4294967294),
+        ],
     },
     Line {
         asked: Asked::Add(12, 2147483647, &[("host", "hy"), ("rack", "rx")]),
         told: Err(Refusal::SumTooLarge),
-        holds: &[],
+        then: &[Fact::IsAbsent("hy"), Fact::IsAbsent("osd.12")],
     },
     Line {
         asked: Asked::Remove("hy"),
         told: Err(Refusal::NoSuchItem),
-        holds: &[],
+        then: &[],
     },
     Line {
         asked: Asked::Add(13, 2147483648, &[("host", "hy")]),
         told: Err(Refusal::WeightTooLarge),
-        holds: &[],
+        then: &[],
     },
 ];
 
@@ -123,20 +135,20 @@ const WEIGHT_SET: &[Line] = &[
     Line {
         asked: Asked::Set(1, 196608, &[("host", "h1")]),
         told: CHANGED,
-        holds: &[("h1", &["osd.0", "osd.1"], 262144)],
+        then: &[Fact::Holds("h1", &["osd.0", "osd.1"], 262144)],
     },
     Line {
         asked: Asked::Set(1, 196608, &[("host", "h1")]),
         told: SAME,
-        holds: &[("h1", &["osd.0", "osd.1"], 262144)],
+        then: &[Fact::Holds("h1", &["osd.0", "osd.1"], 262144)],
     },
     Line {
         asked: Asked::Set(0, 32768, &[("host", "h2")]),
         told: CHANGED,
-        holds: &[
-            ("h1", &["osd.1"], 196608),
-            ("h2", &["osd.2", "osd.0"], 65536),
-            ("default", &["h1", "h2"], 262144),
+        then: &[
+            Fact::Holds("h1", &["osd.1"], 196608),
+            Fact::Holds("h2", &["osd.2", "osd.0"], 65536),
+            Fact::Holds("default", &["h1", "h2"], 262144),
         ],
     },
 ];
@@ -146,12 +158,12 @@ const SPARE: &[Line] = &[
     Line {
         asked: Asked::Add(9, 65536, &[("host", "h2")]),
         told: CHANGED,
-        holds: &[("h2", &["osd.2", "osd.9"], 98304)],
+        then: &[Fact::Holds("h2", &["osd.2", "osd.9"], 98304)],
     },
     Line {
         asked: Asked::Add(9, 65536, &[("host", "h2")]),
         told: Err(Refusal::AlreadyPlaced),
-        holds: &[],
+        then: &[],
     },
 ];
 
@@ -159,7 +171,7 @@ const SPARE: &[Line] = &[
 const SPARE_MOVED: &[Line] = &[Line {
     asked: Asked::Move("osd.9", &[("host", "h2")]),
     told: CHANGED,
-    holds: &[("h2", &["osd.2", "osd.9"], 32768)],
+    then: &[Fact::Holds("h2", &["osd.2", "osd.9"], 32768)],
 }];
 
 /// Locations that are refused, and devices.
@@ -167,85 +179,123 @@ const REFUSED: &[Line] = &[
     Line {
         asked: Asked::Add(3, 65536, &[("host", "osd.3")]),
         told: Err(Refusal::BadName),
-        holds: &[],
+        then: &[],
     },
     Line {
         asked: Asked::Add(3, 65536, &[("host", "h1"), ("rack", "osd.3")]),
         told: Err(Refusal::BadName),
-        holds: &[],
+        then: &[],
     },
     Line {
         asked: Asked::Add(3, 65536, &[("host", "h1"), ("host", "h2")]),
         told: Err(Refusal::BadLocation),
-        holds: &[],
+        then: &[],
     },
     Line {
         asked: Asked::Add(3, 65536, &[("osd", "x")]),
         told: Err(Refusal::BadLocation),
-        holds: &[],
+        then: &[],
     },
     Line {
         asked: Asked::Add(3, 65536, &[("pod", "p")]),
         told: Err(Refusal::NoSuchType),
-        holds: &[],
+        then: &[],
     },
     Line {
         asked: Asked::Add(3, 65536, &[("host", "h1"), ("nosuch", "x")]),
         told: Err(Refusal::NoSuchType),
-        holds: &[],
+        then: &[],
     },
     Line {
         asked: Asked::Add(3, 65536, &[]),
         told: Err(Refusal::NoPlace),
-        holds: &[],
+        then: &[],
     },
     Line {
         asked: Asked::Add(3, 65536, &[("host", "osd.1")]),
         told: Err(Refusal::NotABucket),
-        holds: &[],
+        then: &[],
     },
     Line {
         asked: Asked::Add(0, 65536, &[("host", "h1")]),
         told: Err(Refusal::AlreadyPlaced),
-        holds: &[],
+        then: &[],
     },
     Line {
         asked: Asked::Move("h1", &[("rack", "default")]),
         told: Err(Refusal::WrongType),
-        holds: &[],
+        then: &[],
     },
     Line {
         asked: Asked::Move("osd.0", &[("host", "osd.0")]),
         told: Err(Refusal::NotABucket),
-        holds: &[],
+        then: &[],
     },
 ];
 
-#[test]
-fn items_are_put(rt: HostRuntime) -> Result<(), Fail> {
-    let alloc = rt.alloc();
-    let all = [
-        NEW_BUCKETS,
-        ROUTE_ENDS,
-        OWN_WEIGHT,
-        MOVES,
-        NEW_ROOT,
-        WEIGHT_SET,
-        REFUSED,
-    ];
-    for lines in all {
-        let mut map = example_map(&rt, alloc, alloc)?;
-        makes(&rt, alloc, &mut map, lines)?;
-    }
-    Ok(())
-}
+/// What is asked of the plain example map, each time from the beginning.
+const ALL: &[&[Line]] = &[
+    NEW_BUCKETS,
+    ROUTE_ENDS,
+    OWN_WEIGHT,
+    MOVES,
+    NEW_ROOT,
+    WEIGHT_SET,
+    REFUSED,
+];
 
 #[test]
-fn spare_devices_are_put(rt: HostRuntime) -> Result<(), Fail> {
-    let alloc = rt.alloc();
-    for lines in [SPARE, SPARE_MOVED] {
-        let mut map = map_with_spare(&rt, alloc)?;
-        makes(&rt, alloc, &mut map, lines)?;
+fn items_are_put(rt: HostRuntime) {
+    for lines in ALL {
+        with(example_map(&rt, rt.alloc()), |map| {
+            makes(&rt, rt.alloc(), map, lines);
+        });
     }
-    Ok(())
+}
+
+/// What is asked of the map with a spare device, each time from the beginning.
+const WITH_SPARE: &[&[Line]] = &[SPARE, SPARE_MOVED];
+
+#[test]
+fn spare_devices_are_put(rt: HostRuntime) {
+    for lines in WITH_SPARE {
+        with(map_with_spare(&rt, rt.alloc()), |map| {
+            makes(&rt, rt.alloc(), map, lines);
+        });
+    }
+}
+
+/// The host h1 with the class id -4, which is no free id.
+const CLASSED: &[Statement] = &[
+    Statement::Begin("host", "h1"),
+    Statement::Id(-2),
+    Statement::ClassId(-4, "ssd"),
+    Statement::Alg,
+    Statement::Item("osd.0", 65536),
+    Statement::Item("osd.1", 65536),
+    Statement::End,
+];
+
+/// A new host beside a class id.
+const BESIDE_CLASS_ID: &[Line] = &[Line {
+    asked: Asked::Add(3, 65536, &[("host", "h3")]),
+    told: Ok(Done {
+        changed: true,
+        made: 1,
+    }),
+    then: &[
+        Fact::Holds("h3", &["osd.3"], 65536),
+        Fact::HasId("h3", -5),
+        Fact::IsRoot("h3"),
+    ],
+}];
+
+/// The statements of the plain example map with that host.
+const WITH_CLASS_ID: &[&[Statement]] = &[TYPES_AND_DEVICES, CLASSED, OTHER_BUCKETS];
+
+#[test]
+fn class_ids_are_not_free(rt: HostRuntime) {
+    with(map_of(&rt, rt.alloc(), WITH_CLASS_ID), |map| {
+        makes(&rt, rt.alloc(), map, BESIDE_CLASS_ID);
+    });
 }

@@ -1,7 +1,9 @@
 //! The names, numbers and errors of refusals, and what is written of a fault.
 
 use crush_map::{BuildFault, EditFault, Refusal, is_reserved};
-use std::test::Fail;
+use std::alloc::Global;
+use std::fmt::Display;
+use std::process::Abort;
 
 /// The refusals in the order in which they are told, with their Linux errors.
 const REFUSALS: &[(Refusal, &str, u8)] = &[
@@ -36,32 +38,29 @@ fn refusals_by_number(rt: HostRuntime) {
     }
 }
 
-#[test]
-fn what_is_written_of_a_fault(rt: HostRuntime) -> Result<(), Fail> {
-    let refused = EditFault::from(Refusal::NoSuchItem);
-    let told = format!(in rt.alloc(); "{refused}, {}", EditFault::OutOfMemory)?;
-    assert_eq!(rt; told.as_str(), "the edit is refused, out of memory");
-    let heavy = BuildFault::SumTooLarge;
-    let told = format!(in rt.alloc(); "{heavy}, {}", BuildFault::OutOfMemory)?;
-    assert_eq!(rt;
-        told.as_str(),
-        "a bucket or the whole map is too heavy with this item, out of memory"
-    );
-    Ok(())
+/// Asserts what is written of a fault.
+fn is_written<F: Display + Drop>(rt: &impl Abort, alloc: Global, fault: F, text: &str) {
+    let told = format!(in alloc; "{fault}").expect(rt, "memory");
+    assert_eq!(rt; told.as_str(), text);
 }
 
 #[test]
+fn what_is_written_of_a_fault(rt: HostRuntime) {
+    let refused = EditFault::from(Refusal::NoSuchItem);
+    is_written(&rt, rt.alloc(), refused, "the edit is refused");
+    is_written(&rt, rt.alloc(), EditFault::OutOfMemory, "out of memory");
+    let heavy = "a bucket or the whole map is too heavy with this item";
+    is_written(&rt, rt.alloc(), BuildFault::SumTooLarge, heavy);
+    is_written(&rt, rt.alloc(), BuildFault::OutOfMemory, "out of memory");
+}
+
+/// The words with which a statement begins that is no bucket.
+const RESERVED: &[&str] = &["tunable", "device", "type", "rule", "class", "choose_args"];
+
+#[test]
 fn words_that_begin_a_statement_are_reserved(rt: HostRuntime) {
-    let words: [&[u8]; 6] = [
-        b"tunable",
-        b"device",
-        b"type",
-        b"rule",
-        b"class",
-        b"choose_args",
-    ];
-    for word in words {
-        assert!(rt; is_reserved(word));
+    for word in RESERVED {
+        assert!(rt; is_reserved(word.as_bytes()));
     }
     assert!(rt; !is_reserved(b"host"));
     assert!(rt; !is_reserved(b"devices"));

@@ -1,129 +1,25 @@
 //! Tunables, class ids and rules: what is kept of them, what speaks against one, and edits of a map
 //! with a rule.
 
-ghost use Rattle.std.specs.Prelude.{All, IfOk};
-ghost use Rattle.crush_map.specs.Rules.{IsStepForm};
-
-use crate::tests::asking::{Asked, CHANGED, Line, makes};
-use crate::tests::building::{add_buckets, bucket, types_and_devices};
-use crate::tests::statements::{
-    add_class_id, add_tunable, begin_bucket, end_bucket, fill_bucket, finish, number_bucket,
-};
-use crush_map::{BuildFault, CrushMap, Done, MapBuilder, Refusal, Rule, RuleFault, RulePart, Step};
-use crush_units::Name;
+use crate::tests::asking::{Asked, CHANGED, Fact, Line, makes};
+use crate::tests::building::{bucket, types_and_devices};
+use crate::tests::owning::with;
+use crate::tests::statements::{Statement, empty, refuses, takes, takes_all};
+use crate::tests::whole::{Said, add_rule, has_the_setting, map_in_the_making, whole_example_map};
+use crush_map::{BuildFault, Done, MapBuilder, Refusal, RuleFault, RulePart};
 use std::alloc::Global;
 use std::process::Abort;
-use std::test::Fail;
-
-/// A step as a rule's text has it.
-#[derive(Clone, Copy)]
-enum Said {
-    Take(&'static str),
-    ChooseLeaf(i32, &'static str),
-    Emit,
-}
-
-/// The steps of the example map's rule.
-const REPLICATED: &[Said] = &[
-    Said::Take("default"),
-    Said::ChooseLeaf(0, "host"),
-    Said::Emit,
-];
-
-/// The step in the machine's memory.
-fn step(alloc: Global, said: Said) -> Result<Step, Fail>
-    ensures { IfOk result IsStepForm }
-{
-    match said {
-        Said::Take(bucket) => Ok(Step::Take(Name::read(alloc, bucket.as_bytes())?, None)),
-        Said::ChooseLeaf(count, kind) => Ok(Step::Choose {
-            leaf: true,
-            firstn: true,
-            count,
-            kind: Name::read(alloc, kind.as_bytes())?,
-        }),
-        Said::Emit => Ok(Step::Emit),
-    }
-}
-
-/// The steps in the machine's memory.
-fn steps(alloc: Global, all: &[Said]) -> Result<Vec<Step>, Fail>
-    ensures { IfOk result (λ steps. All IsStepForm steps.items) }
-{
-    let mut made = Vec::new(alloc);
-    for said in all {
-        let step = step(alloc, *said)?;
-        made.push(step)?;
-    }
-    Ok(made)
-}
-
-/// `rule NAME { id ID type replicated min_size 1 max_size 10 STEPS }`
-fn add_rule(
-    rt: &impl Abort,
-    builder: &mut MapBuilder<Global>,
-    alloc: Global,
-    name: &[u8],
-    id: u32,
-    all: &[Said],
-) -> Result<Result<(), RuleFault>, Fail> {
-    let name = Name::read(alloc, name)?;
-    let kind = Name::read(alloc, b"replicated")?;
-    let steps = steps(alloc, all)?;
-    let rule = Rule {
-        name,
-        id,
-        kind,
-        min_size: Some(1),
-        max_size: Some(10),
-        steps,
-    };
-    assert!(rt; rule.id <= 2147483647);
-    assert!(rt; builder.is_idle());
-    Ok(builder.rule(&rule))
-}
-
-/// The example map in the making, after its rule.
-fn map_in_the_making(rt: &impl Abort, alloc: Global) -> Result<MapBuilder<Global>, Fail> {
-    let mut builder = types_and_devices(rt, alloc, alloc)?;
-    add_tunable(rt, &mut builder, b"choose_total_tries", 50)?;
-    add_buckets(rt, &mut builder)?;
-    end_bucket(rt, &mut builder);
-    let told = add_rule(rt, &mut builder, alloc, b"replicated_rule", 0, REPLICATED)?;
-    assert!(rt; told.is_ok());
-    Ok(builder)
-}
-
-/// The example map.
-fn whole_example_map(rt: &impl Abort, alloc: Global) -> Result<CrushMap<Global>, Fail> {
-    let builder = map_in_the_making(rt, alloc)?;
-    Ok(finish(rt, builder))
-}
 
 #[test]
-fn the_tunable_and_the_rule_of_the_example_map(rt: HostRuntime) -> Result<(), Fail> {
-    let map = whole_example_map(&rt, rt.alloc())?;
-    let setting = map.setting();
-    assert_eq!(rt; setting.tunables().len(), 1);
-    for (name, value) in setting.tunables() {
-        assert!(rt; name.is(b"choose_total_tries"));
-        assert_eq!(rt; *value, 50);
-    }
-    assert_eq!(rt; setting.rules().len(), 1);
-    for rule in setting.rules() {
-        assert!(rt; rule.name.is(b"replicated_rule"));
-        assert!(rt; rule.kind.is(b"replicated"));
-        assert_eq!(rt; rule.id, 0);
-        assert_eq!(rt; rule.steps.len(), 3);
-    }
-    assert!(rt; setting.takes(bucket(&rt, -1)));
-    assert!(rt; !setting.takes(bucket(&rt, -2)));
-    Ok(())
+fn the_setting_of_the_example_map(rt: HostRuntime) {
+    with(whole_example_map(&rt, rt.alloc()), |map| {
+        has_the_setting(&rt, map.setting());
+    });
 }
 
 /// What is told of a rule of this name and id, with these steps, after the example map's.
 struct Faulty {
-    name: &'static [u8],
+    name: &'static str,
     id: u32,
     steps: &'static [Said],
     part: RulePart,
@@ -133,28 +29,28 @@ struct Faulty {
 /// Faulty rules. Where several parts have a fault, the first is told.
 const FAULTY: &[Faulty] = &[
     Faulty {
-        name: b"replicated_rule",
+        name: "replicated_rule",
         id: 0,
         steps: &[Said::Take("nowhere")],
         part: RulePart::Name,
         fault: BuildFault::DuplicateName,
     },
     Faulty {
-        name: b"other",
+        name: "other",
         id: 0,
         steps: &[Said::Take("nowhere")],
         part: RulePart::Id,
         fault: BuildFault::DuplicateId,
     },
     Faulty {
-        name: b"other",
+        name: "other",
         id: 1,
         steps: &[Said::Take("nowhere"), Said::ChooseLeaf(0, "pod")],
         part: RulePart::Step(0),
         fault: BuildFault::UnknownBucketInRule,
     },
     Faulty {
-        name: b"other",
+        name: "other",
         id: 1,
         steps: &[
             Said::Take("default"),
@@ -165,21 +61,21 @@ const FAULTY: &[Faulty] = &[
         fault: BuildFault::UnknownType,
     },
     Faulty {
-        name: b"other",
+        name: "other",
         id: 1,
         steps: &[Said::Emit, Said::Take("osd.0")],
         part: RulePart::Step(1),
         fault: BuildFault::UnknownBucketInRule,
     },
     Faulty {
-        name: b"other",
+        name: "other",
         id: 1,
         steps: &[Said::Emit; 65],
         part: RulePart::Step(64),
         fault: BuildFault::TooMany,
     },
     Faulty {
-        name: b"other",
+        name: "other",
         id: 1,
         steps: &[Said::ChooseLeaf(-1, "host"), Said::ChooseLeaf(1, "row")],
         part: RulePart::Step(1),
@@ -187,100 +83,128 @@ const FAULTY: &[Faulty] = &[
     },
 ];
 
-#[test]
-fn rules_that_are_not_taken(rt: HostRuntime) -> Result<(), Fail> {
-    let mut builder = map_in_the_making(&rt, rt.alloc())?;
-    for (place, rule) in FAULTY.iter().enumerate() {
-        let told = add_rule(
-            &rt,
-            &mut builder,
-            rt.alloc(),
-            rule.name,
-            rule.id,
-            rule.steps,
-        )?;
+/// Asserts what is told of the faulty rules.
+fn refuses_rules(
+    rt: &impl Abort,
+    alloc: Global,
+    builder: &mut MapBuilder<Global>,
+    rules: &[Faulty],
+) {
+    for (place, rule) in rules.iter().enumerate() {
+        let told = add_rule(rt, alloc, builder, rule.name, rule.id, rule.steps);
         let part = rule.part;
         let fault = rule.fault;
         assert!(rt;
             told == Err(RuleFault { part, fault }),
-            "rule {place}: {told:?}"
+            "rule {place}, {}: {told:?}",
+            rule.name
         );
     }
-    Ok(())
 }
 
 #[test]
-fn at_most_256_rules(rt: HostRuntime) -> Result<(), Fail> {
-    let mut builder = MapBuilder::new(rt.alloc(), rt.alloc())?;
-    for id in 0..256 {
-        let name = format!(in rt.alloc(); "r{id}")?;
-        let told = add_rule(&rt, &mut builder, rt.alloc(), name.as_bytes(), id, &[])?;
-        assert!(rt; told.is_ok());
-    }
-    let part = RulePart::Statement;
-    let fault = BuildFault::TooMany;
-    let told = add_rule(&rt, &mut builder, rt.alloc(), b"r0", 0, &[])?;
-    assert!(rt; told == Err(RuleFault { part, fault }));
-    Ok(())
+fn rules_that_are_not_taken(rt: HostRuntime) {
+    with(map_in_the_making(&rt, rt.alloc()), |builder| {
+        refuses_rules(&rt, rt.alloc(), builder, FAULTY);
+    });
+}
+
+/// A rule where there is no room for one.
+const ONE_MORE: &[Faulty] = &[Faulty {
+    name: "r0",
+    id: 0,
+    steps: &[],
+    part: RulePart::Statement,
+    fault: BuildFault::TooMany,
+}];
+
+/// Makes the rule rN without steps, where N is its id.
+fn takes_rule(rt: &impl Abort, alloc: Global, builder: &mut MapBuilder<Global>, id: u32) {
+    let name = format!(in alloc; "r{id}").expect(rt, "memory");
+    let told = add_rule(rt, alloc, builder, name.as_str(), id, &[]);
+    assert!(rt; told.is_ok());
 }
 
 #[test]
-fn at_most_64_tunables(rt: HostRuntime) -> Result<(), Fail> {
-    let mut builder = MapBuilder::new(rt.alloc(), rt.alloc())?;
-    for number in 0..64 {
-        let name = format!(in rt.alloc(); "t{number}")?;
-        add_tunable(&rt, &mut builder, name.as_bytes(), number)?;
-    }
-    let twice = add_tunable(&rt, &mut builder, b"t0", 0);
-    assert!(rt; twice == Err(BuildFault::DuplicateName));
-    let one_more = add_tunable(&rt, &mut builder, b"t64", 0);
-    assert!(rt; one_more == Err(BuildFault::TooMany));
-    Ok(())
+fn at_most_256_rules(rt: HostRuntime) {
+    with(empty(&rt, rt.alloc()), |builder| {
+        for id in 0..256 {
+            takes_rule(&rt, rt.alloc(), builder, id);
+        }
+        refuses_rules(&rt, rt.alloc(), builder, ONE_MORE);
+    });
 }
 
 #[test]
-fn class_ids_of_a_bucket(rt: HostRuntime) -> Result<(), Fail> {
-    let mut builder = types_and_devices(&rt, rt.alloc(), rt.alloc())?;
-    begin_bucket(&rt, &mut builder, b"host", b"h1")?;
-    number_bucket(&rt, &mut builder, -2)?;
-    add_class_id(&rt, &mut builder, -4, b"ssd")?;
-    assert!(rt; builder.has_class(b"ssd"));
-    assert!(rt; !builder.has_class(b"hdd"));
-    assert!(rt; builder.has_bucket_id(bucket(&rt, -4)));
-    for taken in [-2, -4] {
-        let told = add_class_id(&rt, &mut builder, taken, b"ssd");
-        assert!(rt; told == Err(BuildFault::DuplicateId));
-    }
-    let twice = add_class_id(&rt, &mut builder, -5, b"ssd");
-    assert!(rt; twice == Err(BuildFault::DuplicateName));
-    fill_bucket(&rt, &mut builder)?;
-    end_bucket(&rt, &mut builder);
-    assert!(rt; builder.bucket_named(b"h1") == Some(bucket(&rt, -2)));
-    assert!(rt; builder.bucket_named(b"osd.0").is_none());
-    begin_bucket(&rt, &mut builder, b"host", b"h2")?;
-    number_bucket(&rt, &mut builder, -3)?;
-    let taken = add_class_id(&rt, &mut builder, -4, b"ssd");
-    assert!(rt; taken == Err(BuildFault::DuplicateId));
-    add_class_id(&rt, &mut builder, -5, b"ssd")?;
-    Ok(())
+fn at_most_64_tunables(rt: HostRuntime) {
+    with(empty(&rt, rt.alloc()), |builder| {
+        for number in 0..64 {
+            let name = format!(in rt.alloc(); "t{number}").expect(&rt, "memory");
+            let tunable = Statement::Tunable(name.as_str(), number);
+            takes(&rt, builder, tunable);
+        }
+        let twice = Statement::Tunable("t0", 0);
+        refuses(&rt, builder, twice, BuildFault::DuplicateName);
+        let one_more = Statement::Tunable("t64", 0);
+        refuses(&rt, builder, one_more, BuildFault::TooMany);
+    });
+}
+
+/// A host with the class id -4.
+const FIRST: &[Statement] = &[
+    Statement::Begin("host", "h1"),
+    Statement::Id(-2),
+    Statement::ClassId(-4, "ssd"),
+];
+
+/// Class ids that the host isn't given beside this one.
+const TAKEN_IDS: &[(Statement, BuildFault)] = &[
+    (Statement::ClassId(-2, "ssd"), BuildFault::DuplicateId),
+    (Statement::ClassId(-4, "ssd"), BuildFault::DuplicateId),
+    (Statement::ClassId(-5, "ssd"), BuildFault::DuplicateName),
+];
+
+/// A second host.
+const SECOND: &[Statement] = &[Statement::Begin("host", "h2"), Statement::Id(-3)];
+
+#[test]
+fn class_ids_of_a_bucket(rt: HostRuntime) {
+    with(types_and_devices(&rt, rt.alloc()), |builder| {
+        takes_all(&rt, builder, FIRST);
+        assert!(rt; builder.has_class(b"ssd"));
+        assert!(rt; !builder.has_class(b"hdd"));
+        assert!(rt; builder.has_bucket_id(bucket(&rt, -4)));
+        for (statement, fault) in TAKEN_IDS {
+            refuses(&rt, builder, *statement, *fault);
+        }
+        takes(&rt, builder, Statement::Alg);
+        takes(&rt, builder, Statement::End);
+        assert!(rt; builder.bucket_named(b"h1") == Some(bucket(&rt, -2)));
+        assert!(rt; builder.bucket_named(b"osd.0").is_none());
+        takes_all(&rt, builder, SECOND);
+        let taken = Statement::ClassId(-4, "ssd");
+        refuses(&rt, builder, taken, BuildFault::DuplicateId);
+        takes(&rt, builder, Statement::ClassId(-5, "ssd"));
+    });
 }
 
 #[test]
-fn at_most_16_class_ids(rt: HostRuntime) -> Result<(), Fail> {
-    let mut builder = types_and_devices(&rt, rt.alloc(), rt.alloc())?;
-    begin_bucket(&rt, &mut builder, b"host", b"h1")?;
-    number_bucket(&rt, &mut builder, -1)?;
-    for number in -17..-1 {
-        assert!(rt; !builder.is_full_of_class_ids());
-        let class = format!(in rt.alloc(); "c{number}")?;
-        add_class_id(&rt, &mut builder, number, class.as_bytes())?;
-    }
-    assert!(rt; builder.is_full_of_class_ids());
-    let twice = add_class_id(&rt, &mut builder, -18, b"c-2");
-    assert!(rt; twice == Err(BuildFault::DuplicateName));
-    let one_more = add_class_id(&rt, &mut builder, -18, b"c");
-    assert!(rt; one_more == Err(BuildFault::TooMany));
-    Ok(())
+fn at_most_16_class_ids(rt: HostRuntime) {
+    with(types_and_devices(&rt, rt.alloc()), |builder| {
+        takes(&rt, builder, Statement::Begin("host", "h1"));
+        takes(&rt, builder, Statement::Id(-1));
+        for number in -17..-1 {
+            assert!(rt; !builder.is_full_of_class_ids());
+            let class = format!(in rt.alloc(); "c{number}").expect(&rt, "memory");
+            let class_id = Statement::ClassId(number, class.as_str());
+            takes(&rt, builder, class_id);
+        }
+        assert!(rt; builder.is_full_of_class_ids());
+        let twice = Statement::ClassId(-18, "c-2");
+        refuses(&rt, builder, twice, BuildFault::DuplicateName);
+        let one_more = Statement::ClassId(-18, "c");
+        refuses(&rt, builder, one_more, BuildFault::TooMany);
+    });
 }
 
 /// A bucket that a rule takes is empty at last.
@@ -288,37 +212,37 @@ const TAKEN: &[Line] = &[
     Line {
         asked: Asked::Remove("default"),
         told: Err(Refusal::NotEmpty),
-        holds: &[],
+        then: &[],
     },
     Line {
         asked: Asked::Remove("osd.0"),
         told: CHANGED,
-        holds: &[],
+        then: &[],
     },
     Line {
         asked: Asked::Remove("osd.1"),
         told: CHANGED,
-        holds: &[],
+        then: &[],
     },
     Line {
         asked: Asked::Remove("h1"),
         told: CHANGED,
-        holds: &[],
+        then: &[],
     },
     Line {
         asked: Asked::Remove("osd.2"),
         told: CHANGED,
-        holds: &[],
+        then: &[],
     },
     Line {
         asked: Asked::Remove("h2"),
         told: CHANGED,
-        holds: &[],
+        then: &[],
     },
     Line {
         asked: Asked::Remove("default"),
         told: Err(Refusal::InUse),
-        holds: &[],
+        then: &[],
     },
 ];
 
@@ -330,42 +254,47 @@ const FOLLOWED: &[Line] = &[
             changed: true,
             made: 1,
         }),
-        holds: &[],
+        then: &[],
     },
     Line {
         asked: Asked::Swap("default", "spare"),
         told: CHANGED,
-        holds: &[("spare", &[], 0), ("default", &["h1", "h2"], 163840)],
+        then: &[
+            Fact::Holds("spare", &[], 0),
+            Fact::Holds("default", &["h1", "h2"], 163840),
+        ],
     },
     Line {
         asked: Asked::Remove("spare"),
         told: Err(Refusal::InUse),
-        holds: &[],
+        then: &[],
     },
     Line {
         asked: Asked::Rename("spare", "top"),
         told: CHANGED,
-        holds: &[],
+        then: &[],
     },
     Line {
         asked: Asked::Remove("top"),
         told: Err(Refusal::InUse),
-        holds: &[],
+        then: &[],
     },
     Line {
         asked: Asked::Remove("default"),
         told: Err(Refusal::NotEmpty),
-        holds: &[],
+        then: &[],
     },
 ];
 
+/// What is asked of the example map, each time from the beginning.
+const ALL: &[&[Line]] = &[TAKEN, FOLLOWED];
+
 #[test]
-fn a_rule_follows_the_id_that_it_takes(rt: HostRuntime) -> Result<(), Fail> {
-    let alloc = rt.alloc();
-    for lines in [TAKEN, FOLLOWED] {
-        let mut map = whole_example_map(&rt, alloc)?;
-        makes(&rt, alloc, &mut map, lines)?;
-        assert!(rt; map.setting().takes(bucket(&rt, -1)));
+fn a_rule_follows_the_id_that_it_takes(rt: HostRuntime) {
+    for lines in ALL {
+        with(whole_example_map(&rt, rt.alloc()), |map| {
+            makes(&rt, rt.alloc(), map, lines);
+            assert!(rt; map.setting().takes(bucket(&rt, -1)));
+        });
     }
-    Ok(())
 }

@@ -2,11 +2,120 @@
 
 use crush_map::{BuildFault, CrushMap, MapBuilder, is_reserved};
 use crush_units::{Alg, BucketId, DeviceId, TypeId, Weight, is_name};
-use std::alloc::Allocator;
+use std::alloc::{Allocator, Global};
 use std::process::Abort;
 
-/// `type NUMBER NAME`
-pub fn add_type<A: Allocator + Clone>(
+/// A statement of a map's text, with weights in units.
+#[derive(Clone, Copy)]
+pub enum Statement<'a> {
+    /// `type NUMBER NAME`
+    Type(u16, &'a str),
+    /// `device NUMBER NAME`
+    Device(i32, &'a str),
+    /// `device NUMBER NAME class CLASS`
+    DeviceOfClass(i32, &'a str, &'a str),
+    /// `tunable NAME VALUE`
+    Tunable(&'a str, u32),
+    /// `TYPE NAME {`
+    Begin(&'a str, &'a str),
+    /// `id NUMBER`
+    Id(i32),
+    /// `id NUMBER class CLASS`
+    ClassId(i32, &'a str),
+    /// `alg straw2`
+    Alg,
+    /// `item NAME weight WEIGHT`
+    Item(&'a str, u32),
+    /// `item NAME`
+    ItemAsItIs(&'a str),
+    /// `}`
+    End,
+}
+
+/// A map without types and items.
+pub fn empty(rt: &impl Abort, alloc: Global) -> MapBuilder<Global> {
+    MapBuilder::new(alloc, alloc).expect(rt, "memory")
+}
+
+/// Makes the statement.
+pub fn make<A: Allocator + Clone>(
+    rt: &impl Abort,
+    builder: &mut MapBuilder<A>,
+    statement: Statement,
+) -> Result<(), BuildFault> {
+    match statement {
+        Statement::Type(number, name) => add_type(rt, builder, number, name.as_bytes()),
+        Statement::Device(number, name) => add_device(rt, builder, number, name.as_bytes()),
+        Statement::DeviceOfClass(number, name, class) => {
+            add_device_of_class(rt, builder, number, name.as_bytes(), class.as_bytes())
+        }
+        Statement::Tunable(name, value) => add_tunable(rt, builder, name.as_bytes(), value),
+        Statement::Begin(kind, name) => {
+            begin_bucket(rt, builder, kind.as_bytes(), name.as_bytes())
+        }
+        Statement::Id(number) => number_bucket(rt, builder, number),
+        Statement::ClassId(number, class) => add_class_id(rt, builder, number, class.as_bytes()),
+        Statement::Alg => fill_bucket(rt, builder),
+        Statement::Item(name, units) => {
+            add_item(
+                rt,
+                builder,
+                name.as_bytes(),
+                Some(Weight::from_units(units)),
+            )
+        }
+        Statement::ItemAsItIs(name) => add_item(rt, builder, name.as_bytes(), None),
+        Statement::End => {
+            end_bucket(rt, builder);
+            Ok(())
+        }
+    }
+}
+
+/// Makes the statements up to the first that isn't taken.
+pub fn make_all<A: Allocator + Clone>(
+    rt: &impl Abort,
+    builder: &mut MapBuilder<A>,
+    statements: &[Statement],
+) -> Result<(), BuildFault> {
+    for statement in statements {
+        make(rt, builder, *statement)?;
+    }
+    Ok(())
+}
+
+/// Asserts that the statement is taken.
+pub fn takes(rt: &impl Abort, builder: &mut MapBuilder<Global>, statement: Statement) {
+    let told = make(rt, builder, statement);
+    assert!(rt; told.is_ok(), "{told:?}");
+}
+
+/// Asserts that the statements are taken.
+pub fn takes_all(rt: &impl Abort, builder: &mut MapBuilder<Global>, statements: &[Statement]) {
+    for (place, statement) in statements.iter().enumerate() {
+        let told = make(rt, builder, *statement);
+        assert!(rt; told.is_ok(), "statement {place}: {told:?}");
+    }
+}
+
+/// Asserts that the statement isn't taken, and what is told of it.
+pub fn refuses(
+    rt: &impl Abort,
+    builder: &mut MapBuilder<Global>,
+    statement: Statement,
+    fault: BuildFault,
+) {
+    let told = make(rt, builder, statement);
+    assert!(rt; told == Err(fault), "{told:?}");
+}
+
+/// The end of the text.
+pub fn finish<A: Allocator>(rt: &impl Abort, builder: MapBuilder<A>) -> CrushMap<A> {
+    assert!(rt; builder.is_idle());
+    builder.finish()
+}
+
+fn add_type<A: Allocator + Clone>(
     rt: &impl Abort,
     builder: &mut MapBuilder<A>,
     number: u16,
@@ -18,8 +127,7 @@ pub fn add_type<A: Allocator + Clone>(
     builder.kind(TypeId::new(number), name)
 }
 
-/// `device NUMBER NAME`
-pub fn add_device<A: Allocator + Clone>(
+fn add_device<A: Allocator + Clone>(
     rt: &impl Abort,
     builder: &mut MapBuilder<A>,
     number: i32,
@@ -31,8 +139,7 @@ pub fn add_device<A: Allocator + Clone>(
     builder.device(id, name, None)
 }
 
-/// `device NUMBER NAME class CLASS`
-pub fn add_device_of_class<A: Allocator + Clone>(
+fn add_device_of_class<A: Allocator + Clone>(
     rt: &impl Abort,
     builder: &mut MapBuilder<A>,
     number: i32,
@@ -46,8 +153,7 @@ pub fn add_device_of_class<A: Allocator + Clone>(
     builder.device(id, name, Some(class))
 }
 
-/// `TYPE NAME {`
-pub fn begin_bucket<A: Allocator + Clone>(
+fn begin_bucket<A: Allocator + Clone>(
     rt: &impl Abort,
     builder: &mut MapBuilder<A>,
     kind: &[u8],
@@ -58,8 +164,7 @@ pub fn begin_bucket<A: Allocator + Clone>(
     builder.begin(kind, name)
 }
 
-/// `tunable NAME VALUE`
-pub fn add_tunable<A: Allocator + Clone>(
+fn add_tunable<A: Allocator + Clone>(
     rt: &impl Abort,
     builder: &mut MapBuilder<A>,
     name: &[u8],
@@ -70,8 +175,7 @@ pub fn add_tunable<A: Allocator + Clone>(
     builder.tunable(name, value)
 }
 
-/// `id NUMBER`
-pub fn number_bucket<A: Allocator + Clone>(
+fn number_bucket<A: Allocator + Clone>(
     rt: &impl Abort,
     builder: &mut MapBuilder<A>,
     number: i32,
@@ -81,8 +185,7 @@ pub fn number_bucket<A: Allocator + Clone>(
     builder.id(id)
 }
 
-/// `id NUMBER class CLASS`
-pub fn add_class_id<A: Allocator + Clone>(
+fn add_class_id<A: Allocator + Clone>(
     rt: &impl Abort,
     builder: &mut MapBuilder<A>,
     number: i32,
@@ -94,8 +197,7 @@ pub fn add_class_id<A: Allocator + Clone>(
     builder.class_id(id, class)
 }
 
-/// `alg straw2`
-pub fn fill_bucket<A: Allocator + Clone>(
+fn fill_bucket<A: Allocator + Clone>(
     rt: &impl Abort,
     builder: &mut MapBuilder<A>,
 ) -> Result<(), BuildFault> {
@@ -103,47 +205,18 @@ pub fn fill_bucket<A: Allocator + Clone>(
     builder.alg(Alg::Straw2)
 }
 
-/// `id NUMBER`, and `alg straw2`
-pub fn open_bucket<A: Allocator + Clone>(
-    rt: &impl Abort,
-    builder: &mut MapBuilder<A>,
-    number: i32,
-) -> Result<(), BuildFault> {
-    number_bucket(rt, builder, number)?;
-    fill_bucket(rt, builder)
-}
-
-/// `item NAME weight WEIGHT`, with the weight in units
-pub fn add_item<A: Allocator + Clone>(
+fn add_item<A: Allocator + Clone>(
     rt: &impl Abort,
     builder: &mut MapBuilder<A>,
     name: &[u8],
-    units: u32,
+    weight: Option<Weight>,
 ) -> Result<(), BuildFault> {
     assert!(rt; builder.is_filling());
     let id = builder.item_named(name)?;
-    builder.item(id, Some(Weight::from_units(units)))
+    builder.item(id, weight)
 }
 
-/// `item NAME`
-pub fn add_item_as_it_is<A: Allocator + Clone>(
-    rt: &impl Abort,
-    builder: &mut MapBuilder<A>,
-    name: &[u8],
-) -> Result<(), BuildFault> {
-    assert!(rt; builder.is_filling());
-    let id = builder.item_named(name)?;
-    builder.item(id, None)
-}
-
-/// `}`
-pub fn end_bucket<A: Allocator>(rt: &impl Abort, builder: &mut MapBuilder<A>) {
+fn end_bucket<A: Allocator>(rt: &impl Abort, builder: &mut MapBuilder<A>) {
     assert!(rt; builder.is_filling());
     builder.end();
-}
-
-/// The end of the text.
-pub fn finish<A: Allocator>(rt: &impl Abort, builder: MapBuilder<A>) -> CrushMap<A> {
-    assert!(rt; builder.is_idle());
-    builder.finish()
 }

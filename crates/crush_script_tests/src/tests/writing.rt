@@ -1,19 +1,21 @@
 //! Lines of a history.
 
+use crate::tests::{
+    are_no_jobs, first_call, joined, only_script, script_count, with_job, with_lines,
+};
 use crush_bytes::WriteFault;
 use crush_calls::{Call, Edits, Reply, write_entry};
 use crush_edits::{Done, Dones, Edit, Refusal};
-use crush_script::{JobFault, read_job};
+use crush_script::JobFault;
 use crush_units::{Name, Weight};
-use std::alloc::Global;
 use std::io::{self, Error, ErrorKind, Write};
-use std::test::Fail;
+use std::process::Abort;
 
-/// The call `reweight NAME UNITS`.
-fn reweight(alloc: Global, name: &[u8], units: u32) -> Result<Call, Fail> {
-    let name = Name::read(alloc, name)?;
+/// The edit `reweight NAME UNITS`.
+fn reweight(rt: &(impl Abort + AllocGlobal), name: &[u8], units: u32) -> Edit {
+    let name = Name::read(rt.alloc(), name).expect(rt, "no name");
     let weight = Weight::from_units(units);
-    Ok(Call::One(Edit::Reweight { name, weight }))
+    Edit::Reweight { name, weight }
 }
 
 /// Takes `room` bytes, and then fails.
@@ -39,119 +41,139 @@ impl Write for Short {
     }
 }
 
+/// What the call of an operator is answered, and the line of the history that says so.
+#[derive(Clone, Copy)]
+struct Answer<'a> {
+    number: u32,
+    operator: &'a [u8],
+    reply: Reply,
+    line: &'a [u8],
+}
+
+/// The call so answered makes the line.
+fn has_line(rt: &(impl Abort + AllocGlobal), call: &Call, answer: &Answer<'_>) {
+    let mut line = Vec::new(rt.alloc());
+    let written = write_entry(
+        answer.number,
+        answer.operator,
+        call,
+        answer.reply,
+        &mut line,
+    );
+    assert_eq!(rt; written, Ok(()));
+    assert_eq!(rt; line.as_slice(), answer.line);
+}
+
+/// Items and units of reweightings, and what they are answered.
+const REWEIGHTINGS: &[(&[u8], u32, Answer<'_>)] = &[
+    (
+        b"osd.2",
+        65536,
+        Answer {
+            number: 1,
+            operator: b"a",
+            reply: Reply::Done(Done {
+                changed: true,
+                made: 0,
+            }),
+            line: b"# 1 a reweight osd.2 1.00000 = done changed 1 made 0\n",
+        },
+    ),
+    (
+        b"osd.0",
+        21823,
+        Answer {
+            number: 4,
+            operator: b"b",
+            reply: Reply::Done(Done {
+                changed: false,
+                made: 2,
+            }),
+            line: b"# 4 b reweight osd.0 0.33299 = done changed 0 made 2\n",
+        },
+    ),
+    (
+        b"osd.9",
+        1024,
+        Answer {
+            number: 65536,
+            operator: b"op-1",
+            reply: Reply::Refused(Refusal::NotPlaced),
+            line: b"# 65536 op-1 reweight osd.9 0.01563 = refused NotPlaced 2\n",
+        },
+    ),
+    (
+        b"h1",
+        4294967295,
+        Answer {
+            number: 2,
+            operator: b"refused",
+            reply: Reply::Refused(Refusal::WeightTooLarge),
+            line: b"# 2 refused reweight h1 65535.99998 = refused WeightTooLarge 75\n",
+        },
+    ),
+];
+
 #[test]
-fn an_entry_is_a_line(rt: HostRuntime) -> Result<(), Fail> {
-    let alloc = rt.alloc();
-    let made = Reply::Done(Done {
-        changed: true,
-        made: 0,
-    });
-    let same = Reply::Done(Done {
-        changed: false,
-        made: 2,
-    });
-    let entries = [
-        (
-            1,
-            b"a".as_slice(),
-            b"osd.2".as_slice(),
-            65536,
-            made,
-            b"# 1 a reweight osd.2 1.00000 = done changed 1 made 0\n".as_slice(),
-        ),
-        (
-            4,
-            b"b".as_slice(),
-            b"osd.0".as_slice(),
-            21823,
-            same,
-            b"# 4 b reweight osd.0 0.33299 = done changed 0 made 2\n".as_slice(),
-        ),
-        (
-            65536,
-            b"op-1".as_slice(),
-            b"osd.9".as_slice(),
-            1024,
-            Reply::Refused(Refusal::NotPlaced),
-            b"# 65536 op-1 reweight osd.9 0.01563 = refused NotPlaced 2\n".as_slice(),
-        ),
-        (
-            2,
-            b"refused".as_slice(),
-            b"h1".as_slice(),
-            4294967295,
-            Reply::Refused(Refusal::WeightTooLarge),
-            b"# 2 refused reweight h1 65535.99998 = refused WeightTooLarge 75\n".as_slice(),
-        ),
-    ];
-    for (number, operator, name, units, reply, line) in entries {
-        let call = reweight(alloc, name, units)?;
-        let mut held = Vec::new(alloc);
-        assert_eq!(rt;
-            write_entry(number, operator, &call, reply, &mut held),
-            Ok(())
+fn an_entry_is_a_line(rt: HostRuntime) {
+    for (name, units, answer) in REWEIGHTINGS {
+        has_line(&rt, &Call::One(reweight(&rt, *name, *units)), answer);
+    }
+}
+
+/// Commands as they may be written, and as they are printed.
+const COMMANDS: &[(&[u8], &[u8])] = &[
+    (
+        b"add osd.3 0.333 host=h3 rack=r1 root=default",
+        b"add osd.3 0.33299 host=h3 rack=r1 root=default",
+    ),
+    (
+        b"add osd.2147483647 65535.99998",
+        b"add osd.2147483647 65535.99998",
+    ),
+    (b"set osd.0 3\thost=h1", b"set osd.0 3.00000 host=h1"),
+    (
+        b"create-or-move osd.10 5.0 root=other host=h1 # back",
+        b"create-or-move osd.10 5.00000 root=other host=h1",
+    ),
+    (b" move h1  rack=r1", b"move h1 rack=r1"),
+    (b"move osd.0", b"move osd.0"),
+    (b"swap-bucket h1 h2", b"swap-bucket h1 h2"),
+    (b"reweight h1 0.015625", b"reweight h1 0.01563"),
+    (
+        b"reweight-subtree osd.0 1",
+        b"reweight-subtree osd.0 1.00000",
+    ),
+    (b"rm osd.0", b"rm osd.0"),
+    (b"remove h1\r", b"rm h1"),
+    (b"add-bucket h9 host", b"add-bucket h9 host"),
+    (b"rename-bucket a.b-c_ 9", b"rename-bucket a.b-c_ 9"),
+    (b"rm commit", b"rm commit"),
+];
+
+#[test]
+fn commands_are_printed_as_they_are_read(rt: HostRuntime) {
+    for (command, printed) in COMMANDS {
+        let text = joined(&rt, b"%operator a\n", *command);
+        let front = joined(&rt, b"# 10 a ", *printed);
+        let line = joined(&rt, front.as_slice(), b" = refused SumTooLarge 34\n");
+        let answer = Answer {
+            number: 10,
+            operator: b"a",
+            reply: Reply::Refused(Refusal::SumTooLarge),
+            line: line.as_slice(),
+        };
+        with_job(
+            &rt,
+            text.as_slice(),
+            |job| has_line(&rt, first_call(&rt, job), &answer),
         );
-        assert_eq!(rt; held.as_slice(), line);
     }
-    Ok(())
 }
 
-#[test]
-fn commands_are_printed_as_they_are_read(rt: HostRuntime) -> Result<(), Fail> {
-    let alloc = rt.alloc();
-    let lines: [(&[u8], &[u8]); 14] = [
-        (
-            b"add osd.3 0.333 host=h3 rack=r1 root=default",
-            b"add osd.3 0.33299 host=h3 rack=r1 root=default",
-        ),
-        (
-            b"add osd.2147483647 65535.99998",
-            b"add osd.2147483647 65535.99998",
-        ),
-        (b"set osd.0 3\thost=h1", b"set osd.0 3.00000 host=h1"),
-        (
-            b"create-or-move osd.10 5.0 root=other host=h1 # back",
-            b"create-or-move osd.10 5.00000 root=other host=h1",
-        ),
-        (b" move h1  rack=r1", b"move h1 rack=r1"),
-        (b"move osd.0", b"move osd.0"),
-        (b"swap-bucket h1 h2", b"swap-bucket h1 h2"),
-        (b"reweight h1 0.015625", b"reweight h1 0.01563"),
-        (
-            b"reweight-subtree osd.0 1",
-            b"reweight-subtree osd.0 1.00000",
-        ),
-        (b"rm osd.0", b"rm osd.0"),
-        (b"remove h1\r", b"rm h1"),
-        (b"add-bucket h9 host", b"add-bucket h9 host"),
-        (b"rename-bucket a.b-c_ 9", b"rename-bucket a.b-c_ 9"),
-        (b"rm commit", b"rm commit"),
-    ];
-    let reply = Reply::Refused(Refusal::SumTooLarge);
-    for (line, printed) in lines {
-        let mut text = Vec::from_slice(alloc, b"%operator a\n")?;
-        text.extend_from_slice(line)?;
-        let job = read_job(alloc, text.as_slice())?;
-        let script = job.scripts.first().ok_or("a script")?;
-        let call = script.calls.first().ok_or("a call")?;
-        let mut held = Vec::new(alloc);
-        assert_eq!(rt; write_entry(10, b"a", call, reply, &mut held), Ok(()));
-        let mut expected = Vec::from_slice(alloc, b"# 10 a ")?;
-        expected.extend_from_slice(printed)?;
-        expected.extend_from_slice(b" = refused SumTooLarge 34\n")?;
-        assert_eq!(rt; held.as_slice(), expected.as_slice());
-    }
-    Ok(())
-}
-
-#[test]
-fn devices_are_read_with_their_ids(rt: HostRuntime) -> Result<(), Fail> {
-    let job = read_job(
-        rt.alloc(),
-        b"%operator a\nadd osd.2147483647 1 host=h1 root=r\n",
-    )?;
-    let script = job.scripts.first().ok_or("a script")?;
-    match script.calls.first().ok_or("a call")? {
+/// The call is `add osd.2147483647` with one unit of weight and these two pairs.
+fn is_add(rt: &impl Abort, call: &Call) {
+    match call {
         Call::One(
             Edit::Insert {
                 device,
@@ -160,103 +182,120 @@ fn devices_are_read_with_their_ids(rt: HostRuntime) -> Result<(), Fail> {
                 at,
             },
         ) => {
-            assert_eq!(rt; device.number(), 2147483647);
+            assert_eq!(rt; (device.number(), weight.units()), (2147483647, 65536));
             assert!(rt; name.is(b"osd.2147483647"));
-            assert_eq!(rt; weight.units(), 65536);
             assert_eq!(rt; at.pairs().len(), 2);
             assert!(rt; at.pairs()[0].kind.is(b"host"));
             assert!(rt; at.pairs()[1].name.is(b"r"));
         }
         _ => assert!(rt; false, "another call"),
     }
-    Ok(())
 }
 
 #[test]
-fn locations_have_at_most_sixteen_pairs(rt: HostRuntime) -> Result<(), Fail> {
-    let mut text = Vec::from_slice(rt.alloc(), b"%operator a\nmove h")?;
-    for _ in 0..16 {
-        text.extend_from_slice(b" host=h1")?;
-    }
-    assert_eq!(rt; read_job(rt.alloc(), text.as_slice())?.scripts.len(), 1);
-    text.extend_from_slice(b" host=h1")?;
-    let fault = read_job(rt.alloc(), text.as_slice()).err();
-    assert_eq!(rt; fault, Some(JobFault::BadLine(2)));
-    Ok(())
+fn devices_are_read_with_their_ids(rt: HostRuntime) {
+    let text = b"%operator a\nadd osd.2147483647 1 host=h1 root=r\n";
+    with_job(&rt, text, |job| is_add(&rt, first_call(&rt, job)));
 }
 
 #[test]
-fn batches_are_lines(rt: HostRuntime) -> Result<(), Fail> {
-    let alloc = rt.alloc();
-    let job = read_job(
-        alloc,
-        b"%operator a\nbegin\nadd osd.3 1 host=h2\nrename-bucket h1 hq\nrm h2\ncommit\nbegin\ncommit\n",
-    )?;
-    let script = job.scripts.first().ok_or("a script")?;
-    let calls = &script.calls;
-    assert_eq!(rt; calls.len(), 2);
-    let mut held = Vec::new(alloc);
-    let refused = Reply::BatchRefused(2, Refusal::NotEmpty);
-    assert_eq!(rt; write_entry(1, b"a", &calls[0], refused, &mut held), Ok(()));
-    let line: &[u8] =
-        b"# 1 a begin ; add osd.3 1.00000 host=h2 ; rename-bucket h1 hq ; rm h2 ; commit = refused at 2 NotEmpty 39\n";
-    assert_eq!(rt; held.as_slice(), line);
-    held.clear();
-    let none = Reply::Dones(Dones {
+fn locations_have_at_most_sixteen_pairs(rt: HostRuntime) {
+    let text = with_lines(&rt, b"%operator a\nmove h", b" host=h1", 16);
+    assert_eq!(rt; script_count(&rt, text.as_slice()), 1);
+    are_no_jobs(&rt, text.as_slice(), &[(b" host=h1", JobFault::BadLine(2))]);
+}
+
+/// What a batch of three edits is answered.
+const REFUSED: Answer<'_> = Answer {
+    number: 1,
+    operator: b"a",
+    reply: Reply::BatchRefused(2, Refusal::NotEmpty),
+    line: b"# 1 a begin ; add osd.3 1.00000 host=h2 ; rename-bucket h1 hq ; rm h2 ; commit = refused at 2 NotEmpty 39\n",
+};
+
+/// What a batch without edits is answered.
+const NONE_DONE: Answer<'_> = Answer {
+    number: 2,
+    operator: b"a",
+    reply: Reply::Dones(Dones {
         edits: 0,
         changed: 0,
         made: 0,
-    });
-    assert_eq!(rt; write_entry(2, b"a", &calls[1], none, &mut held), Ok(()));
-    let line: &[u8] = b"# 2 a begin ; commit = dones 0 changed 0 made 0\n";
-    assert_eq!(rt; held.as_slice(), line);
-    held.clear();
-    let many = Reply::Dones(Dones {
+    }),
+    line: b"# 2 a begin ; commit = dones 0 changed 0 made 0\n",
+};
+
+/// What it could be answered if it had edits.
+const MANY_DONE: Answer<'_> = Answer {
+    number: 65536,
+    operator: b"b",
+    reply: Reply::Dones(Dones {
         edits: 65536,
         changed: 12,
         made: 4096,
+    }),
+    line: b"# 65536 b begin ; commit = dones 65536 changed 12 made 4096\n",
+};
+
+#[test]
+fn batches_are_lines(rt: HostRuntime) {
+    let text =
+        b"%operator a\nbegin\nadd osd.3 1 host=h2\nrename-bucket h1 hq\nrm h2\ncommit\nbegin\ncommit\n";
+    with_job(&rt, text, |job| {
+        let calls = &only_script(&rt, job).calls;
+        assert_eq!(rt; calls.len(), 2);
+        has_line(&rt, &calls[0], &REFUSED);
+        has_line(&rt, &calls[1], &NONE_DONE);
+        has_line(&rt, &calls[1], &MANY_DONE);
     });
-    assert_eq!(rt;
-        write_entry(65536, b"b", &calls[1], many, &mut held),
-        Ok(())
-    );
-    let line: &[u8] = b"# 65536 b begin ; commit = dones 65536 changed 12 made 4096\n";
-    assert_eq!(rt; held.as_slice(), line);
-    Ok(())
 }
 
-#[test]
-fn a_copy_of_a_call_prints_alike(rt: HostRuntime) -> Result<(), Fail> {
-    let alloc = rt.alloc();
-    let mut edits = Vec::new(alloc);
-    let Call::One(edit) = reweight(alloc, b"osd.2", 65536)? else {
-        return Ok(());
-    };
-    edits.push(edit)?;
-    let call = Call::Batch(Edits::new(edits)).try_copy(alloc)?;
-    let mut held = Vec::new(alloc);
-    let reply = Reply::Refused(Refusal::Loop);
-    assert_eq!(rt; write_entry(1, b"a", &call, reply, &mut held), Ok(()));
-    let line: &[u8] = b"# 1 a begin ; reweight osd.2 1.00000 ; commit = refused Loop 40\n";
-    assert_eq!(rt; held.as_slice(), line);
-    Ok(())
+/// A batch with one edit.
+fn batch_of(rt: &(impl Abort + AllocGlobal), edit: Edit) -> Call {
+    let mut edits = Vec::new(rt.alloc());
+    edits.push(edit).expect(rt, "no memory");
+    Call::Batch(Edits::new(edits))
 }
 
+/// A copy of the call.
+fn copy_of(rt: &(impl Abort + AllocGlobal), call: &Call) -> Call {
+    call.try_copy(rt.alloc()).expect(rt, "no memory")
+}
+
+/// What a batch of one edit is answered.
+const LOOP: Answer<'_> = Answer {
+    number: 1,
+    operator: b"a",
+    reply: Reply::Refused(Refusal::Loop),
+    line: b"# 1 a begin ; reweight osd.2 1.00000 ; commit = refused Loop 40\n",
+};
+
 #[test]
-fn a_front_of_the_line_stands_after_a_failure(rt: HostRuntime) -> Result<(), Fail> {
-    let alloc = rt.alloc();
-    let call = reweight(alloc, b"osd.2", 65536)?;
+fn a_copy_of_a_call_prints_alike(rt: HostRuntime) {
+    let call = batch_of(&rt, reweight(&rt, b"osd.2", 65536));
+    has_line(&rt, &copy_of(&rt, &call), &LOOP);
+}
+
+/// What is written of a call where there is room for so many bytes, and for no more.
+fn front_of_line(rt: &(impl Abort + AllocGlobal), call: &Call, room: usize) -> Vec<u8> {
+    let held = Vec::new(rt.alloc());
+    let mut out = Short { held, room };
     let reply = Reply::Refused(Refusal::NotADevice);
+    assert_eq!(rt;
+        write_entry(1, b"a", call, reply, &mut out),
+        Err(WriteFault::Write),
+        "room for {room}"
+    );
+    out.held
+}
+
+#[test]
+fn a_front_of_the_line_stands_after_a_failure(rt: HostRuntime) {
     let line = b"# 1 a reweight osd.2 1.00000 = refused NotADevice 22\n".as_slice();
-    for room in 0..line.len() {
-        let held = Vec::new(alloc);
-        let mut out = Short { held, room };
-        assert_eq!(rt;
-            write_entry(1, b"a", &call, reply, &mut out),
-            Err(WriteFault::Write),
-            "room for {room}"
-        );
-        assert_eq!(rt; out.held.as_slice(), &line[..room]);
-    }
-    Ok(())
+    with_job(&rt, b"%operator a\nreweight osd.2 1", |job| {
+        for room in 0..line.len() {
+            let front = front_of_line(&rt, first_call(&rt, job), room);
+            assert_eq!(rt; front.as_slice(), &line[..room]);
+        }
+    });
 }

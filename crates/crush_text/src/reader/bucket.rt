@@ -11,7 +11,7 @@ ghost use Rattle.crush_text.specs.Role.{bucket_id, id_or_alg, id_class, algorith
 ghost use Rattle.crush_text.specs.Form.{second, begun, numbered, filling, at};
 ghost use Rattle.crush_text.specs.Grammar.{bucket_line, id_line, class_id_line, alg_line, lines};
 ghost use Rattle.crush_text.specs.Flow.{between, outcome};
-ghost use Rattle.crush_text.specs.declared.reader.statement.Opening.TheVariants.{Bucket};
+ghost use Rattle.crush_text.specs.declared.opening.Opening.TheVariants.{Bucket};
 ghost use Rattle.crush_text.specs.Room.{HasRoom};
 ghost use Rattle.crush_text.specs.Reads.{IsIdle, IsAmid, IsBehindId, behind_id, Gives, Reads, ReadsLine, ReadsOn, then_on, word_at, line_at};
 

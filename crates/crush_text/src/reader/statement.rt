@@ -14,6 +14,7 @@ ghost use Rattle.crush_text.specs.Room.{HasRoom};
 ghost use Rattle.crush_text.specs.Reads.{IsIdle, IsKnown, Shortens, behind, ReadsTo, ReadsNext, ReadsAll, then_on, line_at};
 
 use crate::fault::{TextFault, TextFaultKind};
+use crate::opening::Opening;
 use crate::reader::bucket::read_bucket;
 use crate::reader::device::read_device;
 use crate::reader::rule::read_rule;
@@ -22,23 +23,7 @@ use crate::reader::type_line::read_type;
 use crate::reader::word::PlacedWord;
 use crush_bytes::{Reader, Token};
 use crush_map::MapBuilder;
-use crush_units::TypeId;
 use std::alloc::{Allocator, Global};
-
-/// What the first word of a statement says.
-#[derive(Clone, Copy)]
-pub(crate) enum Opening {
-    /// `tunable`.
-    Tunable,
-    /// `device`.
-    Device,
-    /// `type`.
-    Type,
-    /// The name of a type of buckets.
-    Bucket(TypeId),
-    /// `rule`.
-    Rule,
-}
 
 /// All statements up to the end of the text.
 pub(crate) fn read_statements<A: Allocator + Clone>(

@@ -1,34 +1,36 @@
 //! Maps that are read into a heap of a test's own.
 
-use crate::tests::plain_example_map;
-use crush_text::{TextFaultKind, read_map_in, write_map};
+use crate::tests::{plain_example_map, text_of};
+use crush_text::{TextFault, TextFaultKind, read_map_in};
 use linked_list_allocator::LocalHeap;
-use std::test::Fail;
+use std::process::Abort;
 
 #[test]
-fn the_plain_example_map_is_read_into_a_heap(rt: HostRuntime) -> Result<(), Fail> {
-    let text = plain_example_map(rt.alloc())?;
-    let heap = LocalHeap::new(rt.alloc(), 65536)?;
-    let (map, adjusted) = read_map_in(rt.alloc(), &heap, text.as_slice())?;
-    assert_eq!(rt; adjusted, 0);
-    assert_eq!(rt; map.total(), 163840);
-    let mut out = Vec::new(rt.alloc());
-    write_map(rt.alloc(), &map, &mut out)?;
-    assert!(rt; out.as_slice() == text.as_slice());
-    Ok(())
+fn the_plain_example_map_is_read_into_a_heap(rt: HostRuntime) {
+    let text = plain_example_map(&rt);
+    let heap = LocalHeap::new(rt.alloc(), 65536).expect(&rt, "no memory");
+    let (map, adjusted) = read_map_in(rt.alloc(), &heap, text.as_slice()).expect(&rt, "no map");
+    assert_eq!(rt; (adjusted, map.total()), (0, 163840));
+    assert!(rt; text_of(&rt, &map) == text);
+}
+
+/// The total of the map of a text, where a heap of so many bytes holds the map.
+fn total_in(rt: &(impl Abort + AllocGlobal), size: usize, text: &[u8]) -> Result<u64, TextFault> {
+    let heap = LocalHeap::new(rt.alloc(), size).expect(rt, "no memory");
+    let (map, _) = read_map_in(rt.alloc(), &heap, text)?;
+    Ok(map.total())
 }
 
 /// The first of them lacks memory for the first device, whose name is at place 38.
 #[test]
-fn heaps_that_are_too_small(rt: HostRuntime) -> Result<(), Fail> {
-    let text = plain_example_map(rt.alloc())?;
+fn heaps_that_are_too_small(rt: HostRuntime) {
+    let text = plain_example_map(&rt);
     for i in 1..1024 {
-        let heap = LocalHeap::new(rt.alloc(), 64 * i)?;
-        match read_map_in(rt.alloc(), &heap, text.as_slice()) {
-            Ok((map, _)) => {
+        match total_in(&rt, 64 * i, text.as_slice()) {
+            Ok(total) => {
                 assert!(rt; i > 1);
-                assert_eq!(rt; map.total(), 163840);
-                return Ok(());
+                assert_eq!(rt; total, 163840);
+                return;
             }
             Err(fault) => {
                 assert!(rt; fault.kind == TextFaultKind::OutOfMemory, "{fault}");
@@ -37,5 +39,5 @@ fn heaps_that_are_too_small(rt: HostRuntime) -> Result<(), Fail> {
             }
         }
     }
-    Err("no heap holds the map".into())
+    assert!(rt; false, "no heap holds the map");
 }

@@ -1,8 +1,10 @@
 use crate::tests::writing::Slow;
-use crate::tests::{example_map, plain_example_map, printed};
+use crate::tests::{adjusted_in, example_map, joined, plain_example_map, printed, with_map};
 use crush_bytes::WriteFault;
-use crush_text::{read_map, write_map};
-use std::test::Fail;
+use crush_map::CrushMap;
+use crush_print::write_map;
+use std::alloc::Global;
+use std::process::Abort;
 
 /// The text of a map without anything.
 const EMPTY_MAP: &[u8] =
@@ -62,88 +64,87 @@ const SCATTERED_MAP_PRINTED: &[&[u8]] = &[
 ];
 
 #[test]
-fn the_plain_example_map_is_printed_as_it_stands(rt: HostRuntime) -> Result<(), Fail> {
-    let text = plain_example_map(rt.alloc())?;
-    let out = printed(rt.alloc(), text.as_slice())?;
-    assert!(rt; out.as_slice() == text.as_slice());
-    Ok(())
+fn the_plain_example_map_is_printed_as_it_stands(rt: HostRuntime) {
+    let text = plain_example_map(&rt);
+    assert!(rt; printed(&rt, text.as_slice()) == text);
 }
+
+/// Ways to write the weight of h1, and how many weights are adjusted where it stands so.
+const WEIGHTS: &[(&[u8], u32)] = &[
+    (b" weight 2.00000", 0),
+    (b" weight 2", 0),
+    (b" weight 9.000", 1),
+    (b" weight 65535.99999", 1),
+    (b"", 0),
+];
 
 /// It has the weight of h1 that its sum is, also where another one is written or none.
 #[test]
-fn the_example_map_is_printed_as_it_stands(rt: HostRuntime) -> Result<(), Fail> {
-    let text = example_map(rt.alloc(), b" weight 2.00000")?;
-    let weights: [(&[u8], u32); 4] = [
-        (b" weight 2.00000", 0),
-        (b" weight 2", 0),
-        (b" weight 9.000", 1),
-        (b"", 0),
-    ];
-    for (weight, count) in weights {
-        let written = example_map(rt.alloc(), weight)?;
-        let (map, adjusted) = read_map(rt.alloc(), written.as_slice())?;
-        assert_eq!(rt; adjusted, count);
-        let mut out = Vec::new(rt.alloc());
-        write_map(rt.alloc(), &map, &mut out)?;
-        assert!(rt; out.as_slice() == text.as_slice());
+fn the_example_map_is_printed_as_it_stands(rt: HostRuntime) {
+    let text = example_map(&rt, b" weight 2.00000");
+    for (weight, count) in WEIGHTS {
+        let written = example_map(&rt, *weight);
+        assert_eq!(rt; adjusted_in(&rt, written.as_slice()), *count);
+        assert!(rt; printed(&rt, written.as_slice()) == text);
     }
-    Ok(())
 }
 
 #[test]
-fn the_empty_map_has_eleven_lines(rt: HostRuntime) -> Result<(), Fail> {
-    let out = printed(rt.alloc(), b"")?;
+fn the_empty_map_has_eleven_lines(rt: HostRuntime) {
+    let out = printed(&rt, b"");
     assert_eq!(rt; out.len(), 75);
     assert!(rt; out.as_slice() == EMPTY_MAP);
-    Ok(())
 }
 
 #[test]
-fn lines_are_printed_in_order(rt: HostRuntime) -> Result<(), Fail> {
-    let mut text = Vec::new(rt.alloc());
-    for line in SCATTERED_MAP_PRINTED {
-        text.extend_from_slice(line)?;
-    }
-    let out = printed(rt.alloc(), SCATTERED_MAP)?;
-    assert!(rt; out.as_slice() == text.as_slice());
-    Ok(())
+fn lines_are_printed_in_order(rt: HostRuntime) {
+    let text = joined(&rt, SCATTERED_MAP_PRINTED);
+    assert!(rt; printed(&rt, SCATTERED_MAP) == text);
 }
+
+/// What is printed of devices with classes and of one without.
+const CLASSES_PRINTED: &[u8] =
+    b"# begin crush map\n\n# devices\ndevice 0 osd.0\ndevice 1 osd.1 class class\ndevice 2 class class osd.0\n\n# types\n\n# buckets\n\n# rules\n\n# end crush map\n";
 
 /// A device of a class that is named like the word before it, and one without a class.
 #[test]
-fn classes_of_devices_are_printed(rt: HostRuntime) -> Result<(), Fail> {
-    let out = printed(
-        rt.alloc(),
-        b"device 1 osd.1\nclass class\ndevice 0 osd.0 device 2 class class osd.0",
-    )?;
-    let expected: &[u8] =
-        b"# begin crush map\n\n# devices\ndevice 0 osd.0\ndevice 1 osd.1 class class\ndevice 2 class class osd.0\n\n# types\n\n# buckets\n\n# rules\n\n# end crush map\n";
-    assert!(rt; out.as_slice() == expected);
-    let again = printed(rt.alloc(), expected)?;
-    assert!(rt; again.as_slice() == expected);
-    Ok(())
+fn classes_of_devices_are_printed(rt: HostRuntime) {
+    let text = b"device 1 osd.1\nclass class\ndevice 0 osd.0 device 2 class class osd.0";
+    assert!(rt; printed(&rt, text).as_slice() == CLASSES_PRINTED);
+    assert!(rt; printed(&rt, CLASSES_PRINTED).as_slice() == CLASSES_PRINTED);
+}
+
+/// What is written of a map where there is room for so many bytes, with this answer.
+fn front_of_map(
+    rt: &(impl Abort + AllocGlobal),
+    map: &CrushMap<Global>,
+    room: usize,
+    fails: bool,
+    answer: Result<(), WriteFault>,
+) -> Vec<u8> {
+    let held = Vec::new(rt.alloc());
+    let mut out = Slow { held, room, fails };
+    assert_eq!(rt; write_map(rt.alloc(), map, &mut out), answer);
+    out.held
+}
+
+/// Of the text of the map its front is written for which there is room.
+fn fronts_stand(rt: &(impl Abort + AllocGlobal), map: &CrushMap<Global>, text: &[u8], fails: bool) {
+    for room in 0..text.len() {
+        let front = front_of_map(rt, map, room, fails, Err(WriteFault::Write));
+        assert_eq!(rt; front.len(), room);
+        assert!(rt; text.starts_with(front.as_slice()));
+    }
+    let whole = front_of_map(rt, map, text.len(), fails, Ok(()));
+    assert!(rt; whole.as_slice() == text);
 }
 
 #[test]
-fn a_front_of_the_map_stands_after_a_failure(rt: HostRuntime) -> Result<(), Fail> {
-    let text = plain_example_map(rt.alloc())?;
-    let (map, _) = read_map(rt.alloc(), text.as_slice())?;
-    for fails in [true, false] {
-        for room in 0..text.len() {
-            let held = Vec::new(rt.alloc());
-            let mut out = Slow { held, room, fails };
-            assert_eq!(rt;
-                write_map(rt.alloc(), &map, &mut out),
-                Err(WriteFault::Write)
-            );
-            assert_eq!(rt; out.held.len(), room);
-            assert!(rt; text.as_slice().starts_with(out.held.as_slice()));
-        }
-        let held = Vec::new(rt.alloc());
-        let room = text.len();
-        let mut out = Slow { held, room, fails };
-        assert_eq!(rt; write_map(rt.alloc(), &map, &mut out), Ok(()));
-        assert!(rt; out.held.as_slice() == text.as_slice());
-    }
-    Ok(())
+fn a_front_of_the_map_stands_after_a_failure(rt: HostRuntime) {
+    let text = plain_example_map(&rt);
+    let text = text.as_slice();
+    with_map(&rt, text, |map| {
+        fronts_stand(&rt, map, text, true);
+        fronts_stand(&rt, map, text, false);
+    });
 }

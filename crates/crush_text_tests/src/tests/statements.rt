@@ -2,7 +2,6 @@
 
 use crate::tests::are_refused;
 use crush_text::TextFaultKind;
-use std::test::Fail;
 
 /// Lines with such faults, by their kinds, each with the place.
 const FAULTS_OF_STATEMENTS: &[(TextFaultKind, &[(&[u8], usize)])] = &[
@@ -93,6 +92,10 @@ const FAULTS_OF_STATEMENTS: &[(TextFaultKind, &[(&[u8], usize)])] = &[
                 b"device 1 e\ndevice 2 f\nhost a { id -1 alg straw2 item d weight 32767.99998 item e weight 32767.99998 item f pos 0 }",
                 141,
             ),
+            (
+                b"device 1 e\ndevice 2 f\nhost a { id -1 alg straw2 item d weight 32767.99998 item e weight 32767.99998 }\nhost b { id -2 alg straw2 item f weight 0.00003 }\nroot r { id -3 alg straw2 item a item b }",
+                226,
+            ),
         ],
     ),
     (
@@ -105,9 +108,8 @@ const FAULTS_OF_STATEMENTS: &[(TextFaultKind, &[(&[u8], usize)])] = &[
 ];
 
 #[test]
-fn faults_of_statements(rt: HostRuntime) -> Result<(), Fail> {
+fn faults_of_statements(rt: HostRuntime) {
     for (kind, lines) in FAULTS_OF_STATEMENTS {
-        are_refused(&rt, rt.alloc(), *kind, *lines)?;
+        are_refused(&rt, *kind, *lines);
     }
-    Ok(())
 }

@@ -1,5 +1,5 @@
+use crate::tests::joined;
 use crush_bytes::{Reader, Token};
-use std::test::Fail;
 
 /// Reads a word, and tests its place and its bytes.
 fn is_word(reader: &mut Reader<'_>, at: usize, word: &[u8]) -> bool {
@@ -7,7 +7,7 @@ fn is_word(reader: &mut Reader<'_>, at: usize, word: &[u8]) -> bool {
 }
 
 #[test]
-fn reads_words(rt: HostRuntime) -> Result<(), Fail> {
+fn reads_words(rt: HostRuntime) {
     let mut reader = Reader::new(b"host h1{#id\n\tid -2}# end");
     assert!(rt; is_word(&mut reader, 0, b"host"));
     assert!(rt; is_word(&mut reader, 5, b"h1"));
@@ -18,28 +18,23 @@ fn reads_words(rt: HostRuntime) -> Result<(), Fail> {
     assert!(rt; is_word(&mut reader, 16, b"-2"));
     assert!(rt; is_word(&mut reader, 18, b"}"));
     assert!(rt; matches!(reader.next(), Token::End { place: 24 }));
-    Ok(())
 }
 
 #[test]
-fn stops_at_bad_bytes(rt: HostRuntime) -> Result<(), Fail> {
+fn stops_at_bad_bytes(rt: HostRuntime) {
     let mut reader = Reader::new(b"host$ h1");
     assert!(rt; is_word(&mut reader, 0, b"host"));
     assert!(rt; matches!(reader.next(), Token::Bad { place: 4 }));
     assert!(rt; matches!(reader.next(), Token::Bad { place: 4 }));
-    Ok(())
 }
 
 #[test]
-fn stops_at_long_words(rt: HostRuntime) -> Result<(), Fail> {
+fn stops_at_long_words(rt: HostRuntime) {
     let mut reader = Reader::new(&[b'a'; 255]);
     assert!(rt; is_word(&mut reader, 0, &[b'a'; 255]));
     let mut reader = Reader::new(&[b'a'; 256]);
     assert!(rt; matches!(reader.next(), Token::Bad { place: 0 }));
-    let mut text = Vec::new(rt.alloc());
-    text.extend_from_slice(&[b'a'; 256])?;
-    text.push(b'$')?;
+    let text = joined(&rt, &[&[b'a'; 256], b"$"]);
     let mut reader = Reader::new(text.as_slice());
     assert!(rt; matches!(reader.next(), Token::Bad { place: 0 }));
-    Ok(())
 }

@@ -1,6 +1,5 @@
 use crush_bytes::{WriteFault, put, put_all};
 use std::io::{self, Error, ErrorKind, Write};
-use std::test::Fail;
 
 /// Takes at most seven bytes at a call. It takes `room` bytes in all, and then fails or takes none.
 #[derive(Drop)]
@@ -27,17 +26,16 @@ impl Write for Slow {
 }
 
 #[test]
-fn parts_go_out_one_after_the_other(rt: HostRuntime) -> Result<(), Fail> {
+fn parts_go_out_one_after_the_other(rt: HostRuntime) {
     let mut held = Vec::new(rt.alloc());
     assert_eq!(rt; put(&mut held, b"host "), Ok(()));
     let parts = [b"h1".as_slice(), b"".as_slice(), b" {\n".as_slice()];
     assert_eq!(rt; put_all(&mut held, &parts), Ok(()));
     assert_eq!(rt; held.as_slice(), b"host h1 {\n".as_slice());
-    Ok(())
 }
 
 #[test]
-fn a_front_stands_after_a_failure(rt: HostRuntime) -> Result<(), Fail> {
+fn a_front_stands_after_a_failure(rt: HostRuntime) {
     let parts = [b"item osd.0".as_slice(), b" weight 1.00000".as_slice()];
     for (room, fails) in [(0, true), (7, true), (12, false), (24, true), (24, false)] {
         let held = Vec::new(rt.alloc());
@@ -57,7 +55,6 @@ fn a_front_stands_after_a_failure(rt: HostRuntime) -> Result<(), Fail> {
         out.held.as_slice(),
         b"item osd.0 weight 1.00000".as_slice()
     );
-    Ok(())
 }
 
 #[test]

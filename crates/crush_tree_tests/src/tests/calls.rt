@@ -1,70 +1,68 @@
 //! Columns of the example map's forest, weights below a bucket, and ids that are free.
 
 use super::example::example;
-use super::nodes::host;
-use super::puts::{bucket, device, leaf, osd, put};
+use super::items::{Item, bucket, bucket_item, device_item};
+use super::owning::with;
+use super::puts::add;
 use crush_tree::{Forest, Place};
-use crush_units::{Alg, BucketId, ItemId, Name, Weight};
-use std::test::Fail;
+use crush_units::{Alg, Name, Weight};
 
 #[test]
-fn columns(rt: HostRuntime) -> Result<(), Fail> {
-    let h2 = ItemId::Bucket(bucket(3)?);
-    let second = ItemId::Device(device(2)?);
-    let missing = ItemId::Device(device(3)?);
-    let forest = example(rt.alloc())?;
-    assert_eq!(rt; forest.kind(h2).ok_or("h2 is there")?.number(), 1);
-    assert_eq!(rt; forest.name(h2), Some("h2"));
-    assert_eq!(rt; forest.name(second), Some("osd.2"));
-    assert_eq!(rt; forest.name(missing), None);
-    assert_eq!(rt; forest.class(second), None);
-    assert_eq!(rt; forest.alg(h2), Some(Alg::Straw2));
-    assert_eq!(rt; forest.alg(second), None);
-    Ok(())
+fn columns(rt: HostRuntime) {
+    with(example(&rt), |forest| {
+        let kind = forest.kind(bucket_item(&rt, 3)).expect(&rt, "h2");
+        assert_eq!(rt; kind.number(), 1);
+        assert_eq!(rt; forest.name(bucket_item(&rt, 3)), Some("h2"));
+        assert_eq!(rt; forest.name(device_item(&rt, 2)), Some("osd.2"));
+        assert_eq!(rt; forest.name(device_item(&rt, 3)), None);
+        assert_eq!(rt; forest.class(device_item(&rt, 2)), None);
+        assert_eq!(rt; forest.alg(bucket_item(&rt, 3)), Some(Alg::Straw2));
+        assert_eq!(rt; forest.alg(device_item(&rt, 2)), None);
+    });
 }
 
 #[test]
-fn class_of_a_device(rt: HostRuntime) -> Result<(), Fail> {
-    let third = ItemId::Device(device(3)?);
-    let mut forest = example(rt.alloc())?;
-    let mut ssd = leaf(rt.alloc(), 3, "osd.3", 0)?;
-    ssd.class = Some(Name::read(rt.alloc(), b"ssd")?);
-    put(&mut forest, Place::Unplaced, osd(ssd))?;
-    assert_eq!(rt; forest.class(third), Some("ssd"));
-    Ok(())
+fn class_of_a_device(rt: HostRuntime) {
+    with(example(&rt), |forest| {
+        add(
+            &rt,
+            forest,
+            Place::Unplaced,
+            Item::DeviceOfClass(3, "osd.3", 0),
+        );
+        assert_eq!(rt; forest.class(device_item(&rt, 3)), Some("ssd"));
+    });
 }
 
 #[test]
-fn other_weights_below(rt: HostRuntime) -> Result<(), Fail> {
-    let (root, h1, h2, missing) = (bucket(1)?, bucket(2)?, bucket(3)?, bucket(4)?);
+fn other_weights_below(rt: HostRuntime) {
     let one = Weight::from_units(65536);
-    let forest = example(rt.alloc())?;
-    assert!(rt; !forest.changes_subtree(h1, one));
-    assert!(rt; forest.changes_subtree(h2, one));
-    assert!(rt; forest.changes_subtree(root, one));
-    assert!(rt; !forest.changes_subtree(missing, one));
-    Ok(())
+    with(example(&rt), |forest| {
+        assert!(rt; !forest.changes_subtree(bucket(&rt, 2), one));
+        assert!(rt; forest.changes_subtree(bucket(&rt, 3), one));
+        assert!(rt; forest.changes_subtree(bucket(&rt, 1), one));
+        assert!(rt; !forest.changes_subtree(bucket(&rt, 4), one));
+    });
 }
 
 #[test]
-fn in_the_forests_memory(rt: HostRuntime) -> Result<(), Fail> {
-    let forest = example(rt.alloc())?;
-    let name = Name::read(*forest.allocator(), b"osd.3")?;
-    assert_eq!(rt; name.as_str(), "osd.3");
-    Ok(())
+fn in_the_forests_memory(rt: HostRuntime) {
+    with(example(&rt), |forest| {
+        let name = Name::read(*forest.allocator(), b"osd.3").expect(&rt, "a name");
+        assert_eq!(rt; name.as_str(), "osd.3");
+    });
 }
 
 /// Of the buckets -1 and -3 with the class ids -2 and -5.
 #[test]
-fn free_ids(rt: HostRuntime) -> Result<(), Fail> {
-    let first = bucket(1)?;
-    let mut forest = Forest::new(rt.alloc(), rt.alloc());
-    put(&mut forest, Place::Root, host(rt.alloc(), 1, "h1", 2)?)?;
-    put(&mut forest, Place::Root, host(rt.alloc(), 3, "h3", 5)?)?;
-    assert!(rt; forest.is_used(bucket(5)?));
-    assert!(rt; !forest.is_used(bucket(4)?));
-    let mut ids: [BucketId; 4] = [first, first, first, first];
-    forest.free_ids(&mut ids);
-    assert_eq!(rt; ids.map(|id| id.number()), [-4, -6, -7, -8]);
-    Ok(())
+fn free_ids(rt: HostRuntime) {
+    with(Forest::new(rt.alloc(), rt.alloc()), |forest| {
+        add(&rt, forest, Place::Root, Item::HostOfClass(1, "h1", 2));
+        add(&rt, forest, Place::Root, Item::HostOfClass(3, "h3", 5));
+        assert!(rt; forest.is_used(bucket(&rt, 5)));
+        assert!(rt; !forest.is_used(bucket(&rt, 4)));
+        let mut ids = [bucket(&rt, 1); 4];
+        forest.free_ids(&mut ids);
+        assert_eq!(rt; ids.map(|id| id.number()), [-4, -6, -7, -8]);
+    });
 }

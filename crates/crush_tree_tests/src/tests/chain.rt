@@ -1,54 +1,57 @@
 //! As many buckets as a map can have, each in the one before, on the main thread and on another.
 
-use super::puts::{Refused, bucket, empty, header, held, leaf, osd, put};
-use crush_tree::{Forest, Place};
-use crush_units::ItemId;
+use super::items::{Item, bucket, bucket_item, node, node_with};
+use super::owning::with;
+use super::puts::put;
+use crush_tree::{Forest, Node, Place};
 use std::alloc::Global;
-use std::test::Fail;
+use std::process::Abort;
 use std::thread;
 
-/// 4,096 buckets below one another, with a device in the last, which are held by one another before
-/// they come to the forest.
-fn chain(alloc: Global) -> Result<Forest<Global>, Refused> {
-    let mut node = osd(leaf(alloc, 0, "osd.0", 65536)?);
-    for i in 0..4096 {
-        let distance = 4096 - i;
-        let header = header(alloc, distance, 1, &name(alloc, distance)?)?;
-        node = held(empty(alloc, header)?, node)?;
-    }
-    let mut forest = Forest::new(alloc, alloc);
-    put(&mut forest, Place::Root, node)?;
-    Ok(forest)
+/// The bucket that is so far below 0, with the item in it.
+fn link(rt: &(impl Abort + AllocGlobal), distance: u32, item: Node<Global>) -> Node<Global> {
+    let name = format!(in rt.alloc(); "b{}", distance).expect(rt, "memory");
+    node_with(rt, Item::Host(distance, name.as_str()), item)
 }
 
-/// The name of the bucket that is so far below 0.
-fn name(alloc: Global, distance: u32) -> Result<String<Global>, Refused> {
-    Ok(format!(in alloc; "b{}", distance)?)
+/// 4,096 buckets below one another, with a device in the last.
+fn links(rt: &(impl Abort + AllocGlobal)) -> Node<Global> {
+    let mut item = node(rt, Item::Device(0, "osd.0", 65536));
+    for i in 0..4096 {
+        item = link(rt, 4096 - i, item);
+    }
+    item
+}
+
+/// The forest of the buckets, which are held by one another before they come to it.
+fn chain(rt: &(impl Abort + AllocGlobal)) -> Forest<Global> {
+    let mut forest = Forest::new(rt.alloc(), rt.alloc());
+    put(&mut forest, Place::Root, links(rt)).expect(rt, "a place");
+    forest
 }
 
 /// Whether the chain is searched and copied as it should be.
-fn is_sound(alloc: Global) -> Result<bool, Refused> {
-    let forest = chain(alloc)?;
-    let osd = forest.id_of("osd.0").ok_or(Refused::Missing)?;
-    let copy = forest.try_copy()?;
-    Ok(
+fn is_sound(rt: &(impl Abort + AllocGlobal)) -> bool {
+    with(chain(rt), |forest| {
+        let osd = forest.id_of("osd.0").expect(rt, "osd.0");
+        let last = bucket_item(rt, 4096);
         forest.total() == 65536
-            && forest.contains(bucket(1)?, osd)
-            && forest.parent(ItemId::Bucket(bucket(4096)?)) == Some(bucket(4095)?)
-            && copy.is_same(&forest),
-    )
+            && forest.contains(bucket(rt, 1), osd)
+            && forest.parent(last) == Some(bucket(rt, 4095))
+            && with(
+                forest.try_copy().expect(rt, "memory"),
+                |copy| copy.is_same(forest),
+            )
+    })
 }
 
 #[test]
-fn on_the_main_thread(rt: HostRuntime) -> Result<(), Fail> {
-    assert!(rt; is_sound(rt.alloc())?);
-    Ok(())
+fn on_the_main_thread(rt: HostRuntime) {
+    assert!(rt; is_sound(&rt));
 }
 
 #[test]
-fn on_another_thread(rt: HostRuntime) -> Result<(), Fail> {
-    let alloc = rt.alloc();
-    let worker = thread::spawn(&rt, move || is_sound(alloc).unwrap_or(false))?;
+fn on_another_thread(rt: HostRuntime) {
+    let worker = thread::spawn(&rt, move || is_sound(&rt)).expect(&rt, "a thread");
     assert!(rt; worker.join(&rt));
-    Ok(())
 }

@@ -2,292 +2,334 @@
 //! forest once.
 
 use super::asks::{has_item, is_held};
-use super::puts::{
-    Refused, bucket, device, empty, exchange, give_name, header, held, leaf, osd, put, weigh,
-    weigh_all,
+use super::items::{
+    Item, bucket, bucket_item, device, device_item, holding, inside, node, node_with,
 };
+use super::owning::with;
+use super::puts::{Refused, add, add_in, exchange, give_name, put, weigh, weigh_all};
 use crush_tree::{Forest, Node, Place};
 use crush_units::{Alg, ItemId, Name, Weight};
 use linked_list_allocator::LocalHeap;
-use std::alloc::Allocator;
+use std::alloc::{Allocator, Global};
 use std::process::Abort;
-use std::test::Fail;
+
+/// Puts the root `default` and the host h1 with osd.0 and osd.1 into a forest, item by item.
+fn put_root_and_h1<A: Allocator + Copy>(
+    rt: &impl Abort,
+    alloc: A,
+    forest: &mut Forest<A>,
+) -> Result<(), Refused> {
+    add_in(rt, alloc, forest, Place::Root, Item::Root(1, "default"))?;
+    add_in(rt, alloc, forest, inside(rt, 1), Item::Host(2, "h1"))?;
+    add_in(
+        rt,
+        alloc,
+        forest,
+        inside(rt, 2),
+        Item::Device(0, "osd.0", 65536),
+    )?;
+    add_in(
+        rt,
+        alloc,
+        forest,
+        inside(rt, 2),
+        Item::Device(1, "osd.1", 65536),
+    )
+}
+
+/// Puts the host h2 into a forest, which holds osd.2 before it comes.
+fn put_h2<A: Allocator + Copy>(
+    rt: &impl Abort,
+    alloc: A,
+    forest: &mut Forest<A>,
+) -> Result<(), Refused> {
+    let h2 = holding(
+        rt,
+        alloc,
+        Item::Host(3, "h2"),
+        Item::Device(2, "osd.2", 32768),
+    )?;
+    put(forest, inside(rt, 1), h2)
+}
 
 /// The hosts h1 and h2 in the root `default`: osd.0 and osd.1 in h1 weigh 1.0 each, osd.2 in h2
 /// weighs 0.5.
-pub fn example<A: Allocator + Clone>(alloc: A) -> Result<Forest<A>, Refused> {
-    let roots = alloc.clone()?;
-    let unplaced = alloc.clone()?;
-    let mut forest = Forest::new(roots, unplaced);
-    add_root(&mut forest, &alloc)?;
-    add_h1(&mut forest, &alloc)?;
-    add_h2(&mut forest, &alloc)?;
+fn example_in<A: Allocator + Copy>(rt: &impl Abort, alloc: A) -> Result<Forest<A>, Refused> {
+    let mut forest = Forest::new(alloc, alloc);
+    put_root_and_h1(rt, alloc, &mut forest)?;
+    put_h2(rt, alloc, &mut forest)?;
     Ok(forest)
 }
 
-fn add_root<A: Allocator + Clone>(forest: &mut Forest<A>, alloc: &A) -> Result<(), Refused> {
-    let default = header(alloc.clone()?, 1, 11, "default")?;
-    put(forest, Place::Root, empty(alloc.clone()?, default)?)
+/// The forest of the example map in the machine's memory.
+pub fn example(rt: &(impl Abort + AllocGlobal)) -> Forest<Global> {
+    example_in(rt, rt.alloc()).expect(rt, "memory")
 }
 
-/// The host h1 by a bucket and two devices.
-fn add_h1<A: Allocator + Clone>(forest: &mut Forest<A>, alloc: &A) -> Result<(), Refused> {
-    let root = Place::Bucket(bucket(1)?);
-    let host = Place::Bucket(bucket(2)?);
-    let h1 = header(alloc.clone()?, 2, 1, "h1")?;
-    let first = leaf(alloc.clone()?, 0, "osd.0", 65536)?;
-    let second = leaf(alloc.clone()?, 1, "osd.1", 65536)?;
-    put(forest, root, empty(alloc.clone()?, h1)?)?;
-    put(forest, host, osd(first))?;
-    put(forest, host, osd(second))
+/// A copy of a forest.
+fn copy_of<A: Allocator + Copy>(rt: &impl Abort, forest: &Forest<A>) -> Forest<A> {
+    forest.try_copy().expect(rt, "memory")
 }
 
-/// The host h2, which holds its device before it comes.
-fn add_h2<A: Allocator + Clone>(forest: &mut Forest<A>, alloc: &A) -> Result<(), Refused> {
-    let root = Place::Bucket(bucket(1)?);
-    let h2 = header(alloc.clone()?, 3, 1, "h2")?;
-    let device = leaf(alloc.clone()?, 2, "osd.2", 32768)?;
-    put(forest, root, held(empty(alloc.clone()?, h2)?, osd(device))?)
+/// The forest of the example map, and a copy of it.
+fn example_and_copy(rt: &(impl Abort + AllocGlobal)) -> (Forest<Global>, Forest<Global>) {
+    let forest = example(rt);
+    let copy = copy_of(rt, &forest);
+    (forest, copy)
 }
 
-fn is_built<A: Allocator + Clone>(rt: &impl Abort, alloc: A) -> Result<(), Fail> {
-    let (h1, h2, osd) = (bucket(2)?, bucket(3)?, device(2)?);
-    let forest = example(alloc)?;
-    assert_eq!(rt; forest.total(), 163840);
-    assert_eq!(rt; forest.counts().devices, 3);
-    assert_eq!(rt; forest.counts().buckets, 3);
+/// Asserts what a bucket weighs, in units.
+fn weighs<A: Allocator>(rt: &impl Abort, forest: &Forest<A>, distance: u32, units: u32) {
+    let weight = forest.weight(bucket_item(rt, distance));
+    assert!(rt; weight == Some(Weight::from_units(units)));
+}
+
+/// Asserts what is told of the example map's forest and of a copy of it.
+fn is_built<A: Allocator + Copy>(rt: &impl Abort, forest: &Forest<A>) {
+    let counts = forest.counts();
     assert_eq!(rt;
-        forest.weight(ItemId::Bucket(h1)),
-        Some(Weight::from_units(131072))
+        (forest.total(), counts.devices, counts.buckets),
+        (163840, 3, 3)
     );
-    assert_eq!(rt;
-        forest.weight(ItemId::Bucket(h2)),
-        Some(Weight::from_units(32768))
-    );
-    assert_eq!(rt; forest.id_of("osd.2"), Some(ItemId::Device(osd)));
-    assert_eq!(rt; forest.parent(ItemId::Device(osd)), Some(h2));
-    let copy = forest.try_copy()?;
-    assert!(rt; copy.is_same(&forest));
-    assert_eq!(rt; copy.total(), 163840);
-    Ok(())
+    weighs(rt, forest, 2, 131072);
+    weighs(rt, forest, 3, 32768);
+    let found = (forest.id_of("osd.2"), forest.parent(device_item(rt, 2)));
+    assert_eq!(rt; found, (Some(device_item(rt, 2)), Some(bucket(rt, 3))));
+    with(copy_of(rt, forest), |copy| {
+        assert!(rt; copy.is_same(forest));
+        assert_eq!(rt; copy.total(), 163840);
+    });
 }
 
 #[test]
-fn in_the_machines_memory(rt: HostRuntime) -> Result<(), Fail> {
-    is_built(&rt, rt.alloc())
+fn in_the_machines_memory(rt: HostRuntime) {
+    with(example(&rt), |forest| is_built(&rt, forest));
 }
 
 #[test]
-fn in_a_heap(rt: HostRuntime) -> Result<(), Fail> {
-    let heap = LocalHeap::new(rt.alloc(), 65536)?;
-    is_built(&rt, &heap)
+fn in_a_heap(rt: HostRuntime) {
+    let heap = LocalHeap::new(rt.alloc(), 65536).expect(&rt, "a heap");
+    with(
+        example_in(&rt, &heap).expect(&rt, "memory"),
+        |forest| is_built(&rt, forest),
+    );
+}
+
+/// Whether a heap of this size has the forest that the machine's memory has. One that is too small
+/// has no memory for it.
+fn holds_the_forest(rt: &(impl Abort + AllocGlobal), size: usize, whole: &Forest<Global>) -> bool {
+    let heap = LocalHeap::new(rt.alloc(), size).expect(rt, "a heap");
+    match example_in(rt, &heap) {
+        Ok(forest) => with(forest, |forest| {
+            assert!(rt; forest.try_copy().is_err());
+            assert!(rt; forest.is_same(whole));
+            true
+        }),
+        Err(refused) => {
+            assert_eq!(rt; refused, Refused::NoMemory);
+            false
+        }
+    }
 }
 
 /// Heaps that are too small have no memory for the forest. The first that holds it has none for a
 /// copy, and the forest is then as it was.
 #[test]
-fn in_heaps_of_each_size(rt: HostRuntime) -> Result<(), Fail> {
-    let whole = example(rt.alloc())?;
-    for i in 1..1024 {
-        let heap = LocalHeap::new(rt.alloc(), 64 * i)?;
-        match example(&heap) {
-            Ok(forest) => {
-                assert!(rt; forest.try_copy().is_err());
-                assert!(rt; forest.is_same(&whole));
-                return Ok(());
-            }
-            Err(refused) => assert_eq!(rt; refused, Refused::NoMemory),
-        }
-    }
-    Err("no heap holds the forest".into())
+fn in_heaps_of_each_size(rt: HostRuntime) {
+    with(example(&rt), |whole| {
+        let holds = (1..1024).any(|i| holds_the_forest(&rt, 64 * i, whole));
+        assert!(rt; holds, "no heap holds the forest");
+    });
+}
+
+/// Asserts that forests that are the same differ while osd.2 weighs something else in one.
+fn differ_by_a_weight<A: Allocator>(
+    rt: &impl Abort,
+    forest: &Forest<Global>,
+    other: &mut Forest<A>,
+) {
+    assert!(rt; forest.is_same(other));
+    weigh(other, device(rt, 2), Weight::from_units(32769)).expect(rt, "a weight");
+    assert!(rt; !forest.is_same(other));
+    weigh(other, device(rt, 2), Weight::from_units(32768)).expect(rt, "a weight");
+    assert!(rt; forest.is_same(other));
+}
+
+/// Gives an item another name, and asserts which it had.
+fn renames<A: Allocator>(
+    rt: &impl Abort,
+    forest: &mut Forest<A>,
+    id: &ItemId,
+    name: Name<A>,
+    old: &str,
+) {
+    let had = give_name(forest, id, name).expect(rt, "a name");
+    assert_eq!(rt; had.as_str(), old);
 }
 
 #[test]
-fn same_in_any_memory(rt: HostRuntime) -> Result<(), Fail> {
-    let osd = device(2)?;
-    let first = ItemId::Device(device(1)?);
-    let heap = LocalHeap::new(rt.alloc(), 65536)?;
-    let name = Name::read(&heap, b"osd.9")?;
-    let forest = example(rt.alloc())?;
-    let mut other = example(&heap)?;
-    assert!(rt; forest.is_same(&other));
-    weigh(&mut other, osd, Weight::from_units(32769))?;
-    assert!(rt; !forest.is_same(&other));
-    weigh(&mut other, osd, Weight::from_units(32768))?;
-    assert!(rt; forest.is_same(&other));
-    let old = give_name(&mut other, &first, name)?;
-    assert_eq!(rt; old.as_str(), "osd.1");
-    assert!(rt; !other.is_same(&forest));
-    Ok(())
+fn same_in_any_memory(rt: HostRuntime) {
+    let heap = LocalHeap::new(rt.alloc(), 65536).expect(&rt, "a heap");
+    let other = example_in(&rt, &heap).expect(&rt, "memory");
+    with((example(&rt), other), |(forest, other)| {
+        differ_by_a_weight(&rt, forest, other);
+        let name = Name::read(&heap, b"osd.9").expect(&rt, "a name");
+        renames(&rt, other, &device_item(&rt, 1), name, "osd.1");
+        assert!(rt; !other.is_same(forest));
+    });
 }
 
 #[test]
-fn class_matters(rt: HostRuntime) -> Result<(), Fail> {
-    let mut ssd = leaf(rt.alloc(), 3, "osd.3", 0)?;
-    ssd.class = Some(Name::read(rt.alloc(), b"ssd")?);
-    let plain = leaf(rt.alloc(), 3, "osd.3", 0)?;
-    let mut forest = example(rt.alloc())?;
-    let mut other = forest.try_copy()?;
-    put(&mut forest, Place::Unplaced, osd(ssd))?;
-    assert!(rt; !forest.is_same(&other));
-    put(&mut other, Place::Unplaced, osd(plain))?;
-    assert!(rt; !forest.is_same(&other));
-    let copy = forest.try_copy()?;
-    assert!(rt; copy.is_same(&forest));
-    Ok(())
+fn class_matters(rt: HostRuntime) {
+    with(example_and_copy(&rt), |(forest, other)| {
+        add(
+            &rt,
+            forest,
+            Place::Unplaced,
+            Item::DeviceOfClass(3, "osd.3", 0),
+        );
+        assert!(rt; !forest.is_same(other));
+        add(&rt, other, Place::Unplaced, Item::Device(3, "osd.3", 0));
+        assert!(rt; !forest.is_same(other));
+        with(
+            copy_of(&rt, forest),
+            |copy| assert!(rt; copy.is_same(forest)),
+        );
+    });
 }
 
 #[test]
-fn weights(rt: HostRuntime) -> Result<(), Fail> {
-    let (root, h1, h2, osd) = (bucket(1)?, bucket(2)?, bucket(3)?, device(2)?);
-    let missing = ItemId::Device(device(3)?);
-    let mut forest = example(rt.alloc())?;
-    weigh(&mut forest, osd, Weight::from_units(65536))?;
-    assert_eq!(rt; forest.total(), 196608);
-    assert_eq!(rt;
-        forest.weight(ItemId::Bucket(h2)),
-        Some(Weight::from_units(65536))
-    );
-    weigh_all(&mut forest, root, Weight::from_units(1))?;
-    assert_eq!(rt; forest.total(), 3);
-    assert_eq!(rt;
-        forest.weight(ItemId::Bucket(h1)),
-        Some(Weight::from_units(2))
-    );
-    assert!(rt; !is_held(&forest, &missing));
-    Ok(())
+fn weights(rt: HostRuntime) {
+    with(example(&rt), |forest| {
+        weigh(forest, device(&rt, 2), Weight::from_units(65536)).expect(&rt, "a weight");
+        assert_eq!(rt; forest.total(), 196608);
+        weighs(&rt, forest, 3, 65536);
+        weigh_all(forest, bucket(&rt, 1), Weight::from_units(1)).expect(&rt, "a weight");
+        assert_eq!(rt; forest.total(), 3);
+        weighs(&rt, forest, 2, 2);
+        assert!(rt; !is_held(forest, &device_item(&rt, 3)));
+    });
 }
 
 #[test]
-fn names(rt: HostRuntime) -> Result<(), Fail> {
-    let h1 = ItemId::Bucket(bucket(2)?);
-    let free = Name::read(rt.alloc(), b"h9")?;
-    let part_of = Name::read(rt.alloc(), b"h2")?;
-    let mut forest = example(rt.alloc())?;
-    let old = give_name(&mut forest, &h1, free)?;
-    assert_eq!(rt; old.as_str(), "h1");
-    assert_eq!(rt; forest.id_of("h9"), Some(h1));
-    assert_eq!(rt; forest.id_of("h1"), None);
-    assert!(rt; give_name(&mut forest, &h1, part_of).is_err());
-    Ok(())
+fn names(rt: HostRuntime) {
+    with(example(&rt), |forest| {
+        let h1 = bucket_item(&rt, 2);
+        let free = Name::read(rt.alloc(), b"h9").expect(&rt, "a name");
+        renames(&rt, forest, &h1, free, "h1");
+        assert_eq!(rt; (forest.id_of("h9"), forest.id_of("h1")), (Some(h1), None));
+        let taken = Name::read(rt.alloc(), b"h2").expect(&rt, "a name");
+        assert!(rt; give_name(forest, &h1, taken).is_err());
+    });
 }
 
-/// The id of the item at a place, as the number that a map shows.
-fn number_at<A: Allocator>(items: &[Node<A>], k: usize) -> Option<i32> {
-    match items.get(k) {
-        Some(node) => Some(node.id().number()),
-        None => None,
-    }
-}
-
-#[test]
-fn items_in_order(rt: HostRuntime) -> Result<(), Fail> {
-    let (root, h1, h3) = (bucket(1)?, bucket(2)?, bucket(4)?);
-    let forest = example(rt.alloc())?;
-    assert_eq!(rt; forest.roots().len(), 1);
-    assert_eq!(rt; number_at(forest.roots(), 0), Some(-1));
-    assert_eq!(rt; forest.unplaced().len(), 0);
-    let hosts = forest.items(root).ok_or("default is there")?;
-    assert_eq!(rt; hosts.len(), 2);
-    assert_eq!(rt; number_at(hosts, 0), Some(-2));
-    assert_eq!(rt; number_at(hosts, 1), Some(-3));
-    let devices = forest.items(h1).ok_or("h1 is there")?;
-    assert_eq!(rt; devices.len(), 2);
-    assert_eq!(rt; number_at(devices, 0), Some(0));
-    assert_eq!(rt; number_at(devices, 1), Some(1));
-    assert!(rt; forest.items(h3).is_none());
-    Ok(())
+/// Whether the items have these ids in order, as the numbers that a map shows.
+fn are_numbered(items: &[Node<Global>], numbers: &[i32]) -> bool {
+    items.len() == numbers.len()
+        && items
+            .iter()
+            .zip(numbers)
+            .all(|(item, number)| item.id().number() == *number)
 }
 
 #[test]
-fn unplaced_devices(rt: HostRuntime) -> Result<(), Fail> {
-    let idle = leaf(rt.alloc(), 3, "osd.3", 0)?;
-    let mut forest = example(rt.alloc())?;
-    put(&mut forest, Place::Unplaced, osd(idle))?;
-    assert_eq!(rt; forest.unplaced().len(), 1);
-    assert_eq!(rt; number_at(forest.unplaced(), 0), Some(3));
-    assert_eq!(rt; forest.roots().len(), 1);
-    Ok(())
+fn items_in_order(rt: HostRuntime) {
+    with(example(&rt), |forest| {
+        assert!(rt; are_numbered(forest.roots(), &[-1]));
+        assert!(rt; are_numbered(forest.unplaced(), &[]));
+        let hosts = forest.items(bucket(&rt, 1)).expect(&rt, "default");
+        assert!(rt; are_numbered(hosts, &[-2, -3]));
+        let devices = forest.items(bucket(&rt, 2)).expect(&rt, "h1");
+        assert!(rt; are_numbered(devices, &[0, 1]));
+        assert!(rt; forest.items(bucket(&rt, 4)).is_none());
+    });
 }
 
 #[test]
-fn one_item(rt: HostRuntime) -> Result<(), Fail> {
-    let (h2, osd) = (ItemId::Bucket(bucket(3)?), ItemId::Device(device(2)?));
-    let forest = example(rt.alloc())?;
-    let Some(found) = forest.find(h2) else {
-        return Err("h2 is there".into());
+fn unplaced_devices(rt: HostRuntime) {
+    with(example(&rt), |forest| {
+        add(&rt, forest, Place::Unplaced, Item::Device(3, "osd.3", 0));
+        assert!(rt; are_numbered(forest.unplaced(), &[3]));
+        assert_eq!(rt; forest.roots().len(), 1);
+    });
+}
+
+/// Asserts what is told of the host h2.
+fn tells_of_h2(rt: &impl Abort, forest: &Forest<Global>) {
+    let Some(found) = forest.find(bucket_item(rt, 3)) else {
+        panic!(rt; "h2 is there");
     };
-    assert_eq!(rt; found.id.number(), -3);
-    assert_eq!(rt; found.kind.number(), 1);
-    assert_eq!(rt; found.name, "h2");
-    assert_eq!(rt; found.weight.units(), 32768);
-    assert!(rt; found.parent == Some(bucket(1)?));
+    let numbers = (found.id.number(), found.kind.number(), found.weight.units());
+    assert_eq!(rt; numbers, (-3, 1, 32768));
+    assert_eq!(rt; (found.name, found.parent), ("h2", Some(bucket(rt, 1))));
     assert!(rt; found.class.is_none());
     assert!(rt; found.alg == Some(Alg::Straw2));
-    let Some(device) = forest.find(osd) else {
-        return Err("osd.2 is there".into());
+}
+
+/// Asserts what is told of the device osd.2.
+fn tells_of_osd_2(rt: &impl Abort, forest: &Forest<Global>) {
+    let Some(found) = forest.find(device_item(rt, 2)) else {
+        panic!(rt; "osd.2 is there");
     };
-    assert_eq!(rt; device.kind.number(), 0);
-    assert_eq!(rt; device.name, "osd.2");
-    assert!(rt; device.parent == Some(bucket(3)?));
-    assert!(rt; device.alg.is_none());
-    assert!(rt; forest.find(ItemId::Bucket(bucket(4)?)).is_none());
-    Ok(())
+    assert_eq!(rt; (found.kind.number(), found.name), (0, "osd.2"));
+    assert_eq!(rt; (found.parent, found.alg), (Some(bucket(rt, 3)), None));
 }
 
 #[test]
-fn what_is_below(rt: HostRuntime) -> Result<(), Fail> {
-    let (root, h1, osd) = (bucket(1)?, bucket(2)?, device(2)?);
-    let forest = example(rt.alloc())?;
-    assert!(rt; forest.contains(root, ItemId::Device(osd)));
-    assert!(rt; forest.contains(h1, ItemId::Bucket(h1)));
-    assert!(rt; !forest.contains(h1, ItemId::Device(osd)));
-    assert!(rt; !forest.contains(h1, ItemId::Bucket(root)));
-    Ok(())
+fn one_item(rt: HostRuntime) {
+    with(example(&rt), |forest| {
+        tells_of_h2(&rt, forest);
+        tells_of_osd_2(&rt, forest);
+        assert!(rt; forest.find(bucket_item(&rt, 4)).is_none());
+    });
 }
 
 #[test]
-fn out_and_in_again(rt: HostRuntime) -> Result<(), Fail> {
-    let (root, h2, osd) = (bucket(1)?, bucket(3)?, device(2)?);
-    let gone = ItemId::Device(osd);
-    let mut forest = example(rt.alloc())?;
-    let whole = forest.try_copy()?;
-    let Some(node) = forest.detach(ItemId::Bucket(h2)) else {
-        return Err("h2 is there".into());
-    };
-    assert_eq!(rt; node.weight(), Weight::from_units(32768));
-    assert_eq!(rt; forest.total(), 131072);
-    assert!(rt; !has_item(&forest, &gone));
-    assert!(rt; forest.detach(ItemId::Device(osd)).is_none());
-    assert!(rt; forest.has_room(Place::Bucket(root)));
-    add_h2(&mut forest, &rt.alloc())?;
-    assert!(rt; forest.is_same(&whole));
-    Ok(())
+fn what_is_below(rt: HostRuntime) {
+    with(example(&rt), |forest| {
+        let (root, h1) = (bucket(&rt, 1), bucket(&rt, 2));
+        assert!(rt; forest.contains(root, device_item(&rt, 2)));
+        assert!(rt; forest.contains(h1, ItemId::Bucket(h1)));
+        assert!(rt; !forest.contains(h1, device_item(&rt, 2)));
+        assert!(rt; !forest.contains(h1, ItemId::Bucket(root)));
+    });
 }
 
 #[test]
-fn two_hosts_exchanged(rt: HostRuntime) -> Result<(), Fail> {
-    let (root, h1, h2) = (bucket(1)?, bucket(2)?, bucket(3)?);
-    let mut forest = example(rt.alloc())?;
-    let whole = forest.try_copy()?;
-    exchange(&mut forest, h1, h2)?;
-    assert_eq!(rt; forest.id_of("h1"), Some(ItemId::Bucket(h2)));
-    assert_eq!(rt;
-        forest.weight(ItemId::Bucket(h2)),
-        Some(Weight::from_units(131072))
-    );
-    assert_eq!(rt; forest.total(), 163840);
-    assert_eq!(rt; exchange(&mut forest, root, h1), Err(Refused::Unfit));
-    exchange(&mut forest, h1, h2)?;
-    assert!(rt; forest.is_same(&whole));
-    Ok(())
+fn out_and_in_again(rt: HostRuntime) {
+    with(example_and_copy(&rt), |(forest, whole)| {
+        let h2 = forest.detach(bucket_item(&rt, 3)).expect(&rt, "h2");
+        with(
+            h2,
+            |h2| assert!(rt; h2.weight() == Weight::from_units(32768)),
+        );
+        assert_eq!(rt; forest.total(), 131072);
+        assert!(rt; !has_item(forest, &device_item(&rt, 2)));
+        assert!(rt; forest.detach(device_item(&rt, 2)).is_none());
+        assert!(rt; forest.has_room(inside(&rt, 1)));
+        put_h2(&rt, rt.alloc(), forest).expect(&rt, "memory");
+        assert!(rt; forest.is_same(whole));
+    });
 }
 
 #[test]
-fn held_by_hand(rt: HostRuntime) -> Result<(), Fail> {
-    let header = header(rt.alloc(), 2, 1, "h1")?;
-    let device = leaf(rt.alloc(), 0, "osd.0", 65536)?;
-    let host = held(empty(rt.alloc(), header)?, osd(device))?;
-    assert_eq!(rt; host.weight(), Weight::from_units(65536));
-    Ok(())
+fn two_hosts_exchanged(rt: HostRuntime) {
+    with(example_and_copy(&rt), |(forest, whole)| {
+        let (root, h1, h2) = (bucket(&rt, 1), bucket(&rt, 2), bucket(&rt, 3));
+        exchange(forest, h1, h2).expect(&rt, "an exchange");
+        assert_eq!(rt; forest.id_of("h1"), Some(ItemId::Bucket(h2)));
+        weighs(&rt, forest, 3, 131072);
+        assert_eq!(rt; forest.total(), 163840);
+        assert_eq!(rt; exchange(forest, root, h1), Err(Refused::Unfit));
+        exchange(forest, h1, h2).expect(&rt, "an exchange");
+        assert!(rt; forest.is_same(whole));
+    });
+}
+
+#[test]
+fn held_by_hand(rt: HostRuntime) {
+    let device = node(&rt, Item::Device(0, "osd.0", 65536));
+    with(node_with(&rt, Item::Host(2, "h1"), device), |host| {
+        assert!(rt; host.weight() == Weight::from_units(65536));
+    });
 }

@@ -1,16 +1,18 @@
 //! A forest item by item: each change is made once it was asked whether it may be.
 
 use super::asks::{are_nested, has_item, has_name, is_held};
-use crush_tree::{Forest, Header, Leaf, Node, Place};
-use crush_units::{Alg, BucketId, DeviceId, ItemId, Name, NameFault, TypeId, Weight};
-use std::alloc::{AllocError, Allocator};
+use super::items::{Item, made};
+use crush_tree::{Forest, Node, Place};
+use crush_units::{BucketId, DeviceId, ItemId, Name, NameFault, Weight};
+use std::alloc::{AllocError, Allocator, Global};
+use std::process::Abort;
 
 /// Why a change isn't made.
 #[derive(Clone, Copy, Debug, PartialEq, Eq)]
 pub enum Refused {
     /// There is no memory.
     NoMemory,
-    /// A number or a text is no id or name.
+    /// A text is no name.
     Malformed,
     /// An item that has to be there isn't.
     Missing,
@@ -35,73 +37,6 @@ impl From<NameFault> for Refused {
     }
 }
 
-/// The bucket whose id is so far below 0.
-pub fn bucket(distance: u32) -> Result<BucketId, Refused> {
-    BucketId::below_zero(distance).ok_or(Refused::Malformed)
-}
-
-/// The device of a number.
-pub fn device(number: u32) -> Result<DeviceId, Refused> {
-    DeviceId::from_number(number).ok_or(Refused::Malformed)
-}
-
-/// The header of a bucket without class ids.
-pub fn header<A: Allocator + Clone>(
-    alloc: A,
-    distance: u32,
-    kind: u16,
-    name: &str,
-) -> Result<Header<A>, Refused> {
-    let name = Name::read(alloc.clone()?, name.as_bytes())?;
-    Ok(Header {
-        id: bucket(distance)?,
-        kind: TypeId::new(kind),
-        name,
-        alg: Alg::Straw2,
-        class_ids: Vec::new(alloc),
-    })
-}
-
-/// A device of so many units.
-pub fn leaf<A: Allocator>(
-    alloc: A,
-    number: u32,
-    name: &str,
-    units: u32,
-) -> Result<Leaf<A>, Refused> {
-    Ok(Leaf {
-        id: device(number)?,
-        name: Name::read(alloc, name.as_bytes())?,
-        weight: Weight::from_units(units),
-        class: None,
-    })
-}
-
-/// A device by itself.
-pub fn osd<A: Allocator>(leaf: Leaf<A>) -> Node<A> {
-    Node::device(leaf.id, leaf.name, leaf.weight, leaf.class)
-}
-
-/// An empty bucket.
-pub fn empty<A: Allocator + Clone>(alloc: A, header: Header<A>) -> Result<Node<A>, Refused> {
-    match Node::bucket(alloc, header) {
-        Ok(node) => Ok(node),
-        Err(_) => Err(Refused::NoMemory),
-    }
-}
-
-/// Puts a child into a bucket, if it has room and their weights stay in range.
-pub fn held<A: Allocator>(mut bucket: Node<A>, child: Node<A>) -> Result<Node<A>, Refused> {
-    if !bucket.has_room() {
-        return Err(Refused::Unfit);
-    }
-    if bucket.weight().units() > u32::MAX - child.weight().units() {
-        return Err(Refused::TooHeavy);
-    }
-    bucket.hold(child);
-    Ok(bucket)
-}
-
 /// Puts an item last at a place, if it can come there.
 pub fn put<A: Allocator>(
     forest: &mut Forest<A>,
@@ -115,6 +50,23 @@ pub fn put<A: Allocator>(
     forest.reserve(*place)?;
     forest.attach(*place, node);
     Ok(())
+}
+
+/// Puts a new item last at a place, if it can come there.
+pub fn add_in<A: Allocator + Copy>(
+    rt: &impl Abort,
+    alloc: A,
+    forest: &mut Forest<A>,
+    place: Place,
+    item: Item,
+) -> Result<(), Refused> {
+    let node = made(rt, alloc, item)?;
+    put(forest, place, node)
+}
+
+/// Puts a new item last at a place where it can come, in the machine's memory.
+pub fn add(rt: &(impl Abort + AllocGlobal), forest: &mut Forest<Global>, place: Place, item: Item) {
+    add_in(rt, rt.alloc(), forest, place, item).expect(rt, "a place");
 }
 
 /// Gives a placed device another weight.

@@ -1,58 +1,19 @@
 //! Items in the machine's memory, in a small heap, and deep below one another; and a forest
 //! without items.
 
+use super::items::{Item, bucket, bucket_item, device_item, header, holding, node, node_with};
+use super::owning::with;
 use crush_nodes::search::{id_in, kids_in, uses_in, view_in};
-use crush_tree::{Counts, Forest, Header, Node, Place};
-use crush_units::{Alg, BucketId, DeviceId, ItemId, Name, TypeId, Weight};
+use crush_tree::{Counts, Forest, Node, Place};
+use crush_units::{BucketId, DeviceId, ItemId};
 use linked_list_allocator::LocalHeap;
 use std::alloc::{Allocator, Global};
 use std::process::Abort;
-use std::test::Fail;
 
-/// The header of a host without class ids.
-fn host<A: Allocator + Clone>(alloc: A, distance: u32, name: &[u8]) -> Result<Header<A>, Fail> {
-    let name = Name::read(alloc.clone()?, name)?;
-    Ok(Header {
-        id: BucketId::below_zero(distance).ok_or("a bucket")?,
-        kind: TypeId::new(1),
-        name,
-        alg: Alg::Straw2,
-        class_ids: Vec::new(alloc),
-    })
-}
-
-/// A device that weighs 1.0, of the class `ssd`.
-fn device<A: Allocator + Clone>(alloc: A, number: i32, name: &[u8]) -> Result<Node<A>, Fail> {
-    let class = Name::read(alloc.clone()?, b"ssd")?;
-    let name = Name::read(alloc, name)?;
-    let id = DeviceId::new(number).ok_or("a device")?;
-    Ok(Node::device(id, name, Weight::from_units(65536), Some(class)))
-}
-
-/// A host that holds the item, in memory of the allocator.
-fn holding<A: Allocator + Clone>(
-    alloc: A,
-    header: Header<A>,
-    item: Node<A>,
-) -> Result<Node<A>, Fail> {
-    let Ok(mut node) = Node::bucket(alloc, header) else {
-        return Err("no memory".into());
-    };
-    if let Node::Bucket(bucket) = &mut node {
-        bucket.weight = item.weight();
-        bucket.items.push(item)?;
-    }
-    Ok(node)
-}
-
-/// A host h1 with the device osd.0, as the only item.
-fn one_host<A: Allocator + Clone>(alloc: A) -> Result<Vec<Node<A>, A>, Fail> {
-    let item = device(alloc.clone()?, 0, b"osd.0")?;
-    let header = host(alloc.clone()?, 2, b"h1")?;
-    let node = holding(alloc.clone()?, header, item)?;
-    let mut items = Vec::new(alloc);
-    items.push(node)?;
-    Ok(items)
+/// A host h1 with the device osd.0, in memory of the allocator.
+fn host<A: Allocator + Copy>(rt: &impl Abort, alloc: A) -> Node<A> {
+    let osd = Item::DeviceOfClass(0, "osd.0", 65536);
+    holding(rt, alloc, Item::Host(2, "h1"), osd).expect(rt, "memory")
 }
 
 /// The bucket that holds the device.
@@ -64,85 +25,88 @@ fn holder<A: Allocator>(items: &[Node<A>], number: u32) -> Option<BucketId> {
     }
 }
 
-fn searches<A: Allocator + Clone>(rt: &impl Abort, alloc: A) -> Result<(), Fail> {
-    let items = one_host(alloc)?;
-    let host = BucketId::new(-2).ok_or("a bucket")?;
-    let device = ItemId::Device(DeviceId::new(0).ok_or("a device")?);
-    assert_eq!(rt; id_in(items.as_slice(), b"osd.0"), Some(device));
-    assert_eq!(rt; id_in(items.as_slice(), b"h1"), Some(ItemId::Bucket(host)));
-    assert_eq!(rt; id_in(items.as_slice(), b"h2"), None);
-    assert_eq!(rt; holder(items.as_slice(), 0), Some(host));
-    assert_eq!(rt; holder(items.as_slice(), 1), None);
-    let kids = kids_in(items.as_slice(), host).ok_or("h1 is there")?;
-    assert_eq!(rt; kids.len(), 1);
-    assert!(rt; uses_in(items.as_slice(), host));
-    Ok(())
+/// Asserts what is found in the host h1, as the only item.
+fn searches<A: Allocator>(rt: &impl Abort, items: &[Node<A>]) {
+    let host = bucket(rt, 2);
+    let found = (
+        id_in(items, b"osd.0"),
+        id_in(items, b"h1"),
+        id_in(items, b"h2"),
+    );
+    assert_eq!(rt;
+        found,
+        (Some(device_item(rt, 0)), Some(bucket_item(rt, 2)), None)
+    );
+    assert_eq!(rt; (holder(items, 0), holder(items, 1)), (Some(host), None));
+    assert_eq!(rt; kids_in(items, host).expect(rt, "h1").len(), 1);
+    assert!(rt; uses_in(items, host));
 }
 
 #[test]
-fn in_the_machines_memory(rt: HostRuntime) -> Result<(), Fail> {
-    searches(&rt, rt.alloc())
+fn in_the_machines_memory(rt: HostRuntime) {
+    with(
+        [host(&rt, rt.alloc())],
+        |items| searches(&rt, items.as_slice()),
+    );
 }
 
 #[test]
-fn in_a_heap(rt: HostRuntime) -> Result<(), Fail> {
-    let heap = LocalHeap::new(rt.alloc(), 65536)?;
-    searches(&rt, &heap)
+fn in_a_heap(rt: HostRuntime) {
+    let heap = LocalHeap::new(rt.alloc(), 65536).expect(&rt, "a heap");
+    with([host(&rt, &heap)], |items| searches(&rt, items.as_slice()));
 }
 
 #[test]
-fn bucket_without_memory(rt: HostRuntime) -> Result<(), Fail> {
-    let heap = LocalHeap::new(rt.alloc(), 64)?;
-    let header = host(&heap, 2, b"h1")?;
+fn bucket_without_memory(rt: HostRuntime) {
+    let heap = LocalHeap::new(rt.alloc(), 64).expect(&rt, "a heap");
+    let header = header(&rt, &heap, 2, 1, "h1").expect(&rt, "memory");
     match Node::bucket(&heap, header) {
         Ok(_) => assert!(rt; false),
         Err(back) => assert_eq!(rt; back.id.number(), -2),
     }
-    Ok(())
 }
 
 /// Hosts -1 to -4096, each in the one after it, with a device in the first.
-fn nested(alloc: Global) -> Result<Vec<Node<Global>>, Fail> {
-    let mut node = device(alloc, 7, b"osd.7")?;
+fn nested(rt: &(impl Abort + AllocGlobal)) -> Node<Global> {
+    let mut item = node(rt, Item::DeviceOfClass(7, "osd.7", 65536));
     for distance in 1..4097 {
-        let header = host(alloc, distance, b"h")?;
-        node = holding(alloc, header, node)?;
+        item = node_with(rt, Item::Host(distance, "h"), item);
     }
-    let mut items = Vec::new(alloc);
-    items.push(node)?;
-    Ok(items)
+    item
 }
 
 #[test]
-fn deep_below(rt: HostRuntime) -> Result<(), Fail> {
-    let items = nested(rt.alloc())?;
-    let lowest = BucketId::new(-1).ok_or("a bucket")?;
-    assert!(rt; id_in(items.as_slice(), b"osd.7").is_some());
-    assert_eq!(rt; holder(items.as_slice(), 7), Some(lowest));
-    assert!(rt; kids_in(items.as_slice(), lowest).is_some());
-    assert!(rt; uses_in(items.as_slice(), lowest));
-    Ok(())
+fn deep_below(rt: HostRuntime) {
+    with([nested(&rt)], |items| {
+        let items = items.as_slice();
+        let lowest = bucket(&rt, 1);
+        assert!(rt; id_in(items, b"osd.7").is_some());
+        assert_eq!(rt; holder(items, 7), Some(lowest));
+        assert!(rt; kids_in(items, lowest).is_some());
+        assert!(rt; uses_in(items, lowest));
+    });
 }
 
-#[test]
-fn empty_forest(rt: HostRuntime) -> Result<(), Fail> {
-    let forest = Forest::new(rt.alloc(), rt.alloc());
-    let bucket = BucketId::new(-1).ok_or("a bucket")?;
-    assert_eq!(rt; forest.total(), 0);
-    assert_eq!(rt;
-        forest.counts(),
-        Counts {
-            devices: 0,
-            buckets: 0
-        }
-    );
-    assert_eq!(rt; forest.id_of("default"), None);
-    assert_eq!(rt; forest.kind(ItemId::Bucket(bucket)), None);
-    assert!(rt; forest.items(bucket).is_none());
-    assert!(rt; !forest.is_used(bucket));
-    assert!(rt; !forest.has_room(Place::Root));
-    let mut ids = [bucket, bucket, bucket];
+/// Asserts the first ids that are free in a forest without items.
+fn frees_the_first_ids(rt: &impl Abort, forest: &Forest<Global>) {
+    let mut ids = [bucket(rt, 1); 3];
     forest.free_ids(&mut ids);
     assert_eq!(rt; ids.map(|id| id.number()), [-1, -2, -3]);
-    Ok(())
+}
+
+#[test]
+fn empty_forest(rt: HostRuntime) {
+    with(Forest::new(rt.alloc(), rt.alloc()), |forest| {
+        let nothing = Counts {
+            devices: 0,
+            buckets: 0,
+        };
+        assert_eq!(rt; (forest.total(), forest.counts()), (0, nothing));
+        let found = (forest.id_of("default"), forest.kind(bucket_item(&rt, 1)));
+        assert_eq!(rt; found, (None, None));
+        assert!(rt; forest.items(bucket(&rt, 1)).is_none());
+        assert!(rt; !forest.is_used(bucket(&rt, 1)));
+        assert!(rt; !forest.has_room(Place::Root));
+        frees_the_first_ids(&rt, forest);
+    });
 }

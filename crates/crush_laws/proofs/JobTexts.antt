@@ -1,0 +1,100 @@
+-- The map after the run of a job: it is lawful, and what is written of it is read back.
+use Rattle.std.proofs.Common.{◌≡◌, ℕ, ◌<◌, ◌&&◌, Bool, true, false, cond, List, Option, Some, None, nat_le, refl, arith}
+use Rattle.std.proofs.lemmas.Bool.Decides.{nat_tests}
+use Rattle.std.proofs.lemmas.List.Elements.{All-map, All-weaker}
+use Rattle.std.specs.Prelude.{All, bytes_eq, codes, take, drop}
+use Rattle.std.specs.Str.Parse.{digits_value}
+use Rattle.crush_units.specs.Name.{IsName}
+use Rattle.crush_units.specs.Id.{device_from}
+use Rattle.crush_edits.specs.declared.edit.Edit.{Edit}
+use Rattle.crush_edits.specs.declared.edit.Edit.TheVariants.{Insert, CreateOrMove, Update, Move, Swap, Reweight, ReweightSubtree, Remove, AddBucket, Rename}
+use Rattle.crush_edits.specs.declared.location.Pair.{Pair}
+use Rattle.crush_edits.specs.LawEdit as table
+use Rattle.crush_laws.proofs.BuiltBuckets.{buckets_are_built}
+use Rattle.crush_laws.proofs.BuiltMaps.{printed_texts_read_back}
+use Rattle.crush_laws.proofs.Keeps.{each_map_is_lawful}
+use Rattle.crush_calls.specs.declared.call.Call.{Call}
+use Rattle.crush_calls.specs.declared.call.Call.TheVariants.{One, Batch}
+use Rattle.crush_calls.specs.Script.{ScriptData}
+use Rattle.crush_calls.specs.History.{table_after, turns}
+use Rattle.crush_calls.specs.HistoryText.{names_of}
+use Rattle.crush_calls.specs.LawRun.{IsCall}
+use Rattle.crush_calls.proofs.RunLaws.{turns_calls, turns_keep}
+use Rattle.crush_script.specs.Lines.{map_part}
+use Rattle.crush_script.specs.Words.{is_plain, device_named}
+use Rattle.crush_script.specs.Printed.{IsPlacing, IsSaid}
+use Rattle.crush_laws.specs.Written.{IsNamed, IsNamedCall, JobsStayLawful, JobTextsAreReadBack, JobMapsAreReadBack}
+use Rattle.crush_laws.proofs.HistoryComments.{written_is_read_back}
+use Rattle.crush_script.proofs.SaidJobs.{IsSaidCall, IsSaidScript, job_said}
+
+-- the number of a device's name is a device's id
+device_in_range : (n : List ℕ) (d : ℕ) → device_named n ≡ Some d → d < 2147483648
+device_in_range n d is = named (bytes_eq (take 4 n) (codes "osd.") && is_plain (drop 4 n)) (digits_value 10 (drop 4 n)) is
+  where
+    from : (b : Bool) (v : ℕ) → nat_le v 2147483647 ≡ b → ◌≡◌ {A = Option ℕ} (cond b (Some v) None) (Some d) → d < 2147483648
+    from true v low is = grind (arith, nat_tests, low, is)
+    from false v low is = absurd cc
+
+    named : (b : Bool) (v : ℕ) → ◌≡◌ {A = Option ℕ} (cond b (device_from v) None) (Some d) → d < 2147483648
+    named true v is = from (nat_le v 2147483647) v refl is
+    named false v is = absurd cc
+
+-- what a line says has the forms that the table's laws ask for, and those that the lines of a history do
+placing_form : (d : ℕ) (n : List ℕ) (w : ℕ) (l : List Pair) → IsPlacing d n w l → table.IsPlacing d n l
+placing_form d n w l is = record { id = device_in_range n d is.device; name = is.name; at = is.at }
+
+edit_form : (e : Edit) → IsSaid e → table.IsEdit e
+edit_form (Insert d n w l) is = placing_form d n w l is
+edit_form (CreateOrMove d n w l) is = placing_form d n w l is
+edit_form (Update d n w l) is = placing_form d n w l is
+edit_form (Move n l) is = is.1
+edit_form (Swap a b) is = tt
+edit_form (Reweight n w) is = tt
+edit_form (ReweightSubtree n w) is = tt
+edit_form (Remove n) is = tt
+edit_form (AddBucket n kind) is = is.0
+edit_form (Rename from to) is = is.1
+
+call_form : (c : Call) → IsSaidCall c → IsCall c
+call_form (One e) is = edit_form e is
+call_form (Batch es) is = All-weaker IsSaid table.IsEdit edit_form es is
+
+edit_named : (e : Edit) → IsSaid e → IsNamed e
+edit_named (Insert d n w l) is = (is.name, is.at)
+edit_named (CreateOrMove d n w l) is = (is.name, is.at)
+edit_named (Update d n w l) is = (is.name, is.at)
+edit_named (Move n l) is = is
+edit_named (Swap a b) is = is
+edit_named (Reweight n w) is = is.0
+edit_named (ReweightSubtree n w) is = is.0
+edit_named (Remove n) is = is
+edit_named (AddBucket n kind) is = is
+edit_named (Rename from to) is = is
+
+call_named : (c : Call) → IsSaidCall c → IsNamedCall c
+call_named (One e) is = edit_named e is
+call_named (Batch es) is = All-weaker IsSaid IsNamed edit_named es is
+
+-- a fact of the calls of scripts, from what was read
+of_calls_said : (P : Call → Type 0) → ((c : Call) → IsSaidCall c → P c) → (scripts : List ScriptData) → All IsSaidScript scripts → All (λ (x : ScriptData). All P x.calls) scripts
+of_calls_said P each scripts said = All-weaker IsSaidScript (λ (x : ScriptData). All P x.calls) (λ x is. All-weaker IsSaidCall P each x.calls is.calls) scripts said
+
+pub jobs_stay_lawful : JobsStayLawful
+jobs_stay_lawful bytes job is =
+    let read = each_map_is_lawful (map_part bytes) job.setting job.table job.adjusted is.map in
+    turns_keep job.setting job.table job.scripts (record { lawful = read.0; fits = read.1 }) (of_calls_said IsCall call_form job.scripts (job_said bytes job is))
+
+pub job_texts_are_read_back : JobTextsAreReadBack
+job_texts_are_read_back bytes job is =
+    let s = job.setting in
+    let h = turns s job.table job.scripts in
+    let said = job_said bytes job is in
+    let keeps = jobs_stay_lawful bytes job is in
+    let names = All-map IsName (λ (x : ScriptData). x.name) job.scripts (All-weaker IsSaidScript (λ (x : ScriptData). IsName x.name) (λ x own. own.name) job.scripts said) in
+    let named = turns_calls IsNamedCall s job.table 0 job.scripts (of_calls_said IsNamedCall call_named job.scripts said) in
+    written_is_read_back s (table_after s job.table h) (names_of job.scripts) 1 h keeps.lawful keeps.fits names named
+
+pub job_maps_are_read_back : JobMapsAreReadBack
+job_maps_are_read_back bytes job is =
+    let keeps = jobs_stay_lawful bytes job is in
+    printed_texts_read_back buckets_are_built job.setting (table_after job.setting job.table (turns job.setting job.table job.scripts)) keeps.lawful keeps.fits

@@ -1,0 +1,168 @@
+-- Bytes are the text of one map or have one flaw, and never both.
+use Rattle.std.proofs.Common.{◌≡◌, ℕ, Bool, true, false, cond, List, [], ◌∷◌, ◌++◌, Result, Ok, Err, refl, sym, ap, subst, ◌∙◌, inl, inr}
+use Rattle.std.specs.Prelude.{◌⊎◌, bytes_eq, codes, drop}
+use Rattle.crush_map.specs.Built.{Draft}
+use Rattle.crush_edits.specs.Setting.{RuleData}
+use Rattle.crush_bytes.specs.Words.{Word, Stop, words, begins_with_key}
+use Rattle.crush_text.specs.declared.opening.Opening.{Opening}
+use Rattle.crush_text.specs.declared.opening.Opening.TheVariants as openings
+use Rattle.crush_text.specs.declared.fault.TextFault.{TextFault}
+use Rattle.crush_text.specs.Role.{El, StepWord, takes, chooses, sets, emits, value}
+use Rattle.crush_text.specs.Form.{Mode, first, second, begun, numbered, filling, ruled, Form, done, word, optional, ahead}
+use Rattle.crush_text.specs.Grammar.{id_or_alg_line, item_or_brace, step_behind, step_or_brace, statement, lines, next as next_line}
+use Rattle.crush_text.specs.Flow.{State, between, amid, arrive, outcome}
+use Rattle.crush_text.specs.Document.{SpellsForm, SpellsNext, Spell, start}
+use Rattle.crush_text.specs.Flaw.{IsFaulty}
+use Rattle.crush_laws.specs.MapOrFlaw.{WordsAreJudgedByTheTable, AFlawExcludesTheMap, AtMostOneFlaw, SameWordsSameFlaw, AtMostOneMap, HasMap, HasFlaw, AMapOrAFlaw}
+use Rattle.crush_text.proofs.Laws.{word_fault, fault_word, document_of, outcome_of, flaw_of, fault_of}
+use Rattle.crush_text.proofs.Whole.{one_draft}
+
+-- a word's fault is that of the table
+pub words_are_judged_by_the_table : WordsAreJudgedByTheTable
+words_are_judged_by_the_table d r w f = (λ e. word_fault d r w f e, λ h. fault_word d r w f h)
+
+-- what is spelled is read without a fault
+pub a_flaw_excludes_the_map : AFlawExcludesTheMap
+a_flaw_excludes_the_map bytes f s t n x m =
+    let k = sym (outcome_of (words 0 bytes) m.draft m.document) ∙ fault_of (words 0 bytes) f x in
+    absurd cc
+
+-- a flaw is the one fault of the text
+pub at_most_one_flaw : AtMostOneFlaw
+at_most_one_flaw bytes f g x y =
+    let k = sym (fault_of (words 0 bytes) f x) ∙ fault_of (words 0 bytes) g y in
+    cc
+
+-- no word but `weight` is looked for ahead
+abbrev LooksForWeights : Form → Type 0
+LooksForWeights (done p) = Unit {0}
+LooksForWeights (word r more) = (v : El r) → LooksForWeights (more v)
+LooksForWeights (optional k f g) = LooksForWeights f × LooksForWeights g
+LooksForWeights (ahead k f g) = (k ≡ codes "weight") × LooksForWeights f × LooksForWeights g
+
+-- so it is in each statement
+statement_looks : (d : Draft) (o : Opening) → LooksForWeights (statement d o)
+statement_looks d openings.Tunable = λ x n. tt
+statement_looks d openings.Type = λ n x. tt
+statement_looks d openings.Device = λ n x. (λ k c. tt, tt)
+statement_looks d (openings.Bucket k) = λ x. tt
+statement_looks d openings.Rule = λ x a b n c k. (λ e u. (λ g v. tt, tt), (λ g v. tt, tt))
+
+-- in each step
+step_looks : (d : Draft) (r : RuleData) (w : StepWord) → LooksForWeights (step_behind d r w)
+step_looks d r takes = λ b. (λ k c. tt, tt)
+step_looks d r (chooses leaf) = λ o n t k. tt
+step_looks d r (sets x) = λ n. tt
+step_looks d r emits = tt
+
+-- and in each line
+lines_look : (d : Draft) (m : Mode) → LooksForWeights (lines d m)
+lines_look d first = statement_looks d
+lines_look d second = statement_looks d
+lines_look d begun = λ a b n. tt
+lines_look d numbered = by_it
+  where
+    by_it : (b : Bool) → LooksForWeights (id_or_alg_line d b)
+    by_it true = λ b k c. tt
+    by_it false = λ a. (λ h z. tt, tt)
+lines_look d (filling any) = by_it
+  where
+    by_it : (b : Bool) → LooksForWeights (item_or_brace d b)
+    by_it true = (refl, λ i k w. tt, λ i. tt)
+    by_it false = tt
+lines_look d (ruled r) = by_it
+  where
+    by_it : (b : Bool) → LooksForWeights (step_or_brace d r b)
+    by_it true = step_looks d r
+    by_it false = tt
+
+-- before a line, or in the middle of one
+abbrev Looks : State → Type 0
+Looks (between p) = Unit {0}
+Looks (amid d f) = LooksForWeights f
+
+-- of one of two forms what is due
+either_looks : (b : Bool) (d : Draft) (rest : List Word) (f g : Form) → Looks (arrive d rest f) → Looks (arrive d rest g) → Looks (cond b (arrive d rest f) (arrive d rest g))
+either_looks true d rest f g x y = x
+either_looks false d rest f g x y = y
+
+-- and so it is of what is due
+arrive_looks : (d : Draft) (rest : List Word) (f : Form) → LooksForWeights f → Looks (arrive d rest f)
+arrive_looks d rest (done p) h = tt
+arrive_looks d rest (word r more) h = h
+arrive_looks d rest (optional k f g) h = either_looks (begins_with_key k rest) d rest f g (arrive_looks d rest f h.0) (arrive_looks d rest g h.1)
+arrive_looks d rest (ahead k f g) h = either_looks (begins_with_key k (drop 1 rest)) d rest f g (arrive_looks d rest f h.1) (arrive_looks d rest g h.2)
+
+-- wherever a word leads
+form_looks : (d : Draft) (f : Form) (text : List ℕ) (rest : List Word) (u : State) → LooksForWeights f → SpellsForm d f text rest u → Looks u
+form_looks d (word r more) text rest u k h = subst Looks (sym h.1) (arrive_looks d rest (more (value d r text)) (k (value d r text)))
+form_looks d (done p) text rest u k h = absurd h
+form_looks d (optional c f g) text rest u k h = absurd h
+form_looks d (ahead c f g) text rest u k h = absurd h
+
+step_leads : (s : State) (text : List ℕ) (rest : List Word) (u : State) → Looks s → SpellsNext s text rest u → Looks u
+step_leads (between p) text rest u k h = form_looks p.draft (next_line p) text rest u (lines_look p.draft p.mode) h
+step_leads (amid d f) text rest u k h = form_looks d f text rest u k h
+
+-- what is due depends on no more than the next word, and whether `weight` stands behind it
+next_alone : (d : Draft) (f : Form) (w : Word) (ws us : List Word) → LooksForWeights f → begins_with_key (codes "weight") ws ≡ begins_with_key (codes "weight") us → arrive d (w ∷ ws) f ≡ arrive d (w ∷ us) f
+next_alone d (done p) w ws us k same = refl
+next_alone d (word r more) w ws us k same = refl
+next_alone d (optional c f g) w ws us k same = λ i. cond (bytes_eq w.text c) (next_alone d f w ws us k.0 same i) (next_alone d g w ws us k.1 same i)
+next_alone d (ahead c f g) w ws us k same =
+    let so : begins_with_key c ws ≡ begins_with_key c us = ap (λ (x : List ℕ). begins_with_key x ws) k.0 ∙ same ∙ ap (λ (x : List ℕ). begins_with_key x us) (sym k.0) in
+    λ i. cond (so i) (next_alone d f w ws us k.1 same i) (next_alone d g w ws us k.2 same i)
+
+-- so where a word leads does, too
+form_alone : (d : Draft) (f : Form) (text : List ℕ) (w : Word) (ws us : List Word) (u : State) → LooksForWeights f → begins_with_key (codes "weight") ws ≡ begins_with_key (codes "weight") us → SpellsForm d f text (w ∷ ws) u → SpellsForm d f text (w ∷ us) u
+form_alone d (word r more) text w ws us u k same h = (h.0, h.1 ∙ next_alone d (more (value d r text)) w ws us (k (value d r text)) same)
+form_alone d (done p) text w ws us u k same h = absurd h
+form_alone d (optional c f g) text w ws us u k same h = absurd h
+form_alone d (ahead c f g) text w ws us u k same h = absurd h
+
+step_alone : (s : State) (text : List ℕ) (w : Word) (ws us : List Word) (u : State) → Looks s → begins_with_key (codes "weight") ws ≡ begins_with_key (codes "weight") us → SpellsNext s text (w ∷ ws) u → SpellsNext s text (w ∷ us) u
+step_alone (between p) text w ws us u k same h = form_alone p.draft (next_line p) text w ws us u (lines_look p.draft p.mode) same h
+step_alone (amid d f) text w ws us u k same h = form_alone d f text w ws us u k same h
+
+-- the same word comes first where the same words follow
+same_first : (ws : List Word) (w : Word) (next more : List Word) → begins_with_key (codes "weight") (ws ++ w ∷ next) ≡ begins_with_key (codes "weight") (ws ++ w ∷ more)
+same_first [] w next more = refl
+same_first (v ∷ ws) w next more = refl
+
+-- words spell the same way where the same word follows them, and `weight` behind it or not
+spelled_so : (s : State) (ws : List Word) (w : Word) (next more : List Word) (u : State) → Looks s → begins_with_key (codes "weight") next ≡ begins_with_key (codes "weight") more → Spell s ws (w ∷ next) u → Spell s ws (w ∷ more) u
+spelled_so s [] w next more u k same h = h
+spelled_so s (v ∷ []) w next more u k same h = (h.0, step_alone s v.text w next more h.0 k same h.1, h.2)
+spelled_so s (v ∷ x ∷ ws) w next more u k same h =
+    (h.0, step_alone s v.text x (ws ++ w ∷ next) (ws ++ w ∷ more) h.0 k (same_first ws w next more) h.1, spelled_so h.0 (x ∷ ws) w next more u (step_leads s v.text (x ∷ ws ++ w ∷ next) h.0 k h.1) same h.2)
+
+-- a fault at a word is one whatever follows
+fault_alone : (s : State) (w : Word) (next more : List Word) (stop end : Stop) (f : TextFault) → IsFaulty s (w ∷ next) stop f → IsFaulty s (w ∷ more) end f
+fault_alone s w next more stop end f h = h
+
+-- so the words up to a fault's word have the flaw, whatever follows them
+pub same_words_same_flaw : SameWordsSameFlaw
+same_words_same_flaw bytes others f x w next more is begins weighed =
+    let fault : IsFaulty x.so_far (w ∷ next) (words 0 bytes).stop f = subst (λ (ws : List Word). IsFaulty x.so_far ws (words 0 bytes).stop f) is x.fault in
+    record {
+      before = x.before;
+      next = w ∷ more;
+      all = begins;
+      so_far = x.so_far;
+      spelled = spelled_so start x.before w next more x.so_far tt weighed (subst (λ (ws : List Word). Spell start x.before ws x.so_far) is x.spelled);
+      fault = fault_alone x.so_far w next more (words 0 bytes).stop (words 0 others).stop f fault;
+    }
+
+-- what is spelled is the one map that is read
+pub at_most_one_map : AtMostOneMap
+at_most_one_map bytes s r t u n m x y =
+    let k : x.draft ≡ y.draft = one_draft x.draft y.draft (words 0 bytes) (outcome_of (words 0 bytes) x.draft x.document) (outcome_of (words 0 bytes) y.draft y.document) in
+    (sym x.setting ∙ ap (λ (d : Draft). d.setting) k ∙ y.setting, sym x.table ∙ ap (λ (d : Draft). d.table) k ∙ y.table, sym x.count ∙ ap (λ (d : Draft). d.adjusted) k ∙ y.count)
+
+-- what comes of the text is a draft or a fault
+pub a_map_or_a_flaw : AMapOrAFlaw
+a_map_or_a_flaw bytes = by_outcome (outcome start (words 0 bytes)) refl
+  where
+    by_outcome : (r : Result Draft TextFault) → outcome start (words 0 bytes) ≡ r → HasMap bytes ⊎ HasFlaw bytes
+    by_outcome (Ok d) e = inl (record { setting = d.setting; table = d.table; adjusted = d.adjusted; text = record { draft = d; document = document_of (words 0 bytes) d e; setting = refl; table = refl; count = refl } })
+    by_outcome (Err f) e = inr (record { fault = f; flaw = flaw_of (words 0 bytes) f e })

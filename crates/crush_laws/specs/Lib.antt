@@ -1,0 +1,4 @@
+pub mod Admitted
+pub mod MapOrFlaw
+pub mod ReadingBack
+pub mod Written

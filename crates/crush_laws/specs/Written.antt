@@ -1,0 +1,65 @@
+-- What is written of a run, and that it is read back.
+use Rattle.std.specs.Prelude.{ℕ, ◌++◌, List, All}
+use Rattle.crush_units.specs.Name.{IsName}
+use Rattle.crush_table.specs.Table.{Row}
+use Rattle.crush_table.specs.Lawful.{Lawful}
+use Rattle.crush_edits.specs.Setting.{SettingData}
+use Rattle.crush_edits.specs.Fits.{Fits}
+use Rattle.crush_edits.specs.LawEdit.{Keeps}
+use Rattle.crush_edits.specs.Pushed.{IsLocation}
+use Rattle.crush_edits.specs.declared.edit.Edit.{Edit}
+use Rattle.crush_edits.specs.declared.edit.Edit.TheVariants.{Insert, CreateOrMove, Update, Move, Swap, Reweight, ReweightSubtree, Remove, AddBucket, Rename}
+use Rattle.crush_print.specs.MapText.{map_text}
+use Rattle.crush_laws.specs.ReadingBack.{in_order, IsReadAs, AreCommentLines}
+use Rattle.crush_calls.specs.declared.call.Call.{Call}
+use Rattle.crush_calls.specs.declared.call.Call.TheVariants.{One, Batch}
+use Rattle.crush_calls.specs.History.{EntryData, table_after, turns}
+use Rattle.crush_calls.specs.HistoryText.{entries_text, names_of}
+use Rattle.crush_script.specs.Job.{JobData, IsJob}
+use Rattle.crush_script.specs.JobText.{job_text}
+
+-- the names of an edit are names and its location is one, as their types keep
+abbrev pub IsNamed : Edit → Type 0
+IsNamed (Insert d n w l) = IsName n × IsLocation l
+IsNamed (CreateOrMove d n w l) = IsName n × IsLocation l
+IsNamed (Update d n w l) = IsName n × IsLocation l
+IsNamed (Move n l) = IsName n × IsLocation l
+IsNamed (Swap a b) = IsName a × IsName b
+IsNamed (Reweight n w) = IsName n
+IsNamed (ReweightSubtree n w) = IsName n
+IsNamed (Remove n) = IsName n
+IsNamed (AddBucket n kind) = IsName n × IsName kind
+IsNamed (Rename from to) = IsName from × IsName to
+
+-- so are those of a call
+abbrev pub IsNamedCall : Call → Type 0
+IsNamedCall (One e) = IsNamed e
+IsNamedCall (Batch es) = All IsNamed es
+
+-- and those of a history
+abbrev pub IsNamedHistory : List EntryData → Type 0
+IsNamedHistory h = All (λ (e : EntryData). IsNamedCall e.call) h
+
+-- HISTORY LINES ARE COMMENTS: whole lines, each of which begins with `#`
+abbrev pub HistoryLinesAreComments : Type 0
+HistoryLinesAreComments = (names : List (List ℕ)) (number : ℕ) (h : List EntryData) → All IsName names → IsNamedHistory h → AreCommentLines (entries_text names number h)
+
+-- WHAT IS WRITTEN IS READ BACK: the printed map and the lines of any history behind it are the text of that map, but for the order
+-- of types
+abbrev pub WhatIsWrittenIsReadBack : Type 0
+WhatIsWrittenIsReadBack = (s : SettingData) (t : List Row) (names : List (List ℕ)) (number : ℕ) (h : List EntryData) → Lawful t → Fits s t
+    → All IsName names → IsNamedHistory h → IsReadAs (map_text s t ++ entries_text names number h) (in_order s) t
+
+-- THE MAP AFTER A JOB: whatever job bytes are, the table after its run is lawful, and the setting fits it
+abbrev pub JobsStayLawful : Type 0
+JobsStayLawful = (bytes : List ℕ) (job : JobData) → IsJob bytes job → Keeps job.setting (table_after job.setting job.table (turns job.setting job.table job.scripts))
+
+-- THE TEXT OF A JOB that has run is read back as that map, with its history
+abbrev pub JobTextsAreReadBack : Type 0
+JobTextsAreReadBack = (bytes : List ℕ) (job : JobData) → IsJob bytes job
+    → let h = turns job.setting job.table job.scripts in IsReadAs (job_text job.setting job.table (names_of job.scripts) h) (in_order job.setting) (table_after job.setting job.table h)
+
+-- and without
+abbrev pub JobMapsAreReadBack : Type 0
+JobMapsAreReadBack = (bytes : List ℕ) (job : JobData) → IsJob bytes job
+    → let u = table_after job.setting job.table (turns job.setting job.table job.scripts) in IsReadAs (map_text job.setting u) (in_order job.setting) u

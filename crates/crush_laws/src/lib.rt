@@ -1,0 +1,9 @@
+//! Laws of texts: each is one map or has one flaw, and what is printed of a map, or written of a run,
+//! is read back. There is no code here but functions whose contract is a law.
+#![tactic(auto)]
+
+mod reading_back;
+mod texts;
+
+pub use reading_back::{what_is_printed_is_read_back, what_is_written_is_read_back};
+pub use texts::a_text_has_one_map_or_one_flaw;

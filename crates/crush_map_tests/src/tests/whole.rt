@@ -1,0 +1,180 @@
+//! The example map: the plain one with a tunable and a rule, in the machine's memory and in heaps.
+
+ghost use Rattle.std.specs.Prelude.{All};
+ghost use Rattle.crush_map.specs.Rules.{IsStepForm};
+
+use crate::tests::asking::name;
+use crate::tests::building::{FIRST_HOST, OTHER_BUCKETS, TYPES_AND_DEVICES, bucket, has_the_types};
+use crate::tests::statements::{Statement, empty, finish, make_all};
+use crush_map::{BuildFault, CrushMap, KeptStep, MapBuilder, Rule, RuleFault, Setting, Step};
+use linked_list_allocator::LocalHeap;
+use std::alloc::{Allocator, Global};
+use std::process::Abort;
+
+/// A step as a rule's text has it.
+#[derive(Clone, Copy)]
+pub enum Said {
+    Take(&'static str),
+    ChooseLeaf(i32, &'static str),
+    Emit,
+}
+
+/// The steps of the example map's rule.
+const REPLICATED: &[Said] = &[
+    Said::Take("default"),
+    Said::ChooseLeaf(0, "host"),
+    Said::Emit,
+];
+
+/// The step in the machine's memory.
+fn step(rt: &impl Abort, alloc: Global, said: Said) -> Step
+    ensures { IsStepForm result }
+{
+    match said {
+        Said::Take(bucket) => Step::Take(name(rt, alloc, bucket), None),
+        Said::ChooseLeaf(count, kind) => Step::Choose {
+            leaf: true,
+            firstn: true,
+            count,
+            kind: name(rt, alloc, kind),
+        },
+        Said::Emit => Step::Emit,
+    }
+}
+
+/// The steps in the machine's memory.
+fn steps(rt: &impl Abort, alloc: Global, all: &[Said]) -> Vec<Step>
+    ensures { All IsStepForm result.items }
+{
+    let mut made = Vec::new(alloc);
+    for said in all {
+        let step = step(rt, alloc, *said);
+        made.push(step).expect(rt, "memory");
+    }
+    made
+}
+
+/// `rule NAME { id ID type replicated min_size 1 max_size 10 STEPS }`
+pub fn add_rule<A: Allocator>(
+    rt: &impl Abort,
+    alloc: Global,
+    builder: &mut MapBuilder<A>,
+    text: &str,
+    id: u32,
+    all: &[Said],
+) -> Result<(), RuleFault> {
+    let rule = Rule {
+        name: name(rt, alloc, text),
+        id,
+        kind: name(rt, alloc, "replicated"),
+        min_size: Some(1),
+        max_size: Some(10),
+        steps: steps(rt, alloc, all),
+    };
+    assert!(rt; id <= 2147483647);
+    assert!(rt; builder.is_idle());
+    builder.rule(&rule)
+}
+
+/// The tunable of the example map.
+const TUNABLE: &[Statement] = &[Statement::Tunable("choose_total_tries", 50)];
+
+/// The statements of the example map before its rule.
+const BEFORE_RULE: &[&[Statement]] = &[TYPES_AND_DEVICES, TUNABLE, FIRST_HOST, OTHER_BUCKETS];
+
+/// Makes the example map's statements up to the first that isn't taken. A rule is in the machine's
+/// memory, which doesn't lack.
+fn make_whole<A: Allocator + Clone>(
+    rt: &impl Abort,
+    alloc: Global,
+    builder: &mut MapBuilder<A>,
+) -> Result<(), BuildFault> {
+    for statements in BEFORE_RULE {
+        make_all(rt, builder, statements)?;
+    }
+    let told = add_rule(rt, alloc, builder, "replicated_rule", 0, REPLICATED);
+    assert!(rt; told.is_ok(), "{told:?}");
+    Ok(())
+}
+
+/// The example map in the making, after its rule.
+pub fn map_in_the_making(rt: &impl Abort, alloc: Global) -> MapBuilder<Global> {
+    let mut builder = empty(rt, alloc);
+    let told = make_whole(rt, alloc, &mut builder);
+    assert!(rt; told.is_ok(), "{told:?}");
+    builder
+}
+
+/// The example map.
+pub fn whole_example_map(rt: &impl Abort, alloc: Global) -> CrushMap<Global> {
+    let builder = map_in_the_making(rt, alloc);
+    finish(rt, builder)
+}
+
+/// The example map with its hierarchy in a heap.
+pub fn whole_example_map_in<'h>(
+    rt: &impl Abort,
+    alloc: Global,
+    heap: &'h LocalHeap,
+) -> Result<CrushMap<&'h LocalHeap>, BuildFault> {
+    let mut builder = MapBuilder::new(alloc, heap)?;
+    make_whole(rt, alloc, &mut builder)?;
+    Ok(finish(rt, builder))
+}
+
+/// Asserts that the tunable is that of the example map.
+fn has_the_tunable(rt: &impl Abort, setting: &Setting) {
+    assert_eq!(rt; setting.tunables().len(), 1);
+    for (name, value) in setting.tunables() {
+        assert!(rt; name.is(b"choose_total_tries"));
+        assert_eq!(rt; *value, 50);
+    }
+}
+
+/// Whether the step is this one, kept with the id -1 where it takes a bucket.
+fn is_kept(step: &KeptStep, said: Said) -> bool {
+    match (step, said) {
+        (KeptStep::Take(bucket, class), Said::Take(_)) => bucket.number() == -1 && class.is_none(),
+        (
+            KeptStep::Choose {
+                leaf,
+                firstn,
+                count,
+                kind,
+            },
+            Said::ChooseLeaf(number, text),
+        ) => *leaf && *firstn && *count == number && kind.is(text.as_bytes()),
+        (KeptStep::Emit, Said::Emit) => true,
+        _ => false,
+    }
+}
+
+/// Asserts that the steps are those of the example map's rule.
+fn has_the_steps(rt: &impl Abort, steps: &[KeptStep]) {
+    assert_eq!(rt; steps.len(), REPLICATED.len());
+    for (place, (step, said)) in steps.iter().zip(REPLICATED).enumerate() {
+        assert!(rt; is_kept(step, *said), "step {place}");
+    }
+}
+
+/// Asserts that the rule is that of the example map.
+fn has_the_rule(rt: &impl Abort, setting: &Setting) {
+    assert_eq!(rt; setting.rules().len(), 1);
+    for rule in setting.rules() {
+        assert!(rt; rule.name.is(b"replicated_rule"));
+        assert!(rt; rule.kind.is(b"replicated"));
+        assert_eq!(rt; rule.id, 0);
+        assert_eq!(rt; rule.min_size, Some(1));
+        assert_eq!(rt; rule.max_size, Some(10));
+        has_the_steps(rt, rule.steps.as_slice());
+    }
+    assert!(rt; setting.takes(bucket(rt, -1)));
+    assert!(rt; !setting.takes(bucket(rt, -2)));
+}
+
+/// Asserts that types, tunables and rules are those of the example map.
+pub fn has_the_setting(rt: &impl Abort, setting: &Setting) {
+    has_the_types(rt, setting);
+    has_the_tunable(rt, setting);
+    has_the_rule(rt, setting);
+}

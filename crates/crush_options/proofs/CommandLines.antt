@@ -1,0 +1,42 @@
+-- Command lines, and what their words ask for.
+use Rattle.std.proofs.Common.{◌≡◌, [], ◌∷◌, Some, None, codes, refl}
+use Rattle.clap.specs.declared.error.kind.ErrorKind.TheVariants.{DisplayHelp, DisplayVersion, ArgumentConflict, UnknownArgument, TooManyValues}
+use Rattle.clap.specs.Words.{fault_of, first_of, matches_of, one_of}
+use Rattle.clap.proofs.OnLiterals.{clap_on_literals}
+use Rattle.crush_options.specs.Options.{program}
+
+no_words : (fault_of program [] ≡ []) × (one_of (codes "in-turn") (matches_of program []) ≡ Some (codes "false")) × (one_of (codes "no-history") (matches_of program []) ≡ Some (codes "false")) × (first_of (codes "FILE") (matches_of program []) ≡ None)
+unfolding clap_on_literals
+no_words = (refl, refl, refl, refl)
+
+all_words : (fault_of program (codes "j.txt" ∷ codes "--no-history" ∷ codes "--in-turn" ∷ []) ≡ []) × (one_of (codes "in-turn") (matches_of program (codes "j.txt" ∷ codes "--no-history" ∷ codes "--in-turn" ∷ [])) ≡ Some (codes "true")) × (one_of (codes "no-history") (matches_of program (codes "j.txt" ∷ codes "--no-history" ∷ codes "--in-turn" ∷ [])) ≡ Some (codes "true")) × (first_of (codes "FILE") (matches_of program (codes "j.txt" ∷ codes "--no-history" ∷ codes "--in-turn" ∷ [])) ≡ Some (codes "j.txt"))
+unfolding clap_on_literals
+all_words = (refl, refl, refl, refl)
+
+a_file_behind_dashes : first_of (codes "FILE") (matches_of program (codes "--" ∷ codes "--in-turn" ∷ [])) ≡ Some (codes "--in-turn")
+unfolding clap_on_literals
+a_file_behind_dashes = refl
+
+two_files : fault_of program (codes "a" ∷ codes "b" ∷ []) ≡ UnknownArgument ∷ []
+unfolding clap_on_literals
+two_files = refl
+
+another_flag : fault_of program (codes "--fly" ∷ []) ≡ UnknownArgument ∷ []
+unfolding clap_on_literals
+another_flag = refl
+
+a_flag_twice : fault_of program (codes "--in-turn" ∷ codes "--in-turn" ∷ []) ≡ ArgumentConflict ∷ []
+unfolding clap_on_literals
+a_flag_twice = refl
+
+a_flag_with_a_value : fault_of program (codes "--in-turn=yes" ∷ []) ≡ TooManyValues ∷ []
+unfolding clap_on_literals
+a_flag_with_a_value = refl
+
+help : fault_of program (codes "a" ∷ codes "--help" ∷ []) ≡ DisplayHelp ∷ []
+unfolding clap_on_literals
+help = refl
+
+version : fault_of program (codes "-V" ∷ []) ≡ DisplayVersion ∷ []
+unfolding clap_on_literals
+version = refl

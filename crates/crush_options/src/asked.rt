@@ -1,0 +1,47 @@
+//! What a command line asks for.
+
+use std::alloc::AllocError;
+use thiserror::Error;
+
+/// How a job is to be run.
+#[derive(Clone, Copy, Debug, PartialEq, Eq)]
+pub struct Mode {
+    /// Whether the scripts run one after the other, in the order of their sections.
+    pub in_turn: bool,
+    /// Whether the history is written behind the map.
+    pub history: bool,
+}
+
+/// What the program is asked to do.
+#[derive(Debug, Drop)]
+pub struct Options {
+    /// How the job is to be run.
+    pub mode: Mode,
+    /// The file that the job is read from; without one it is read from standard input.
+    pub file: Option<String>,
+}
+
+/// Why the words of a command line give no options.
+#[derive(Debug, Drop, Error)]
+pub enum OptionsFault {
+    /// The help or the version was asked for: this is its text.
+    #[error("{0}")]
+    Help(String),
+    /// The words are no command line of the program: the text says why.
+    #[error("{0}")]
+    Refused(String),
+    /// There was no memory.
+    #[error("out of memory")]
+    Memory,
+}
+
+impl From<AllocError> for OptionsFault {
+    ghost use Rattle.crush_options.specs.declared.asked.OptionsFault.TheVariants.{Memory};
+    ghost use Rattle.std.specs.Prelude.{◌≡◌};
+
+    ghost from_gives = { λ _ fault. fault ≡ Memory };
+
+    fn from(_error: AllocError) -> OptionsFault {
+        OptionsFault::Memory
+    }
+}

@@ -1,0 +1,8 @@
+//! The command line of `crushedit`: what its words ask for, and what its help says.
+#![tactic(auto)]
+
+mod asked;
+mod command_line;
+
+pub use asked::{Mode, Options, OptionsFault};
+pub use command_line::options;

@@ -1,0 +1,24 @@
+-- What is told of a command line that asks for no run, and the status.
+use Rattle.std.specs.Prelude.{◌≡◌, ◌⊎◌, ℕ, List, []}
+use Rattle.crush_options.specs.declared.asked.OptionsFault.{OptionsFault}
+use Rattle.crush_options.specs.declared.asked.OptionsFault.TheVariants.{Help, Refused, Memory}
+use Rattle.crush_report.specs.Report.{run_fault}
+use Rattle.crush_report.specs.declared.fault.RunFault.TheVariants as run
+
+-- the status: help may not be written
+abbrev pub IsOptionsStatus : OptionsFault → ℕ → Type 0
+IsOptionsStatus (Help text) status = (status ≡ 0) ⊎ (status ≡ 3)
+IsOptionsStatus (Refused text) status = status ≡ 2
+IsOptionsStatus Memory status = status ≡ 4
+
+-- what standard output gets
+abbrev pub options_output : OptionsFault → List ℕ
+options_output (Help text) = text.bytes.items
+options_output (Refused text) = []
+options_output Memory = []
+
+-- what standard error gets
+abbrev pub options_error : OptionsFault → List ℕ
+options_error (Help text) = run_fault run.Write
+options_error (Refused text) = text.bytes.items
+options_error Memory = run_fault run.Memory

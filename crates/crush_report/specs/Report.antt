@@ -1,0 +1,71 @@
+-- What a run tells on standard error, and its status.
+use Rattle.std.specs.Prelude.{ℕ, ◌==◌, List, [], ◌++◌, Result, Ok, Err, codes, decimal, if◌then◌else◌}
+use Rattle.crush_text.specs.declared.fault.TextFault.{TextFault}
+use Rattle.crush_text.specs.Fault.{fault_name}
+use Rattle.crush_script.specs.declared.fault.JobFault.{JobFault}
+use Rattle.crush_script.specs.declared.fault.JobFault.TheVariants.{BadLine, NoSuchCommand, OpenBatch, TooManyOperators, DuplicateOperator, Text, OutOfMemory, TooLong, TooManyCalls}
+use Rattle.crush_report.specs.declared.fault.RunFault.{RunFault}
+use Rattle.crush_report.specs.declared.fault.RunFault.TheVariants as run
+use Rattle.crush_report.specs.declared.summary.Summary.{Summary}
+
+-- want of memory, wherever it comes
+abbrev pub out_of_memory : List ℕ
+out_of_memory = codes "crushedit: out of memory\n"
+
+-- how many written weights were replaced
+abbrev pub adjusted_line : ℕ → List ℕ
+adjusted_line adjusted = codes "crushedit: adjusted " ++ decimal adjusted ++ codes "\n"
+
+-- a fault of a line: its number and the fault's name
+abbrev pub line_fault : ℕ → List ℕ → List ℕ
+line_fault number name = codes "crushedit: line " ++ decimal number ++ codes ": " ++ name ++ codes "\n"
+
+-- a fault of the map's text: its place and its name
+abbrev pub text_fault : TextFault → List ℕ
+text_fault f = codes "crushedit: byte " ++ decimal f.place ++ codes ": " ++ fault_name f.kind ++ codes "\n"
+
+-- a fault of the job
+abbrev pub job_fault : JobFault → List ℕ
+job_fault (BadLine number) = line_fault number (codes "BadLine")
+job_fault (NoSuchCommand number) = line_fault number (codes "NoSuchCommand")
+job_fault (OpenBatch number) = line_fault number (codes "OpenBatch")
+job_fault (TooManyOperators number) = line_fault number (codes "TooManyOperators")
+job_fault (DuplicateOperator number) = line_fault number (codes "DuplicateOperator")
+job_fault (TooManyCalls number) = line_fault number (codes "TooManyCalls")
+job_fault (Text f) = text_fault f
+job_fault TooLong = codes "crushedit: TooLong\n"
+job_fault OutOfMemory = out_of_memory
+
+-- a run that was not done
+abbrev pub run_fault : RunFault → List ℕ
+run_fault (run.Job f) = job_fault f
+run_fault run.Read = codes "crushedit: read fault\n"
+run_fault run.Write = codes "crushedit: write fault\n"
+run_fault run.Memory = out_of_memory
+
+-- one line, or nothing where all is well and no weight was replaced
+abbrev pub report_line : Result Summary RunFault → List ℕ
+report_line (Ok s) = if s.adjusted == 0 then [] else adjusted_line s.adjusted
+report_line (Err f) = run_fault f
+
+abbrev pub job_status : JobFault → ℕ
+job_status (BadLine number) = 1
+job_status (NoSuchCommand number) = 1
+job_status (OpenBatch number) = 1
+job_status (TooManyOperators number) = 1
+job_status (DuplicateOperator number) = 1
+job_status (TooManyCalls number) = 1
+job_status (Text f) = 1
+job_status TooLong = 1
+job_status OutOfMemory = 4
+
+abbrev pub fault_status : RunFault → ℕ
+fault_status (run.Job f) = job_status f
+fault_status run.Read = 3
+fault_status run.Write = 3
+fault_status run.Memory = 4
+
+-- 0 where the run was done, 1 for what is no job, 3 where reading or writing failed, 4 for want of memory
+abbrev pub status : Result Summary RunFault → ℕ
+status (Ok s) = 0
+status (Err f) = fault_status f

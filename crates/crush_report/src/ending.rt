@@ -1,0 +1,164 @@
+//! What a run tells on standard error, and the status with which the program ends.
+
+ghost use Rattle.std.specs.Prelude.{◌≡◌};
+ghost use Rattle.crush_bytes.specs.Writes.{Writes, AppendsFront};
+ghost use Rattle.crush_report.specs.OptionsReport.{IsOptionsStatus, options_error, options_output};
+ghost use Rattle.crush_report.specs.Report.{adjusted_line, line_fault, text_fault, job_fault, run_fault, report_line, status};
+
+use crate::fault::RunFault;
+use crate::summary::Summary;
+use crush_bytes::{WriteFault, put, put_all};
+use crush_options::OptionsFault;
+use crush_script::JobFault;
+use crush_text::TextFault;
+use itoa::Buffer;
+use std::io::Write;
+
+/// The line of want of memory, wherever it comes.
+const OUT_OF_MEMORY: &[u8] = b"crushedit: out of memory\n";
+
+/// Writes the line of a fault in a line of the job.
+fn write_line_fault<E: Write>(number: usize, name: &str, err: &mut E) -> Result<(), WriteFault>
+    ensures { Writes result (E.contents err.old) (E.contents err.new)
+        (line_fault number name.now) }
+{
+    let mut buffer = Buffer::new();
+    let number = buffer.format(number).as_bytes();
+    put_all(
+        err,
+        &[
+            b"crushedit: line ".as_slice(),
+            number,
+            b": ".as_slice(),
+            name.as_bytes(),
+            b"\n".as_slice(),
+        ],
+    )
+}
+
+/// Writes the line of a flaw of the map's text.
+fn write_text_fault<E: Write>(fault: TextFault, err: &mut E) -> Result<(), WriteFault>
+    ensures { Writes result (E.contents err.old) (E.contents err.new) (text_fault fault) }
+{
+    let mut buffer = Buffer::new();
+    let place = buffer.format(fault.place).as_bytes();
+    let name = fault.kind.name().as_bytes();
+    put_all(
+        err,
+        &[
+            b"crushedit: byte ".as_slice(),
+            place,
+            b": ".as_slice(),
+            name,
+            b"\n".as_slice(),
+        ],
+    )
+}
+
+/// Writes the line of a fault of the job.
+fn write_job_fault<E: Write>(fault: JobFault, err: &mut E) -> Result<(), WriteFault>
+    ensures { Writes result (E.contents err.old) (E.contents err.new) (job_fault fault) }
+{
+    match fault {
+        JobFault::BadLine(number) => write_line_fault(number, "BadLine", err),
+        JobFault::NoSuchCommand(number) => write_line_fault(number, "NoSuchCommand", err),
+        JobFault::OpenBatch(number) => write_line_fault(number, "OpenBatch", err),
+        JobFault::TooManyOperators(number) => write_line_fault(number, "TooManyOperators", err),
+        JobFault::DuplicateOperator(number) => write_line_fault(number, "DuplicateOperator", err),
+        JobFault::TooManyCalls(number) => write_line_fault(number, "TooManyCalls", err),
+        JobFault::Text(fault) => write_text_fault(fault, err),
+        JobFault::TooLong => put(err, b"crushedit: TooLong\n"),
+        JobFault::OutOfMemory => put(err, OUT_OF_MEMORY),
+    }
+}
+
+/// Writes the line of a run that was not done.
+fn write_run_fault<E: Write>(fault: RunFault, err: &mut E) -> Result<(), WriteFault>
+    ensures { Writes result (E.contents err.old) (E.contents err.new) (run_fault fault) }
+{
+    match fault {
+        RunFault::Job(fault) => write_job_fault(fault, err),
+        RunFault::Read => put(err, b"crushedit: read fault\n"),
+        RunFault::Write => put(err, b"crushedit: write fault\n"),
+        RunFault::Memory => put(err, OUT_OF_MEMORY),
+    }
+}
+
+/// Writes how many written weights were replaced.
+fn write_adjusted<E: Write>(adjusted: u32, err: &mut E) -> Result<(), WriteFault>
+    ensures { Writes result (E.contents err.old) (E.contents err.new)
+        (adjusted_line adjusted) }
+{
+    let mut buffer = Buffer::new();
+    let adjusted = buffer.format(adjusted).as_bytes();
+    put_all(
+        err,
+        &[
+            b"crushedit: adjusted ".as_slice(),
+            adjusted,
+            b"\n".as_slice(),
+        ],
+    )
+}
+
+/// Writes the one line, or nothing.
+fn write_report<E: Write>(
+    outcome: &Result<Summary, RunFault>,
+    err: &mut E,
+) -> Result<(), WriteFault>
+    ensures { Writes result (E.contents err.old) (E.contents err.new)
+        (report_line outcome.now) }
+{
+    match outcome {
+        Ok(summary) if summary.adjusted == 0 => put(err, b""),
+        Ok(summary) => write_adjusted(summary.adjusted, err),
+        Err(fault) => write_run_fault(*fault, err),
+    }
+}
+
+/// Writes the one line of standard error and answers the status.
+///
+/// | Status | When | Line |
+/// |---|---|---|
+/// | 0 | the run was done | `crushedit: adjusted N` where N written weights of bucket items were replaced, else none |
+/// | 1 | the input is no job | `crushedit: line L: NAME`, `crushedit: byte P: NAME` or `crushedit: TooLong` |
+/// | 3 | reading or writing failed | `crushedit: read fault`, `crushedit: write fault` |
+/// | 4 | a growth was refused, whatever the fault that says so | `crushedit: out of memory` |
+///
+/// Where writing the line fails, a front of it stands there, and the status is the same.
+pub fn report<E: Write>(outcome: &Result<Summary, RunFault>, err: &mut E) -> u8
+    ensures status { result ≡ status outcome.now }
+    ensures line { AppendsFront (E.contents err.old) (E.contents err.new)
+        (report_line outcome.now) }
+{
+    let _ = write_report(outcome, err);
+    match outcome {
+        Ok(_) => 0,
+        Err(RunFault::Memory | RunFault::Job(JobFault::OutOfMemory)) => 4,
+        Err(RunFault::Job(_)) => 1,
+        Err(RunFault::Read | RunFault::Write) => 3,
+    }
+}
+
+/// Writes the text of a command line that asks for no run, and answers the status: of help, on
+/// standard output, 0 (or 3 where it can't be written), of a refusal, on standard error, 2, and
+/// 4 where there was no memory.
+pub fn tell<W: Write, E: Write>(fault: &OptionsFault, out: &mut W, err: &mut E) -> u8
+    ensures status { IsOptionsStatus fault.now result }
+    ensures out { AppendsFront (W.contents out.old) (W.contents out.new)
+        (options_output fault.now) }
+    ensures line { AppendsFront (E.contents err.old) (E.contents err.new)
+        (options_error fault.now) }
+{
+    match fault {
+        OptionsFault::Help(text) => match put(out, text.as_bytes()) {
+            Ok(()) => 0,
+            Err(_) => report(&Err(RunFault::Write), err),
+        },
+        OptionsFault::Refused(text) => {
+            let _ = put(err, text.as_bytes());
+            2
+        }
+        OptionsFault::Memory => report(&Err(RunFault::Memory), err),
+    }
+}

@@ -1,0 +1,76 @@
+//! Why a run was not done.
+
+ghost use Rattle.std.specs.Prelude.{◌≡◌};
+
+use crush_bytes::WriteFault;
+use crush_script::JobFault;
+use std::alloc::{AllocError, AllocFailed};
+use thiserror::Error;
+
+/// Why a run was not done.
+#[derive(Clone, Copy, Debug, PartialEq, Eq, Error)]
+pub enum RunFault {
+    /// What was read is no job. Nothing was written. Want of memory is never told here, but as
+    /// [`RunFault::Memory`].
+    #[error("{0}")]
+    Job(JobFault),
+    /// A read answered an error. Nothing was written.
+    #[error("read fault")]
+    Read,
+    /// A write answered an error or took no byte. What was written is a front of the output.
+    #[error("write fault")]
+    Write,
+    /// A growth was refused. Nothing was written.
+    #[error("out of memory")]
+    Memory,
+}
+
+impl<T: Drop> From<AllocFailed<T>> for RunFault {
+    ghost use Rattle.crush_report.specs.declared.fault.RunFault.TheVariants.{Memory};
+    ghost use Rattle.std.specs.Prelude.{◌≡◌};
+
+    ghost from_gives = { λ _ fault. fault ≡ Memory };
+
+    fn from(_failed: AllocFailed<T>) -> RunFault {
+        RunFault::Memory
+    }
+}
+
+impl From<AllocError> for RunFault {
+    ghost use Rattle.crush_report.specs.declared.fault.RunFault.TheVariants.{Memory};
+    ghost use Rattle.std.specs.Prelude.{◌≡◌};
+
+    ghost from_gives = { λ _ fault. fault ≡ Memory };
+
+    fn from(_error: AllocError) -> RunFault {
+        RunFault::Memory
+    }
+}
+
+impl From<JobFault> for RunFault {
+    ghost use Rattle.crush_report.specs.Faults.{of_job};
+    ghost use Rattle.std.specs.Prelude.{◌≡◌};
+
+    ghost from_gives = { λ fault made. made ≡ of_job fault };
+
+    fn from(fault: JobFault) -> RunFault {
+        match fault {
+            JobFault::OutOfMemory => RunFault::Memory,
+            other => RunFault::Job(other),
+        }
+    }
+}
+
+impl From<WriteFault> for RunFault {
+    ghost use Rattle.crush_report.specs.Faults.{of_write};
+    ghost use Rattle.std.specs.Prelude.{◌≡◌};
+
+    ghost from_gives = { λ fault made. made ≡ of_write fault };
+
+    fn from(fault: WriteFault) -> RunFault {
+        match fault {
+            WriteFault::Write => RunFault::Write,
+            WriteFault::OutOfMemory => RunFault::Memory,
+        }
+    }
+}

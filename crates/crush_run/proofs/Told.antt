@@ -1,0 +1,82 @@
+-- What is known of the bytes of a job is known of all that the reader gave.
+use Rattle.std.proofs.Common.{◌≡◌, ℕ, ◌≤◌, List, [], Option, Some, None, Result, Ok, Err, length, take, refl, sym, ap, subst, ◌∙◌, arith}
+use Rattle.std.specs.Prelude.{IfOk, IfErr, IfSome}
+use Rattle.crush_bytes.specs.Writes.{Writes}
+use Rattle.crush_bytes.proofs.Appending.{appends_nothing}
+use Rattle.std.proofs.lemmas.List.{take_all, length-take}
+use Rattle.crush_script.specs.Job.{HasJob, IsJob, IsJobFault, JobData}
+use Rattle.crush_script.specs.declared.fault.JobFault.{JobFault}
+use Rattle.crush_script.specs.declared.fault.JobFault.TheVariants.{BadLine, NoSuchCommand, OpenBatch, TooManyOperators, DuplicateOperator, Text, OutOfMemory, TooLong, TooManyCalls}
+use Rattle.crush_report.specs.Faults.{of_job}
+use Rattle.crush_report.specs.declared.fault.RunFault.TheVariants as run
+use Rattle.crush_report.specs.declared.fault.RunFault.{RunFault}
+use Rattle.crush_report.specs.declared.summary.Summary.{Summary}
+use Rattle.crush_run.specs.Run.{IsRunFault}
+use Rattle.crush_run.specs.Stages.{IsInputFault, IsOutcomeFault}
+
+-- what is read of a short input is all of it
+pub all_read : (bytes all : List ℕ) → bytes ≡ take 16777217 all → length bytes ≤ 16777216 → bytes ≡ all
+all_read bytes all e h =
+    let short : length all ≤ 16777217 = omega (arith, ap length e, length-take 16777217 all) in
+    e ∙ take_all 16777217 all short
+
+-- the bytes read are a job, and so are all
+pub has_job : (all : Option (List ℕ)) (bytes : List ℕ) (job : JobData) → IfSome all (λ xs. bytes ≡ take 16777217 xs) → IsJob bytes job → IfSome all HasJob
+has_job None bytes job e is = tt
+has_job (Some xs) bytes job e is = (job, subst (λ (z : List ℕ). IsJob z job) (all_read bytes xs e is.short) is)
+
+-- so where the run is done, or a write failed
+pub is_job : (r : Result Summary RunFault) (all : Option (List ℕ)) → IfSome all HasJob → IfOk r (λ _. IfSome all HasJob)
+is_job (Err f) all has = tt
+is_job (Ok x) all has = has
+
+pub run_fault_of_job : (r : Result Summary RunFault) (all : Option (List ℕ)) → IfSome all HasJob → IfErr r IsOutcomeFault → IfErr r (IsRunFault all)
+run_fault_of_job (Ok x) all has h = tt
+run_fault_of_job (Err (run.Job f)) all has h = absurd h
+run_fault_of_job (Err run.Read) all has h = absurd h
+run_fault_of_job (Err run.Write) all has h = has
+run_fault_of_job (Err run.Memory) all has h = tt
+
+-- whatever job all bytes are, the bytes read are that job
+pub job_of_all : (all : Option (List ℕ)) (bytes xs : List ℕ) (job : JobData) → IfSome all (λ ys. bytes ≡ take 16777217 ys) → length bytes ≤ 16777216 → all ≡ Some xs → IsJob xs job → IsJob bytes job
+job_of_all all bytes xs job e short is_xs is =
+    let front : bytes ≡ take 16777217 xs = subst (λ (o : Option (List ℕ)). IfSome o (λ ys. bytes ≡ take 16777217 ys)) is_xs e in
+    subst (λ (z : List ℕ). IsJob z job) (sym (all_read bytes xs front short)) is
+
+-- what holds of the summary for a job
+pub summary_for : (r : Result Summary RunFault) (P : JobData → Type 0) (job : JobData) (of : JobData → Summary) → IfOk r (λ summary. (read : JobData) → P read → summary ≡ of read) → P job → IfOk r (λ summary. summary ≡ of job)
+summary_for (Ok x) P job of told h = told job h
+summary_for (Err f) P job of told h = tt
+
+-- after a fault before anything was written, nothing is a front of the output
+pub nothing_written : (r : Result Summary RunFault) (f : RunFault) (old : Option (List ℕ)) (text : List ℕ) → r ≡ Err f → Writes r old old text
+nothing_written r f old text e = rw e ([], text, refl, appends_nothing old)
+
+-- a fault of the bytes read is one of all bytes
+fault_of_all : (all : Option (List ℕ)) (bytes : List ℕ) (f : JobFault) → IfSome all (λ xs. bytes ≡ take 16777217 xs) → length bytes ≤ 16777216 → IsJobFault bytes f → IfSome all (λ xs. IsJobFault xs f)
+fault_of_all None bytes f e short h = tt
+fault_of_all (Some xs) bytes f e short h = subst (λ (z : List ℕ). IsJobFault z f) (all_read bytes xs e short) h
+
+-- a reader that gave too many bytes has too many
+too_long : (all : Option (List ℕ)) (bytes : List ℕ) → IfSome all (λ xs. bytes ≡ take 16777217 xs) → IsJobFault bytes TooLong → IfSome all (λ xs. IsJobFault xs TooLong)
+too_long None bytes e h = tt
+too_long (Some xs) bytes e h = omega (arith, h, ap length e, length-take 16777217 xs)
+
+-- a fault of the bytes, as one of the run
+pub is_run_fault : (all : Option (List ℕ)) (bytes : List ℕ) (f : JobFault) → IfSome all (λ xs. bytes ≡ take 16777217 xs) → IsJobFault bytes f → IsRunFault all (of_job f)
+is_run_fault all bytes (BadLine n) e h = (λ x. absurd cc, fault_of_all all bytes (BadLine n) e h.short h)
+is_run_fault all bytes (NoSuchCommand n) e h = (λ x. absurd cc, fault_of_all all bytes (NoSuchCommand n) e h.short h)
+is_run_fault all bytes (OpenBatch n) e h = (λ x. absurd cc, fault_of_all all bytes (OpenBatch n) e h.short h)
+is_run_fault all bytes (TooManyOperators n) e h = (λ x. absurd cc, fault_of_all all bytes (TooManyOperators n) e h.short h)
+is_run_fault all bytes (DuplicateOperator n) e h = (λ x. absurd cc, fault_of_all all bytes (DuplicateOperator n) e h.short h)
+is_run_fault all bytes (TooManyCalls n) e h = (λ x. absurd cc, fault_of_all all bytes (TooManyCalls n) e h.short h)
+is_run_fault all bytes (Text f) e h = (λ x. absurd cc, fault_of_all all bytes (Text f) e h.short h)
+is_run_fault all bytes TooLong e h = (λ x. absurd cc, too_long all bytes e h)
+is_run_fault all bytes OutOfMemory e h = tt
+
+-- no fault of reading is one of the bytes
+pub run_fault_of_input : (f : RunFault) (all : Option (List ℕ)) → IsInputFault f → IsRunFault all f
+run_fault_of_input (run.Job f) all h = absurd h
+run_fault_of_input run.Read all h = tt
+run_fault_of_input run.Write all h = absurd h
+run_fault_of_input run.Memory all h = tt

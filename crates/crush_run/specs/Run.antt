@@ -1,0 +1,37 @@
+-- The run of a job: what its contract says, on one page.
+use Rattle.std.specs.Prelude.{◌≢◌, ℕ, Option, IfSome, List, Bool, if◌then◌else◌, length}
+use Rattle.crush_print.specs.MapText.{map_text}
+use Rattle.crush_calls.specs.History.{EntryData, table_after, changes, turns}
+use Rattle.crush_script.specs.JobText.{job_text}
+use Rattle.crush_calls.specs.HistoryText.{names_of}
+use Rattle.crush_script.specs.Job.{JobData, HasJob, IsJobFault}
+use Rattle.crush_script.specs.declared.fault.JobFault.{JobFault}
+use Rattle.crush_script.specs.declared.fault.JobFault.TheVariants.{OutOfMemory}
+use Rattle.crush_report.specs.declared.fault.RunFault.{RunFault}
+use Rattle.crush_report.specs.declared.fault.RunFault.TheVariants as run
+use Rattle.crush_report.specs.declared.summary.Summary.{Summary}
+
+-- the history of a job: the calls of its scripts, one script after the other, each with the reply of the table at that point
+abbrev pub history_of : JobData → List EntryData
+history_of job = turns job.setting job.table job.scripts
+
+-- OUTPUT: the map after that history and, where it is asked for, a line for each of its entries
+abbrev pub output : Bool → JobData → List ℕ
+output history job =
+    if history then job_text job.setting job.table (names_of job.scripts) (history_of job)
+    else map_text job.setting (table_after job.setting job.table (history_of job))
+
+-- SUMMARY: the written weights that were replaced, the calls, and those that changed the map
+abbrev pub summary_of : JobData → Summary
+summary_of job = record { adjusted = job.adjusted; calls = length (history_of job); changes = changes (history_of job) }
+
+-- a fault of the job is one of the bytes, and never want of memory
+abbrev pub IsRefusal : Option (List ℕ) → JobFault → Type 0
+IsRefusal all fault = (fault ≢ OutOfMemory) × IfSome all (λ bytes. IsJobFault bytes fault)
+
+-- when each fault is told: Job of bytes that are no job, Write only of bytes that are one
+abbrev pub IsRunFault : Option (List ℕ) → RunFault → Type 0
+IsRunFault all (run.Job fault) = IsRefusal all fault
+IsRunFault all run.Write = IfSome all HasJob
+IsRunFault all run.Read = Unit {0}
+IsRunFault all run.Memory = Unit {0}

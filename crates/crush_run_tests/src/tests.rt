@@ -1,0 +1,72 @@
+//! Runs of whole jobs, from their bytes to the bytes written.
+
+use crush_options::Mode;
+use crush_report::{RunFault, Summary, report};
+use crush_run::run_job;
+use std::test::Fail;
+
+mod examples;
+mod failing;
+mod limits;
+mod refusals;
+mod replies;
+mod runs;
+mod whole;
+mod worked;
+
+/// The example map.
+const EXAMPLE: &[u8] =
+    b"# begin crush map\ntunable choose_total_tries 50\n\n# devices\ndevice 0 osd.0\ndevice 1 osd.1\ndevice 2 osd.2\n\n# types\ntype 0 osd\ntype 1 host\ntype 3 rack\ntype 11 root\n\n# buckets\nhost h1 {\n\tid -2\t\t# do not change unnecessarily\n\t# weight 2.00000\n\talg straw2\n\thash 0\t# rjenkins1\n\titem osd.0 weight 1.00000\n\titem osd.1 weight 1.00000\n}\nhost h2 {\n\tid -3\t\t# do not change unnecessarily\n\t# weight 0.50000\n\talg straw2\n\thash 0\t# rjenkins1\n\titem osd.2 weight 0.50000\n}\nroot default {\n\tid -1\t\t# do not change unnecessarily\n\t# weight 2.50000\n\talg straw2\n\thash 0\t# rjenkins1\n\titem h1 weight 2.00000\n\titem h2 weight 0.50000\n}\n\n# rules\nrule replicated_rule {\n\tid 0\n\ttype replicated\n\tstep take default\n\tstep chooseleaf firstn 0 type host\n\tstep emit\n}\n\n# end crush map\n";
+
+/// The plain example map, with nothing behind it.
+const PLAIN: &[u8] =
+    b"# begin crush map\n\n# devices\ndevice 0 osd.0\ndevice 1 osd.1\ndevice 2 osd.2\n\n# types\ntype 0 osd\ntype 1 host\ntype 3 rack\ntype 11 root\n\n# buckets\nhost h1 {\n\tid -2\t\t# do not change unnecessarily\n\t# weight 2.00000\n\talg straw2\n\thash 0\t# rjenkins1\n\titem osd.0 weight 1.00000\n\titem osd.1 weight 1.00000\n}\nhost h2 {\n\tid -3\t\t# do not change unnecessarily\n\t# weight 0.50000\n\talg straw2\n\thash 0\t# rjenkins1\n\titem osd.2 weight 0.50000\n}\nroot default {\n\tid -1\t\t# do not change unnecessarily\n\t# weight 2.50000\n\talg straw2\n\thash 0\t# rjenkins1\n\titem h1 weight 2.00000\n\titem h2 weight 0.50000\n}\n\n# rules\n\n# end crush map\n";
+
+/// The same where osd.2 weighs 1.0.
+const REWEIGHED: &[u8] =
+    b"# begin crush map\n\n# devices\ndevice 0 osd.0\ndevice 1 osd.1\ndevice 2 osd.2\n\n# types\ntype 0 osd\ntype 1 host\ntype 3 rack\ntype 11 root\n\n# buckets\nhost h1 {\n\tid -2\t\t# do not change unnecessarily\n\t# weight 2.00000\n\talg straw2\n\thash 0\t# rjenkins1\n\titem osd.0 weight 1.00000\n\titem osd.1 weight 1.00000\n}\nhost h2 {\n\tid -3\t\t# do not change unnecessarily\n\t# weight 1.00000\n\talg straw2\n\thash 0\t# rjenkins1\n\titem osd.2 weight 1.00000\n}\nroot default {\n\tid -1\t\t# do not change unnecessarily\n\t# weight 3.00000\n\talg straw2\n\thash 0\t# rjenkins1\n\titem h1 weight 2.00000\n\titem h2 weight 1.00000\n}\n\n# rules\n\n# end crush map\n";
+
+/// The text of a map without anything.
+const EMPTY: &[u8] =
+    b"# begin crush map\n\n# devices\n\n# types\n\n# buckets\n\n# rules\n\n# end crush map\n";
+
+const MODE: Mode = Mode {
+    in_turn: true,
+    history: true,
+};
+
+/// The bytes of both, one behind the other.
+fn joined(rt: &impl AllocGlobal, first: &[u8], second: &[u8]) -> Result<Vec<u8>, Fail> {
+    let mut bytes = Vec::from_slice(rt.alloc(), first)?;
+    bytes.extend_from_slice(second)?;
+    Ok(bytes)
+}
+
+/// Whether a job that is run in this mode writes this map and these lines behind it, and is summed
+/// up like this.
+fn writes(
+    rt: &impl AllocGlobal,
+    mode: Mode,
+    job: &[u8],
+    map: &[u8],
+    lines: &[u8],
+    summary: Summary,
+) -> bool {
+    let mut out = Vec::new(rt.alloc());
+    let outcome = run_job(rt, mode, &mut &*job, &mut out);
+    outcome == Ok(summary)
+        && out.len().checked_sub(map.len()) == Some(lines.len())
+        && out.starts_with(map)
+        && out.ends_with(lines)
+}
+
+/// Whether standard error is told this line of an outcome, and the program ends with this status.
+fn is_told(
+    rt: &impl AllocGlobal,
+    outcome: &Result<Summary, RunFault>,
+    line: &[u8],
+    status: u8,
+) -> bool {
+    let mut err = Vec::new(rt.alloc());
+    report(outcome, &mut err) == status && err.as_slice() == line
+}

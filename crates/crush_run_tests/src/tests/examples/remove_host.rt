@@ -1,0 +1,39 @@
+//! The example `remove_host`, written here by `examples/as_tests.py`.
+
+use super::{Example, is_met, is_printed, is_read_back};
+
+const EXAMPLE: Example = Example {
+    job: b"\
+# begin crush map\ntunable choose_total_tries 50\n\n# devices\ndevice 0 osd.0\ndevice 1 osd.1\n\
+device 2 osd.2\n\n# types\ntype 0 osd\ntype 1 host\ntype 3 rack\ntype 11 root\n\n# buckets\n\
+host h1 {\n\tid -2\t\t# do not change unnecessarily\n\t# weight 2.00000\n\talg straw2\n\
+\thash 0\t# rjenkins1\n\titem osd.0 weight 1.00000\n\titem osd.1 weight 1.00000\n}\nhost h2 {\n\
+\tid -3\t\t# do not change unnecessarily\n\t# weight 0.50000\n\talg straw2\n\
+\thash 0\t# rjenkins1\n\titem osd.2 weight 0.50000\n}\nroot default {\n\
+\tid -1\t\t# do not change unnecessarily\n\t# weight 2.50000\n\talg straw2\n\
+\thash 0\t# rjenkins1\n\titem h1 weight 2.00000\n\titem h2 weight 0.50000\n}\n\n# rules\n\
+rule replicated_rule {\n\tid 0\n\ttype replicated\n\tstep take default\n\
+\tstep chooseleaf firstn 0 type host\n\tstep emit\n}\n\n# end crush map\n%operator alice\n\
+reweight-subtree h1 0\nrm h1\t# refused: it holds devices yet\nrm osd.0\nrm osd.1\nrm h1\n",
+    out: b"\
+# begin crush map\ntunable choose_total_tries 50\n\n# devices\ndevice 2 osd.2\n\n# types\n\
+type 0 osd\ntype 1 host\ntype 3 rack\ntype 11 root\n\n# buckets\nhost h2 {\n\
+\tid -3\t\t# do not change unnecessarily\n\t# weight 0.50000\n\talg straw2\n\
+\thash 0\t# rjenkins1\n\titem osd.2 weight 0.50000\n}\nroot default {\n\
+\tid -1\t\t# do not change unnecessarily\n\t# weight 0.50000\n\talg straw2\n\
+\thash 0\t# rjenkins1\n\titem h2 weight 0.50000\n}\n\n# rules\nrule replicated_rule {\n\tid 0\n\
+\ttype replicated\n\tstep take default\n\tstep chooseleaf firstn 0 type host\n\tstep emit\n}\n\n\
+# end crush map\n# 1 alice reweight-subtree h1 0.00000 = done changed 1 made 0\n\
+# 2 alice rm h1 = refused NotEmpty 39\n# 3 alice rm osd.0 = done changed 1 made 0\n\
+# 4 alice rm osd.1 = done changed 1 made 0\n# 5 alice rm h1 = done changed 1 made 0\n",
+    err: b"",
+    map: b"",
+};
+
+#[test]
+fn is_written(rt: HostRuntime) {
+    let example = &EXAMPLE;
+    assert!(rt; is_met(&rt, example));
+    assert!(rt; is_printed(&rt, example));
+    assert!(rt; is_read_back(&rt, example));
+}

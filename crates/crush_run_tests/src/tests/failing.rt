@@ -1,0 +1,122 @@
+//! Readers and writers that fail, and a reader that never ends.
+
+use super::{MODE, PLAIN, REWEIGHED, is_told, joined};
+use crush_report::RunFault;
+use crush_run::run_job;
+use crush_script::JobFault;
+use std::io::{self, ErrorKind, Read, Write};
+use std::test::Fail;
+
+/// Gives at most 16 bytes a read, and answers an error at one of the reads, counted from 0.
+#[derive(Drop)]
+struct FailingReader<'a> {
+    bytes: &'a [u8],
+    reads_left: usize,
+}
+
+impl Read for FailingReader<'_> {
+    fn read(&mut self, buf: &mut [u8]) -> io::Result<usize> {
+        if self.reads_left == 0 {
+            return Err(ErrorKind::Other.into());
+        }
+        self.reads_left -= 1;
+        let most = buf.len().min(self.bytes.len()).min(16);
+        let (now, later) = self.bytes.split_at(most);
+        buf[..most].copy_from_slice(now);
+        self.bytes = later;
+        Ok(most)
+    }
+}
+
+/// Takes at most 7 bytes a write, as long as it has room, and then answers an error or takes none.
+#[derive(Drop)]
+struct FailingWriter {
+    taken: Vec<u8>,
+    room: usize,
+    answers_error: bool,
+}
+
+impl Write for FailingWriter {
+    fn write(&mut self, bytes: &[u8]) -> io::Result<usize> {
+        let most = bytes.len().min(self.room).min(7);
+        if most == 0 && self.answers_error {
+            return Err(ErrorKind::Other.into());
+        }
+        self.room -= most;
+        let (now, _) = bytes.split_at(most);
+        self.taken.extend_from_slice(now)?;
+        Ok(most)
+    }
+
+    fn flush(&mut self) -> io::Result<()> {
+        Ok(())
+    }
+}
+
+/// Gives one space a read, without end, and counts how often it is asked.
+#[derive(Drop)]
+struct EndlessReader {
+    asked: u32,
+}
+
+impl Read for EndlessReader {
+    fn read(&mut self, buf: &mut [u8]) -> io::Result<usize> {
+        self.asked = self.asked.saturating_add(1);
+        if buf.is_empty() {
+            return Ok(0);
+        }
+        buf[0] = b' ';
+        Ok(1)
+    }
+}
+
+#[test]
+fn stops_at_a_failed_read(rt: HostRuntime) -> Result<(), Fail> {
+    let job = joined(&rt, PLAIN, b"%operator a\nreweight osd.2 1.0\n")?;
+    for reads_left in 0..job.len() / 16 + 1 {
+        let mut reader = FailingReader {
+            bytes: job.as_slice(),
+            reads_left,
+        };
+        let mut out = Vec::new(rt.alloc());
+        let outcome = run_job(&rt, MODE, &mut reader, &mut out);
+        assert!(rt; outcome == Err(RunFault::Read));
+        assert!(rt; out.is_empty());
+        assert!(rt; is_told(&rt, &outcome, b"crushedit: read fault\n", 3));
+    }
+    Ok(())
+}
+
+#[test]
+fn leaves_a_front_at_a_failed_write(rt: HostRuntime) -> Result<(), Fail> {
+    let job = joined(&rt, PLAIN, b"%operator a\nreweight osd.2 1.0\n")?;
+    let line = b"# 1 a reweight osd.2 1.00000 = done changed 1 made 0\n";
+    let whole = joined(&rt, REWEIGHED, line.as_slice())?;
+    for answers_error in [true, false] {
+        for room in 0..whole.len() {
+            let taken = Vec::new(rt.alloc());
+            let mut writer = FailingWriter {
+                taken,
+                room,
+                answers_error,
+            };
+            let outcome = run_job(&rt, MODE, &mut job.as_slice(), &mut writer);
+            assert!(rt; outcome == Err(RunFault::Write));
+            assert_eq!(rt; writer.taken.len(), room);
+            assert!(rt; whole.starts_with(writer.taken.as_slice()));
+            assert!(rt; is_told(&rt, &outcome, b"crushedit: write fault\n", 3));
+        }
+    }
+    Ok(())
+}
+
+#[test]
+fn asks_an_endless_reader_for_one_byte_too_many(rt: HostRuntime) {
+    let mut reader = EndlessReader { asked: 0 };
+    let mut out = Vec::new(rt.alloc());
+    let outcome = run_job(&rt, MODE, &mut reader, &mut out);
+    assert!(rt; outcome == Err(RunFault::Job(JobFault::TooLong)));
+    assert_eq!(rt; reader.asked, 16_777_217);
+    assert!(rt; out.is_empty());
+    assert!(rt; is_told(&rt, &outcome, b"crushedit: TooLong\n", 1));
+}

@@ -1,0 +1,177 @@
+//! Items as tests name them, made in the memory of any allocator.
+
+use super::puts::Refused;
+use crush_tree::{Header, Node, Place, ShadowId};
+use crush_units::{Alg, BucketId, DeviceId, ItemId, Name, TypeId, Weight};
+use std::alloc::{Allocator, Global};
+use std::process::Abort;
+
+/// An item: a bucket by how far its id is below 0, a device by its number.
+#[derive(Clone, Copy)]
+pub enum Item<'a> {
+    /// An empty root and its name.
+    Root(u32, &'a str),
+    /// An empty host and its name.
+    Host(u32, &'a str),
+    /// An empty host, its name, and how far its class id of `ssd` is below 0.
+    HostOfClass(u32, &'a str, u32),
+    /// A device, its name, and its weight in units.
+    Device(u32, &'a str, u32),
+    /// A device of the class `ssd`, its name, and its weight in units.
+    DeviceOfClass(u32, &'a str, u32),
+}
+
+/// The bucket whose id is so far below 0.
+pub fn bucket(rt: &impl Abort, distance: u32) -> BucketId {
+    BucketId::below_zero(distance).expect(rt, "a bucket")
+}
+
+/// The device of a number.
+pub fn device(rt: &impl Abort, number: u32) -> DeviceId {
+    DeviceId::from_number(number).expect(rt, "a device")
+}
+
+/// The bucket whose id is so far below 0, as an item.
+pub fn bucket_item(rt: &impl Abort, distance: u32) -> ItemId {
+    ItemId::Bucket(bucket(rt, distance))
+}
+
+/// The place inside the bucket whose id is so far below 0.
+pub fn inside(rt: &impl Abort, distance: u32) -> Place {
+    Place::Bucket(bucket(rt, distance))
+}
+
+/// The device of a number, as an item.
+pub fn device_item(rt: &impl Abort, number: u32) -> ItemId {
+    ItemId::Device(device(rt, number))
+}
+
+/// The header of a bucket without class ids.
+pub fn header<A: Allocator + Copy>(
+    rt: &impl Abort,
+    alloc: A,
+    distance: u32,
+    kind: u16,
+    name: &str,
+) -> Result<Header<A>, Refused> {
+    let id = bucket(rt, distance);
+    let name = Name::read(alloc, name.as_bytes())?;
+    Ok(Header {
+        id,
+        kind: TypeId::new(kind),
+        name,
+        alg: Alg::Straw2,
+        class_ids: Vec::new(alloc),
+    })
+}
+
+/// The header of a host with a class id of `ssd`.
+fn header_of_class<A: Allocator + Copy>(
+    rt: &impl Abort,
+    alloc: A,
+    distance: u32,
+    name: &str,
+    class_id: u32,
+) -> Header<A> {
+    let id = bucket(rt, class_id);
+    let class = Name::read(alloc, b"ssd").expect(rt, "a class");
+    let mut header = header(rt, alloc, distance, 1, name).expect(rt, "memory");
+    header
+        .class_ids
+        .push(ShadowId { id, class })
+        .expect(rt, "memory");
+    header
+}
+
+/// A device of the class `ssd`.
+fn device_of_class<A: Allocator + Copy>(
+    rt: &impl Abort,
+    alloc: A,
+    number: u32,
+    name: &str,
+    units: u32,
+) -> Node<A> {
+    let id = device(rt, number);
+    let class = Name::read(alloc, b"ssd").expect(rt, "a class");
+    let name = Name::read(alloc, name.as_bytes()).expect(rt, "a name");
+    Node::device(id, name, Weight::from_units(units), Some(class))
+}
+
+/// An empty bucket.
+fn empty<A: Allocator + Copy>(alloc: A, header: Header<A>) -> Result<Node<A>, Refused> {
+    match Node::bucket(alloc, header) {
+        Ok(node) => Ok(node),
+        Err(_) => Err(Refused::NoMemory),
+    }
+}
+
+/// The item by itself.
+pub fn made<A: Allocator + Copy>(
+    rt: &impl Abort,
+    alloc: A,
+    item: Item,
+) -> Result<Node<A>, Refused> {
+    match item {
+        Item::Root(distance, name) => empty(alloc, header(rt, alloc, distance, 11, name)?),
+        Item::Host(distance, name) => empty(alloc, header(rt, alloc, distance, 1, name)?),
+        Item::HostOfClass(distance, name, class_id) => {
+            empty(alloc, header_of_class(rt, alloc, distance, name, class_id))
+        }
+        Item::Device(number, name, units) => {
+            let id = device(rt, number);
+            let name = Name::read(alloc, name.as_bytes())?;
+            Ok(Node::device(id, name, Weight::from_units(units), None))
+        }
+        Item::DeviceOfClass(number, name, units) => {
+            Ok(device_of_class(rt, alloc, number, name, units))
+        }
+    }
+}
+
+/// Puts a child into a bucket, if it has room and their weights stay in range.
+pub fn hold<A: Allocator>(bucket: &mut Node<A>, child: Node<A>) -> Result<(), Refused> {
+    if !bucket.has_room() || bucket.weight().units() > u32::MAX - child.weight().units() {
+        return Err(Refused::Unfit);
+    }
+    bucket.hold(child);
+    Ok(())
+}
+
+/// Puts an item into a bucket.
+fn hold_item<A: Allocator + Copy>(
+    rt: &impl Abort,
+    alloc: A,
+    bucket: &mut Node<A>,
+    item: Item,
+) -> Result<(), Refused> {
+    let child = made(rt, alloc, item)?;
+    hold(bucket, child)
+}
+
+/// A bucket that holds an item before both come to a forest.
+pub fn holding<A: Allocator + Copy>(
+    rt: &impl Abort,
+    alloc: A,
+    bucket: Item,
+    item: Item,
+) -> Result<Node<A>, Refused> {
+    let mut node = made(rt, alloc, bucket)?;
+    hold_item(rt, alloc, &mut node, item)?;
+    Ok(node)
+}
+
+/// The item by itself, in the machine's memory.
+pub fn node(rt: &(impl Abort + AllocGlobal), item: Item) -> Node<Global> {
+    made(rt, rt.alloc(), item).expect(rt, "memory")
+}
+
+/// A bucket that holds a child before both come to a forest, in the machine's memory.
+pub fn node_with(
+    rt: &(impl Abort + AllocGlobal),
+    bucket: Item,
+    child: Node<Global>,
+) -> Node<Global> {
+    let mut node = node(rt, bucket);
+    hold(&mut node, child).expect(rt, "room");
+    node
+}

@@ -1,3 +1,0 @@
-pub mod CommandLines
-pub mod Consuming
-pub mod Told
