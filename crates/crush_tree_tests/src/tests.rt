@@ -6,7 +6,6 @@ mod chain;
 mod example;
 mod items;
 mod nodes;
-mod owning;
 mod puts;
 mod reads;
 mod sums;

@@ -2,67 +2,61 @@
 
 use super::example::example;
 use super::items::{Item, bucket, bucket_item, device_item};
-use super::owning::with;
 use super::puts::add;
 use crush_tree::{Forest, Place};
 use crush_units::{Alg, Name, Weight};
 
 #[test]
 fn columns(rt: HostRuntime) {
-    with(example(&rt), |forest| {
-        let kind = forest.kind(bucket_item(&rt, 3)).expect(&rt, "h2");
-        assert_eq!(rt; kind.number(), 1);
-        assert_eq!(rt; forest.name(bucket_item(&rt, 3)), Some("h2"));
-        assert_eq!(rt; forest.name(device_item(&rt, 2)), Some("osd.2"));
-        assert_eq!(rt; forest.name(device_item(&rt, 3)), None);
-        assert_eq!(rt; forest.class(device_item(&rt, 2)), None);
-        assert_eq!(rt; forest.alg(bucket_item(&rt, 3)), Some(Alg::Straw2));
-        assert_eq!(rt; forest.alg(device_item(&rt, 2)), None);
-    });
+    let forest = example(&rt);
+    let kind = forest.kind(bucket_item(&rt, 3)).expect(&rt, "h2");
+    assert!(rt; kind.number() == 1);
+    assert!(rt; forest.name(bucket_item(&rt, 3)) == Some("h2"));
+    assert!(rt; forest.name(device_item(&rt, 2)) == Some("osd.2"));
+    assert!(rt; forest.name(device_item(&rt, 3)).is_none());
+    assert!(rt; forest.class(device_item(&rt, 2)).is_none());
+    assert!(rt; forest.alg(bucket_item(&rt, 3)) == Some(Alg::Straw2));
+    assert!(rt; forest.alg(device_item(&rt, 2)).is_none());
 }
 
 #[test]
 fn class_of_a_device(rt: HostRuntime) {
-    with(example(&rt), |forest| {
-        add(
-            &rt,
-            forest,
-            Place::Unplaced,
-            Item::DeviceOfClass(3, "osd.3", 0),
-        );
-        assert_eq!(rt; forest.class(device_item(&rt, 3)), Some("ssd"));
-    });
+    let mut forest = example(&rt);
+    add(
+        &rt,
+        &mut forest,
+        Place::Unplaced,
+        Item::DeviceOfClass(3, "osd.3", 0),
+    );
+    assert!(rt; forest.class(device_item(&rt, 3)) == Some("ssd"));
 }
 
 #[test]
 fn other_weights_below(rt: HostRuntime) {
     let one = Weight::from_units(65536);
-    with(example(&rt), |forest| {
-        assert!(rt; !forest.changes_subtree(bucket(&rt, 2), one));
-        assert!(rt; forest.changes_subtree(bucket(&rt, 3), one));
-        assert!(rt; forest.changes_subtree(bucket(&rt, 1), one));
-        assert!(rt; !forest.changes_subtree(bucket(&rt, 4), one));
-    });
+    let forest = example(&rt);
+    assert!(rt; !forest.changes_subtree(bucket(&rt, 2), one));
+    assert!(rt; forest.changes_subtree(bucket(&rt, 3), one));
+    assert!(rt; forest.changes_subtree(bucket(&rt, 1), one));
+    assert!(rt; !forest.changes_subtree(bucket(&rt, 4), one));
 }
 
 #[test]
 fn in_the_forests_memory(rt: HostRuntime) {
-    with(example(&rt), |forest| {
-        let name = Name::read(*forest.allocator(), b"osd.3").expect(&rt, "a name");
-        assert_eq!(rt; name.as_str(), "osd.3");
-    });
+    let forest = example(&rt);
+    let name = Name::read(*forest.allocator(), b"osd.3").expect(&rt, "a name");
+    assert!(rt; name.as_str() == "osd.3");
 }
 
 /// Of the buckets -1 and -3 with the class ids -2 and -5.
 #[test]
 fn free_ids(rt: HostRuntime) {
-    with(Forest::new(rt.alloc(), rt.alloc()), |forest| {
-        add(&rt, forest, Place::Root, Item::HostOfClass(1, "h1", 2));
-        add(&rt, forest, Place::Root, Item::HostOfClass(3, "h3", 5));
-        assert!(rt; forest.is_used(bucket(&rt, 5)));
-        assert!(rt; !forest.is_used(bucket(&rt, 4)));
-        let mut ids = [bucket(&rt, 1); 4];
-        forest.free_ids(&mut ids);
-        assert_eq!(rt; ids.map(|id| id.number()), [-4, -6, -7, -8]);
-    });
+    let mut forest = Forest::new(rt.alloc(), rt.alloc());
+    add(&rt, &mut forest, Place::Root, Item::HostOfClass(1, "h1", 2));
+    add(&rt, &mut forest, Place::Root, Item::HostOfClass(3, "h3", 5));
+    assert!(rt; forest.is_used(bucket(&rt, 5)));
+    assert!(rt; !forest.is_used(bucket(&rt, 4)));
+    let mut ids = [bucket(&rt, 1); 4];
+    forest.free_ids(&mut ids);
+    assert!(rt; ids.map(|id| id.number()) == [-4, -6, -7, -8]);
 }

@@ -1,7 +1,6 @@
 //! As many buckets as a map can have, each in the one before, on the main thread and on another.
 
 use super::items::{Item, bucket, bucket_item, node, node_with};
-use super::owning::with;
 use super::puts::put;
 use crush_tree::{Forest, Node, Place};
 use std::alloc::Global;
@@ -32,17 +31,13 @@ fn chain(rt: &(impl Abort + AllocGlobal)) -> Forest<Global> {
 
 /// Whether the chain is searched and copied as it should be.
 fn is_sound(rt: &(impl Abort + AllocGlobal)) -> bool {
-    with(chain(rt), |forest| {
-        let osd = forest.id_of("osd.0").expect(rt, "osd.0");
-        let last = bucket_item(rt, 4096);
-        forest.total() == 65536
-            && forest.contains(bucket(rt, 1), osd)
-            && forest.parent(last) == Some(bucket(rt, 4095))
-            && with(
-                forest.try_copy().expect(rt, "memory"),
-                |copy| copy.is_same(forest),
-            )
-    })
+    let forest = chain(rt);
+    let copy = forest.try_copy().expect(rt, "memory");
+    let osd = forest.id_of("osd.0").expect(rt, "osd.0");
+    forest.total() == 65536
+        && forest.contains(bucket(rt, 1), osd)
+        && forest.parent(bucket_item(rt, 4096)) == Some(bucket(rt, 4095))
+        && copy.is_same(&forest)
 }
 
 #[test]

@@ -105,6 +105,31 @@ fn empty<A: Allocator + Copy>(alloc: A, header: Header<A>) -> Result<Node<A>, Re
     }
 }
 
+/// An empty bucket of a type, without class ids.
+fn empty_of_kind<A: Allocator + Copy>(
+    rt: &impl Abort,
+    alloc: A,
+    distance: u32,
+    kind: u16,
+    name: &str,
+) -> Result<Node<A>, Refused> {
+    let header = header(rt, alloc, distance, kind, name)?;
+    empty(alloc, header)
+}
+
+/// A device without a class.
+fn device_without_class<A: Allocator + Copy>(
+    rt: &impl Abort,
+    alloc: A,
+    number: u32,
+    name: &str,
+    units: u32,
+) -> Result<Node<A>, Refused> {
+    let id = device(rt, number);
+    let name = Name::read(alloc, name.as_bytes())?;
+    Ok(Node::device(id, name, Weight::from_units(units), None))
+}
+
 /// The item by itself.
 pub fn made<A: Allocator + Copy>(
     rt: &impl Abort,
@@ -112,16 +137,12 @@ pub fn made<A: Allocator + Copy>(
     item: Item,
 ) -> Result<Node<A>, Refused> {
     match item {
-        Item::Root(distance, name) => empty(alloc, header(rt, alloc, distance, 11, name)?),
-        Item::Host(distance, name) => empty(alloc, header(rt, alloc, distance, 1, name)?),
+        Item::Root(distance, name) => empty_of_kind(rt, alloc, distance, 11, name),
+        Item::Host(distance, name) => empty_of_kind(rt, alloc, distance, 1, name),
         Item::HostOfClass(distance, name, class_id) => {
             empty(alloc, header_of_class(rt, alloc, distance, name, class_id))
         }
-        Item::Device(number, name, units) => {
-            let id = device(rt, number);
-            let name = Name::read(alloc, name.as_bytes())?;
-            Ok(Node::device(id, name, Weight::from_units(units), None))
-        }
+        Item::Device(number, name, units) => device_without_class(rt, alloc, number, name, units),
         Item::DeviceOfClass(number, name, units) => {
             Ok(device_of_class(rt, alloc, number, name, units))
         }

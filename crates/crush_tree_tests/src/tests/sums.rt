@@ -2,7 +2,6 @@
 
 use super::asks::{fits, fits_moved};
 use super::items::{Item, bucket, device as number};
-use super::owning::with;
 use super::puts::add;
 use crush_tree::{Forest, Place};
 use crush_units::{BucketId, Weight};
@@ -55,42 +54,44 @@ fn device(
 
 #[test]
 fn of_a_host(rt: HostRuntime) {
-    with(Forest::new(rt.alloc(), rt.alloc()), |forest| {
-        let root = root(&rt, forest, 1);
-        let host = host(&rt, forest, root, 2);
-        device(&rt, forest, host, 0, MOST);
-        device(&rt, forest, host, 1, MOST);
-        assert_eq!(rt; fits(forest, host, Weight::from_units(1)), Some(true));
-        assert_eq!(rt; fits(forest, host, Weight::from_units(2)), Some(false));
-    });
+    let mut forest = Forest::new(rt.alloc(), rt.alloc());
+    let root = root(&rt, &mut forest, 1);
+    let host = host(&rt, &mut forest, root, 2);
+    device(&rt, &mut forest, host, 0, MOST);
+    device(&rt, &mut forest, host, 1, MOST);
+    assert!(rt; fits(&forest, host, Weight::from_units(1)) == Some(true));
+    assert!(rt; fits(&forest, host, Weight::from_units(2)) == Some(false));
 }
 
 #[test]
 fn of_a_root(rt: HostRuntime) {
-    with(Forest::new(rt.alloc(), rt.alloc()), |forest| {
-        let root = root(&rt, forest, 1);
-        let a = host(&rt, forest, root, 2);
-        let b = host(&rt, forest, root, 3);
-        device(&rt, forest, a, 0, MOST);
-        device(&rt, forest, a, 1, MOST);
-        assert_eq!(rt; fits(forest, b, Weight::from_units(MOST)), Some(false));
-        let moved = fits_moved(forest, number(&rt, 0), b, Weight::from_units(MOST));
-        assert_eq!(rt; moved, Some(true));
-    });
+    let mut forest = Forest::new(rt.alloc(), rt.alloc());
+    let root = root(&rt, &mut forest, 1);
+    let a = host(&rt, &mut forest, root, 2);
+    let b = host(&rt, &mut forest, root, 3);
+    device(&rt, &mut forest, a, 0, MOST);
+    device(&rt, &mut forest, a, 1, MOST);
+    assert!(rt; fits(&forest, b, Weight::from_units(MOST)) == Some(false));
+    let moved = fits_moved(&forest, number(&rt, 0), b, Weight::from_units(MOST));
+    assert!(rt; moved == Some(true));
+}
+
+/// Puts 2,048 roots with as much weight as a bucket can have into a forest.
+fn add_full_roots(rt: &(impl Abort + AllocGlobal), forest: &mut Forest<Global>) {
+    for i in 0..2048 {
+        let root = root(rt, forest, i + 1);
+        device(rt, forest, root, 3 * i, MOST);
+        device(rt, forest, root, 3 * i + 1, MOST);
+        device(rt, forest, root, 3 * i + 2, 1);
+    }
 }
 
 #[test]
 fn of_all_devices(rt: HostRuntime) {
-    with(Forest::new(rt.alloc(), rt.alloc()), |forest| {
-        for i in 0..2048 {
-            let root = root(&rt, forest, i + 1);
-            device(&rt, forest, root, 3 * i, MOST);
-            device(&rt, forest, root, 3 * i + 1, MOST);
-            device(&rt, forest, root, 3 * i + 2, 1);
-        }
-        let empty = root(&rt, forest, 2049);
-        assert_eq!(rt; forest.total(), 8796093020160);
-        assert_eq!(rt; fits(forest, empty, Weight::from_units(2047)), Some(true));
-        assert_eq!(rt; fits(forest, empty, Weight::from_units(2048)), Some(false));
-    });
+    let mut forest = Forest::new(rt.alloc(), rt.alloc());
+    add_full_roots(&rt, &mut forest);
+    let empty = root(&rt, &mut forest, 2049);
+    assert!(rt; forest.total() == 8796093020160);
+    assert!(rt; fits(&forest, empty, Weight::from_units(2047)) == Some(true));
+    assert!(rt; fits(&forest, empty, Weight::from_units(2048)) == Some(false));
 }

@@ -1,9 +1,0 @@
-//! The one owner of what tests work on.
-
-/// What is told of a value that is dropped then. A forest and an item have many parts, and the
-/// proof of each function that owns one speaks of them all: so tests only borrow them.
-pub fn with<T: Drop, R, F: FnOnce(&mut T) -> R>(mut value: T, test: F) -> R
-    requires { F.IsAlwaysCallable test }
-{
-    test(&mut value)
-}
