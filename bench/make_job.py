@@ -5,7 +5,8 @@ last device alone.
     python3 bench/make_job.py 10000 1000 --rules > bigger.job
     time crates/crushedit/out/crushedit < big.job > big.out
 
-Each host holds 20 devices of 1.0, each rack 20 hosts, and the root all racks. With --rules the map has
+Each host holds 20 devices of 0.5, so that one bucket may hold as many as a map may have, each rack 20 hosts,
+and the root all racks. With --rules the map has
 tunables and a rule too, as that of a cluster.
 """
 
@@ -32,7 +33,7 @@ RULE = [
 
 def bucket(kind, name, number, items):
     lines = [f"{kind} {name} {{", f"\tid -{number}", "\talg straw2", "\thash 0"]
-    lines += [f"\titem {item} weight {weight}.00000" for item, weight in items]
+    lines += [f"\titem {item} weight {weight / 2:.5f}" for item, weight in items]
     return lines + ["}"]
 
 
@@ -60,7 +61,7 @@ def map_text(devices, rules=False):
 
 
 def script(devices, calls):
-    """The last device first, and then devices far from one another, each call with another weight than 1.0."""
+    """The last device first, and then devices far from one another, each call with another weight than 0.5."""
     lines = ["%operator a"]
     lines += [f"reweight osd.{(devices - 1 + call * 7919) % devices} {2 + call % 5}.5" for call in range(calls)]
     return "\n".join(lines) + "\n"

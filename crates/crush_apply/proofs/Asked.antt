@@ -24,7 +24,7 @@ use Rattle.crush_apply.specs.Coming.{CanCome}
 use Rattle.crush_apply.specs.Way.{WayData, Leads}
 use Rattle.crush_apply.proofs.Answered.{last_kept}
 use Rattle.crush_apply.proofs.Passed.{device_passes, location_nothing}
-use Rattle.crush_apply.proofs.Weights.{light_bound}
+use Rattle.crush_edits.proofs.Edits.{not_heavy}
 
 -- a test that doesn't hold leaves it to the next
 next_test : (r : Refusal) (b : Bool) (qs : List (Refusal × Bool)) → b ≡ false → first_refusal ((r, b) ∷ qs) ≡ first_refusal qs
@@ -94,5 +94,5 @@ module _ (s : SettingData) (t : List Row) (d : ℕ) (n : List ℕ) (w : ℕ) (l 
         leads = leads;
         own = passes.own;
         other = ap (count_by (λ (p : StopData). bytes_eq p.name n)) are ∙ no_stop_named s l n passes.other;
-        weight = light_bound w passes.light;
+        weight = not_heavy w passes.light;
       }

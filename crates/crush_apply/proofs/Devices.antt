@@ -1,19 +1,20 @@
 -- A device that is put, whether it is there or not.
 use Rattle.std.proofs.Common.{◌≡◌, ℕ, ◌<◌, Bool, true, false, List, ap, sym, subst, ◌∙◌, refl}
+use Rattle.std.proofs.lemmas.Bool.{not-false}
 use Rattle.std.specs.Prelude.{not, Option, Some, None, IfSome, is_some, option_and_then, bytes_eq}
 use Rattle.std.specs.Option.{option_map}
 use Rattle.std.proofs.lemmas.Slice.Eq.{bytes_eq-Decides}
 use Rattle.crush_units.specs.declared.id.ItemId.{ItemId}
-use Rattle.crush_units.specs.declared.id.ItemId.TheVariants.{Device, Bucket}
+use Rattle.crush_units.specs.declared.id.ItemId.TheVariants.{Device}
 use Rattle.crush_units.specs.Id.{same_id}
 use Rattle.crush_units.specs.Name.{IsName}
 use Rattle.crush_units.proofs.Ids.{same_id_equal}
 use Rattle.crush_units.specs.declared.limits.TheConstants.{DEVICE_IDS}
 use Rattle.crush_table.specs.Items.{LeafData}
 use Rattle.crush_table.specs.ItemRows.{device_row}
-use Rattle.crush_table.specs.Columns.{is_part}
 use Rattle.crush_table.specs.Table.{Row, row_of, id_named, is_named, is_there, kind_of, name_of, class_of}
 use Rattle.crush_table.specs.Lawful.{Lawful, is_too_heavy, has_too_many}
+use Rattle.crush_table.proofs.Found.{row_of-absent, times-absent}
 use Rattle.crush_table.proofs.Moved.{row_id}
 use Rattle.crush_table.proofs.Weighs.{or_left, or_right}
 use Rattle.crush_edits.specs.Answer.{meets}
@@ -27,29 +28,19 @@ use Rattle.crush_edits.specs.Stops.{StopData, receiver}
 use Rattle.crush_edits.proofs.PutLaws.{changes, changes_new}
 use Rattle.crush_edits.proofs.Routes.{named_there}
 use Rattle.crush_edits.proofs.Tails.{edited_is_own}
-use Rattle.crush_edits.proofs.Edits.{some_row}
+use Rattle.crush_edits.proofs.Edits.{some_row, device_apart}
 use Rattle.crush_apply.specs.Answered.{last_answer}
 use Rattle.crush_apply.specs.Coming.{CanMove, CanCome}
 use Rattle.crush_apply.specs.Placed.{CanPut, CanPutNew}
 use Rattle.crush_apply.specs.Way.{WayData}
 use Rattle.crush_apply.proofs.Answered.{IsPut, put_same}
 
-pub not_back : (b : Bool) → not b ≡ false → b ≡ true
-not_back true h = refl
-not_back false h = absurd cc
-
-absent_row : (t : List Row) (i : ItemId) → is_there t i ≡ false → row_of t i ≡ None
-absent_row t i h = by_row (row_of t i) h where
-  by_row : (o : Option Row) → is_some o ≡ false → o ≡ None
-  by_row None e = refl
-  by_row (Some r) e = absurd cc
-
 -- a device that is there has the name
 pub own_name : (t : List Row) (i : ItemId) (n : List ℕ) (r : Row) → is_taken t i n ≡ false → row_of t i ≡ Some r → r.name ≡ n
 own_name t i n r own found =
     let other : meets (λ m. not (bytes_eq m n)) (name_of t i) ≡ false = or_right (meets (λ j. not (same_id j i)) (id_named t n)) (meets (λ m. not (bytes_eq m n)) (name_of t i)) own in
     let at : meets (λ m. not (bytes_eq m n)) (option_map (λ (x : Row). x.name) (Some r)) ≡ false = ap (λ o. meets (λ m. not (bytes_eq m n)) (option_map (λ (x : Row). x.name) o)) (sym found) ∙ other in
-    (bytes_eq-Decides r.name n).0 (not_back (bytes_eq r.name n) at)
+    (bytes_eq-Decides r.name n).0 (not-false (bytes_eq r.name n) at)
 
 -- its row, as the edit writes it
 pub own_put : (t : List Row) (d : ℕ) (n : List ℕ) (w : ℕ) (ps : List StopData) (r : Row) → Lawful t → is_taken t (Device d) n ≡ false → row_of t (Device d) ≡ Some r → put t (edited_device t d n w) ps ≡ put t (record r { weight = w }) ps
@@ -62,22 +53,19 @@ new_leaf d n w = record { id = d; name = n; weight = w; class = None }
 
 pub new_put : (t : List Row) (d : ℕ) (n : List ℕ) (w : ℕ) (ps : List StopData) → is_there t (Device d) ≡ false → put t (edited_device t d n w) ps ≡ put t (device_row None (new_leaf d n w)) ps
 new_put t d n w ps gone =
-    let class : class_of t (Device d) ≡ None = ap (option_and_then (λ (x : Row). x.class)) (absent_row t (Device d) gone) in
+    let class : class_of t (Device d) ≡ None = ap (option_and_then (λ (x : Row). x.class)) (row_of-absent t (Device d) (times-absent t (Device d) gone)) in
     ap (λ c. put t (device_row None (record { id = d; name = n; weight = w; class = c })) ps) class
 
 -- nothing receives a device below itself
-pub device_apart : (t : List Row) (d : ℕ) (i : ItemId) (ps : List StopData) → i ≡ Device d → IsApart t i ps
-device_apart t d i ps is = subst (λ j. IsApart t j ps) (sym is) (apart (receiver t ps)) where
-  apart : (o : Option ℕ) → IfSome o (λ b. is_part t (Device d) (Bucket b) ≡ false)
-  apart None = tt
-  apart (Some b) = refl
+pub no_loop : (t : List Row) (d : ℕ) (i : ItemId) (ps : List StopData) → i ≡ Device d → IsApart t i ps
+no_loop t d i ps is = subst (λ j. IsApart t j ps) (sym is) (device_apart t d (receiver t ps))
 
 -- a name that is nobody else's is nobody's, where the device isn't there
 new_name : (t : List Row) (i : ItemId) (n : List ℕ) → is_taken t i n ≡ false → is_there t i ≡ false → is_named t n ≡ false
 new_name t i n own gone = by_id (id_named t n) (or_left (meets (λ j. not (same_id j i)) (id_named t n)) (meets (λ m. not (bytes_eq m n)) (name_of t i)) own) (named_there t n) where
   by_id : (o : Option ItemId) → meets (λ j. not (same_id j i)) o ≡ false → IfSome o (λ j. is_there t j ≡ true) → is_some o ≡ false
   by_id None e there = refl
-  by_id (Some j) e there = absurd (let same : j ≡ i = same_id_equal j i (not_back (same_id j i) e) in let again : is_there t i ≡ true = ap (is_there t) (sym same) ∙ there in cc)
+  by_id (Some j) e there = absurd (let same : j ≡ i = same_id_equal j i (not-false (same_id j i) e) in let again : is_there t i ≡ true = ap (is_there t) (sym same) ∙ there in cc)
 
 -- whether an item is there, told by its type
 pub kind_tells : (t : List Row) (i : ItemId) (o : Option ℕ) (b : Bool) → o ≡ kind_of t i → is_some o ≡ b → is_there t i ≡ b
@@ -95,7 +83,7 @@ put_changes t d n w ps lawful route free = by_there (is_there t (Device d)) refl
 
 -- A DEVICE THAT IS THERE can move, and it is put with its own row and the weight
 pub device_moves : (t : List Row) (d : ℕ) (n : List ℕ) (w : ℕ) (way : WayData) → CanCome t d n w way → is_there t (Device d) ≡ true → CanMove t (Device d) way
-device_moves t d n w way can there = record { leads = can.leads; there = there; apart = device_apart t d (Device d) way.stops refl }
+device_moves t d n w way can there = record { leads = can.leads; there = there; apart = no_loop t d (Device d) way.stops refl }
 
 -- its row
 pub record OwnRow (t : List Row) (d : ℕ) (n : List ℕ) (w : ℕ) (way : WayData) : Type 0 where
@@ -118,7 +106,7 @@ own_row t d n w way lawful can free there =
     }
 
 pub put_own : (t : List Row) (d : ℕ) (w : ℕ) (way : WayData) (r : Row) → row_of t (Device d) ≡ Some r → has_too_many (put t (record r { weight = w }) way.stops) ≡ false → is_too_heavy (put t (record r { weight = w }) way.stops) ≡ false → CanPut t r w way.stops
-put_own t d w way r found room light = record { apart = device_apart t d r.id way.stops (row_id (Device d) t r found); room = room; light = light }
+put_own t d w way r found room light = record { apart = no_loop t d r.id way.stops (row_id (Device d) t r found); room = room; light = light }
 
 -- A DEVICE THAT ISN'T THERE can be put
 pub device_put_new : (t : List Row) (d : ℕ) (n : List ℕ) (w : ℕ) (way : WayData) → CanCome t d n w way → is_there t (Device d) ≡ false → d < DEVICE_IDS → IsName n

@@ -1,7 +1,7 @@
 -- Sums and counts of tables with an item put.
-use Rattle.std.proofs.Common.{◌≡◌, ℕ, ◌+◌, ◌<◌, ◌≤◌, Bool, true, false, List, [], ◌∷◌, ◌++◌, ap, sym, subst, ◌∙◌, refl, arith}
+use Rattle.std.proofs.Common.{◌≡◌, ℕ, ◌+◌, ◌<◌, ◌≤◌, Bool, true, false, List, [], ◌∷◌, ◌++◌, ap, sym, subst, ◌∙◌, arith}
 use Rattle.std.proofs.lemmas.Bool.Decides.{nat_tests}
-use Rattle.std.specs.Prelude.{Option, Some, None, IfSome, ◌||◌, nat_lt, nat_le, not}
+use Rattle.std.specs.Prelude.{Some, None, IfSome, ◌||◌, nat_lt, nat_le, not}
 use Rattle.crush_units.specs.declared.id.ItemId.{ItemId}
 use Rattle.crush_units.specs.declared.id.ItemId.TheVariants.{Device, Bucket}
 use Rattle.crush_table.specs.Columns.{table_without, part, is_part}
@@ -110,11 +110,6 @@ module _ (t : List Row) (l : Lawful t) (way : WayData) (leads : Leads t way) whe
       → answer ≡ not (is_too_heavy (put t (device_row None d) way.stops))
   new_told d w answer gone is light test =
       told t (device d none) (put t (device_row None d) way.stops) w answer (boxed_new t way.stops l leads.route d gone 1) tt tt (omega (arith, is, light)) (omega (arith, is)) test
-
--- nothing is part of a device but itself
-pub apart_from_device : (t : List Row) (d : ℕ) (o : Option ℕ) → IfSome o (λ b. is_part t (Device d) (Bucket b) ≡ false)
-apart_from_device t d None = tt
-apart_from_device t d (Some b) = refl
 
 -- too many devices, or else as many buckets as there are
 pub full_of_devices : (d : ℕ) (b : Bool) → 65536 ≤ d → nat_le 65536 d ≡ (nat_lt 65536 (d + 1) || b)

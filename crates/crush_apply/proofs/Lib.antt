@@ -3,6 +3,7 @@ pub mod Asked
 pub mod Buckets
 pub mod Devices
 pub mod Done
+pub mod Ends
 pub mod Fitting
 pub mod Moves
 pub mod Passed

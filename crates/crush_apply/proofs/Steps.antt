@@ -6,7 +6,7 @@ use Rattle.crush_units.specs.declared.id.ItemId.TheVariants.{Device, Bucket}
 use Rattle.crush_units.specs.Id.{same_id}
 use Rattle.crush_table.specs.Items.{LeafData, Items, none, device, bucket}
 use Rattle.crush_table.specs.ItemRows.{rows, device_row}
-use Rattle.crush_table.specs.Forest.{ForestData, rows_of, join, OnlyDevices}
+use Rattle.crush_table.specs.Forest.{ForestData, rows_of, OnlyDevices}
 use Rattle.crush_table.specs.Stands.{Stands}
 use Rattle.crush_table.specs.Table.{Row, row_of, is_there}
 use Rattle.crush_table.specs.Same.{Same}
@@ -18,6 +18,7 @@ use Rattle.crush_table.proofs.Changes.{Same-with}
 use Rattle.crush_table.proofs.Moved.{row_id}
 use Rattle.crush_table.proofs.Same.{Same-sym, Same-trans, Lawful-same}
 use Rattle.crush_nodes.specs.Ops.{part_of}
+use Rattle.crush_nodes.proofs.LastSteps.{OnlyDevices-join}
 use Rattle.crush_edits.specs.LawRoute.{rows_made}
 use Rattle.crush_edits.specs.Put.{next_place, put}
 use Rattle.crush_edits.proofs.PutLaws.{room_new, room_new_device, moves, moves_device, new_puts, lawful_put, lawful_new}
@@ -88,11 +89,6 @@ module _ (t : List Row) (l : Lawful t) (way : WayData) (leads : Leads t way) (d 
   new_lawful_put = lawful_new t way.stops l leads.route d can.gone can.unnamed can.other can.form can.light can.room
 
 -- THE PART of a device is a device
-devices_join : (a b : Items) → OnlyDevices a → OnlyDevices b → OnlyDevices (join a b)
-devices_join none b p q = q
-devices_join (device d s) b p q = devices_join s b p q
-devices_join (bucket h w m k s) b p q = elim p [ ]
-
 devices_if : (c : Bool) (d : LeafData) (s : Items) → OnlyDevices s → OnlyDevices (if c then device d s else s)
 devices_if true d s o = o
 devices_if false d s o = o
@@ -100,7 +96,7 @@ devices_if false d s o = o
 pub part_devices : (d : ℕ) (s : Items) → OnlyDevices (part_of (Device d) s)
 part_devices d none = tt
 part_devices d (device x s) = devices_if (same_id (Device x.id) (Device d)) x (part_of (Device d) s) (part_devices d s)
-part_devices d (bucket h w m k s) = devices_join (part_of (Device d) k) (part_of (Device d) s) (part_devices d k) (part_devices d s)
+part_devices d (bucket h w m k s) = OnlyDevices-join (part_of (Device d) k) (part_of (Device d) s) (part_devices d k) (part_devices d s)
 
 pub one_device : (n : Items) → OnlyDevices n → IsOne n → (d : LeafData) × (n ≡ device d none)
 one_device none o one = absurd one

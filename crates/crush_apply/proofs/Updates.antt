@@ -1,5 +1,6 @@
 -- What the table answers to an update.
 use Rattle.std.proofs.Common.{◌≡◌, ℕ, ◌≤◌, Bool, true, false, List, [], ◌∷◌, ap, sym, refl, ◌∙◌, arith}
+use Rattle.std.proofs.lemmas.Bool.{not-false}
 use Rattle.std.proofs.lemmas.Bool.Decides.{nat_tests}
 use Rattle.std.proofs.lemmas.Slice.Eq.{bytes_eq-Decides}
 use Rattle.std.specs.Prelude.{not, if◌then◌else◌, ◌||◌, nat_lt, Option, Some, None, is_some, option_and_then, bytes_eq}
@@ -27,7 +28,7 @@ use Rattle.crush_edits.specs.Put.{is_id, held}
 use Rattle.crush_edits.specs.Setting.{SettingData}
 use Rattle.crush_edits.specs.Stops.{StopData, stops}
 use Rattle.crush_apply.specs.Answered.{last_refusal}
-use Rattle.crush_apply.proofs.Devices.{own_name, not_back}
+use Rattle.crush_apply.proofs.Devices.{own_name}
 
 -- what is held stands in a bucket
 pub held_placed : (t : List Row) (i : ItemId) (ps : List StopData) → held t i ps ≡ true → is_placed t i ≡ true
@@ -60,7 +61,7 @@ placed_named t d n own placed =
     by_named (row_named t n) (named_row t (Device d) row.0 n row.1 ((bytes_eq-Decides row.0.name n).1 same)) (or_left (meets (λ j. not (same_id j (Device d))) (id_named t n)) _ own) where
       by_named : (o : Option Row) → is_some o ≡ true → meets (λ j. not (same_id j (Device d))) (option_map (λ (r : Row). r.id) o) ≡ false → option_map (λ (r : Row). r.id) o ≡ Some (Device d)
       by_named None some e = absurd cc
-      by_named (Some r) some e = ap Some (same_id_equal r.id (Device d) (not_back (same_id r.id (Device d)) e))
+      by_named (Some r) some e = ap Some (same_id_equal r.id (Device d) (not-false (same_id r.id (Device d)) e))
 
 -- a weight changes no counts
 same_room : (i : ItemId) (w : ℕ) (t : List Row) → has_too_many (set_weight i w t) ≡ has_too_many t

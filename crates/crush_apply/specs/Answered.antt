@@ -1,5 +1,5 @@
 -- What a call answers of an edit, beside what the table answers.
-use Rattle.std.specs.Prelude.{◌≡◌, List, [], ◌∷◌, Option, Result, Err, IfOk, OnErr}
+use Rattle.std.specs.Prelude.{◌≡◌, false, List, [], ◌∷◌, Option, Result, Ok, Err, IfOk, OnErr}
 use Rattle.crush_table.specs.Table.{Row}
 use Rattle.crush_table.specs.Forest.{ForestData}
 use Rattle.crush_table.specs.Stands.{Stands}
@@ -11,13 +11,19 @@ use Rattle.crush_edits.specs.declared.refusal.EditFault.TheVariants.{Refused, Ou
 use Rattle.crush_edits.specs.Answer.{After, Answer, refused, answer, first_refusal, room_test, sum_test}
 use Rattle.crush_edits.specs.Outcome.{IsDone, IsChange}
 
--- of each table for which the hierarchy f stood the call answers what the table answers, and leaves the hierarchy g: after a refusal f itself, and after want of memory f but for its room
+-- of each table for which the hierarchy f stood the call answers what the table answers, and leaves the hierarchy g: f itself after a refusal and where nothing has changed, and f but for its room after want of memory
 pub record AnswersAs (a : List Row → Answer) (f g : ForestData) (x : Result Done EditFault) : Type 0 where
   pub done : IfOk x (λ d. (t : List Row) → Stands f t → IsDone (Stands g) (a t) d)
   pub refused : (r : Refusal) → x ≡ Err (Refused r) → (t : List Row) → Stands f t → a t ≡ refused r
   pub change : x ≡ Err OutOfMemory → (t : List Row) → Stands f t → IsChange (a t)
   pub unchanged : (r : Refusal) → x ≡ Err (Refused r) → g ≡ f
+  pub still : IfOk x (λ d. d.changed ≡ false → g ≡ f)
   pub kept : OnErr x (IsSameForest g f)
+
+-- what is told where memory can't lack
+abbrev pub told : Result Done Refusal → Result Done EditFault
+told (Ok d) = Ok d
+told (Err r) = Err (Refused r)
 
 -- the refusal of the table after, if there is one
 abbrev pub last_refusal : After → Option Refusal

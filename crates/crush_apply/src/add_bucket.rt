@@ -1,23 +1,21 @@
 //! A new bucket that no other holds.
 
 ghost use Rattle.std.specs.Prelude.{◌≡◌, List, Some, [], ◌∷◌, IfOk, IfErr};
-ghost use Rattle.crush_table.specs.Items.{bucket, none};
 ghost use Rattle.crush_table.specs.Table.{Row, free_ids};
 ghost use Rattle.crush_table.specs.Forest.{rows_of};
 ghost use Rattle.crush_table.specs.Stands.{Stands};
-ghost use Rattle.crush_tree.specs.Seen.{items_of};
 ghost use Rattle.crush_edits.specs.declared.edit.Edit.TheVariants.{AddBucket};
 ghost use Rattle.crush_edits.specs.Edit.{edit, refusal};
 ghost use Rattle.crush_edits.specs.Fits.{Fits};
-ghost use Rattle.crush_edits.specs.Put.{new_header};
 ghost use Rattle.crush_apply.specs.Alone.{CanAddBucket};
 ghost use Rattle.crush_apply.specs.Answered.{AnswersAs};
 
+use crate::chain::empty_bucket;
 use crush_edits::{Done, EditFault, Refusal, Setting};
-use crush_tree::{Forest, Header, Node, Place};
+use crush_tree::{Forest, Place};
 use crush_units::limits::MOST_BUCKETS;
-use crush_units::{Alg, BucketId, Name, TypeId};
-use std::alloc::{AllocError, Allocator, Global};
+use crush_units::{BucketId, Name, TypeId};
+use std::alloc::{Allocator, Global};
 
 /// The type of the bucket that is to be made, or why it isn't.
 fn added_kind<A: Allocator>(
@@ -56,29 +54,6 @@ fn first_free<A: Allocator>(forest: &Forest<A>) -> BucketId
     let mut ids = [some];
     forest.free_ids(&mut ids);
     ids[0]
-}
-
-/// A bucket without items, in memory of the allocator.
-fn empty_bucket<A: Allocator + Clone>(
-    alloc: &A,
-    id: BucketId,
-    kind: TypeId,
-    name: &Name<Global>,
-) -> Result<Node<A>, AllocError>
-    ensures { IfOk result (λ node. items_of (node ∷ []) ≡ bucket
-        (new_header (record { id = id; kind = kind; name = name.now })) 0 1 none none) }
-{
-    let header = Header {
-        id,
-        kind,
-        name: name.try_copy(alloc.clone()?)?,
-        alg: Alg::Straw2,
-        class_ids: Vec::new(alloc.clone()?),
-    };
-    match Node::bucket(alloc.clone()?, header) {
-        Ok(node) => Ok(node),
-        Err(_) => Err(AllocError),
-    }
 }
 
 /// Makes an empty bucket of this name and type that no other holds, or tells why it isn't made.

@@ -1,6 +1,6 @@
 //! One edit of the hierarchy, whichever it is.
 
-ghost use Rattle.std.specs.Prelude.{◌≡◌, List, IfOk, OnErr, true};
+ghost use Rattle.std.specs.Prelude.{◌≡◌, List, IfOk, OnErr, true, false};
 ghost use Rattle.crush_table.specs.Table.{Row};
 ghost use Rattle.crush_table.specs.Forest.{rows_of};
 ghost use Rattle.crush_table.specs.Stands.{Stands};
@@ -11,7 +11,7 @@ ghost use Rattle.crush_edits.specs.Edit.{edit, takes_memory};
 ghost use Rattle.crush_edits.specs.Fits.{Fits};
 ghost use Rattle.crush_edits.specs.LawEdit.{IsEdit};
 ghost use Rattle.crush_edits.specs.Outcome.{IsDone, IsChange};
-ghost use Rattle.crush_apply.specs.Answered.{AnswersAs};
+ghost use Rattle.crush_apply.specs.Answered.{AnswersAs, told};
 
 use crate::add_bucket::add_bucket;
 use crate::create_or_move::create_or_move;
@@ -23,16 +23,17 @@ use crate::reweight::reweight;
 use crate::subtree::reweight_subtree;
 use crate::swap::swap;
 use crate::update::update;
-use crush_edits::{Done, Edit, EditFault, Setting};
+use crush_edits::{Done, Edit, EditFault, Refusal, Setting};
 use crush_tree::Forest;
 use std::alloc::Allocator;
 
 /// Makes the edit on the hierarchy, by the setting, or tells why it isn't made.
 ///
-/// Where several refusals hold, the one of least number is told, and the hierarchy is as before.
-/// Want of memory is told only of an edit that takes memory, where nothing speaks against it and
-/// the hierarchy would be another after it: so never of new weights, of an exchange or of a removal.
-/// The hierarchy is then as before but for the room that it has.
+/// Where several refusals hold, the one of least number is told, and the hierarchy is as before, as
+/// it is where the edit changes nothing. Want of memory is told only of an edit that takes memory,
+/// where nothing speaks against it and the hierarchy would be another after it: so never of new
+/// weights, of an exchange or of a removal. The hierarchy is then as before but for the room that
+/// it has.
 pub fn apply_edit<A: Allocator + Clone>(
     forest: &mut Forest<A>,
     setting: &Setting,
@@ -49,6 +50,7 @@ pub fn apply_edit<A: Allocator + Clone>(
     ensures memory { result ≡ Err EditFault.OutOfMemory → takes_memory asked.now ≡ true }
     ensures unchanged { (r : DeclaredRefusal) → result ≡ Err (EditFault.Refused r)
         → forest.new ≡ forest.old }
+    ensures still { IfOk result (λ d. d.changed ≡ false → forest.new ≡ forest.old) }
     ensures kept { OnErr result (IsSameForest forest.new forest.old) }
     ensures fits { Fits setting.now (rows_of forest.new) }
 {
@@ -127,11 +129,21 @@ fn make<A: Allocator + Clone>(
             at,
         } => update(forest, setting, *device, name, *weight, at),
         Edit::Move { name, at } => relocate(forest, setting, name, at),
-        Edit::Swap { a, b } => Ok(swap(forest, a, b)?),
-        Edit::Reweight { name, weight } => Ok(reweight(forest, name, *weight)?),
-        Edit::ReweightSubtree { name, weight } => Ok(reweight_subtree(forest, name, *weight)?),
-        Edit::Remove { name } => Ok(remove(forest, setting, name)?),
+        Edit::Swap { a, b } => told(swap(forest, a, b)),
+        Edit::Reweight { name, weight } => told(reweight(forest, name, *weight)),
+        Edit::ReweightSubtree { name, weight } => told(reweight_subtree(forest, name, *weight)),
+        Edit::Remove { name } => told(remove(forest, setting, name)),
         Edit::AddBucket { name, kind } => add_bucket(forest, setting, name, kind),
         Edit::Rename { from, to } => rename(forest, from, to),
+    }
+}
+
+/// What an edit answers that never lacks memory.
+fn told(made: Result<Done, Refusal>) -> Result<Done, EditFault>
+    ensures { result ≡ told made }
+{
+    match made {
+        Ok(done) => Ok(done),
+        Err(refusal) => Err(EditFault::Refused(refusal)),
     }
 }

@@ -2,7 +2,7 @@
 
 ghost use Rattle.std.specs.Prelude.{◌≡◌, ◌<◌, ◌∷◌, [], length, IfOk, All};
 ghost use Rattle.crush_table.specs.Items.{none, bucket};
-ghost use Rattle.crush_nodes.specs.Seen.{items_of};
+ghost use Rattle.crush_nodes.specs.Seen.{items_of, header_data};
 ghost use Rattle.crush_edits.specs.Put.{with_ids, new_header};
 ghost use Rattle.crush_edits.specs.Boxes.{boxes};
 ghost use Rattle.crush_edits.specs.New.{IsStop};
@@ -11,10 +11,49 @@ ghost use Rattle.crush_apply.specs.Stopped.{stop_data, stops_data};
 use crate::route::Stop;
 use crush_edits::Location;
 use crush_nodes::node::{Header, Node};
-use crush_units::{Alg, BucketId};
-use std::alloc::{AllocError, Allocator};
+use crush_units::{Alg, BucketId, Name, TypeId};
+use std::alloc::{AllocError, Allocator, Global};
 
-/// The new bucket of a stop: without items, with room for one.
+/// A bucket without items, with room for one, in memory of the allocator.
+pub(crate) fn empty_bucket<A: Allocator + Clone>(
+    alloc: &A,
+    id: BucketId,
+    kind: TypeId,
+    name: &Name<Global>,
+) -> Result<Node<A>, AllocError>
+    ensures { IfOk result (λ node. items_of (node ∷ []) ≡ bucket
+        (new_header (record { id = id; kind = kind; name = name.now })) 0 1 none none) }
+{
+    let items = alloc.clone()?;
+    let header = new_header(alloc, id, kind, name)?;
+    match Node::bucket(items, header) {
+        Ok(node) => Ok(node),
+        Err(_) => Err(AllocError),
+    }
+}
+
+/// What is said of a new bucket, in memory of the allocator.
+fn new_header<A: Allocator + Clone>(
+    alloc: &A,
+    id: BucketId,
+    kind: TypeId,
+    name: &Name<Global>,
+) -> Result<Header<A>, AllocError>
+    ensures { IfOk result (λ header. header_data header
+        ≡ new_header (record { id = id; kind = kind; name = name.now })) }
+{
+    let class_ids = alloc.clone()?;
+    let name = name.try_copy(alloc.clone()?)?;
+    Ok(Header {
+        id,
+        kind,
+        name,
+        alg: Alg::Straw2,
+        class_ids: Vec::new(class_ids),
+    })
+}
+
+/// The new bucket of a stop.
 fn new_bucket<A: Allocator + Clone>(
     alloc: &A,
     id: BucketId,
@@ -29,17 +68,7 @@ fn new_bucket<A: Allocator + Clone>(
     })) 0 1 none none) }
 {
     let pair = &at.pairs()[stop.pair];
-    let header = Header {
-        id,
-        kind: stop.kind,
-        name: pair.name.try_copy(alloc.clone()?)?,
-        alg: Alg::Straw2,
-        class_ids: Vec::new(alloc.clone()?),
-    };
-    match Node::bucket(alloc.clone()?, header) {
-        Ok(node) => Ok(node),
-        Err(_) => Err(AllocError),
-    }
+    empty_bucket(alloc, id, stop.kind, &pair.name)
 }
 
 /// The new buckets of stops, the lowest first, as one item: each in the next, and the lowest with

@@ -36,9 +36,9 @@ fn kept_weight<A: Allocator>(forest: &Forest<A>, device: DeviceId, weight: Weigh
     }
 }
 
-/// Nothing, where the bucket of the location's lowest pair holds the device. Else puts a device that
-/// stands in a bucket at the end of the location's route with its own weight, and another with the
-/// given one, and makes the device where its id isn't there; or tells why it isn't put.
+/// Nothing, where the bucket of the location's lowest pair holds the device. Else puts a device
+/// that stands in a bucket at the end of the location's route with its own weight, and another with
+/// the given one, and makes the device where its id isn't there; or tells why it isn't put.
 ///
 /// All memory is taken before the device moves. Where it lacks, the items are as before.
 pub(crate) fn create_or_move<A: Allocator + Clone>(

@@ -1,5 +1,5 @@
-//! Whether an item can come a way: whether there is room for it and for the new buckets, and whether
-//! all sums stay in range.
+//! Whether an item can come a way: whether there is room for it and for the new buckets, and
+//! whether all sums stay in range.
 
 ghost use Rattle.std.specs.Prelude.{◌≡◌, ℕ, ◌≤◌, List, Some, None, false, not};
 ghost use Rattle.crush_units.specs.declared.id.ItemId.TheVariants.{Device};
@@ -29,7 +29,8 @@ pub(crate) fn lacks_room<A: Allocator>(forest: &Forest<A>, way: &Way) -> bool
     forest.counts().buckets as usize + way.fresh() > MOST_BUCKETS as usize
 }
 
-/// Whether there would be too many buckets or devices where a device that isn't there comes the way.
+/// Whether there would be too many buckets or devices where a device that isn't there comes the
+/// way.
 pub(crate) fn lacks_room_for_new<A: Allocator>(forest: &Forest<A>, way: &Way) -> bool
     ensures { (t : List Row) (d : LeafData) → Stands forest.now t → Leads t way.now
         → is_there t (Device d.id) ≡ false
@@ -77,8 +78,8 @@ pub(crate) fn fits_put_device<A: Allocator>(
     forest.fits_move(ItemId::Device(device), way.place(), weight)
 }
 
-/// Whether all sums stay in range where a device that isn't there comes the way with this weight, of
-/// up to 2147483647 units.
+/// Whether all sums stay in range where a device that isn't there comes the way with this weight,
+/// of up to 2147483647 units.
 pub(crate) fn fits_put_new<A: Allocator>(forest: &Forest<A>, weight: Weight, way: &Way) -> bool
     requires leads { (t : List Row) → Stands forest.now t → Leads t way.now }
     requires weight { weight ≤ HEAVIEST_DEVICE }

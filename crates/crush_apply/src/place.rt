@@ -1,5 +1,5 @@
-//! The end of each edit with a location: an item comes its way, where there is room and all sums stay
-//! in range.
+//! The end of each edit with a location: an item comes its way, where there is room and all sums
+//! stay in range.
 
 ghost use Rattle.std.specs.Prelude.{◌≡◌, List, None, false, IfOk};
 ghost use Rattle.crush_units.specs.declared.id.ItemId.TheVariants.{Device};
@@ -50,8 +50,8 @@ pub(crate) fn place_item<A: Allocator + Clone>(
     })
 }
 
-/// Puts a device with this weight at the end of the way, and makes it where it isn't there, or tells
-/// why it isn't put. It keeps its class; a new one has none.
+/// Puts a device with this weight at the end of the way, and makes it where it isn't there, or
+/// tells why it isn't put. It keeps its class; a new one has none.
 ///
 /// All memory is taken before the device moves. Where it lacks, the items are as before.
 pub(crate) fn place_device<A: Allocator + Clone>(

@@ -1,6 +1,6 @@
 //! A device, or a bucket without items, that is taken out.
 
-ghost use Rattle.std.specs.Prelude.{◌≡◌, List, Some, IfOk, IfErr, OnErr};
+ghost use Rattle.std.specs.Prelude.{◌≡◌, false, List, Some, IfOk, IfErr, OnErr};
 ghost use Rattle.crush_table.specs.Table.{Row};
 ghost use Rattle.crush_table.specs.Stands.{Stands};
 ghost use Rattle.crush_edits.specs.declared.edit.Edit.TheVariants.{Remove};
@@ -61,6 +61,7 @@ pub(crate) fn remove<A: Allocator>(
         → IsDone (Stands forest.new) (edit setting.now t (Remove name.now)) d) }
     ensures refused { IfErr result (λ r. (t : List Row) → Stands forest.old t
         → edit setting.now t (Remove name.now) ≡ refused r) }
+    ensures still { IfOk result (λ d. d.changed ≡ false → forest.new ≡ forest.old) }
     ensures kept { OnErr result (forest.new ≡ forest.old) }
 {
     forest.recall_invariant();

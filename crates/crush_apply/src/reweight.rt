@@ -1,6 +1,6 @@
 //! A new weight for one device.
 
-ghost use Rattle.std.specs.Prelude.{◌≡◌, List, IfOk, IfErr, OnErr};
+ghost use Rattle.std.specs.Prelude.{◌≡◌, false, List, IfOk, IfErr, OnErr};
 ghost use Rattle.crush_table.specs.Table.{Row};
 ghost use Rattle.crush_table.specs.Stands.{Stands};
 ghost use Rattle.crush_edits.specs.Setting.{SettingData};
@@ -55,11 +55,20 @@ pub(crate) fn reweight<A: Allocator>(
         → IsDone (Stands forest.new) (edit s t (Reweight name.now weight)) d) }
     ensures refused { IfErr result (λ r. (s : SettingData) (t : List Row) → Stands forest.old t
         → edit s t (Reweight name.now weight) ≡ refused r) }
+    ensures still { IfOk result (λ d. d.changed ≡ false → forest.new ≡ forest.old) }
     ensures kept { OnErr result (forest.new ≡ forest.old) }
 {
     forest.recall_invariant();
     let device = reweighted(forest, name, weight)?;
-    let changed = forest.weight(ItemId::Device(device)) != Some(weight);
+    if forest.weight(ItemId::Device(device)) == Some(weight) {
+        return Ok(Done {
+            changed: false,
+            made: 0,
+        });
+    }
     forest.set_weight(device, weight);
-    Ok(Done { changed, made: 0 })
+    Ok(Done {
+        changed: true,
+        made: 0,
+    })
 }

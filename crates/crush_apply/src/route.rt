@@ -11,8 +11,9 @@ ghost use Rattle.crush_apply.specs.declared.route.Stop.{Stop};
 ghost use Rattle.crush_apply.specs.Stopped.{pair_name, stops_data, IsPairOf, put_stop};
 
 use arrayvec::ArrayVec;
-use crush_edits::{Location, MOST_PAIRS, Pair, Setting};
+use crush_edits::{Location, Pair, Setting};
 use crush_tree::Forest;
+use crush_units::limits::MOST_PAIRS;
 use crush_units::{BucketId, ItemId, Name, TypeId};
 use std::alloc::{Allocator, Global};
 use std::marker::Model;

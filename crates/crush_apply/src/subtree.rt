@@ -1,6 +1,6 @@
 //! A new weight for all devices below a bucket.
 
-ghost use Rattle.std.specs.Prelude.{◌≡◌, List, IfOk, IfErr, OnErr};
+ghost use Rattle.std.specs.Prelude.{◌≡◌, false, List, IfOk, IfErr, OnErr};
 ghost use Rattle.crush_table.specs.Table.{Row};
 ghost use Rattle.crush_table.specs.Stands.{Stands};
 ghost use Rattle.crush_edits.specs.Setting.{SettingData};
@@ -52,11 +52,20 @@ pub(crate) fn reweight_subtree<A: Allocator>(
         → IsDone (Stands forest.new) (edit s t (ReweightSubtree name.now weight)) d) }
     ensures refused { IfErr result (λ r. (s : SettingData) (t : List Row) → Stands forest.old t
         → edit s t (ReweightSubtree name.now weight) ≡ refused r) }
+    ensures still { IfOk result (λ d. d.changed ≡ false → forest.new ≡ forest.old) }
     ensures kept { OnErr result (forest.new ≡ forest.old) }
 {
     forest.recall_invariant();
     let bucket = reweighted_bucket(forest, name, weight)?;
-    let changed = forest.changes_subtree(bucket, weight);
+    if !forest.changes_subtree(bucket, weight) {
+        return Ok(Done {
+            changed: false,
+            made: 0,
+        });
+    }
     forest.set_subtree(bucket, weight);
-    Ok(Done { changed, made: 0 })
+    Ok(Done {
+        changed: true,
+        made: 0,
+    })
 }

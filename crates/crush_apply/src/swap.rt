@@ -1,6 +1,6 @@
 //! Two buckets that exchange their items and names.
 
-ghost use Rattle.std.specs.Prelude.{◌≡◌, List, Some, IfOk, IfErr, OnErr};
+ghost use Rattle.std.specs.Prelude.{◌≡◌, false, List, Some, IfOk, IfErr, OnErr};
 ghost use Rattle.crush_table.specs.Table.{Row};
 ghost use Rattle.crush_table.specs.Stands.{Stands};
 ghost use Rattle.crush_edits.specs.Setting.{SettingData};
@@ -61,6 +61,7 @@ pub(crate) fn swap<A: Allocator>(
         → IsDone (Stands forest.new) (edit s t (Swap a.now b.now)) d) }
     ensures refused { IfErr result (λ r. (s : SettingData) (t : List Row) → Stands forest.old t
         → edit s t (Swap a.now b.now) ≡ refused r) }
+    ensures still { IfOk result (λ d. d.changed ≡ false → forest.new ≡ forest.old) }
     ensures kept { OnErr result (forest.new ≡ forest.old) }
 {
     forest.recall_invariant();

@@ -16,8 +16,8 @@ use crush_units::{DeviceId, ItemId, Name, Weight};
 use std::alloc::{Allocator, Global};
 
 /// Sets the weight of a device that the bucket of the location's lowest pair holds. Else puts the
-/// device at the end of the location's route with the weight, and makes it where its id isn't there;
-/// or tells why it isn't put.
+/// device at the end of the location's route with the weight, and makes it where its id isn't
+/// there; or tells why it isn't put.
 ///
 /// All memory is taken before the device moves. Where it lacks, the items are as before.
 pub(crate) fn update<A: Allocator + Clone>(

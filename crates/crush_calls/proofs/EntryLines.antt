@@ -1,11 +1,12 @@
 -- The lines of a history, one line more.
-use Rattle.std.proofs.Common.{◌≡◌, ℕ, ◌+◌, ◌<◌, List, [], ◌∷◌, ◌++◌, length, take, get_or, refl, sym, ap, ◌∙◌, append_assoc, arith}
+use Rattle.std.proofs.Common.{◌≡◌, ℕ, ◌+◌, ◌<◌, List, [], ◌∷◌, ◌++◌, length, take, get_or, refl, sym, ap, subst, ◌∙◌, append_assoc, arith}
 use Rattle.std.specs.Prelude.{slice_index_or, if◌then◌else◌}
 use Rattle.std.proofs.lemmas.List.{append-nil, take_more, map_push, length-take-le, length-map, get_or-map}
+use Rattle.std.proofs.lemmas.List.Elements.{All-nil, All-push}
 use Rattle.crush_calls.specs.History.{EntryData, changes, is_change}
 use Rattle.crush_calls.specs.HistoryText.{line_text, entry_text, entries_text, names_of}
 use Rattle.crush_calls.specs.declared.entry.Entry.{Entry}
-use Rattle.crush_calls.specs.Entries.{entry_data, history_data}
+use Rattle.crush_calls.specs.Entries.{AreOf, entry_data, history_data}
 use Rattle.crush_calls.specs.declared.script.Script.{Script}
 use Rattle.crush_calls.specs.Script.{ScriptData, script_data, scripts_data}
 
@@ -61,3 +62,10 @@ lines-take names entries i e h is =
 pub no_lines : (names : List (List ℕ)) → ◌≡◌ {A = List ℕ} [] (entries_text names 1 [])
 unfolding entries_text
 no_lines names = refl
+
+-- no entry is of another operator, and one entry more of an operator below n
+pub none_yet : (n : ℕ) (entries : List Entry) → entries ≡ [] → AreOf n entries
+none_yet n entries is = subst (AreOf n) (sym is) (All-nil (λ (e : Entry). e.operator < n))
+
+pub one_more : (n : ℕ) (now next : List Entry) (e : Entry) → next ≡ now ++ e ∷ [] → AreOf n now → e.operator < n → AreOf n next
+one_more n now next e is all among = subst (AreOf n) (sym is) (All-push (λ (x : Entry). x.operator < n) now e all among)

@@ -49,6 +49,18 @@ pub enum Reply {
     BatchRefused(u32, Refusal),
 }
 
+/// Copies of the edits, in their order. An Err is want of memory.
+fn copies(alloc: Global, edits: &[Edit]) -> Result<Vec<Edit>, AllocError>
+    ensures { IfOk result (λ copies. copies.items ≡ edits.now) }
+{
+    let mut copies = Vec::new(alloc);
+    for edit in edits {
+        let copy = edit.try_copy(alloc)?;
+        copies.push(copy)?;
+    }
+    Ok(copies)
+}
+
 impl Edits {
     /// A batch of these edits, which are at most 65,536. Takes no memory.
     pub fn new(edits: Vec<Edit>) -> Edits
@@ -85,11 +97,7 @@ impl Edits {
     pub(crate) fn try_copy(&self, alloc: Global) -> Result<Edits, AllocError>
         ensures { IfOk result (λ copy. copy ≡ self.now) }
     {
-        let mut edits = Vec::new(alloc);
-        for edit in &self.edits {
-            let edit = edit.try_copy(alloc)?;
-            edits.push(edit)?;
-        }
+        let edits = copies(alloc, self.edits.as_slice())?;
         Ok(Edits { edits })
     }
 }

@@ -2,7 +2,7 @@
 
 ghost use Rattle.std.specs.Prelude.{◌≡◌, ◌<◌, ◌^◌, [], length, slice_index_or, IfErr, IfOk};
 ghost use Rattle.crush_bytes.specs.Writes.{Writes};
-ghost use Rattle.crush_calls.specs.Entries.{history_data};
+ghost use Rattle.crush_calls.specs.Entries.{AreOf, history_data};
 ghost use Rattle.crush_calls.specs.HistoryText.{digit_of, line_front, refusal_text, refused_at_text, line_end, line_text, entries_text, names_of};
 ghost use Rattle.crush_calls.specs.Script.{scripts_data};
 
@@ -183,16 +183,15 @@ pub fn write_entry<W: Write>(
 
 /// The name of an operator, by its number.
 fn operator_name(scripts: &[Script], operator: usize) -> &[u8]
+    requires { operator < length scripts.now }
     ensures { result.now ≡ slice_index_or (names_of (scripts_data scripts.now)) operator [] }
 {
-    match scripts.get(operator) {
-        Some(script) => script.name.as_bytes(),
-        None => b"".as_slice(),
-    }
+    let script = &scripts[operator];
+    script.name.as_bytes()
 }
 
 /// The lines of a history, one for each entry, as [`write_entry`] writes it; they count from 1, and
-/// each entry has the name of the script of its operator's number.
+/// each entry has the name of the script of its operator's number. Each is of one of the scripts.
 ///
 /// They are laid out in memory, so that a whole history is one write, and so that want of memory
 /// shows before anything is written. There are fewer than 2^32 entries, so that each has a number;
@@ -202,7 +201,8 @@ pub fn history_text(
     scripts: &[Script],
     entries: &[Entry<'_>],
 ) -> Result<Vec<u8>, AllocError>
-    requires { length entries.now < 2 ^ 32 }
+    requires few { length entries.now < 2 ^ 32 }
+    requires operators { AreOf (length scripts.now) entries.now }
     ensures { IfOk result (λ text. text.items
         ≡ entries_text (names_of (scripts_data scripts.now)) 1 (history_data entries.now)) }
 {

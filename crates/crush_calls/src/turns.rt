@@ -1,13 +1,13 @@
 //! The scripts of a job, run one after the other.
 
-ghost use Rattle.std.specs.Prelude.{◌≡◌, ◌≤◌, ◌+◌, ◌++◌, ℕ, List, IfOk, OnOk, OnErr, length, take};
+ghost use Rattle.std.specs.Prelude.{◌≡◌, ◌≤◌, ◌<◌, ◌+◌, ◌++◌, ℕ, List, IfOk, OnOk, OnErr, length, take};
 ghost use Rattle.crush_units.specs.declared.limits.TheConstants.{MOST_EDITS};
 ghost use Rattle.crush_table.specs.Table.{Row};
 ghost use Rattle.crush_edits.specs.Setting.{SettingData};
 ghost use Rattle.crush_map.specs.MapData.{MapStands};
 ghost use Rattle.crush_calls.specs.Script.{scripts_data, call_count};
 ghost use Rattle.crush_calls.specs.History.{EntryData, table_after, turn, turns};
-ghost use Rattle.crush_calls.specs.Entries.{history_data};
+ghost use Rattle.crush_calls.specs.Entries.{AreOf, history_data};
 ghost use Rattle.crush_calls.specs.Turns.{Makes, StandsAsBefore};
 
 use crate::call::{Call, Reply};
@@ -62,6 +62,8 @@ fn run_script<'a>(
 ) -> Result<(), AllocError>
     ensures count { OnOk result
         (length entries.new.items ≡ length entries.old.items + length calls.now) }
+    ensures operators { OnOk result ((n : ℕ) → operator < n → AreOf n entries.old.items
+        → AreOf n entries.new.items) }
     ensures entries { OnOk result ((s : SettingData) (t : List Row) → MapStands map.old s t
         → (history_data entries.new.items
         ≡ history_data entries.old.items ++ turn s t operator calls.now)
@@ -92,6 +94,9 @@ pub fn run_in_turn<'a>(
     // Each call of each script has its entry.
     ensures count { IfOk result (λ entries.
         length entries.items ≡ call_count (scripts_data scripts.now)) }
+
+    // Each is of one of the scripts, whatever the map stands for.
+    ensures operators { IfOk result (λ entries. AreOf (length scripts.now) entries.items) }
 
     // The entries are the turns of the scripts, and the map stands for the table after them.
     ensures entries { IfOk result (λ entries. (s : SettingData) (t : List Row)

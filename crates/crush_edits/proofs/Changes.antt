@@ -3,6 +3,7 @@ use Rattle.std.proofs.Common.{◌≡◌, ℕ, suc, ◌+◌, ◌<◌, ◌≤◌, 
 use Rattle.std.specs.Prelude.{◌==◌, ◌&&◌, ◌||◌, not, if◌then◌else◌, Option, Some, None, All, is_some, unwrap_or, bytes_eq}
 use Rattle.std.specs.List.{count_by, list_all}
 use Rattle.std.specs.Option.{option_map, option_eq}
+use Rattle.std.proofs.lemmas.Bool.{and_parts, eqb-true}
 use Rattle.std.proofs.lemmas.List.{length-append}
 use Rattle.std.proofs.lemmas.List.Elements.{All-nil, All-cons}
 use Rattle.std.proofs.lemmas.List.Sums.{sum_by-cons}
@@ -102,16 +103,26 @@ pub same_weights : (which : Row → Bool) (w : ℕ) (t : List Row) → same_tabl
 same_weights which w [] = refl
 same_weights which w (r ∷ t) = λ k. row_or r w (which r) k && same_weights which w t k
 
--- TABLES THAT ARE ONE are of one length and have the same names
-both_true : (a b : Bool) → (a && b) ≡ true → (a ≡ true) × (b ≡ true)
-both_true true b p = (refl, p)
-both_true false b p = absurd cc
+-- where that is the same table it is the table as it was
+row_kept : (r : Row) (w : ℕ) (b : Bool) → (not b || (r.weight == w)) ≡ true → (if b then record r { weight = w } else r) ≡ r
+row_kept r w true h = ap (λ v. record r { weight = v }) (sym (eqb-true r.weight w h))
+row_kept r w false h = refl
 
+all_kept : (which : Row → Bool) (w : ℕ) (t : List Row) → list_all (λ (r : Row). not (which r) || (r.weight == w)) t ≡ true → set_weights which w t ≡ t
+all_kept which w [] h = refl
+all_kept which w (r ∷ t) h =
+    let parts = and_parts (not (which r) || (r.weight == w)) (list_all (λ (x : Row). not (which x) || (x.weight == w)) t) h in
+    λ k. row_kept r w (which r) parts.0 k ∷ all_kept which w t parts.1 k
+
+pub weights_kept : (which : Row → Bool) (w : ℕ) (t : List Row) → same_table t (set_weights which w t) ≡ true → set_weights which w t ≡ t
+weights_kept which w t h = all_kept which w t (sym (same_weights which w t) ∙ h)
+
+-- TABLES THAT ARE ONE are of one length and have the same names
 pub same_length : (t u : List Row) → same_table t u ≡ true → length t ≡ length u
 same_length [] [] e = refl
 same_length [] (s ∷ u) e = absurd cc
 same_length (r ∷ t) [] e = absurd cc
-same_length (r ∷ t) (s ∷ u) e = ap suc (same_length t u (both_true (same_row r s) (same_table t u) e).1)
+same_length (r ∷ t) (s ∷ u) e = ap suc (same_length t u (and_parts (same_row r s) (same_table t u) e).1)
 
 names_of : (a b c d e f g h : Bool) → (a && b && c && d && e && f && g && h) ≡ true → (a ≡ true) × (c ≡ true)
 names_of false b c d e f g h p = absurd cc
@@ -127,7 +138,7 @@ same_names n [] [] e = refl
 same_names n [] (s ∷ u) e = absurd cc
 same_names n (r ∷ t) [] e = absurd cc
 same_names n (r ∷ t) (s ∷ u) e =
-    let both = both_true (same_row r s) (same_table t u) e in
+    let both = and_parts (same_row r s) (same_table t u) e in
     let name : r.name ≡ s.name = (bytes_eq-Decides r.name s.name).0 (same_columns r s both.0).1 in
     let here : one_if (bytes_eq r.name n) ≡ one_if (bytes_eq s.name n) = ap (λ m. one_if (bytes_eq m n)) name in
     omega (arith, here, sum_by-cons (λ (x : Row). one_if (bytes_eq x.name n)) r t, sum_by-cons (λ (x : Row). one_if (bytes_eq x.name n)) s u, same_names n t u both.1)
@@ -137,7 +148,7 @@ same_name_of [] [] e i = refl
 same_name_of [] (s ∷ u) e i = absurd cc
 same_name_of (r ∷ t) [] e i = absurd cc
 same_name_of (r ∷ t) (s ∷ u) e i =
-    let both = both_true (same_row r s) (same_table t u) e in
+    let both = and_parts (same_row r s) (same_table t u) e in
     let two = same_columns r s both.0 in
     by_id (same_id r.id i) (same_id s.id i) (ap (λ j. same_id j i) (same_id_equal r.id s.id two.0)) ((bytes_eq-Decides r.name s.name).0 two.1) (same_name_of t u both.1 i) where
       by_id : (b c : Bool) → b ≡ c → r.name ≡ s.name → name_of t i ≡ name_of u i → option_map (λ (x : Row). x.name) (if b then Some r else row_of t i) ≡ option_map (λ (x : Row). x.name) (if c then Some s else row_of u i)

@@ -1,5 +1,6 @@
 -- A table is another one after an item is put, unless the lowest stop's bucket holds the item already.
 use Rattle.std.proofs.Common.{◌≡◌, ℕ, suc, Bool, true, false, List, [], ◌∷◌, ◌++◌, length, ap, sym, subst, ◌∙◌, ◌<◌, refl, arith, ⊎_elim, eqb-true, nat_eq}
+use Rattle.std.proofs.lemmas.Bool.{and_parts}
 use Rattle.std.specs.Prelude.{◌==◌, ◌&&◌, not, if◌then◌else◌, Option, Some, None, IfSome, All, is_some, option_and_then, bytes_eq}
 use Rattle.std.specs.Option.{option_eq}
 use Rattle.std.proofs.lemmas.List.Elements.{All-head, All-tail}
@@ -76,10 +77,6 @@ columns true true false d e f g h p = absurd cc
 columns true true true false e f g h p = absurd cc
 columns true true true true e f g h p = (refl, refl)
 
-both_true : (a b : Bool) → (a && b) ≡ true → (a ≡ true) × (b ≡ true)
-both_true true b p = (refl, p)
-both_true false b p = absurd cc
-
 option_same : (o q : Option ℕ) → option_eq nat_eq o q ≡ true → o ≡ q
 option_same None None e = refl
 option_same None (Some q) e = absurd cc
@@ -91,7 +88,7 @@ parent_of-same_table [] [] e i = refl
 parent_of-same_table [] (s ∷ u) e i = absurd cc
 parent_of-same_table (r ∷ t) [] e i = absurd cc
 parent_of-same_table (r ∷ t) (s ∷ u) e i =
-    let first = both_true (same_row r s) (same_table t u) e in
+    let first = and_parts (same_row r s) (same_table t u) e in
     let two = columns (same_id r.id s.id) (r.kind == s.kind) (bytes_eq r.name s.name) (option_eq nat_eq r.parent s.parent) (r.weight == s.weight) (option_eq bytes_eq r.class s.class) (option_eq same_alg r.alg s.alg) (pointwise same_class r.class_ids s.class_ids) first.0 in
     by_id (same_id r.id i) (same_id s.id i) (ap (λ j. same_id j i) (same_id_equal r.id s.id two.0)) (option_same r.parent s.parent two.1) (parent_of-same_table t u first.1 i) where
       by_id : (b c : Bool) → b ≡ c → r.parent ≡ s.parent → parent_of t i ≡ parent_of u i

@@ -2,13 +2,14 @@
 use Rattle.std.proofs.Common.{◌≡◌, ℕ, ◌≤◌, Bool, true, false, List, [], ◌∷◌, length, refl, ap, sym, subst, ◌∙◌, arith, ⊎_elim}
 use Rattle.std.specs.Prelude.{◌==◌, ◌&&◌, not, if◌then◌else◌, Option, Some, None, IfSome, All, is_some, is_none, option_and_then, unwrap_or, bytes_eq}
 use Rattle.std.specs.Option.{option_map}
-use Rattle.std.proofs.lemmas.Bool.{ltb-false}
+use Rattle.std.proofs.lemmas.Bool.{ltb-false, not-false}
 use Rattle.std.proofs.lemmas.List.Elements.{All-head, All-tail}
 use Rattle.std.proofs.lemmas.Slice.Eq.{bytes_eq-Decides}
 use Rattle.crush_units.specs.declared.id.ItemId.{ItemId}
 use Rattle.crush_units.specs.declared.id.ItemId.TheVariants.{Device, Bucket}
 use Rattle.crush_units.specs.Id.{same_id}
 use Rattle.crush_units.specs.Name.{IsName}
+use Rattle.crush_units.specs.declared.limits.TheConstants.{HEAVIEST_DEVICE}
 use Rattle.crush_units.proofs.Ids.{same_id_equal}
 use Rattle.crush_table.specs.ItemRows.{device_row}
 use Rattle.crush_table.specs.Table.{Row, is_device_id, row_of, id_named, is_named, is_there, is_placed, parent_of, class_of, own_weight_of, name_of}
@@ -57,12 +58,9 @@ none_hold (p ∷ ps) e = by_test p.1 refl e (none_hold ps) where
   by_test true is f rest = absurd cc
   by_test false is f rest = (is, rest f)
 
-not_heavy : (w : ℕ) → is_heavy w ≡ false → w ≤ 2147483647
-not_heavy w h = ltb-false 2147483647 w h
-
-not_back : (a : Bool) → not a ≡ false → a ≡ true
-not_back true h = refl
-not_back false h = absurd cc
+-- what isn't too heavy is a device's weight
+pub not_heavy : (w : ℕ) → is_heavy w ≡ false → w ≤ HEAVIEST_DEVICE
+not_heavy w h = ltb-false HEAVIEST_DEVICE w h
 
 pub some_row : (t : List Row) (i : ItemId) → is_there t i ≡ true → (r : Row) × (row_of t i ≡ Some r)
 some_row t i there = by_row (row_of t i) refl there where
@@ -76,7 +74,8 @@ no_device_ends None h = tt
 no_device_ends (Some (Device d)) h = absurd cc
 no_device_ends (Some (Bucket b)) h = refl
 
-device_apart : (t : List Row) (d : ℕ) (o : Option ℕ) → IfSome o (λ b. is_part t (Device d) (Bucket b) ≡ false)
+-- nothing is part of a device but itself
+pub device_apart : (t : List Row) (d : ℕ) (o : Option ℕ) → IfSome o (λ b. is_part t (Device d) (Bucket b) ≡ false)
 device_apart t d None = tt
 device_apart t d (Some b) = refl
 
@@ -112,7 +111,7 @@ name_free : (t : List Row) (d : ℕ) (n : List ℕ) → is_there t (Device d) �
 name_free t d n gone h = by_id (id_named t n) (named_there t n) h where
   by_id : (o : Option ItemId) → IfSome o (λ i. is_there t i ≡ true) → meets (λ j. not (same_id j (Device d))) o ≡ false → is_some o ≡ false
   by_id None there g = refl
-  by_id (Some j) there g = absurd (let same : j ≡ Device d = same_id_equal j (Device d) (not_back (same_id j (Device d)) g) in let here : is_there t (Device d) ≡ true = ap (is_there t) (sym same) ∙ there in cc)
+  by_id (Some j) there g = absurd (let same : j ≡ Device d = same_id_equal j (Device d) (not-false (same_id j (Device d)) g) in let here : is_there t (Device d) ≡ true = ap (is_there t) (sym same) ∙ there in cc)
 
 module _ (s : SettingData) (t : List Row) (k : Keeps s t) where
   -- A DEVICE that is put
@@ -126,7 +125,7 @@ module _ (s : SettingData) (t : List Row) (k : Keeps s t) where
 
     pub there_named : (r : Row) → row_of t (Device d) ≡ Some r → r.name ≡ n
     there_named r e =
-        (bytes_eq-Decides r.name n).0 (not_back (bytes_eq r.name n)
+        (bytes_eq-Decides r.name n).0 (not-false (bytes_eq r.name n)
         (sym (ap (λ o. meets (λ m. not (bytes_eq m n)) (option_map (λ (x : Row). x.name) o)) e) ∙ or_right (meets (λ j. not (same_id j (Device d))) (id_named t n)) (meets (λ m. not (bytes_eq m n)) (name_of t (Device d))) own))
 
     device_put_lawful : (w : ℕ) → w ≤ 2147483647 → is_too_heavy (put t (edited_device t d n w) (stops s l)) ≡ false → has_too_many (put t (edited_device t d n w) (stops s l)) ≡ false → Lawful (put t (edited_device t d n w) (stops s l))

@@ -2,7 +2,7 @@
 use Rattle.std.proofs.Common.{◌≡◌, ℕ, zero, suc, ◌+◌, ◌<◌, ◌≤◌, Bool, true, false, List, [], ◌∷◌, ◌++◌, sym, subst, refl, arith, ◌∙◌, ap}
 use Rattle.std.specs.Prelude.{◌&&◌, if◌then◌else◌, Some, None, All, map, nat_lt, slice_index}
 use Rattle.std.specs.List.Sorted.{IsStrictlyIncreasing}
-use Rattle.std.proofs.lemmas.Bool.{ltb-true}
+use Rattle.std.proofs.lemmas.Bool.{and_parts, ltb-true}
 use Rattle.std.proofs.lemmas.List.Elements.{All-nil, All-cons, All-weaker, All-head, All-tail}
 use Rattle.crush_table.specs.Table.{Row}
 use Rattle.crush_edits.specs.declared.refusal.Refusal.{Refusal}
@@ -45,10 +45,6 @@ rises_from x (y ∷ ys) = nat_lt x y && rises_from y ys
 abbrev rises : List ℕ → Bool
 rises [] = true
 rises (x ∷ xs) = rises_from x xs
-
-and_parts : (a b : Bool) → (a && b) ≡ true → (a ≡ true) × (b ≡ true)
-and_parts true b h = (refl, h)
-and_parts false b h = absurd cc
 
 increasing_from : (x : ℕ) (xs : List ℕ) → rises_from x xs ≡ true → IsStrictlyIncreasing (x ∷ xs)
 increasing_from x [] h k lt = absurd (omega arith)

@@ -4,7 +4,7 @@ use Rattle.std.specs.Prelude.{◌==◌, ◌||◌, not, if◌then◌else◌, Some
 use Rattle.std.specs.List.{list_any}
 use Rattle.std.specs.Option.{option_map}
 use Rattle.std.proofs.Math.Bool.{or-true}
-use Rattle.std.proofs.lemmas.Bool.{lt-ltb}
+use Rattle.std.proofs.lemmas.Bool.{lt-ltb, not-false}
 use Rattle.std.proofs.lemmas.Bool.Decides.{eqb_tells}
 use Rattle.std.proofs.lemmas.List.Elements.{All-nil, All-cons, All-head, All-tail, All-append, All-filter, All-weaker}
 use Rattle.std.proofs.lemmas.List.Sums.{sum_by_push}
@@ -81,16 +81,12 @@ swap_fits s t a b fits =
     (name_fits s _ (Bucket a) _ (name_fits s t (Bucket b) _ fits))
 
 -- A ROW that is taken out
-not_false : (a : Bool) → not a ≡ false → a ≡ true
-not_false true h = refl
-not_false false h = absurd cc
-
 none_of_no_length : {X : Type 0} (xs : List X) → (length xs == 0) ≡ true → xs ≡ []
 none_of_no_length [] h = refl
 none_of_no_length (x ∷ xs) h = ⊎_elim (λ p. absurd (omega (arith, p.1))) (λ p. absurd (let other = p.0 in cc)) (eqb_tells (length (x ∷ xs)) 0)
 
 pub holds_none : (t : List Row) (b : ℕ) → holds_items t b ≡ false → kids t b ≡ []
-holds_none t b h = none_of_no_length (kids t b) (not_false (length (kids t b) == 0) h)
+holds_none t b h = none_of_no_length (kids t b) (not-false (length (kids t b) == 0) h)
 
 pub remove_lawful : RemoveKeepsLawful
 remove_lawful t (Device d) l h = subst Lawful (table_without-device t d) (Lawful-without (Device d) t l)

@@ -3,7 +3,7 @@ use Rattle.std.proofs.Common.{◌≡◌, ℕ, suc, ◌+◌, ◌<◌, ◌≤◌, 
 use Rattle.std.specs.Prelude.{◌==◌, ◌||◌, not, if◌then◌else◌, Option, Some, None, IfSome, All, find, fold, insert, map, is_none, bytes_eq, nat_le}
 use Rattle.std.specs.List.{sum_by, count_by, list_any, position_or_len}
 use Rattle.std.specs.Option.{option_map}
-use Rattle.std.proofs.lemmas.Bool.{leb-true, leb-false}
+use Rattle.std.proofs.lemmas.Bool.{leb-true, leb-false, not-false}
 use Rattle.std.proofs.lemmas.Bool.Decides.{eqb_tells}
 use Rattle.std.proofs.lemmas.List.{length-append, take-append-drop}
 use Rattle.std.proofs.lemmas.List.Sums.{sum_by-cons, sum_by-insert, fold-append}
@@ -87,15 +87,11 @@ fold_form s kinds (p ∷ l) a names h forms =
     fold_form s kinds l (more s a p) (All-tail (λ (q : Pair). IsName q.name) p l names) (or_right (is_type_zero s p) (list_any (is_type_zero s) l) h)
     (with_form (kind_number s p.kind) p.name a (kind_most s kinds p.kind) (or_left (is_type_zero s p) (list_any (is_type_zero s) l) h) (All-head (λ (q : Pair). IsName q.name) p l names) forms)
 
-not_back : (a : Bool) → not a ≡ false → a ≡ true
-not_back true h = refl
-not_back false h = absurd cc
-
 -- each name of the location once, so each once among the stops
 once_named : (s : SettingData) (l : List Pair) → has_twice (map (λ (p : Pair). p.name) l) ≡ false → OnceNamed (stops s l)
 once_named s l h n =
     let once : count_by (λ m. bytes_eq m n) (map (λ (p : Pair). p.name) l) ≤ 1 =
-    apart_once bytes_eq (λ a b. (bytes_eq-Decides a b).0) (λ a. (bytes_eq-Decides a a).1 refl) (map (λ (p : Pair). p.name) l) (not_back (are_apart bytes_eq (map (λ (p : Pair). p.name) l)) h) n in
+    apart_once bytes_eq (λ a b. (bytes_eq-Decides a b).0) (λ a. (bytes_eq-Decides a a).1 refl) (map (λ (p : Pair). p.name) l) (not-false (are_apart bytes_eq (map (λ (p : Pair). p.name) l)) h) n in
     omega (arith, fold_hit s n l [], once, sum_by-map (λ m. one_if (bytes_eq m n)) (λ (p : Pair). p.name) l)
 
 -- a name that the location doesn't have is no stop's

@@ -11,6 +11,13 @@ use Rattle.crush_units.specs.declared.limits.TheConstants.{LAST_TYPE, MOST_RULES
 abbrev pub is_reserved : List ℕ → Bool
 is_reserved n = list_any (λ word. bytes_eq word n) (codes "tunable" ∷ (codes "device" ∷ (codes "type" ∷ (codes "rule" ∷ (codes "class" ∷ (codes "choose_args" ∷ []))))))
 
+-- the greatest numbers of 32 bits, without and with a sign
+abbrev pub greatest_unsigned : ℕ
+greatest_unsigned = 4294967295
+
+abbrev pub greatest_signed : ℕ
+greatest_signed = 2147483647
+
 -- a type by itself
 pub record IsKind (k : KindData) : Type 0 where
   pub number : k.number ≤ LAST_TYPE
@@ -20,12 +27,12 @@ pub record IsKind (k : KindData) : Type 0 where
 -- a tunable by itself
 pub record IsTunable (k : TunableData) : Type 0 where
   pub name : IsName k.name
-  pub value : k.value ≤ 4294967295
+  pub value : k.value ≤ greatest_unsigned
 
 -- a number of 32 bits with a sign
 abbrev pub IsCount : ℤ → Type 0
-IsCount (pos n) = n ≤ 2147483647
-IsCount (negsuc n) = n ≤ 2147483647
+IsCount (pos n) = n ≤ greatest_signed
+IsCount (negsuc n) = n ≤ greatest_signed
 
 -- a step that chooses names a type of the setting, also type 0
 pub record IsChoice (s : SettingData) (count : ℤ) (kind : List ℕ) : Type 0 where
@@ -36,7 +43,7 @@ pub record IsChoice (s : SettingData) (count : ℤ) (kind : List ℕ) : Type 0 w
 pub record IsSet (word : List ℕ) (value : ℕ) : Type 0 where
   pub name : IsName word
   pub sets : starts_with nat_eq word (codes "set_") ≡ true
-  pub range : value ≤ 2147483647
+  pub range : value ≤ greatest_signed
 
 -- a step by itself
 abbrev pub IsStep : SettingData → StepData → Type 0
@@ -48,10 +55,10 @@ IsStep s emit = Unit {0}
 -- a rule by itself
 pub record IsRule (s : SettingData) (r : RuleData) : Type 0 where
   pub name : IsName r.name
-  pub id : r.id ≤ 2147483647
+  pub id : r.id ≤ greatest_signed
   pub kind : IsName r.kind
-  pub min_size : IfSome r.min_size (λ n. n ≤ 2147483647)
-  pub max_size : IfSome r.max_size (λ n. n ≤ 2147483647)
+  pub min_size : IfSome r.min_size (λ n. n ≤ greatest_signed)
+  pub max_size : IfSome r.max_size (λ n. n ≤ greatest_signed)
   pub few : length r.steps ≤ MOST_STEPS
   pub steps : All (IsStep s) r.steps
 

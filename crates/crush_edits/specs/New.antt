@@ -6,7 +6,7 @@ use Rattle.crush_units.specs.Name.{IsName}
 use Rattle.crush_table.specs.Table.{Row, is_device_id, member, used_ids, is_named, is_there}
 use Rattle.crush_edits.specs.Stops.{StopData, end_id}
 use Rattle.crush_edits.specs.Put.{NewData}
-use Rattle.crush_units.specs.declared.limits.TheConstants.{FARTHEST_BUCKET_ID, LAST_TYPE}
+use Rattle.crush_units.specs.declared.limits.TheConstants.{FARTHEST_BUCKET_ID, LAST_TYPE, MOST_FREE_IDS}
 
 -- a bucket's type and name
 pub record IsStop (p : StopData) : Type 0 where
@@ -21,7 +21,7 @@ OnceNamed ps = (n : List ℕ) → count_by (λ (p : StopData). bytes_eq p.name n
 -- a route: not empty, its stops in form and each named once, and no device at its end
 pub record IsRoute (t : List Row) (ps : List StopData) : Type 0 where
   pub some : 0 < length ps
-  pub few : length ps ≤ 65536
+  pub few : length ps ≤ MOST_FREE_IDS
   pub forms : All IsStop ps
   pub once : OnceNamed ps
   pub ends : IfSome (end_id t ps) (λ i. is_device_id i ≡ false)

@@ -10,7 +10,7 @@ mod rule;
 mod setting;
 
 pub use edit::Edit;
-pub use location::{Location, LocationFault, MOST_PAIRS, Pair};
+pub use location::{Location, LocationFault, Pair};
 pub use refusal::{BatchFault, Done, Dones, EditFault, Refusal};
 pub use rule::{Rule, Step};
 pub use setting::{KeptRule, KeptStep, Setting, is_reserved};

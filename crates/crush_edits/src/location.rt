@@ -4,13 +4,11 @@ ghost use Rattle.std.specs.Prelude.{◌≡◌, ◌≤◌, [], ◌∷◌, ◌++�
 ghost use Rattle.crush_units.specs.Name.{IsName};
 ghost use Rattle.crush_edits.specs.Pushed.{IsLocation, CanPush, IsLocationFault, location_fault_number};
 
+use crush_units::limits::MOST_PAIRS;
 use crush_units::{Name, NameFault, is_name};
 use std::alloc::{AllocError, Global};
 use std::marker::Model;
 use thiserror::Error;
-
-/// The most pairs of a location.
-pub const MOST_PAIRS: usize = 16;
 
 /// A type name and a bucket's name, as `host=h1` says them.
 #[derive(Debug, Drop)]

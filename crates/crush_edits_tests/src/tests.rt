@@ -1,6 +1,7 @@
 //! Locations up to their limit, and copies of each edit, in the machine's memory.
 
 use crush_edits::*;
+use crush_units::limits::MOST_PAIRS;
 use crush_units::{DeviceId, Name, Weight};
 use std::alloc::Global;
 use std::test::Fail;

@@ -24,7 +24,7 @@ use Rattle.crush_bytes.specs.Words.{is_brace_word}
 use Rattle.crush_text.specs.declared.opening.Opening.{Opening}
 use Rattle.crush_text.specs.declared.opening.Opening.TheVariants as openings
 use Rattle.crush_text.specs.Forms.{is_number, is_signed, signed_value}
-use Rattle.crush_text.specs.Role.{Role, value, number_of, item_of, bucket_of, units, key, any_word, number, opening, tunable_name, type_number, type_name, device_id, new_name, bucket_id, id_or_alg, id_class, algorithm, item_or_end, item, lone_item, weight, rule_name, rule_id_key, rule_id, step_or_end, step_word, StepWord, takes, chooses, sets, emits, step_said, taken_bucket, step_order, step_count, step_type}
+use Rattle.crush_text.specs.Role.{Role, value, number_of, opened, item_of, bucket_of, units, key, any_word, number, opening, tunable_name, type_number, type_name, device_id, new_name, bucket_id, id_or_alg, id_class, algorithm, item_or_end, item, lone_item, weight, rule_name, rule_id_key, rule_id, step_or_end, step_word, StepWord, takes, chooses, sets, emits, step_said, taken_bucket, step_order, step_count, step_type}
 use Rattle.crush_text.specs.Form.{Mode, first, second, begun, numbered, filling, ruled, Form, done, word, optional, ahead}
 use Rattle.crush_text.specs.Grammar.{tunable_line, type_line, device_class, device_line, bucket_line, id_line, class_id_line, alg_line, id_or_alg_line, item_line, new_rule, max_size, sizes, rule_line, step_behind, step_or_brace, statement, item_or_brace, lines}
 use Rattle.crush_text.specs.Tests.{Test, ◌when◌, tests, unless, is_either, is_weight_for, is_step_word}
@@ -103,6 +103,10 @@ no_key k h =
     let e = or_parts _ _ d.1 in
     let f = or_parts _ _ e.1 in
     record { tunable = differs _ k a.0; device = differs _ k b.0; kind = differs _ k c.0; rule = differs _ k d.0; class = differs _ k e.0; weights = differs _ k f.0 }
+
+-- so it opens a bucket
+pub opens : (d : Draft) (w : List ℕ) (k : ℕ) → is_reserved w ≡ false → number_of d w ≡ k → opened d w ≡ openings.Bucket k
+opens d w k h e = let n = no_key w h in rw (n.tunable, n.device, n.kind, n.rule) (ap (λ (x : ℕ). openings.Bucket x) e)
 
 -- an item that is found is named so
 found_named : (p : Pending) (o : Option ItemId) (i : ItemId) → option_and_then (closed_item p) o ≡ Some i → is_some o ≡ true
@@ -430,7 +434,7 @@ module _ (d : Draft) (m : IsMap d) where
   opened_bucket idle late w some =
       let t = type_named d.setting.kinds w m.fits.setting.kinds some in
       let n = no_key w t.free in
-      let is : value d (opening late) w ≡ openings.Bucket (number_of d w) = rw (n.tunable, n.device, n.kind, n.rule) refl in
+      let is : value d (opening late) w ≡ openings.Bucket (number_of d w) = opens d w (number_of d w) t.free refl in
       subst (λ (o : Opening). Possible d (statement d o) → IsRight d (opening late) w × Rightly d (statement d o)) (sym is) (λ p.
       let known : is_bucket_kind d.setting (number_of d w) ≡ true = p.2.0.pending.known in
       let full : is_full_of_buckets d ≡ false = lt-leb 4096 (bucket_count d.table) p.2.0.pending.few in (

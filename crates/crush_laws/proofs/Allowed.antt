@@ -20,6 +20,9 @@ use Rattle.crush_table.specs.Columns.{without_row}
 use Rattle.crush_table.specs.Lawful.{Lawful, IsShadowId, IsRow, IsRowOf, IsDeviceRow, is_over, is_too_heavy}
 use Rattle.crush_edits.specs.Setting.{KindData, TunableData, StepData, RuleData}
 use Rattle.crush_edits.specs.Fits.{IsKind, IsTunable, IsStep, IsRule, is_reserved}
+use Rattle.crush_table.specs.Count.{one_if}
+use Rattle.crush_table.proofs.Tested.{bytes_itself}
+use Rattle.crush_print.proofs.PrintedTexts.{All-right}
 use Rattle.crush_table.proofs.Found.{times, row_of-absent}
 use Rattle.crush_map.specs.Built.{Draft, Pending, nothing, filling, with_tunable, with_kind, with_device, add_rule, placed_row, put_below, table_with_item, with_item}
 use Rattle.crush_map.specs.Building.{CanNumber, own_ids, has_name, has_pending_name, has_kind_number, has_kind_name, has_tunable, is_full_of_devices, is_full_of_kinds, is_full_of_tunables}
@@ -28,18 +31,14 @@ use Rattle.crush_map.proofs.RowSteps.{new_device}
 use Rattle.crush_text.specs.Grammar.{with_step}
 use Rattle.crush_text.specs.Document.{IsMap}
 
--- one or none
-abbrev one_if : Bool → ℕ
-one_if b = if b then 1 else 0
-
 -- one more that passes a test
-count_last : {X : Type 0} (p : X → Bool) (xs : List X) (y : X) → p y ≡ true → count_by p (xs ++ y ∷ []) ≡ count_by p xs + 1
+pub count_last : {X : Type 0} (p : X → Bool) (xs : List X) (y : X) → p y ≡ true → count_by p (xs ++ y ∷ []) ≡ count_by p xs + 1
 count_last p xs y h =
     let one : one_if (p y) ≡ 1 = ap one_if h in
     omega (arith, one, sum_by-append (λ x. one_if (p x)) xs (y ∷ []), sum_by-cons (λ x. one_if (p x)) y [])
 
 -- none passes a test
-any_none : {X : Type 0} (p : X → Bool) (xs : List X) → count_by p xs ≡ 0 → list_any p xs ≡ false
+pub any_none : {X : Type 0} (p : X → Bool) (xs : List X) → count_by p xs ≡ 0 → list_any p xs ≡ false
 any_none p [] h = refl
 any_none p (x ∷ xs) h = by_test (p x) refl (any_none p xs)
   where
@@ -48,15 +47,11 @@ any_none p (x ∷ xs) h = by_test (p x) refl (any_none p xs)
     by_test false e ih = rw e (ih (omega (arith, h, sum_by-cons (λ y. one_if (p y)) x xs)))
 
 -- so it is where at most one does with one more that does
-none_before : {X : Type 0} (p : X → Bool) (xs : List X) (y : X) → p y ≡ true → count_by p (xs ++ y ∷ []) ≤ 1 → count_by p xs ≡ 0
+pub none_before : {X : Type 0} (p : X → Bool) (xs : List X) (y : X) → p y ≡ true → count_by p (xs ++ y ∷ []) ≤ 1 → count_by p xs ≡ 0
 none_before p xs y h one = omega (arith, one, count_last p xs y h)
 
--- bytes are those that they are
-pub same_bytes : (x : List ℕ) → bytes_eq x x ≡ true
-same_bytes x = (bytes_eq-Decides x x).1 refl
-
 -- a name that no row has
-unnamed : (t : List Row) (n : List ℕ) → count_by (λ (r : Row). bytes_eq r.name n) t ≡ 0 → is_named t n ≡ false
+pub unnamed : (t : List Row) (n : List ℕ) → count_by (λ (r : Row). bytes_eq r.name n) t ≡ 0 → is_named t n ≡ false
 unnamed [] n h = refl
 unnamed (r ∷ t) n h = by_test (bytes_eq r.name n) refl (unnamed t n)
   where
@@ -72,7 +67,7 @@ pub record KindFree (d : Draft) (n : ℕ) (x : List ℕ) : Type 0 where
   pub kind : IsKind (record { number = n; name = x })
 
 -- the last of all
-last_of : {X : Type 0} (P : X → Type 0) (xs : List X) (y : X) → All P (xs ++ y ∷ []) → P y
+pub last_of : {X : Type 0} (P : X → Type 0) (xs : List X) (y : X) → All P (xs ++ y ∷ []) → P y
 last_of P [] y h = All-head P y [] h
 last_of P (x ∷ xs) y h = last_of P xs y (All-tail P x (xs ++ y ∷ []) h)
 
@@ -82,7 +77,7 @@ kind_free d n x m =
     let kind : KindData = record { number = n; name = x } in
     record {
       number = any_none (λ (k : KindData). k.number == n) d.setting.kinds (none_before (λ (k : KindData). k.number == n) d.setting.kinds kind (eq-eqb n n refl) (m.fits.setting.numbers n));
-      name = any_none (λ (k : KindData). bytes_eq k.name x) d.setting.kinds (none_before (λ (k : KindData). bytes_eq k.name x) d.setting.kinds kind (same_bytes x) (m.fits.setting.names x));
+      name = any_none (λ (k : KindData). bytes_eq k.name x) d.setting.kinds (none_before (λ (k : KindData). bytes_eq k.name x) d.setting.kinds kind (bytes_itself x) (m.fits.setting.names x));
       few = lt-leb 256 (length d.setting.kinds) (omega (arith, m.fits.setting.few_kinds, length-append d.setting.kinds (kind ∷ [])));
       kind = last_of IsKind d.setting.kinds kind m.fits.setting.kinds;
     }
@@ -98,7 +93,7 @@ pub tunable_free : (d : Draft) (x : List ℕ) (v : ℕ) → IsMap (with_tunable 
 tunable_free d x v m =
     let new : TunableData = record { name = x; value = v } in
     record {
-      name = any_none (λ (k : TunableData). bytes_eq k.name x) d.setting.tunables (none_before (λ (k : TunableData). bytes_eq k.name x) d.setting.tunables new (same_bytes x) (m.fits.setting.tunable_names x));
+      name = any_none (λ (k : TunableData). bytes_eq k.name x) d.setting.tunables (none_before (λ (k : TunableData). bytes_eq k.name x) d.setting.tunables new (bytes_itself x) (m.fits.setting.tunable_names x));
       few = lt-leb 64 (length d.setting.tunables) (omega (arith, m.fits.setting.few_tunables, length-append d.setting.tunables (new ∷ [])));
       tunable = last_of IsTunable d.setting.tunables new m.fits.setting.tunables;
     }
@@ -113,7 +108,7 @@ pub record RuleFree (d : Draft) (r : RuleData) : Type 0 where
 -- the rule that comes last is free before its lines
 pub rule_free : (d : Draft) (r : RuleData) → IsMap (add_rule d r) → RuleFree d r
 rule_free d r m = record {
-  name = any_none (λ (x : RuleData). bytes_eq x.name r.name) d.setting.rules (none_before (λ (x : RuleData). bytes_eq x.name r.name) d.setting.rules r (same_bytes r.name) (m.fits.setting.rule_names r.name));
+  name = any_none (λ (x : RuleData). bytes_eq x.name r.name) d.setting.rules (none_before (λ (x : RuleData). bytes_eq x.name r.name) d.setting.rules r (bytes_itself r.name) (m.fits.setting.rule_names r.name));
   id = any_none (λ (x : RuleData). x.id == r.id) d.setting.rules (none_before (λ (x : RuleData). x.id == r.id) d.setting.rules r (eq-eqb r.id r.id refl) (m.fits.setting.rule_ids r.id));
   few = lt-leb 256 (length d.setting.rules) (omega (arith, m.fits.setting.few_rules, length-append d.setting.rules (r ∷ [])));
   rule = last_of (IsRule (add_rule d r).setting) d.setting.rules r m.fits.setting.rules;
@@ -155,7 +150,7 @@ class_free t b cs c n =
       form = last_of IsShadowId cs c n.form;
       fresh = last_of (λ (x : ShadowData). member x.id (used_ids t) ≡ false) cs c n.fresh;
       other = member_any c.id (own_ids b cs) ∙ any_none (λ u. u == c.id) (own_ids b cs) (none_before (λ u. u == c.id) (own_ids b cs) c.id (eq-eqb c.id c.id refl) once);
-      class = any_none (λ (x : ShadowData). bytes_eq x.class c.class) cs (none_before (λ (x : ShadowData). bytes_eq x.class c.class) cs c (same_bytes c.class) (n.classes c.class));
+      class = any_none (λ (x : ShadowData). bytes_eq x.class c.class) cs (none_before (λ (x : ShadowData). bytes_eq x.class c.class) cs c (bytes_itself c.class) (n.classes c.class));
     }
 
 -- the name of a type is a name
@@ -198,7 +193,7 @@ item_form (r ∷ t) n all e = by_test (bytes_eq r.name n) refl e (item_form t n 
 -- a name of an item is free
 name_free : (d : Draft) (r : Row) → d.pending ≡ nothing → Lawful (d.table ++ r ∷ []) → has_name d r.name ≡ false
 name_free d r idle l =
-    let none : is_named d.table r.name ≡ false = unnamed d.table r.name (none_before (λ (x : Row). bytes_eq x.name r.name) d.table r (same_bytes r.name) (l.names r.name)) in
+    let none : is_named d.table r.name ≡ false = unnamed d.table r.name (none_before (λ (x : Row). bytes_eq x.name r.name) d.table r (bytes_itself r.name) (l.names r.name)) in
     ap (λ (b : Bool). b || has_pending_name d.pending r.name) none ∙ ap (λ (p : Pending). has_pending_name p r.name) idle
 
 -- before a device
@@ -249,11 +244,6 @@ light_rows t (r ∷ us) l = rw (light_item t l r.id) (light_rows t us l)
 pub is_light : (t : List Row) → Lawful t → is_too_heavy t ≡ false
 is_light t l = rw (light_rows t t l) (le-ltb 8796093022207 (total t) l.total)
 
--- what holds of all holds of the last ones
-all_last : {X : Type 0} (P : X → Type 0) (xs ys : List X) → All P (xs ++ ys) → All P ys
-all_last P [] ys h = h
-all_last P (x ∷ xs) ys h = all_last P xs ys (All-tail P x (xs ++ ys) h)
-
 -- a device whose row is lawful with a weight may weigh that
 row_light : (n b w : ℕ) (t : List Row) → All IsRow (map (placed_row b w) (filter (λ (r : Row). same_id r.id (Device n)) t)) → is_there t (Device n) ≡ true → w ≤ HEAVIEST_DEVICE
 row_light n b w [] all there = absurd cc
@@ -274,4 +264,4 @@ row_light n b w (r ∷ t) all there = by_id (same_id r.id (Device n)) refl all t
 pub light_device : (d : Draft) (b n w : ℕ) → d.pending ≡ filling b → is_there d.table (Device n) ≡ true → IsMap (with_item d (Device n) (Some w)) → w ≤ HEAVIEST_DEVICE
 light_device d b n w p there m =
     let l : Lawful (put_below b (Device n) w d.table) = subst (λ (q : Pending). Lawful (table_with_item q (Device n) w d.table)) p m.lawful in
-    row_light n b w d.table (all_last IsRow (without_row (Device n) d.table) (map (placed_row b w) (filter (λ (r : Row). same_id r.id (Device n)) d.table)) l.rows) there
+    row_light n b w d.table (All-right IsRow (without_row (Device n) d.table) (map (placed_row b w) (filter (λ (r : Row). same_id r.id (Device n)) d.table)) l.rows) there

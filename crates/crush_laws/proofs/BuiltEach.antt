@@ -17,6 +17,7 @@ use Rattle.crush_print.proofs.PrintedLines.{tunable_words}
 use Rattle.crush_text.specs.Form.{first, at}
 use Rattle.crush_text.specs.Flow.{State, between}
 use Rattle.crush_text.specs.Document.{IsMap}
+use Rattle.crush_laws.proofs.Allowed.{any_none}
 use Rattle.crush_laws.specs.Admitted.{IsLawfulDraft}
 use Rattle.crush_laws.proofs.Lawful.{map_with_tunable}
 use Rattle.crush_laws.proofs.BuiltLines.{plain, Goes, goes_both, tunable_goes}
@@ -65,16 +66,8 @@ none_before p front x rest all e once h =
     let one : one_if (p x) ≡ 1 = ap one_if h in
     omega (arith, ap (count_by p) e, once, one, sum_by-append (λ y. one_if (p y)) front (x ∷ rest), sum_by-cons (λ y. one_if (p y)) x rest)
 
-pub none_any : {X : Type 0} (p : X → Bool) (xs : List X) → count_by p xs ≡ 0 → list_any p xs ≡ false
-none_any p [] h = refl
-none_any p (x ∷ xs) h = by_test (p x) refl (none_any p xs)
-  where
-    by_test : (b : Bool) → p x ≡ b → (count_by p xs ≡ 0 → list_any p xs ≡ false) → list_any p (x ∷ xs) ≡ false
-    by_test true e ih = absurd (let one : one_if (p x) ≡ 1 = ap one_if e in omega (arith, h, one, sum_by-cons (λ y. one_if (p y)) x xs))
-    by_test false e ih = let none : one_if (p x) ≡ 0 = ap one_if e in rw e (ih (omega (arith, h, none, sum_by-cons (λ y. one_if (p y)) x xs)))
-
 pub new_at : {X : Type 0} (p : X → Bool) (front : List X) (x : X) (rest all : List X) → front ++ x ∷ rest ≡ all → count_by p all ≤ 1 → p x ≡ true → list_any p front ≡ false
-new_at p front x rest all e once h = none_any p front (none_before p front x rest all e once h)
+new_at p front x rest all e once h = any_none p front (none_before p front x rest all e once h)
 
 pub shorter : {X : Type 0} (front : List X) (x : X) (rest all : List X) → front ++ x ∷ rest ≡ all → length front < length all
 shorter front x rest all e = omega (arith, ap length e, length-append front (x ∷ rest))

@@ -1,10 +1,9 @@
 -- The first lines of a printed bucket are read: its type and name, its id, its class ids, and its algorithm.
 use Rattle.std.proofs.Common.{◌≡◌, ℕ, ◌<◌, ◌≤◌, Bool, true, false, List, [], ◌∷◌, ◌++◌, Option, Some, None, refl, sym, ap, subst, ◌∙◌, append_assoc, append-nil, length-append, arith}
-use Rattle.std.proofs.lemmas.Bool.{or_parts, and_parts}
+use Rattle.std.proofs.lemmas.Bool.{and_parts}
 use Rattle.std.proofs.lemmas.Bool.Decides.{nat_tests}
 use Rattle.std.proofs.lemmas.List.Elements.{All-nil, All-cons, All-head, All-tail, All-map, All-filter, All-weaker}
 use Rattle.std.proofs.lemmas.List.Sums.{sum_by-cons, sum_by-append}
-use Rattle.std.proofs.lemmas.Slice.Eq.{bytes_eq-Decides}
 use Rattle.std.specs.Prelude.{All, map, flat_map, codes, not, unwrap_or, nat_lt, bytes_eq, ◌==◌, option_and_then, is_some, if◌then◌else◌}
 use Rattle.std.specs.List.{count_by}
 use Rattle.std.specs.Option.{option_map_or}
@@ -26,7 +25,7 @@ use Rattle.crush_table.proofs.Moved.{row_id}
 use Rattle.crush_table.proofs.Same.{uses}
 use Rattle.crush_table.proofs.Appended.{times_used-push}
 use Rattle.crush_edits.specs.Setting.{RuleData, SettingData, kind_number, bucket_taken}
-use Rattle.crush_edits.specs.Fits.{Fits, IsSetting, HasKind, IsThere, is_reserved}
+use Rattle.crush_edits.specs.Fits.{Fits, IsSetting, HasKind, IsThere}
 use Rattle.crush_map.specs.Built.{Pending, nothing, begun, numbered as is_numbered, filling as is_filling, Draft, with_alg}
 use Rattle.crush_map.specs.Building.{CanBegin, CanNumber, IsPending, is_bucket_kind, is_some_above_zero, own_ids}
 use Rattle.crush_map.proofs.RowSteps.{named_bucket_kind}
@@ -36,11 +35,11 @@ use Rattle.crush_print.proofs.PartTables.{bare, shown, part_of}
 use Rattle.crush_print.proofs.PartSteps.{with_one, with_one-it}
 use Rattle.crush_print.proofs.PartRows.{name_free, id_free}
 use Rattle.crush_print.proofs.PrintedOrder.{add}
-use Rattle.crush_text.specs.declared.opening.Opening.TheVariants as openings
-use Rattle.crush_text.specs.Role.{number_of, opened}
+use Rattle.crush_text.specs.Role.{number_of}
 use Rattle.crush_text.specs.Form.{at, numbered, filling}
 use Rattle.crush_text.specs.Flow.{between}
 use Rattle.crush_laws.specs.Admitted.{IsLawfulDraft}
+use Rattle.crush_laws.proofs.Admitted.{opens}
 use Rattle.crush_laws.proofs.Allowed.{type_named}
 use Rattle.crush_laws.proofs.BuiltLines.{Goes, goes_both, idle, head_goes, class_id_goes, alg_goes}
 use Rattle.crush_laws.proofs.BuiltParts.{whole_kids, open_kids, IsRead, read_closed, read_more, read_lawful, read_row, fresh, unplaced, read_opened}
@@ -58,27 +57,6 @@ pub record HasKinds (s : SettingData) (names : ℕ → List ℕ) (t : List Row) 
 -- the form of a bucket's row
 pub bucket_form : (t : List Row) → Lawful t → (b : ℕ) (x : Row) → row_of t (Bucket b) ≡ Some x → IsBucketRow b x
 bucket_form t l b x e = let row = All-row IsRow t l.rows (Bucket b) x e in subst (λ (i : ItemId). IsRowOf i x) (row_id (Bucket b) t x e) row.form
-
--- that bytes differ doesn't depend on which stand first
-differs : (a b : List ℕ) → bytes_eq a b ≡ false → bytes_eq b a ≡ false
-differs a b e = by_test (bytes_eq b a) refl
-  where
-    by_test : (t : Bool) → bytes_eq b a ≡ t → bytes_eq b a ≡ false
-    by_test true h = let k : true ≡ false = sym ((bytes_eq-Decides a b).1 (sym ((bytes_eq-Decides b a).0 h))) ∙ e in absurd cc
-    by_test false h = h
-
--- a name that isn't reserved opens a bucket
-opens : (d : Draft) (w : List ℕ) (k : ℕ) → is_reserved w ≡ false → number_of d w ≡ k → opened d w ≡ openings.Bucket k
-opens d w k h e =
-    let a = or_parts _ _ h in
-    let b = or_parts _ _ a.1 in
-    let c = or_parts _ _ b.1 in
-    let f = or_parts _ _ c.1 in
-    let tunable : bytes_eq w (codes "tunable") ≡ false = differs _ w a.0 in
-    let device : bytes_eq w (codes "device") ≡ false = differs _ w b.0 in
-    let kind : bytes_eq w (codes "type") ≡ false = differs _ w c.0 in
-    let rule : bytes_eq w (codes "rule") ≡ false = differs _ w f.0 in
-    rw (tunable, device, kind, rule) (ap (λ (n : ℕ). openings.Bucket n) e)
 
 module _ (s : SettingData) (names : ℕ → List ℕ) (t : List Row) (l : Lawful t) (h : HasKinds s names t) where
   kind_known : (b : ℕ) (x : Row) → row_of t (Bucket b) ≡ Some x → is_bucket_kind s x.kind ≡ true
@@ -115,7 +93,7 @@ module _ (s : SettingData) (names : ℕ → List ℕ) (t : List Row) (l : Lawful
   read_draft seen there q P items u r p k = record { map = record { lawful = read_lawful t l seen there q P items u r; fits = fits_part q P u r.rows }; pending = k }
 
 -- a front of class ids can be there where all can
-front_number : (u : List Row) (b : ℕ) (xs ys : List ShadowData) → CanNumber u b (xs ++ ys) → CanNumber u b xs
+pub front_number : (u : List Row) (b : ℕ) (xs ys : List ShadowData) → CanNumber u b (xs ++ ys) → CanNumber u b xs
 front_number u b xs ys n = record {
   some = n.some;
   most = n.most;
@@ -135,7 +113,7 @@ front_number u b xs ys n = record {
 }
 
 -- each class id is among the ids
-own_count : (cs : List ShadowData) → All (λ (c : ShadowData). 1 ≤ count_by (λ x. x == c.id) (map (λ (y : ShadowData). y.id) cs)) cs
+pub own_count : (cs : List ShadowData) → All (λ (c : ShadowData). 1 ≤ count_by (λ x. x == c.id) (map (λ (y : ShadowData). y.id) cs)) cs
 own_count [] = All-nil (λ (c : ShadowData). 1 ≤ count_by (λ x. x == c.id) [])
 own_count (c ∷ cs) = All-cons (λ (y : ShadowData). 1 ≤ count_by (λ x. x == y.id) (map (λ (z : ShadowData). z.id) (c ∷ cs))) c cs
     (let one : one_if (c.id == c.id) ≡ 1 = ap one_if (itself c.id) in omega (arith, one, sum_by-cons (λ x. one_if (x == c.id)) c.id (map (λ (y : ShadowData). y.id) cs)))

@@ -3,7 +3,7 @@ use Rattle.std.proofs.Common.{◌≡◌, ℕ, ◌+◌, ◌<◌, ◌≤◌, ◌^�
 use Rattle.std.proofs.lemmas.Bool.{eqb-true}
 use Rattle.std.proofs.lemmas.List.Elements.{All-nil, All-cons, All-head, All-tail, All-weaker, All-push}
 use Rattle.std.proofs.lemmas.List.Sums.{sum_by-cons}
-use Rattle.std.specs.Prelude.{All, flat_map, map, filter, not, ◌==◌, ◌||◌, option_and_then, is_some, if◌then◌else◌}
+use Rattle.std.specs.Prelude.{All, flat_map, map, not, ◌==◌, ◌||◌, option_and_then, is_some, if◌then◌else◌}
 use Rattle.std.specs.List.{count_by}
 use Rattle.std.specs.Option.{option_map_or}
 use Rattle.crush_units.specs.declared.id.ItemId.{ItemId}
@@ -14,13 +14,13 @@ use Rattle.crush_table.specs.Count.{one_if}
 use Rattle.crush_table.specs.Columns.{without_row}
 use Rattle.crush_table.specs.Lawful.{Lawful, IsRow, IsRowOf}
 use Rattle.crush_table.specs.Table.{Row, is_device_id, row_of, parent_of, kids, sum_below, item_weight}
-use Rattle.crush_table.proofs.Found.{times, times-cons}
 use Rattle.crush_table.proofs.Weighs.{All-both}
 use Rattle.crush_table.proofs.Moved.{row_id}
 use Rattle.crush_table.proofs.Renamed.{All-row}
 use Rattle.crush_edits.specs.Setting.{SettingData}
 use Rattle.crush_map.specs.Built.{filling as is_filling, Draft, with_item, placed_row, put_below, adjustment}
 use Rattle.crush_map.specs.Building.{item_named, closed_item}
+use Rattle.crush_map.proofs.ItemSteps.{only_row}
 use Rattle.crush_print.proofs.PrintedLines.{item_words, kid_words}
 use Rattle.crush_print.proofs.PartTables.{bare}
 use Rattle.crush_print.proofs.PartSteps.{with_one, with_one-it, with_one-other}
@@ -32,22 +32,6 @@ use Rattle.crush_laws.specs.Admitted.{IsLawfulDraft}
 use Rattle.crush_laws.proofs.BuiltLines.{Goes, goes_both, item_goes}
 use Rattle.crush_laws.proofs.BuiltParts.{open_kids, IsRead, both_ways, read_closed, read_lawful, read_row, read_put}
 use Rattle.crush_laws.proofs.BuiltHeads.{built, HasKinds, read_draft}
-
--- THE ROWS of an id are the one that is found
-no_row : (t : List Row) (i : ItemId) → times i t ≡ 0 → filter (λ (x : Row). same_id x.id i) t ≡ []
-no_row [] i h = refl
-no_row (x ∷ t) i h = by_id (same_id x.id i) (sym (times-cons i x t) ∙ h) (no_row t i) where
-  by_id : (b : Bool) → one_if b + times i t ≡ 0 → (times i t ≡ 0 → filter (λ (y : Row). same_id y.id i) t ≡ []) → (if b then x ∷ filter (λ (y : Row). same_id y.id i) t else filter (λ (y : Row). same_id y.id i) t) ≡ []
-  by_id true n ih = absurd (omega (arith, n))
-  by_id false n ih = ih (omega (arith, n))
-
-only_row : (t : List Row) (i : ItemId) (r : Row) → times i t ≤ 1 → row_of t i ≡ Some r → filter (λ (x : Row). same_id x.id i) t ≡ r ∷ []
-only_row [] i r h e = absurd (let no : ◌≡◌ {A = Option Row} None (Some r) = e in cc)
-only_row (x ∷ t) i r h e = by_id (same_id x.id i) (subst (λ n. n ≤ 1) (times-cons i x t) h) e (only_row t i r) where
-  by_id : (b : Bool) → one_if b + times i t ≤ 1 → (if b then Some x else row_of t i) ≡ Some r → (times i t ≤ 1 → row_of t i ≡ Some r → filter (λ (y : Row). same_id y.id i) t ≡ r ∷ [])
-      → (if b then x ∷ filter (λ (y : Row). same_id y.id i) t else filter (λ (y : Row). same_id y.id i) t) ≡ r ∷ []
-  by_id true n h ih = let same : x ≡ r = cc in λ k. same k ∷ no_row t i (omega (arith, n)) k
-  by_id false n h ih = ih (omega (arith, n)) h
 
 -- where none is counted, each is another
 none_counted : {X : Type 0} (p : X → Bool) (xs : List X) → count_by p xs ≡ 0 → All (λ x. p x ≡ false) xs

@@ -1,6 +1,6 @@
 -- What each line keeps holds of all that is read, and so each document is a map.
 use Rattle.std.proofs.Common.{◌≡◌, ◌≢◌, ℕ, zero, suc, ◌<◌, ◌≤◌, Bool, true, false, cond, List, [], ◌∷◌, ◌++◌, Option, Some, None, Result, Ok, Err, refl, sym, ap, subst, ◌∙◌, arith, inl, inr}
-use Rattle.std.proofs.lemmas.Bool.{and_parts, or_parts, ltb-true, leb-true}
+use Rattle.std.proofs.lemmas.Bool.{cond_both, and_parts, or_parts, ltb-true, leb-true}
 use Rattle.std.proofs.lemmas.Slice.Eq.{bytes_eq-Decides}
 use Rattle.std.proofs.lemmas.List.Elements.{All-nil, All-cons}
 use Rattle.std.proofs.lemmas.List.Sums.{sum_by-cons}
@@ -14,11 +14,12 @@ use Rattle.crush_units.specs.declared.weight.WeightFault.{WeightFault}
 use Rattle.crush_units.specs.Name.{is_name, are_name_bytes, IsName}
 use Rattle.crush_units.specs.Weight.{are_digits, weight_of_text}
 use Rattle.crush_table.specs.Items.{ShadowData}
-use Rattle.crush_table.specs.Lawful.{Lawful, IsRow, IsShadowId, HasParent, is_too_heavy}
+use Rattle.crush_table.specs.Lawful.{Lawful, IsShadowId, is_too_heavy}
 use Rattle.crush_edits.specs.Setting.{KindData, StepData, take, choose, set, emit, RuleData, SettingData, kind_number, bucket_taken}
 use Rattle.crush_edits.specs.Fits.{Fits, IsKind, IsTunable, IsCount, IsStep, IsRule, IsThere, HasKind}
 use Rattle.crush_table.specs.Count.{one_if}
 use Rattle.crush_table.specs.Table.{Row, bucket_count, member, used_ids}
+use Rattle.crush_table.proofs.Attached.{Lawful-nil}
 use Rattle.crush_map.specs.declared.fault.BuildFault.TheVariants as build
 use Rattle.crush_map.specs.Faults.{first_fault, class_id_fault}
 use Rattle.crush_map.specs.Built.{Draft, Pending, nothing, begun as is_begun, numbered as is_numbered, filling as is_filling, empty_draft, pending_with_id, pending_with_class_id, pending_row, pending_with_alg, with_alg, with_device, device_weight, with_item}
@@ -60,15 +61,11 @@ Has P (between p) = P p
 Has P (amid d f) = Keeps P d f
 
 module _ (P : Progress → Type 0) (each : (p : Progress) → P p → Keeps P p.draft (next p)) where
-  either_has : (b : Bool) (d : Draft) (rest : List Word) (f g : Form) → Has P (arrive d rest f) → Has P (arrive d rest g) → Has P (cond b (arrive d rest f) (arrive d rest g))
-  either_has true d rest f g x y = x
-  either_has false d rest f g x y = y
-
   arrives : (d : Draft) (rest : List Word) (f : Form) → Keeps P d f → Has P (arrive d rest f)
   arrives d rest (done p) k = k
   arrives d rest (word r more) k = k
-  arrives d rest (optional key f g) k = either_has (begins_with_key key rest) d rest f g (arrives d rest f k.0) (arrives d rest g k.1)
-  arrives d rest (ahead key f g) k = either_has (begins_with_key key (drop 1 rest)) d rest f g (arrives d rest f k.0) (arrives d rest g k.1)
+  arrives d rest (optional key f g) k = cond_both (begins_with_key key rest) (arrive d rest f) (arrive d rest g) (Has P) (λ _. arrives d rest f k.0) (λ _. arrives d rest g k.1)
+  arrives d rest (ahead key f g) k = cond_both (begins_with_key key (drop 1 rest)) (arrive d rest f) (arrive d rest g) (Has P) (λ _. arrives d rest f k.0) (λ _. arrives d rest g k.1)
 
   goes : (d : Draft) (f : Form) (w : List ℕ) (rest : List Word) (m : State) → Keeps P d f → IsWord w → SpellsForm d f w rest m → Has P m
   goes d (word r more) w rest m k formed h = subst (Has P) (sym h.1) (arrives d rest (more (value d r w)) (k w formed h.0))
@@ -171,7 +168,7 @@ not_none None h = absurd (h refl)
 not_none (Some x) h = refl
 
 -- a bucket that is named is there
-bucket_there : (d : Draft) (w : List ℕ) → (bucket_named d w ≡ None → ⊥) → IsThere d.table (bucket_of d w)
+pub bucket_there : (d : Draft) (w : List ℕ) → (bucket_named d w ≡ None → ⊥) → IsThere d.table (bucket_of d w)
 bucket_there d w h = by_item (item_named d w) refl h
   where
     by_item : (o : Option ItemId) → item_named d w ≡ o → (option_and_then bucket_number o ≡ None → ⊥) → IsThere d.table (unwrap_or (option_and_then bucket_number o) 0)
@@ -419,18 +416,7 @@ module _ (d : Draft) (m : IsMap d) where
 -- nothing is there
 pub nothing_there : IsMap empty_draft
 nothing_there = record {
-  lawful = record {
-    ids = λ i. omega arith;
-    names = λ n. omega arith;
-    used = λ k. omega arith;
-    rows = All-nil IsRow;
-    parents = All-nil (HasParent []);
-    loops = λ b. refl;
-    sums = λ b. omega arith;
-    total = omega arith;
-    devices = omega arith;
-    buckets = omega arith;
-  };
+  lawful = Lawful-nil;
   fits = record {
     setting = record {
       numbers = λ n. omega arith;

@@ -2,7 +2,7 @@
 use Rattle.std.proofs.Common.{◌≡◌, ℕ, ◌<◌, ◌≤◌, Bool, true, false, List, [], ◌∷◌, ◌++◌, Option, Some, None, refl, sym, ap, subst, ◌∙◌, arith}
 use Rattle.std.proofs.lemmas.Bool.{eq-eqb, or_parts, or_right}
 use Rattle.std.proofs.lemmas.List.Elements.{All-head, All-tail}
-use Rattle.std.specs.Prelude.{◌==◌, not, bytes_eq, map, filter, find, is_some, unwrap_or, option_and_then, All, IfSome, if◌then◌else◌}
+use Rattle.std.specs.Prelude.{◌==◌, bytes_eq, map, filter, find, is_some, unwrap_or, option_and_then, All, IfSome, if◌then◌else◌}
 use Rattle.std.specs.List.{list_any}
 use Rattle.std.specs.Option.{option_map}
 use Rattle.crush_units.specs.declared.id.ItemId.{ItemId}
@@ -10,20 +10,20 @@ use Rattle.crush_units.specs.declared.id.ItemId.TheVariants.{Device, Bucket}
 use Rattle.crush_units.specs.Id.{same_id}
 use Rattle.crush_units.specs.Name.{IsName}
 use Rattle.crush_units.proofs.Ids.{same_id_refl, same_id_equal}
-use Rattle.crush_table.specs.Table.{Row, is_device, is_device_id, row_of, row_named, id_named, is_there, member, used_ids}
+use Rattle.crush_table.specs.Table.{Row, is_device, is_device_id, row_of, id_named, is_there, member, used_ids}
 use Rattle.crush_table.specs.Columns.{is_part, without_row}
 use Rattle.crush_table.specs.Lawful.{Lawful, is_too_heavy}
 use Rattle.crush_edits.specs.Setting.{KindData}
 use Rattle.crush_edits.specs.Fits.{IsKind, Fits, is_reserved}
 use Rattle.crush_table.proofs.Appended.{row_of-append, unused_fresh}
-use Rattle.crush_table.proofs.Removed.{row_of-only}
 use Rattle.crush_map.specs.Built.{Draft, Pending, nothing, begun, numbered, filling, with_kind, with_device, with_tunable, placed_row, put_below, table_with_item, device_weight, with_item}
 use Rattle.crush_map.specs.Building.{IsRoot, is_open, has_name, closed_item, item_named, has_kind_number, has_kind_name, has_tunable, is_full_of_devices, is_full_of_kinds, is_full_of_tunables}
 use Rattle.crush_map.proofs.KindSteps.{Fits-with_kind}
 use Rattle.crush_map.proofs.TunableSteps.{Fits-with_tunable}
+use Rattle.crush_apply.proofs.Found.{there_by_name}
 use Rattle.crush_map.proofs.RowSteps.{new_device, device_lawful}
 use Rattle.crush_edits.proofs.FitLaws.{Fits-push}
-use Rattle.crush_map.proofs.ItemSteps.{is_no_part, item_lawful, put_fits}
+use Rattle.crush_map.proofs.ItemSteps.{is_no_part, item_lawful, put_fits, root_put}
 use Rattle.crush_text.specs.Document.{IsMap}
 
 -- a tunable more
@@ -69,19 +69,6 @@ made_root t r b is none free =
     let found : row_of (t ++ r ∷ []) (Bucket b) ≡ Some r = row_of-append t (r ∷ []) (Bucket b) ∙ rw (unused_fresh t b free) last in
     record { there = ap is_some found; root = ap (option_and_then (λ (x : Row). x.parent)) found ∙ none }
 
--- an item of a name is there, and it isn't the bucket that is being filled
-named_there : (t : List Row) (n : List ℕ) (i : ItemId) → id_named t n ≡ Some i → is_there t i ≡ true
-named_there [] n i e = absurd (let no : (let x : Option ItemId = None in x) ≡ Some i = e in cc)
-named_there (r ∷ t) n i e = by_name (bytes_eq r.name n) e (named_there t n i)
-  where
-    by_id : (b : Bool) → is_there t i ≡ true → is_some (if b then Some r else row_of t i) ≡ true
-    by_id true h = refl
-    by_id false h = h
-
-    by_name : (b : Bool) → option_map (λ (x : Row). x.id) (if b then Some r else row_named t n) ≡ Some i → (id_named t n ≡ Some i → is_there t i ≡ true) → is_there (r ∷ t) i ≡ true
-    by_name true e ih = let k : r.id ≡ i = cc in rw (ap (λ (j : ItemId). same_id j i) k ∙ same_id_refl i) refl
-    by_name false e ih = by_id (same_id r.id i) (ih e)
-
 -- what an item of a bucket has to be
 pub record Listable (d : Draft) (i : ItemId) : Type 0 where
   pub there : is_there d.table i ≡ true
@@ -93,7 +80,7 @@ listable d n i e = by_name (id_named d.table n) refl e
   where
     by_open : (j : ItemId) (b : Bool) → id_named d.table n ≡ Some j → is_open d.pending j ≡ b → (if b then None else Some j) ≡ Some i → Listable d i
     by_open j true is o e = absurd (let no : (let x : Option ItemId = None in x) ≡ Some i = e in cc)
-    by_open j false is o e = let k : j ≡ i = cc in record { there = named_there d.table n i (is ∙ ap (λ (l : ItemId). Some l) k); closed = ap (is_open d.pending) (sym k) ∙ o }
+    by_open j false is o e = let k : j ≡ i = cc in record { there = there_by_name d.table n i (is ∙ ap (λ (l : ItemId). Some l) k); closed = ap (is_open d.pending) (sym k) ∙ o }
 
     by_name : (o : Option ItemId) → id_named d.table n ≡ o → option_and_then (closed_item d.pending) o ≡ Some i → Listable d i
     by_name None is e = absurd (let no : (let x : Option ItemId = None in x) ≡ Some i = e in cc)
@@ -118,14 +105,6 @@ bucket_table nothing x w v t = refl
 bucket_table (begun k n) x w v t = refl
 bucket_table (numbered k n b cs) x w v t = refl
 bucket_table (filling b) x w v t = ap (λ (l : List Row). without_row (Bucket x) t ++ l) (bucket_rows b x w v t)
-
--- a root stays one where another item is put below it
-pub root_kept : (t : List Row) (i : ItemId) (b w : ℕ) → IsRoot t b → same_id (Bucket b) i ≡ false → IsRoot (put_below b i w t) b
-root_kept t i b w root other =
-    let kept : row_of (without_row i t) (Bucket b) ≡ row_of t (Bucket b) = row_of-only (λ (j : ItemId). not (same_id j i)) t (Bucket b) ∙ rw other refl in
-    let there : is_there (without_row i t) (Bucket b) ≡ true = ap is_some kept ∙ root.there in
-    let found : row_of (put_below b i w t) (Bucket b) ≡ row_of t (Bucket b) = row_of-append (without_row i t) (map (placed_row b w) (filter (λ (r : Row). same_id r.id i) t)) (Bucket b) ∙ rw there kept in
-    record { there = ap is_some found ∙ root.there; root = ap (option_and_then (λ (r : Row). r.parent)) found ∙ root.root }
 
 -- a device's weight is in its range, and a bucket's may be any
 abbrev pub IsLight : ItemId → ℕ → Type 0
@@ -158,5 +137,5 @@ map_with_item d x i w b m p root named weight light =
         lawful = subst Lawful (sym is) (lawful_below d.table i b v m.lawful weight l.there root.there far h);
         fits = subst (Fits d.setting) (sym is) (put_fits d.setting d.table i b v m.lawful l.there m.fits);
       };
-      root = subst (λ (t : List Row). IsRoot t b) (sym is) (root_kept d.table i b v root other);
+      root = subst (λ (t : List Row). IsRoot t b) (sym is) (root_put d.table i b v root other);
     }

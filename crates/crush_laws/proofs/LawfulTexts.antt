@@ -1,6 +1,6 @@
 -- The texts of maps are those whose words build a map line by line.
 use Rattle.std.proofs.Common.{◌≡◌, ◌≢◌, ℕ, ◌⊎◌, Bool, true, false, cond, List, [], ◌∷◌, Option, Some, None, Result, Ok, Err, refl, sym, subst, ◌∙◌, inl, inr}
-use Rattle.std.proofs.lemmas.Bool.{and_parts, ltb-true}
+use Rattle.std.proofs.lemmas.Bool.{cond_both, and_parts, ltb-true}
 use Rattle.std.proofs.lemmas.Bool.Decides.{Decides-eqb}
 use Rattle.std.proofs.lemmas.List.{append-nil}
 use Rattle.std.proofs.lemmas.Slice.Eq.{bytes_eq-Decides}
@@ -35,7 +35,7 @@ use Rattle.crush_laws.proofs.Admitted.{Possible, Rightly, right_lines}
 
 -- WHAT IS BUILT IS SPELLED
 -- the rest of a line may end lawfully
-abbrev MayEnd : State → Type 0
+abbrev pub MayEnd : State → Type 0
 MayEnd (between p) = IsLawfulDraft p.draft × IsLawfulMode p.draft p.mode
 MayEnd (amid d f) = Possible d f
 
@@ -50,23 +50,18 @@ either_ends true d rest f g x y h = inl (x h)
 either_ends false d rest f g x y h = inr (y h)
 
 -- so it is of what is due next
-may_end : (d : Draft) (rest : List Word) (f : Form) → MayEnd (arrive d rest f) → Possible d f
+pub may_end : (d : Draft) (rest : List Word) (f : Form) → MayEnd (arrive d rest f) → Possible d f
 may_end d rest (done p) h = h
 may_end d rest (word r more) h = h
 may_end d rest (optional k f g) h = either_ends (begins_with_key k rest) d rest f g (may_end d rest f) (may_end d rest g) h
 may_end d rest (ahead k f g) h = either_ends (begins_with_key k (drop 1 rest)) d rest f g (may_end d rest f) (may_end d rest g) h
 
--- of one of two
-either_goes : (b : Bool) (d : Draft) (rest : List Word) (f g : Form) → Goes (arrive d rest f) → Goes (arrive d rest g) → Goes (cond b (arrive d rest f) (arrive d rest g))
-either_goes true d rest f g x y = x
-either_goes false d rest f g x y = y
-
 -- nor is a word wrong that is due next
 arrives : (d : Draft) (rest : List Word) (f : Form) → Rightly d f → Goes (arrive d rest f)
 arrives d rest (done p) h = tt
 arrives d rest (word r more) h = h
-arrives d rest (optional k f g) h = either_goes (begins_with_key k rest) d rest f g (arrives d rest f h.0) (arrives d rest g h.1)
-arrives d rest (ahead k f g) h = either_goes (begins_with_key k (drop 1 rest)) d rest f g (arrives d rest f h.0) (arrives d rest g h.1)
+arrives d rest (optional k f g) h = cond_both (begins_with_key k rest) (arrive d rest f) (arrive d rest g) Goes (λ _. arrives d rest f h.0) (λ _. arrives d rest g h.1)
+arrives d rest (ahead k f g) h = cond_both (begins_with_key k (drop 1 rest)) (arrive d rest f) (arrive d rest g) Goes (λ _. arrives d rest f h.0) (λ _. arrives d rest g h.1)
 
 -- where words build a map a line's end is among them
 ends : (s : State) (ws : List Word) (e : Draft) → IsLawfulState s → Build s ws e → MayEnd s

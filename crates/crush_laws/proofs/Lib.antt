@@ -12,6 +12,11 @@ pub mod BuiltParts
 pub mod BuiltRules
 pub mod BuiltWholeRules
 pub mod Comments
+pub mod EarlierBuckets
+pub mod EarlierLines
+pub mod EarlierSettings
+pub mod EarlierTables
+pub mod FinalTexts
 pub mod HistoryComments
 pub mod JobTexts
 pub mod Keeps
@@ -20,3 +25,4 @@ pub mod LawfulTexts
 pub mod OneOfBoth
 pub mod PrintedAgain
 pub mod Ruled
+pub mod Shapes

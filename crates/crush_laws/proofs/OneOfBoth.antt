@@ -1,5 +1,6 @@
 -- Bytes are the text of one map or have one flaw, and never both.
 use Rattle.std.proofs.Common.{◌≡◌, ℕ, Bool, true, false, cond, List, [], ◌∷◌, ◌++◌, Result, Ok, Err, refl, sym, ap, subst, ◌∙◌, inl, inr}
+use Rattle.std.proofs.lemmas.Bool.{cond_both}
 use Rattle.std.specs.Prelude.{◌⊎◌, bytes_eq, codes, drop}
 use Rattle.crush_map.specs.Built.{Draft}
 use Rattle.crush_edits.specs.Setting.{RuleData}
@@ -81,17 +82,12 @@ abbrev Looks : State → Type 0
 Looks (between p) = Unit {0}
 Looks (amid d f) = LooksForWeights f
 
--- of one of two forms what is due
-either_looks : (b : Bool) (d : Draft) (rest : List Word) (f g : Form) → Looks (arrive d rest f) → Looks (arrive d rest g) → Looks (cond b (arrive d rest f) (arrive d rest g))
-either_looks true d rest f g x y = x
-either_looks false d rest f g x y = y
-
 -- and so it is of what is due
 arrive_looks : (d : Draft) (rest : List Word) (f : Form) → LooksForWeights f → Looks (arrive d rest f)
 arrive_looks d rest (done p) h = tt
 arrive_looks d rest (word r more) h = h
-arrive_looks d rest (optional k f g) h = either_looks (begins_with_key k rest) d rest f g (arrive_looks d rest f h.0) (arrive_looks d rest g h.1)
-arrive_looks d rest (ahead k f g) h = either_looks (begins_with_key k (drop 1 rest)) d rest f g (arrive_looks d rest f h.1) (arrive_looks d rest g h.2)
+arrive_looks d rest (optional k f g) h = cond_both (begins_with_key k rest) (arrive d rest f) (arrive d rest g) Looks (λ _. arrive_looks d rest f h.0) (λ _. arrive_looks d rest g h.1)
+arrive_looks d rest (ahead k f g) h = cond_both (begins_with_key k (drop 1 rest)) (arrive d rest f) (arrive d rest g) Looks (λ _. arrive_looks d rest f h.1) (λ _. arrive_looks d rest g h.2)
 
 -- wherever a word leads
 form_looks : (d : Draft) (f : Form) (text : List ℕ) (rest : List Word) (u : State) → LooksForWeights f → SpellsForm d f text rest u → Looks u

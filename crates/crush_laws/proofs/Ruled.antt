@@ -7,32 +7,14 @@ use Rattle.std.proofs.lemmas.Slice.Eq.{bytes_eq-Decides}
 use Rattle.std.specs.Prelude.{◌==◌, All, IfSome, bytes_eq, flat_map}
 use Rattle.std.specs.List.{list_any}
 use Rattle.crush_units.specs.Name.{IsName}
-use Rattle.crush_edits.specs.Setting.{StepData, take, choose, set, emit, RuleData, SettingData, bucket_taken}
+use Rattle.crush_edits.specs.Setting.{StepData, RuleData, SettingData, bucket_taken}
 use Rattle.crush_edits.specs.Fits.{IsStep, IsRule, IsThere}
 use Rattle.crush_map.specs.Built.{Draft, add_rule}
 use Rattle.crush_map.specs.Rules.{has_rule_name, has_rule_id, is_full_of_rules}
 use Rattle.crush_map.proofs.KindSteps.{count_one_more, less}
+use Rattle.crush_map.proofs.RuleSteps.{rule_kept}
 use Rattle.crush_text.specs.Grammar.{new_rule, with_step}
 use Rattle.crush_text.specs.Document.{IsMap}
-
--- a step keeps its form where there are other rules
-step_kept : (s : SettingData) (rs : List RuleData) (x : StepData) → IsStep s x → IsStep (record s { rules = rs }) x
-step_kept s rs (take b class) h = h
-step_kept s rs (choose leaf firstn count kind) h = record { range = h.range; known = h.known }
-step_kept s rs (set word value) h = h
-step_kept s rs emit h = h
-
--- and so does a rule
-rule_kept : (s : SettingData) (rs : List RuleData) (r : RuleData) → IsRule s r → IsRule (record s { rules = rs }) r
-rule_kept s rs r h = record {
-  name = h.name;
-  id = h.id;
-  kind = h.kind;
-  min_size = h.min_size;
-  max_size = h.max_size;
-  few = h.few;
-  steps = All-weaker (IsStep s) (IsStep (record s { rules = rs })) (step_kept s rs) r.steps h.steps;
-}
 
 -- the buckets that a rule takes
 abbrev pub taken_by : RuleData → List ℕ

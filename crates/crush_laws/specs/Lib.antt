@@ -1,4 +1,5 @@
 pub mod Admitted
+pub mod Final
 pub mod MapOrFlaw
 pub mod ReadingBack
 pub mod Written

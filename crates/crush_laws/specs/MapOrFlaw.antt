@@ -10,6 +10,7 @@ use Rattle.crush_text.specs.declared.fault.TextFault.{TextFault}
 use Rattle.crush_bytes.specs.Words.{Word, words, begins_with_key}
 use Rattle.crush_text.specs.Document.{IsMapText}
 use Rattle.crush_laws.specs.Admitted.{IsLawfulText}
+use Rattle.crush_laws.specs.Final.{EndsLawfully}
 use Rattle.crush_text.specs.Role.{Role}
 use Rattle.crush_text.specs.Rows.{IsFault}
 use Rattle.crush_text.specs.Tests.{word_for}
@@ -39,6 +40,10 @@ EachMapIsLawful = (bytes : List ℕ) (s : SettingData) (t : List Row) (n : ℕ) 
 -- the texts of maps are those whose words build a map line by line: what is lawful has no fault, and what has none is lawful
 abbrev pub MapsAreTheLawfulTexts : Type 0
 MapsAreTheLawfulTexts = (bytes : List ℕ) (s : SettingData) (t : List Row) (n : ℕ) → IsMapText bytes s t n ↔ IsLawfulText bytes s t n
+
+-- and no more is asked of them than that the map is lawful in the end: no line before the last one refuses what would become lawful
+abbrev pub MapsAreTheLawfulEnds : Type 0
+MapsAreTheLawfulEnds = (bytes : List ℕ) (s : SettingData) (t : List Row) (n : ℕ) → IsMapText bytes s t n ↔ EndsLawfully bytes s t n
 
 -- a word is told to have a fault exactly where its row of the table holds and no lesser one does
 abbrev pub WordsAreJudgedByTheTable : Type 0

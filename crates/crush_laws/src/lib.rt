@@ -1,5 +1,5 @@
-//! Laws of texts: each is one map or has one flaw, and what is printed of a map, or written of a run,
-//! is read back. There is no code here but functions whose contract is a law.
+//! Laws of texts: each is one map or has one flaw, and what is printed of a map, or written of a
+//! run, is read back. There is no code here but functions whose contract is a law.
 #![tactic(auto)]
 
 mod reading_back;

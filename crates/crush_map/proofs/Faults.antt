@@ -1,5 +1,6 @@
 -- What the faults of a call tell, and what their absence says.
 use Rattle.std.proofs.Common.{◌≡◌, Bool, true, false, List, [], ◌∷◌, refl, sym, subst, ◌∙◌}
+use Rattle.std.proofs.lemmas.Bool.{and_parts}
 use Rattle.std.specs.Prelude.{Option, Some, None, Result, Ok, Err, IfErr, IsErrAnd, is_some, not, ◌&&◌, if◌then◌else◌}
 use Rattle.std.specs.List.{list_all}
 use Rattle.crush_map.specs.declared.fault.BuildFault.{BuildFault}
@@ -22,15 +23,11 @@ told_itself TooMany h = refl
 told_itself SumTooLarge h = refl
 told_itself OutOfMemory h = absurd (let no : false ≡ true = h in cc)
 
-both : (a b : Bool) → (a && b) ≡ true → (a ≡ true) × (b ≡ true)
-both true b h = (refl, h)
-both false b h = absurd (let no : false ≡ true = h in cc)
-
 pub first_told : (ps : List (BuildFault × Bool)) → list_all is_told ps ≡ true → (f : BuildFault) → first_fault ps ≡ Some f → first_fault ps ≡ told f
 first_told [] h f e = absurd (let no : ◌≡◌ {A = Option BuildFault} None (Some f) = e in cc)
 first_told (p ∷ ps) h f e = by_test p.1 e (first_told ps b.1 f) where
   b : (is_told p ≡ true) × (list_all is_told ps ≡ true)
-  b = both (is_told p) (list_all is_told ps) h
+  b = and_parts (is_told p) (list_all is_told ps) h
 
   by_test : (v : Bool) → (if v then Some p.0 else first_fault ps) ≡ Some f → (first_fault ps ≡ Some f → first_fault ps ≡ told f) → (if v then Some p.0 else first_fault ps) ≡ told f
   by_test true e ih = let same : p.0 ≡ f = cc in sym (told_itself p.0 b.0) ∙ (λ i. told (same i))
@@ -54,14 +51,6 @@ none_of_three f g h a b c e =
 pub passed_on : {X : Type 0} (P : BuildFault → Type 0) (x : Result X BuildFault) → IsErrAnd x (λ e. e ≡ OutOfMemory) → P OutOfMemory → IfErr x P
 passed_on P (Err e) h p = subst P (sym h) p
 passed_on P (Ok d) h p = elim h [ ]
-
-pub not_false : (b : Bool) → not b ≡ false → b ≡ true
-not_false true h = refl
-not_false false h = absurd (let no : true ≡ false = h in cc)
-
-pub not_true : (b : Bool) → not b ≡ true → b ≡ false
-not_true true h = absurd (let no : false ≡ true = h in cc)
-not_true false h = refl
 
 -- an item that is there and isn't open
 pub closed_there : (a b : Bool) → (a && not b) ≡ true → a ≡ true

@@ -40,14 +40,10 @@ use Rattle.crush_map.specs.Pending.{with_first_weight}
 use Rattle.crush_map.specs.Built.{Pending, filling, Draft, with_item, placed_row, put_below, table_with_item, device_weight, adjustment}
 use Rattle.crush_map.proofs.Held.{held-put}
 use Rattle.crush_map.specs.Building.{BuilderData, IsRoot, IsPending, IsDraft, held_buckets}
+use Rattle.crush_edits.proofs.Edits.{some_row}
 use Rattle.crush_edits.proofs.FitLaws.{Fits-rows}
 
--- THE ROW of an item that is there
-row_there : (o : Option Row) → is_some o ≡ true → (r : Row) × o ≡ Some r
-row_there None h = absurd (let no : false ≡ true = h in cc)
-row_there (Some r) h = (r, refl)
-
--- what holds of each row holds of the one that is found
+-- THE ROW of an item that is there: what holds of each row holds of it
 holds_of_row : (P : Row → Type 0) (t : List Row) (i : ItemId) (r : Row) → All P t → row_of t i ≡ Some r → P r
 holds_of_row P [] i r a e = absurd (let no : ◌≡◌ {A = Option Row} None (Some r) = e in cc)
 holds_of_row P (x ∷ t) i r a e = by_id (same_id x.id i) e (holds_of_row P t i r (All-tail P x t a)) where
@@ -63,7 +59,7 @@ no_row (x ∷ t) i h = by_id (same_id x.id i) (sym (times-cons i x t) ∙ h) (no
   by_id false n ih = ih (omega (arith, n))
 
 -- the rows of its id are that one
-only_row : (t : List Row) (i : ItemId) (r : Row) → times i t ≤ 1 → row_of t i ≡ Some r → filter (λ (x : Row). same_id x.id i) t ≡ r ∷ []
+pub only_row : (t : List Row) (i : ItemId) (r : Row) → times i t ≤ 1 → row_of t i ≡ Some r → filter (λ (x : Row). same_id x.id i) t ≡ r ∷ []
 only_row [] i r h e = absurd (let no : ◌≡◌ {A = Option Row} None (Some r) = e in cc)
 only_row (x ∷ t) i r h e = by_id (same_id x.id i) (subst (λ n. n ≤ 1) (times-cons i x t) h) e (only_row t i r) where
   by_id : (b : Bool) → one_if b + times i t ≤ 1 → (if b then Some x else row_of t i) ≡ Some r → (times i t ≤ 1 → row_of t i ≡ Some r → filter (λ (y : Row). same_id y.id i) t ≡ r ∷ [])
@@ -150,7 +146,7 @@ item_moved t i k w (bucket h v m kids (bucket g u o more rest)) r l e far one wh
 pub item_same : (t : List Row) (i : ItemId) (k w : ℕ) (n : Items) → Lawful t → is_there t i ≡ true → is_part t i (Bucket k) ≡ false → IsOne n → Same (rows None n) (part i t)
     → Same (table_without i t ++ rows (Some k) (with_first_weight w n)) (put_below k i w t)
 item_same t i k w n l there far one whole =
-    let r = row_there (row_of t i) there in
+    let r = some_row t i there in
     subst (Same (table_without i t ++ rows (Some k) (with_first_weight w n))) (sym (put_below-last k i w t r.0 (l.ids i) r.1)) (item_moved t i k w n r.0 l r.1 far one whole)
 
 -- what the item weighs then
@@ -199,7 +195,7 @@ placed_form (Bucket b) k w r h e form = record {
 
 pub item_lawful : (t : List Row) (i : ItemId) (k w : ℕ) → Lawful t → is_there t i ≡ true → is_there t (Bucket k) ≡ true → is_part t i (Bucket k) ≡ false → (is_device_id i ≡ true → w ≤ 2147483647) → is_too_heavy (put_below k i w t) ≡ false → Lawful (put_below k i w t)
 item_lawful t i k w l there stands far h light =
-    let r = row_there (row_of t i) there in
+    let r = some_row t i there in
     let put = put_below-last k i w t r.0 (l.ids i) r.1 in
     let row : IsRow r.0 = holds_of_row IsRow t i r.0 l.rows r.1 in
     subst Lawful (sym put) (Lawful-moved t i k (if is_device r.0 then w else r.0.weight) r.0 l r.1 stands far (record { name = row.name; form = placed_form r.0.id k w r.0 (λ d. h (sym (ap is_device_id (row_id i t r.0 r.1)) ∙ d)) refl row.form }) (ap is_too_heavy (sym put) ∙ light))
@@ -213,7 +209,7 @@ placed_id i p w r = by_id (same_id r.id i) where
 
 pub item_distinct : (t : List Row) (i : ItemId) (k w : ℕ) → Lawful t → is_there t i ≡ true → Distinct (put_below k i w t)
 item_distinct t i k w l there =
-    let r = row_there (row_of t i) there in
+    let r = some_row t i there in
     let v : ℕ = if is_device r.0 then w else r.0.weight in
     subst Distinct (sym (put_below-last k i w t r.0 (l.ids i) r.1))
     (Distinct-same (placed_last i (Some k) v t r.0 (l.ids i) r.1) (Distinct-map (place i (Some k) v) (placed_id i (Some k) v) t l.ids))
@@ -232,7 +228,7 @@ root_row t u k e root = record { there = ap is_some e ∙ root.there; root = ap 
 pub root_without : (t : List Row) (i : ItemId) (k : ℕ) → IsRoot t k → is_part t i (Bucket k) ≡ false → IsRoot (table_without i t) k
 root_without t i k root far = root_row t (table_without i t) k (row_of-only (λ j. not (is_part t i j)) t (Bucket k) ∙ (λ j. if not (far j) then row_of t (Bucket k) else None)) root
 
-root_put : (t : List Row) (i : ItemId) (k w : ℕ) → IsRoot t k → same_id (Bucket k) i ≡ false → IsRoot (put_below k i w t) k
+pub root_put : (t : List Row) (i : ItemId) (k w : ℕ) → IsRoot t k → same_id (Bucket k) i ≡ false → IsRoot (put_below k i w t) k
 root_put t i k w root other =
     let keeps : row_of (without_row i t) (Bucket k) ≡ row_of t (Bucket k) = row_of-only (λ j. not (same_id j i)) t (Bucket k) ∙ (λ j. if not (other j) then row_of t (Bucket k) else None) in
     let there : is_there (without_row i t) (Bucket k) ≡ true = ap is_some keeps ∙ root.there in
@@ -242,7 +238,7 @@ root_put t i k w root other =
 -- no bucket is gone
 put_there : (t : List Row) (i : ItemId) (k w : ℕ) → Lawful t → is_there t i ≡ true → (b : ℕ) → IsThere t b → IsThere (put_below k i w t) b
 put_there t i k w l there b h =
-    let r = row_there (row_of t i) there in
+    let r = some_row t i there in
     let v : ℕ = if is_device r.0 then w else r.0.weight in
     let placed : is_there (map (place i (Some k) v) t) (Bucket b) ≡ true = is_there-map (place i (Some k) v) (placed_id i (Some k) v) t (Bucket b) ∙ h in
     subst (λ u. IsThere u b) (sym (put_below-last k i w t r.0 (l.ids i) r.1))
@@ -263,7 +259,7 @@ has_no_parent (Some p) h = absurd (let no : true ≡ false = h in cc)
 -- as many buckets are held as weights were adjusted
 put_held : (t : List Row) (i : ItemId) (k n : ℕ) (w : Option ℕ) → Lawful t → is_there t i ≡ true → is_placed t i ≡ false → n ≤ held_buckets t → n + adjustment t i w ≤ held_buckets (put_below k i (device_weight w) t)
 put_held t i k n w l there free h =
-    let r = row_there (row_of t i) there in
+    let r = some_row t i there in
     subst (λ u. n + adjustment t i w ≤ held_buckets u) (sym (put_below-last k i (device_weight w) t r.0 (l.ids i) r.1)) (held-put t i k (device_weight w) n w r.0 l (has_no_parent (parent_of t i) free) r.1 h)
 
 step_at : (b : BuilderData) (h : ForestData) (s : SettingData) (t : List Row) (a : ℕ) (i : ItemId) (k : ℕ) (w : Option ℕ) → IsDraft b (record { setting = s; table = t; pending = filling k; adjusted = a }) → is_there t i ≡ true → is_placed t i ≡ false → same_id (Bucket k) i ≡ false

@@ -1,5 +1,6 @@
 -- An item that was taken out of the forest, on its way into the bucket that is being filled.
 use Rattle.std.proofs.Common.{◌≡◌, ℕ, ◌+◌, ◌≤◌, Bool, true, false, not, ◌==◌, List, ◌++◌, ap, sym, subst, ◌∙◌, arith, [], ◌∷◌}
+use Rattle.std.proofs.lemmas.Bool.{not-false}
 use Rattle.std.specs.Prelude.{Option, Some, None, if◌then◌else◌, nat_lt}
 use Rattle.crush_units.specs.declared.id.ItemId.{ItemId}
 use Rattle.crush_units.specs.declared.id.ItemId.TheVariants.{Device, Bucket}
@@ -23,7 +24,7 @@ use Rattle.crush_table.proofs.Found.{Distinct, Distinct-same}
 use Rattle.crush_map.specs.declared.fault.BuildFault.{BuildFault}
 use Rattle.crush_map.specs.declared.fault.BuildFault.TheVariants.{BadWeight, UnknownItem, SecondParent, SumTooLarge}
 use Rattle.crush_map.specs.Faults.{is_heavy_device, is_closed, item_fault}
-use Rattle.crush_map.proofs.Faults.{passes, none_of_three, not_false, closed_there, closed_shut}
+use Rattle.crush_map.proofs.Faults.{passes, none_of_three, closed_there, closed_shut}
 use Rattle.crush_map.proofs.Held.{one_at_most}
 use Rattle.std.proofs.lemmas.Bool.Decides.{nat_tests}
 use Rattle.crush_map.specs.Pending.{with_first_weight}
@@ -83,7 +84,7 @@ item_clear d i w h =
     let tests : List (BuildFault × Bool) = (SecondParent, is_placed d.table i) ∷ ((SumTooLarge, is_too_heavy (with_item d i w).table) ∷ []) in
     let light = passes BadWeight (is_heavy_device i w) ((UnknownItem, not (is_closed d i)) ∷ tests) h in
     let others = none_of_three UnknownItem SecondParent SumTooLarge (not (is_closed d i)) (is_placed d.table i) (is_too_heavy (with_item d i w).table) light.1 in
-    record { light = light.0; closed = not_false (is_closed d i) others.0; free = others.1.0; sums = others.1.1 }
+    record { light = light.0; closed = not-false (is_closed d i) others.0; free = others.1.0; sums = others.1.1 }
 
 pub light_device : (i : ItemId) (w : Option ℕ) → is_heavy_device i w ≡ false → is_device_id i ≡ true → device_weight w ≤ 2147483647
 light_device i None h e = omega arith

@@ -4,20 +4,18 @@ use Rattle.std.proofs.lemmas.Bool.Decides.{nat_tests}
 use Rattle.std.proofs.lemmas.List.Sums.{sum_by_push, sum_by-cons}
 use Rattle.std.proofs.lemmas.List.Elements.{All-nil, All-cons, All-head, All-tail, All-push, All-map}
 use Rattle.std.proofs.lemmas.List.{map-append}
-use Rattle.std.proofs.lemmas.Bool.{eqb-true, or_right as or_true}
+use Rattle.std.proofs.lemmas.Bool.{eqb-true, and_parts, not-false, or_right as or_true}
 use Rattle.std.proofs.lemmas.Bool.Decides.{eqb_tells}
 use Rattle.std.proofs.lemmas.Slice.Eq.{bytes_eq-Decides}
 use Rattle.std.specs.Prelude.{Option, Some, None, if◌then◌else◌, All, map, find, not, nat_le, nat_lt, ◌==◌, ◌||◌, ◌&&◌, bytes_eq, is_some, IfSome, option_and_then}
 use Rattle.std.specs.Option.{option_map}
 use Rattle.std.specs.List.{count_by, list_any}
-use Rattle.crush_units.specs.declared.id.ItemId.{ItemId}
 use Rattle.crush_units.specs.declared.id.ItemId.TheVariants.{Device, Bucket}
 use Rattle.crush_units.specs.declared.alg.Alg.{Alg}
-use Rattle.crush_units.specs.Id.{same_id}
 use Rattle.crush_units.specs.Name.{IsName}
 use Rattle.crush_units.proofs.Ids.{same_id_refl}
 use Rattle.crush_table.specs.Items.{ShadowData}
-use Rattle.crush_table.specs.Table.{Row, member, used_ids, is_device, is_bucket, is_there, is_named, row_of, row_named, id_named, device_count, bucket_count}
+use Rattle.crush_table.specs.Table.{Row, member, used_ids, is_device, is_bucket, is_there, is_named, row_of, device_count, bucket_count}
 use Rattle.crush_table.specs.Lawful.{Lawful, IsShadowId, has_too_many}
 use Rattle.crush_table.specs.Forest.{ForestData, rows_of}
 use Rattle.crush_table.specs.ItemRows.{device_row, bucket_row}
@@ -32,20 +30,12 @@ use Rattle.crush_map.proofs.Held.{held-push}
 use Rattle.crush_edits.proofs.FitLaws.{Fits-push}
 use Rattle.crush_map.specs.declared.fault.BuildFault.TheVariants.{DuplicateId, DuplicateName, UnknownType, TooMany}
 use Rattle.crush_map.specs.Faults.{begin_fault, class_id_fault}
-use Rattle.crush_map.proofs.Faults.{none_of_three, not_false}
+use Rattle.crush_map.proofs.Faults.{none_of_three}
 use Rattle.crush_map.specs.Built.{Pending, nothing, begun, numbered, filling, Draft, begun_bucket, with_class_id, with_device, with_alg}
 use Rattle.crush_map.specs.Building.{BuilderData, BuilderFits, CanBegin, CanNumber, IsRoot, IsPending, IsDraft, own_draft, own_ids, is_bucket_kind, is_some_above_zero, names_bucket_kind, has_name, has_pending_id, has_bucket_id, has_class, pending_class_ids, is_full_of_buckets, is_full_of_class_ids}
 
 not_less : (m n : ℕ) → n ≤ m → nat_lt m n ≡ false
 not_less m n h = grind (arith, nat_tests)
-
-and_left : (a b : Bool) → (a && b) ≡ true → a ≡ true
-and_left true b h = refl
-and_left false b h = h
-
-and_right : (a b : Bool) → (a && b) ≡ true → b ≡ true
-and_right true b h = h
-and_right false b h = absurd (let no : false ≡ true = h in cc)
 
 is_positive : (k : ℕ) → nat_lt 0 k ≡ true → 0 < k
 is_positive k h = grind (arith, nat_tests)
@@ -113,7 +103,7 @@ begin_step b d q k n i clear e most form =
       stands = i.stands;
       fits = i.fits;
       part = record {
-        known = named_bucket_kind d.setting q k e (not_false (names_bucket_kind d.setting q) none.1.0);
+        known = named_bucket_kind d.setting q k e (not-false (names_bucket_kind d.setting q) none.1.0);
         most = most;
         form = form;
         free = or_left _ _ none.0;
@@ -235,7 +225,7 @@ bucket_lawful s t k n id cs alg l can num =
       form = record {
         some = num.some;
         most = num.most;
-        kind_some = is_positive k (and_left _ _ can.known);
+        kind_some = is_positive k (and_parts _ _ can.known).0;
         kind_most = can.most;
         weight = refl;
         class = refl;
@@ -262,7 +252,7 @@ step_at b f s t a k n id cs alg i st = record {
   adjusted = i.adjusted;
   few = held-push a t (new_bucket k n id cs alg) i.few;
   stands = st;
-  fits = Fits-push s t (new_bucket k n id cs alg) i.fits (λ _. and_right _ _ i.part.0.known);
+  fits = Fits-push s t (new_bucket k n id cs alg) i.fits (λ _. (and_parts _ _ i.part.0.known).1);
   part = new_root t k n id cs alg i.part.1;
 }
 
@@ -273,18 +263,6 @@ alg_step b f d k n id cs alg i e st =
     let p : d.pending ≡ numbered k n id cs = sym i.pending ∙ e in
     subst (λ (x : Pending). IsDraft (record { setting = b.setting; forest = f; pending = filling id; adjusted = b.adjusted }) (with_alg (record { setting = d.setting; table = d.table; pending = x; adjusted = d.adjusted }) alg)) (sym p)
     (step_at b f d.setting d.table d.adjusted k n id cs alg (subst (λ (x : Pending). IsDraft b (record { setting = d.setting; table = d.table; pending = x; adjusted = d.adjusted })) p i) st)
-
--- what has a name is there
-there_if : (b : Bool) (r : Row) (o : Option Row) → is_some o ≡ true → is_some (if b then Some r else o) ≡ true
-there_if true r o h = refl
-there_if false r o h = h
-
-pub named_there : (t : List Row) (n : List ℕ) (i : ItemId) → id_named t n ≡ Some i → is_there t i ≡ true
-named_there [] n i h = absurd (let no : ◌≡◌ {A = Option ItemId} None (Some i) = h in cc)
-named_there (r ∷ t) n i h = by_name (bytes_eq r.name n) h (named_there t n i) where
-  by_name : (b : Bool) → option_map (λ (x : Row). x.id) (if b then Some r else row_named t n) ≡ Some i → (id_named t n ≡ Some i → is_there t i ≡ true) → is_there (r ∷ t) i ≡ true
-  by_name true e ih = let same : r.id ≡ i = cc in ap (λ b. is_some (if b then Some r else row_of t i)) (ap (same_id r.id) (sym same) ∙ same_id_refl r.id)
-  by_name false e ih = there_if (same_id r.id i) r (row_of t i) (ih e)
 
 -- a test of what is seen of each
 pub any_seen : {X Y : Type 0} (f : X → Y) (p : Y → Bool) (xs : List X) → list_any (λ x. p (f x)) xs ≡ list_any p (map f xs)

@@ -27,7 +27,7 @@ use Rattle.crush_map.specs.Built.{Draft, nothing}
 use Rattle.crush_map.specs.Building.{BuilderData, IsDraft, IsPending, closed_item, is_open}
 use Rattle.crush_map.specs.Rules.{IsStepForm, IsRuleForm, bucket_number, bucket_named, taken_number, kept_step, kept_rule, with_rule, has_rule_name, has_rule_id, is_full_of_rules, word_fault, step_fault, or_later, steps_fault, rule_fault, rule_told}
 use Rattle.crush_map.proofs.KindSteps.{count_one_more, less}
-use Rattle.crush_map.proofs.RowSteps.{named_there}
+use Rattle.crush_apply.proofs.Found.{there_by_name}
 
 -- a name and an id among the rules as they are kept, and in the list that contracts see
 pub rule_name_found : (n : List ℕ) (xs : List KeptRule) → list_any (λ (x : KeptRule). bytes_eq x.name n) xs ≡ list_any (λ (x : RuleData). bytes_eq x.name n) (map rule_data xs)
@@ -85,7 +85,7 @@ step_kept s rs (choose leaf firstn count kind) h = record { range = h.range; kno
 step_kept s rs (set word value) h = h
 step_kept s rs emit h = h
 
-rule_kept : (s : SettingData) (rs : List RuleData) (r : RuleData) → IsRule s r → IsRule (record s { rules = rs }) r
+pub rule_kept : (s : SettingData) (rs : List RuleData) (r : RuleData) → IsRule s r → IsRule (record s { rules = rs }) r
 rule_kept s rs r h = record {
   name = h.name;
   id = h.id;
@@ -134,7 +134,7 @@ bucket_there d n (Some i) e h = by_open (is_open d.pending i) i e h where
   by_open : (b : Bool) (j : ItemId) → id_named d.table n ≡ Some j → is_some (option_and_then bucket_number (if b then None else Some j)) ≡ true → IsThere d.table (taken_number (option_and_then bucket_number (if b then None else Some j)))
   by_open true j q k = absurd (let no : false ≡ true = k in cc)
   by_open false (Device x) q k = absurd (let no : false ≡ true = k in cc)
-  by_open false (Bucket b) q k = named_there d.table n (Bucket b) q
+  by_open false (Bucket b) q k = there_by_name d.table n (Bucket b) q
 
 step_there : (d : Draft) (x : Step) → Words d x → All (IsThere d.table) (bucket_taken (kept_step d x))
 step_there d (Take name class) h =

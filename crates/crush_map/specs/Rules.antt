@@ -6,7 +6,7 @@ use Rattle.crush_units.specs.declared.id.ItemId.TheVariants.{Device, Bucket}
 use Rattle.crush_units.specs.declared.limits.TheConstants.{MOST_RULES, MOST_STEPS}
 use Rattle.crush_units.specs.Name.{IsName}
 use Rattle.crush_edits.specs.Setting.{StepData, take, choose, set, emit, RuleData, SettingData, kind_number}
-use Rattle.crush_edits.specs.Fits.{IsCount, IsSet}
+use Rattle.crush_edits.specs.Fits.{greatest_signed, IsCount, IsSet}
 use Rattle.crush_edits.specs.declared.rule.Rule.{Rule}
 use Rattle.crush_edits.specs.declared.rule.Step.{Step}
 use Rattle.crush_edits.specs.declared.rule.Step.TheVariants.{Take, Choose, Set, Emit}
@@ -28,10 +28,10 @@ IsStepForm Emit = Unit {0}
 
 pub record IsRuleForm (r : Rule) : Type 0 where
   pub name : IsName r.name
-  pub id : r.id ≤ 2147483647
+  pub id : r.id ≤ greatest_signed
   pub kind : IsName r.kind
-  pub min_size : IfSome r.min_size (λ n. n ≤ 2147483647)
-  pub max_size : IfSome r.max_size (λ n. n ≤ 2147483647)
+  pub min_size : IfSome r.min_size (λ n. n ≤ greatest_signed)
+  pub max_size : IfSome r.max_size (λ n. n ≤ greatest_signed)
   pub steps : All IsStepForm r.steps.items
 
 -- the bucket of a name, where a device or no complete bucket has it none

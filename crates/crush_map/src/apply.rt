@@ -1,6 +1,6 @@
 //! Edits of a map.
 
-ghost use Rattle.std.specs.Prelude.{◌≡◌, ℕ, ◌≤◌, List, length, IfOk, OnErr, true};
+ghost use Rattle.std.specs.Prelude.{◌≡◌, ℕ, ◌≤◌, List, length, IfOk, OnErr, true, false};
 ghost use Rattle.crush_units.specs.declared.limits.TheConstants.{MOST_EDITS};
 ghost use Rattle.crush_table.specs.Table.{Row};
 ghost use Rattle.crush_table.specs.Stands.{Stands};
@@ -20,10 +20,11 @@ use std::alloc::Allocator;
 impl<A: Allocator> CrushMap<A> {
     /// Makes the edit, or tells why it isn't made.
     ///
-    /// Where several refusals hold, the one of least number is told, and the map is as before. Want
-    /// of memory is told only of an edit that takes memory, where nothing speaks against it and the
-    /// map would be another after it: so never of new weights, of an exchange or of a removal. The
-    /// map then has what it had, and perhaps room for more.
+    /// Where several refusals hold, the one of least number is told, and the map is as before, as
+    /// it is where the edit changes nothing. Want of memory is told only of an edit that takes
+    /// memory, where nothing speaks against it and the map would be another after it: so never of
+    /// new weights, of an exchange or of a removal. The map then has what it had, and perhaps room
+    /// for more.
     pub fn apply(&mut self, asked: &Edit) -> Result<Done, EditFault>
     where
         A: Clone,
@@ -38,6 +39,7 @@ impl<A: Allocator> CrushMap<A> {
         ensures memory { result ≡ Err EditFault.OutOfMemory → takes_memory asked.now ≡ true }
         ensures unchanged { (r : DeclaredRefusal) → result ≡ Err (EditFault.Refused r)
             → self.new ≡ self.old }
+        ensures still { IfOk result (λ d. d.changed ≡ false → self.new ≡ self.old) }
         ensures kept { OnErr result (IsSameForest self.new.forest self.old.forest) }
         ensures setting { self.new.setting ≡ self.old.setting }
     {

@@ -59,7 +59,8 @@ pub enum RulePart {
 
 /// Why a rule isn't taken, and at which part. Where several parts have faults, the first is told.
 /// Want of memory is told of the statement.
-#[derive(Clone, Copy, Debug, PartialEq, Eq)]
+#[derive(Clone, Copy, Debug, PartialEq, Eq, Error)]
+#[error("{fault}")]
 pub struct RuleFault {
     /// The part.
     pub part: RulePart,

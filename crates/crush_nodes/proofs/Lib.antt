@@ -2,6 +2,7 @@ pub mod ApartLaws
 pub mod ApartSteps
 pub mod CopyLaws
 pub mod CountLaws
+pub mod Ends
 pub mod FormLaws
 pub mod HoldLaws
 pub mod IdSteps

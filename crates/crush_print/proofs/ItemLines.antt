@@ -1,7 +1,9 @@
 -- Lines of items and texts of buckets, along a list of nodes.
-use Rattle.std.proofs.Common.{◌≡◌, ℕ, ◌+◌, ◌<◌, ◌≤◌, List, [], ◌∷◌, ◌++◌, length, get_or, take, ap, sym, ◌∙◌, refl, arith, append_assoc, Result, Ok, Err}
-use Rattle.std.specs.Prelude.{OnOk, codes, decimal, is_ok, if◌then◌else◌}
-use Rattle.std.proofs.lemmas.List.{append-nil}
+use Rattle.std.proofs.Common.{◌≡◌, ℕ, ◌+◌, ◌<◌, ◌≤◌, List, [], ◌∷◌, ◌++◌, length, get_or, take, map, ap, sym, ◌∙◌, refl, arith, append_assoc, Result, Ok, Err}
+use Rattle.std.specs.Prelude.{OnOk, codes, decimal, flat_map, is_ok, if◌then◌else◌}
+use Rattle.std.proofs.lemmas.List.{append-nil, take_more}
+use Rattle.std.proofs.lemmas.List.Concat.{flat_map-append}
+use Rattle.std.proofs.lemmas.List.Folds.{flat_map-map}
 use Rattle.crush_units.specs.declared.id.ItemId.TheVariants.{Bucket as BucketItem}
 use Rattle.crush_table.specs.Items.{LeafData, BucketData, Items, none, device, bucket, size_of}
 use Rattle.crush_table.specs.Forest.{join}
@@ -49,6 +51,18 @@ leaves-more ns i x lt is = ap leaves (items_of-taken ns i x lt is) ∙ leaves-jo
 -- what is behind the lines so far
 pub one_more : (old now new first next all : List ℕ) → now ≡ old ++ first → new ≡ now ++ next → all ≡ first ++ next → new ≡ old ++ all
 one_more old now new first next all before after is = after ∙ ap (λ (l : List ℕ). l ++ next) before ∙ append_assoc old first next ∙ ap (λ (l : List ℕ). old ++ l) (sym is)
+
+-- what one more of them prints
+pub prints_more : {X : Type 0} (line : X → List ℕ) (xs : List X) (i : ℕ) (x : X) → i < length xs → x ≡ get_or xs i x → flat_map line (take (i + 1) xs) ≡ flat_map line (take i xs) ++ line x
+prints_more line xs i x lt is =
+    ap (flat_map line) (take_more xs i x lt ∙ ap (λ y. take i xs ++ y ∷ []) (sym is)) ∙ flat_map-append line (take i xs) (x ∷ [])
+    ∙ ap (λ (l : List ℕ). flat_map line (take i xs) ++ l) (append-nil (line x))
+
+-- the same of what is seen of them
+pub lines_more : {X Y : Type 0} (line : Y → List ℕ) (see : X → Y) (xs : List X) (i : ℕ) (x : X) → i < length xs → x ≡ get_or xs i x
+    → flat_map line (map see (take (i + 1) xs)) ≡ flat_map line (map see (take i xs)) ++ line (see x)
+lines_more line see xs i x lt is =
+    flat_map-map line see (take (i + 1) xs) ∙ prints_more (λ y. line (see y)) xs i x lt is ∙ ap (λ (l : List ℕ). l ++ line (see x)) (sym (flat_map-map line see (take i xs)))
 
 -- the five parts of a bucket, of which the last may fail
 pub bucket_more : {X E : Type 0} (r : Result X E) (old one two three four five head ids choice items end : List ℕ) → one ≡ old ++ head → two ≡ one ++ ids → three ≡ two ++ choice → four ≡ three ++ items → five ≡ (if is_ok r then four ++ end else four)

@@ -53,8 +53,8 @@ pub fn same_tables_print_alike()
     ensures { SameTablesPrintAlike }
 {}
 
-/// A step of a rule that takes a bucket is printed with the name that this bucket has, for each setting
-/// that fits the table. There is nothing to run: the contract is the law.
+/// A step of a rule that takes a bucket is printed with the name that this bucket has, for each
+/// setting that fits the table. There is nothing to run: the contract is the law.
 pub fn taken_buckets_are_named()
     ensures { TakenBucketsAreNamed }
 {}

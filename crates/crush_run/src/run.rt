@@ -6,7 +6,7 @@ ghost use Rattle.crush_table.specs.Stands.{Stands};
 ghost use Rattle.crush_table.specs.Table.{Row};
 ghost use Rattle.crush_print.specs.MapText.{map_text};
 ghost use Rattle.crush_bytes.specs.Writes.{Writes};
-ghost use Rattle.crush_calls.specs.Entries.{history_data};
+ghost use Rattle.crush_calls.specs.Entries.{AreOf, history_data};
 ghost use Rattle.crush_calls.specs.HistoryText.{names_of};
 ghost use Rattle.crush_script.specs.Job.{HasJob, IsJob, JobData, JobStands};
 ghost use Rattle.crush_calls.specs.Script.{scripts_data, call_count};
@@ -32,7 +32,8 @@ fn lines_asked(
     scripts: &[Script],
     entries: &[Entry<'_>],
 ) -> Result<Vec<u8>, AllocError>
-    requires { length entries.now ≤ MOST_ENTRIES }
+    requires few { length entries.now ≤ MOST_ENTRIES }
+    requires operators { AreOf (length scripts.now) entries.now }
     ensures { IfOk result (λ lines. lines.items
         ≡ lines_asked history (names_of (scripts_data scripts.now)) (history_data entries.now)) }
 {
@@ -52,7 +53,8 @@ fn write_outcome<W: Write>(
     entries: &[Entry<'_>],
     writer: &mut W,
 ) -> Result<(), RunFault>
-    requires { length entries.now ≤ MOST_ENTRIES }
+    requires few { length entries.now ≤ MOST_ENTRIES }
+    requires operators { AreOf (length scripts.now) entries.now }
     ensures writes { (t : List Row) → Stands map.now.forest t
         → Writes result (W.contents writer.old) (W.contents writer.new)
         (map_text map.now.setting t
@@ -140,6 +142,8 @@ pub fn run_job<H: AllocGlobal, R: Read, W: Write>(
 {
     let alloc = rt.alloc();
     let bytes = read_bytes(alloc, reader)?;
-    let job = read_job(alloc, bytes.as_slice())?;
-    run_scripts(alloc, mode, job, writer)
+    match read_job(alloc, bytes.as_slice()) {
+        Ok(job) => run_scripts(alloc, mode, job, writer),
+        Err(fault) => Err(RunFault::from(fault)),
+    }
 }

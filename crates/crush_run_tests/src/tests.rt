@@ -3,7 +3,7 @@
 use crush_options::Mode;
 use crush_report::{RunFault, Summary, report};
 use crush_run::run_job;
-use std::test::Fail;
+use std::process::Abort;
 
 mod examples;
 mod failing;
@@ -36,10 +36,14 @@ const MODE: Mode = Mode {
 };
 
 /// The bytes of both, one behind the other.
-fn joined(rt: &impl AllocGlobal, first: &[u8], second: &[u8]) -> Result<Vec<u8>, Fail> {
-    let mut bytes = Vec::from_slice(rt.alloc(), first)?;
-    bytes.extend_from_slice(second)?;
-    Ok(bytes)
+fn joined(rt: &(impl Abort + AllocGlobal), first: &[u8], second: &[u8]) -> Vec<u8> {
+    let parts = [first, second];
+    parts.concat(rt.alloc()).expect(rt, "no memory")
+}
+
+/// Puts the bytes behind a text.
+fn put_behind(rt: &impl Abort, text: &mut Vec<u8>, bytes: &[u8]) {
+    text.extend_from_slice(bytes).expect(rt, "no memory");
 }
 
 /// Whether a job that is run in this mode writes this map and these lines behind it, and is summed
@@ -58,6 +62,32 @@ fn writes(
         && out.len().checked_sub(map.len()) == Some(lines.len())
         && out.starts_with(map)
         && out.ends_with(lines)
+}
+
+/// What a run comes to of these numbers of weights that are replaced, calls, and changes.
+fn summary(adjusted: u32, calls: u32, changes: u32) -> Summary {
+    Summary {
+        adjusted,
+        calls,
+        changes,
+    }
+}
+
+/// Whether the bytes are refused: nothing is written, standard error is told this line, and the
+/// status is 1.
+fn is_refused(rt: &impl AllocGlobal, bytes: &[u8], line: &[u8]) -> bool {
+    let mut out = Vec::new(rt.alloc());
+    let outcome = run_job(rt, MODE, &mut &*bytes, &mut out);
+    out.is_empty() && is_told(rt, &outcome, line, 1)
+}
+
+/// The text is refused with each of these lines behind it, and with the line of standard error beside
+/// them.
+fn are_refused(rt: &(impl Abort + AllocGlobal), text: &[u8], rows: &[(&[u8], &[u8])]) {
+    for (place, (rest, line)) in rows.iter().enumerate() {
+        let bytes = joined(rt, text, rest);
+        assert!(rt; is_refused(rt, bytes.as_slice(), line), "at {place}");
+    }
 }
 
 /// Whether standard error is told this line of an outcome, and the program ends with this status.

@@ -20,7 +20,7 @@ use Rattle.crush_edits.specs.Pushed.{IsLocation}
 use Rattle.crush_script.specs.declared.command.Command.TheVariants as says
 use Rattle.crush_script.specs.Lines.{line_words}
 use Rattle.crush_script.specs.Words.{equals_at, pair_of, device_named}
-use Rattle.crush_script.specs.Command.{name_at, weight_at, end_at, with_pair, with_pairs, location_at, placing_at, located_at, one_name_at, two_names_at, weighed_at, keyword_of, edit_at, command}
+use Rattle.crush_script.specs.Command.{name_at, weight_at, end_at, with_pair, with_pairs, location_at, placing_at, located_at, one_name_at, two_names_at, weighed_at, keyword_of, moving_keyword, naming_keyword, edit_at, command}
 use Rattle.crush_calls.specs.HistoryText.{pairs_text, one_name}
 use Rattle.crush_script.specs.Printed.{PrintedIsRead}
 use Rattle.crush_script.proofs.Pairs.{pair_added}
@@ -172,7 +172,7 @@ said text first words e is some bytes are reads =
     ap (λ (t : List ℕ). command (line_words t)) is ∙ ap command (line_words-joined first words (record { some = some; bytes = bytes }) are) ∙ reads
 
 pub printed_is_read : PrintedIsRead
-unfolding command keyword_of edit_at
+unfolding command keyword_of moving_keyword naming_keyword edit_at
 printed_is_read (Insert d n w l) is =
     let are = of_location l is.at in
     let reads = placing_read d n (weight_text w) w l is.name is.device (read_again w is.weight) are is.at.few in

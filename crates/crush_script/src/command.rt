@@ -2,7 +2,7 @@
 
 ghost use Rattle.std.specs.Prelude.{◌≡◌};
 ghost use Rattle.crush_script.specs.AnswersAs.{AnswersAs, AnswersAndLeaves};
-ghost use Rattle.crush_script.specs.Command.{command, operator, name_at, weight_at, end_at, with_pair, location_at, placing_at, located_at, one_name_at, two_names_at, weighed_at, keyword_of, placed, edit_of, edit_at};
+ghost use Rattle.crush_script.specs.Command.{command, operator, name_at, weight_at, end_at, with_pair, location_at, placing_at, located_at, one_name_at, two_names_at, weighed_at, keyword_of, moving_keyword, naming_keyword, placed, edit_of, edit_at};
 
 use crate::line::{LineWords, place_of};
 use crate::word::device_named;
@@ -11,7 +11,7 @@ use crush_units::{DeviceId, Name, NameFault, Weight};
 use std::alloc::Global;
 
 /// Why a line says nothing.
-#[derive(Clone, Copy, Debug, PartialEq, Eq)]
+#[derive(Clone, Copy)]
 pub(crate) enum LineFault {
     /// The line isn't of the form that its first word asks for.
     BadLine,
@@ -22,7 +22,7 @@ pub(crate) enum LineFault {
 }
 
 /// What a line says that begins no section.
-#[derive(Debug, Drop)]
+#[derive(Drop)]
 pub(crate) enum Command {
     /// There are no words.
     Nothing,
@@ -212,7 +212,17 @@ fn keyword_of(first: &[u8]) -> Option<Keyword>
         Some(Keyword::Place(Placement::Set))
     } else if first == b"create-or-move".as_slice() {
         Some(Keyword::Place(Placement::CreateOrMove))
-    } else if first == b"move".as_slice() {
+    } else {
+        moving_keyword(first)
+    }
+}
+
+/// The command of a first word that places no device: first those that move or weigh items.
+#[tactic(auto, unfolding(crate::specs::Command::moving_keyword))]
+fn moving_keyword(first: &[u8]) -> Option<Keyword>
+    ensures { result ≡ moving_keyword first.now }
+{
+    if first == b"move".as_slice() {
         Some(Keyword::Move)
     } else if first == b"swap-bucket".as_slice() {
         Some(Keyword::SwapBucket)
@@ -220,7 +230,17 @@ fn keyword_of(first: &[u8]) -> Option<Keyword>
         Some(Keyword::Reweight)
     } else if first == b"reweight-subtree".as_slice() {
         Some(Keyword::ReweightSubtree)
-    } else if first == b"rm".as_slice() || first == b"remove".as_slice() {
+    } else {
+        naming_keyword(first)
+    }
+}
+
+/// The command of a first word that only names what comes, goes or is renamed.
+#[tactic(auto, unfolding(crate::specs::Command::naming_keyword))]
+fn naming_keyword(first: &[u8]) -> Option<Keyword>
+    ensures { result ≡ naming_keyword first.now }
+{
+    if first == b"rm".as_slice() || first == b"remove".as_slice() {
         Some(Keyword::Rm)
     } else if first == b"add-bucket".as_slice() {
         Some(Keyword::AddBucket)

@@ -1,6 +1,6 @@
 //! Jobs: a map's text, and behind it the scripts of its operators.
 
-ghost use Rattle.std.specs.Prelude.{◌≡◌, ◌≤◌, ℕ, List, IfOk, IfErr, MatchResult};
+ghost use Rattle.std.specs.Prelude.{◌≡◌, ◌≤◌, ℕ, List, IfOk, IfErr};
 ghost use Rattle.crush_table.specs.Table.{Row};
 ghost use Rattle.crush_edits.specs.Setting.{SettingData};
 ghost use Rattle.crush_table.specs.Stands.{Stands};
@@ -38,8 +38,9 @@ fn read_map_text(alloc: Global, text: &[u8]) -> Result<(CrushMap<Global>, u32), 
     ensures map { IfOk result (λ m. (t : List Row)
         × IsMapText text.now m.0.setting t m.1 × Stands m.0.forest t) }
     ensures only { (s : SettingData) (t : List Row) (n : ℕ) → IsMapText text.now s t n
-        → MatchResult result (λ m. MapStands m.0 s t × (m.1 ≡ n))
-        (λ fault. fault ≡ JobFault.OutOfMemory) }
+        → IfOk result (λ m. MapStands m.0 s t × (m.1 ≡ n)) }
+    ensures want { (s : SettingData) (t : List Row) (n : ℕ) → IsMapText text.now s t n
+        → IfErr result (λ fault. fault ≡ JobFault.OutOfMemory) }
     ensures fault { IfErr result (IsMapFault text.now) }
 {
     match read_map(alloc, text) {
@@ -73,8 +74,12 @@ pub fn read_job(alloc: Global, bytes: &[u8]) -> Result<Job, JobFault>
     ensures job { IfOk result (λ read. (job : JobData) × IsJob bytes.now job × JobStands read job) }
 
     // Each job of the bytes is the one that is read.
-    ensures only { (job : JobData) → IsJob bytes.now job → MatchResult result
-        (λ read. JobStands read job) (λ fault. fault ≡ JobFault.OutOfMemory) }
+    ensures only { (job : JobData) → IsJob bytes.now job
+        → IfOk result (λ read. JobStands read job) }
+
+    // A job is refused for want of memory alone, and other bytes for what is wrong with them.
+    ensures want { (job : JobData) → IsJob bytes.now job
+        → IfErr result (λ fault. fault ≡ JobFault.OutOfMemory) }
     ensures fault { IfErr result (IsJobFault bytes.now) }
 
     // A job has at most 65,536 calls.

@@ -48,7 +48,7 @@ fn has_operator(scripts: &[Script], name: &Name<Global>) -> bool
 }
 
 impl Sections {
-    ghost use Rattle.std.specs.Prelude.{◌≡◌, ◌<◌, length, OnOk};
+    ghost use Rattle.std.specs.Prelude.{◌≡◌, ◌<◌, None, length, OnOk};
     ghost use Rattle.crush_script.specs.Sections.{sections_data, closed, counted, with_section, with_call, with_edit, with_begin, with_commit, with_command, with_line};
     ghost use Rattle.crush_script.specs.Steps.{Steps};
 
@@ -118,6 +118,16 @@ impl Sections {
             batch.edits.push(edit)?;
             return Ok(());
         }
+        self.add_single(number, edit)
+    }
+
+    /// Adds an edit as a call of the last script, as where no batch is open.
+    fn add_single(&mut self, number: usize, edit: Edit) -> Result<(), JobFault>
+        requires begun { 0 < length self.old.scripts.items }
+        ensures steps { Steps result (sections_data self.new)
+            (with_edit number (sections_data self.old) None edit) }
+        ensures begun { OnOk result (0 < length self.new.scripts.items) }
+    {
         self.count_call(number)?;
         self.add_call(Call::One(edit))
     }

@@ -42,7 +42,7 @@ fn script_count(rt: &(impl Abort + AllocGlobal), text: &[u8]) -> usize {
 
 /// The only script of a job.
 fn only_script<'a>(rt: &impl Abort, job: &'a Job) -> &'a Script {
-    assert_eq!(rt; job.scripts.len(), 1);
+    assert!(rt; job.scripts.len() == 1);
     &job.scripts[0]
 }
 

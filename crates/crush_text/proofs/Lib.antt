@@ -2,6 +2,7 @@ pub mod FirstWords
 pub mod Judged
 pub mod Laws
 pub mod LineByLine
+pub mod LineEnds
 pub mod Steps
 pub mod TheTable
 pub mod Wants

@@ -1,16 +1,24 @@
 -- The lines of class ids and of rules, word by word.
-use Rattle.std.proofs.Common.{◌≡◌, ℕ, Bool, List, [], ◌∷◌, ◌++◌, length, map, Result, Ok, Err, refl, sym, ap, ◌∙◌, inl, inr}
-use Rattle.std.specs.Prelude.{codes}
+use Rattle.std.proofs.Common.{◌≡◌, ◌+◌, ◌<◌, arith, None, false, ℕ, Bool, List, [], ◌∷◌, ◌++◌, length, map, Result, Ok, Err, refl, sym, ap, ◌∙◌, inl, inr}
+use Rattle.std.specs.Prelude.{Some, codes, nat_le, Option, IfOk, IfErr}
+use Rattle.crush_map.specs.declared.fault.BuildFault.{BuildFault}
+use Rattle.crush_map.specs.declared.fault.RulePart.TheVariants.{Step as AtStep}
 use Rattle.std.proofs.lemmas.List.{map-append}
+use Rattle.std.proofs.lemmas.Bool.{lt-leb}
 use Rattle.crush_edits.specs.declared.rule.Step.{Step}
 use Rattle.crush_edits.specs.Setting.{RuleData}
 use Rattle.crush_map.specs.Built.{Draft}
-use Rattle.crush_map.specs.Rules.{kept_step}
+use Rattle.crush_edits.specs.declared.rule.Rule.{Rule}
+use Rattle.crush_units.specs.declared.limits.TheConstants.{MOST_STEPS}
+use Rattle.crush_map.specs.Building.{BuilderData, IsDraft}
+use Rattle.crush_map.specs.Rules.{kept_step, kept_rule, has_rule_name, has_rule_id, step_fault, word_fault, steps_fault, or_later}
+use Rattle.crush_text.specs.declared.fault.TextFaultKind.TheVariants.{OutOfMemory}
+use Rattle.crush_text.specs.Room.{IsFreeRule, IsHead}
 use Rattle.crush_bytes.specs.Words.{Text}
 use Rattle.crush_text.specs.declared.fault.TextFault.{TextFault}
 use Rattle.crush_text.specs.Role.{StepWord, key, any_word, id_or_alg, rule_name, rule_id_key, rule_id, step_or_end, step_word}
-use Rattle.crush_text.specs.Form.{numbered, ruled, Progress, done, word}
-use Rattle.crush_text.specs.Grammar.{id_or_alg_line, rule_line, sizes, step_behind, step_or_brace, lines}
+use Rattle.crush_text.specs.Form.{numbered, ruled, at, Progress, done, word}
+use Rattle.crush_text.specs.Grammar.{id_or_alg_line, new_rule, rule_line, sizes, step_behind, step_or_brace, lines}
 use Rattle.crush_text.specs.Flow.{◌>>=◌}
 use Rattle.crush_text.specs.Reads.{Gives, word_at, line_at}
 
@@ -49,3 +57,35 @@ step_or_end_goes d r n more t rest e is = ap (λ (m : ℕ). word_at d (step_or_e
 -- one more step, as it is kept
 pub steps_kept : (d : Draft) (old new : List Step) (s : Step) → new ≡ old ++ s ∷ [] → map (kept_step d) old ++ kept_step d s ∷ [] ≡ map (kept_step d) new
 steps_kept d old new s e = sym (ap (map (kept_step d)) e ∙ map-append (kept_step d) old (s ∷ []))
+
+-- the head of a rule as it is kept
+kept_head : (d : Draft) (x : List ℕ) (n : ℕ) (k : List ℕ) (least most : Option ℕ) (r : Rule) → IsHead x n k least most r → kept_rule d r ≡ new_rule x n k least most
+kept_head d x n k least most r h = rw (h.name, h.id, h.kind, h.min_size, h.max_size, h.steps) refl
+
+-- which is what its words say
+pub head_made : (d : Draft) (x : List ℕ) (n : ℕ) (k : List ℕ) (least most : Option ℕ) (r : Result Rule TextFault) (t : Text) (all : Result (Progress × Text) TextFault) → all ≡ line_at d (done (at (ruled (new_rule x n k least most)) d)) t
+    → IfOk r (IsHead x n k least most) → IfErr r (λ f. f.kind ≡ OutOfMemory) → Gives (λ q. (at (ruled (kept_rule d q)) d, t)) r all
+head_made d x n k least most (Ok r) t all e h m = e ∙ done_reads d _ t ∙ ap (λ v. Ok (at (ruled v) d, t)) (sym (kept_head d x n k least most r h))
+head_made d x n k least most (Err f) t all e h m = inl m
+
+-- and is free where its name and its id are
+pub head_free : (b : BuilderData) (x : List ℕ) (n : ℕ) (k : List ℕ) (least most : Option ℕ) (r : Result Rule TextFault) → IfOk r (IsHead x n k least most)
+    → ((d : Draft) → IsDraft b d → has_rule_name d.setting x ≡ false) → ((d : Draft) → IsDraft b d → has_rule_id d.setting n ≡ false) → IfOk r (λ q. (d : Draft) → IsDraft b d → IsFreeRule d q)
+head_free b x n k least most (Ok r) h name id = λ d is. record {
+  name = ap (has_rule_name d.setting) h.name ∙ name d is;
+  id = ap (has_rule_id d.setting) h.id ∙ id d is;
+  steps = ap (steps_fault d 0) h.steps;
+}
+head_free b x n k least most (Err f) h name id = tt
+
+-- a step behind others is free where it names what is there and there is room
+steps_on : (d : Draft) (k : ℕ) (xs : List Step) (s : Step) → steps_fault d k xs ≡ None → k + length xs < MOST_STEPS → word_fault d s ≡ None → steps_fault d k (xs ++ s ∷ []) ≡ None
+steps_on d k [] s free lt there = let room : nat_le MOST_STEPS k ≡ false = lt-leb _ _ (omega (arith, lt)) in rw (room, there) refl
+steps_on d k (x ∷ xs) s free lt there = by_it (step_fault d k x) free (λ e. steps_on d (k + 1) xs s e (omega (arith, lt)) there)
+  where
+    by_it : (o : Option BuildFault) → or_later (AtStep k) o (steps_fault d (k + 1) xs) ≡ None → (steps_fault d (k + 1) xs ≡ None → steps_fault d (k + 1) (xs ++ s ∷ []) ≡ None) → or_later (AtStep k) o (steps_fault d (k + 1) (xs ++ s ∷ [])) ≡ None
+    by_it None e go = go e
+    by_it (Some f) e go = absurd cc
+
+pub steps_free : (d : Draft) (old new : List Step) (s : Step) → new ≡ old ++ s ∷ [] → steps_fault d 0 old ≡ None → length old < MOST_STEPS → word_fault d s ≡ None → steps_fault d 0 new ≡ None
+steps_free d old new s e free lt there = ap (steps_fault d 0) e ∙ steps_on d 0 old s free (omega (arith, lt)) there

@@ -10,6 +10,7 @@ use Rattle.crush_units.specs.declared.id.ItemId.TheVariants.{Device, Bucket}
 use Rattle.crush_units.specs.declared.weight.WeightFault.{WeightFault}
 use Rattle.crush_units.specs.Alg.{alg_of_text}
 use Rattle.crush_units.specs.Weight.{weight_of_text}
+use Rattle.crush_units.specs.declared.limits.TheConstants.{HEAVIEST_DEVICE, MOST_STEPS}
 use Rattle.crush_edits.specs.Setting.{kind_number}
 use Rattle.crush_edits.specs.Fits.{is_reserved}
 use Rattle.crush_map.specs.Built.{Draft}
@@ -113,9 +114,9 @@ no_step_tells w = Decides-like _ (λ h. (λ e. h (inl (inl e)), (λ e. h (inl (i
 -- a text that is no weight of an item
 no_weight_tells : (i : ItemId) (r : Result ℕ WeightFault) → Decides (not (is_weight_for i r)) (IsNoWeightOf i r)
 no_weight_tells i (Err f) = each_row
-no_weight_tells (Device n) (Ok w) = by_it (nat_le w 2147483647) (leb_tells w 2147483647)
+no_weight_tells (Device n) (Ok w) = by_it (nat_le w HEAVIEST_DEVICE) (leb_tells w HEAVIEST_DEVICE)
   where
-    by_it : (b : Bool) → ((b ≡ true) × (w ≤ 2147483647)) ⊎ ((b ≡ false) × (2147483647 < w)) → Decides (not b) (2147483647 < w)
+    by_it : (b : Bool) → ((b ≡ true) × (w ≤ HEAVIEST_DEVICE)) ⊎ ((b ≡ false) × (HEAVIEST_DEVICE < w)) → Decides (not b) (HEAVIEST_DEVICE < w)
     by_it b (inl p) = (λ e. let t = p.0 in absurd cc, λ lt. absurd (let le = p.1 in omega (arith, lt, le)))
     by_it b (inr p) = (λ e. p.1, λ lt. ap not p.0)
 no_weight_tells (Bucket b) (Ok w) = no_row
@@ -207,7 +208,7 @@ module _ (d : Draft) (w : List ℕ) where
   too_many : (r : Role) → Decides (fires TooMany (tests d r w)) (IsTooMany d r w)
   too_many (opening late) = itself _
   too_many id_or_alg = Decides-and _ _ (bytes_eq-Decides w _) (itself _)
-  too_many (step_or_end k) = Decides-and _ _ (bytes_eq-Decides w _) (le_tells 64 k)
+  too_many (step_or_end k) = Decides-and _ _ (bytes_eq-Decides w _) (le_tells MOST_STEPS k)
   too_many r = no_row
 
   sum_too_large : (r : Role) → Decides (fires SumTooLarge (tests d r w)) (IsSumTooLarge d r w)

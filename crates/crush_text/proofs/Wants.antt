@@ -1,9 +1,18 @@
 -- What a builder refuses where no test of its call holds.
-use Rattle.std.proofs.Common.{◌≡◌, Bool, true, false, [], ◌∷◌, Option, None, refl}
-use Rattle.std.specs.Prelude.{Some}
+use Rattle.std.proofs.Common.{◌≡◌, Bool, true, false, [], ◌∷◌, Option, None, refl, sym, ◌∙◌}
+use Rattle.std.specs.Prelude.{Some, is_some, if◌then◌else◌}
+use Rattle.crush_units.specs.declared.id.ItemId.{ItemId}
+use Rattle.crush_units.specs.declared.id.ItemId.TheVariants.{Device, Bucket}
+use Rattle.crush_table.specs.Table.{is_there}
+use Rattle.crush_map.specs.Built.{Draft}
+use Rattle.crush_map.specs.Building.{BuilderData, IsDraft, is_open}
 use Rattle.crush_map.specs.declared.fault.BuildFault.{BuildFault}
 use Rattle.crush_map.specs.declared.fault.BuildFault.TheVariants.{BadWeight, DuplicateId, DuplicateName, UnknownType, UnknownItem, SecondParent, UnknownBucketInRule, TooMany, SumTooLarge, OutOfMemory}
-use Rattle.crush_map.specs.Faults.{told, first_fault}
+use Rattle.crush_edits.specs.declared.rule.Rule.{Rule}
+use Rattle.crush_map.specs.declared.fault.RuleFault.{RuleFault}
+use Rattle.crush_map.specs.Rules.{is_full_of_rules, rule_fault, rule_told}
+use Rattle.crush_text.specs.Room.{IsFreeRule}
+use Rattle.crush_map.specs.Faults.{told, first_fault, is_heavy_device, is_closed}
 
 -- what isn't told is want of memory
 is_want : (f : BuildFault) → None ≡ told f → f ≡ OutOfMemory
@@ -28,3 +37,23 @@ want_of_two f g false false h x y e = is_want h e
 pub want_of_three : (f g k : BuildFault) (a b c : Bool) (h : BuildFault) → a ≡ false → b ≡ false → c ≡ false → first_fault ((f, a) ∷ ((g, b) ∷ ((k, c) ∷ []))) ≡ told h → h ≡ OutOfMemory
 want_of_three f g k true b c h x y z e = absurd (let no : true ≡ false = x in cc)
 want_of_three f g k false b c h x y z e = want_of_two g k b c h y z e
+
+-- an item without a written weight isn't too heavy for a device
+pub light_unwritten : (i : ItemId) → is_heavy_device i None ≡ false
+light_unwritten (Device n) = refl
+light_unwritten (Bucket b) = refl
+
+-- what is there and isn't open is closed
+pub closed_so : (b : BuilderData) (d : Draft) (i : ItemId) → IsDraft b d → is_there d.table i ≡ true → is_open b.pending i ≡ false → is_closed d i ≡ true
+closed_so b d i h there shut = rw (there, ← h.pending, shut) refl
+
+-- a rule that has room and is free has no fault, so what isn't told of it is want of memory
+pub want_of_rule : (d : Draft) (r : Rule) (f : RuleFault) → is_full_of_rules d ≡ false → IsFreeRule d r → rule_fault d r ≡ rule_told f → f.fault ≡ OutOfMemory
+want_of_rule d r f room free e = is_want f.fault (untold (told f.fault) (sym none ∙ e))
+  where
+    none : rule_fault d r ≡ None
+    none = rw (room, free.name, free.id, free.steps) refl
+
+    untold : (o : Option BuildFault) → None ≡ (if is_some o then Some f else None) → None ≡ o
+    untold None e = refl
+    untold (Some x) e = absurd (let no : ◌≡◌ {A = Option RuleFault} None (Some f) = e in cc)

@@ -1,12 +1,10 @@
 -- Which words spell numbers.
-use Rattle.std.specs.Prelude.{ℕ, ℤ, pos, neg_ℤ, Bool, ◌&&◌, ◌==◌, nat_lt, nat_le, List, drop, slice_index, if◌then◌else◌}
+-- 1 to 10 digits of a value up to a greatest one
+pub use Rattle.crush_bytes.specs.Numbers.{is_number}
+use Rattle.std.specs.Prelude.{ℕ, ℤ, pos, neg_ℤ, Bool, ◌&&◌, ◌==◌, nat_lt, List, drop, slice_index, if◌then◌else◌}
 use Rattle.std.specs.Str.Parse.{digits_value}
-use Rattle.crush_units.specs.Weight.{are_digits}
 use Rattle.crush_units.specs.declared.limits.TheConstants.{FARTHEST_BUCKET_ID}
-
--- 1 to 10 digits of a value up to `most`
-abbrev pub is_number : ℕ → List ℕ → Bool
-is_number most text = are_digits 10 text && nat_le (digits_value 10 text) most
+use Rattle.crush_text.specs.declared.limits.TheConstants.{FARTHEST_COUNT, LARGEST_COUNT}
 
 -- `-` and 1 to 10 digits, a value from -1 to -2147483648
 abbrev pub is_negative : List ℕ → Bool
@@ -14,7 +12,7 @@ is_negative text = (slice_index text 0 == 45) && is_number FARTHEST_BUCKET_ID (d
 
 -- an optional `-` and 1 to 10 digits, a value from -2147483648 to 2147483647
 abbrev pub is_signed : List ℕ → Bool
-is_signed text = if slice_index text 0 == 45 then is_number 2147483648 (drop 1 text) else is_number 2147483647 text
+is_signed text = if slice_index text 0 == 45 then is_number FARTHEST_COUNT (drop 1 text) else is_number LARGEST_COUNT text
 
 -- its value
 abbrev pub signed_value : List ℕ → ℤ

@@ -3,6 +3,7 @@ use Rattle.std.specs.Prelude.{ℕ, Bool, List, [], ◌∷◌, ◌++◌, Option, 
 use Rattle.crush_units.specs.declared.id.ItemId.{ItemId}
 use Rattle.crush_edits.specs.Setting.{StepData, take, choose, set, emit, RuleData}
 use Rattle.crush_map.specs.Built.{Draft, with_tunable, with_kind, with_device, begun_bucket, with_id, with_class_id, with_alg, with_item, with_end, add_rule}
+use Rattle.crush_text.specs.declared.limits.TheConstants.{LARGEST_RULE_NUMBER, LARGEST_TUNABLE}
 use Rattle.crush_text.specs.declared.opening.Opening.{Opening}
 use Rattle.crush_text.specs.declared.opening.Opening.TheVariants as openings
 use Rattle.crush_text.specs.Role.{key, any_word, number, opening, tunable_name, type_number, type_name, device_id, new_name, bucket_id, id_or_alg, id_class, algorithm, item_or_end, item, lone_item, weight, rule_name, rule_id_key, rule_id, step_or_end, step_word, StepWord, takes, chooses, sets, emits, taken_bucket, step_order, step_count, step_type}
@@ -12,7 +13,7 @@ use Rattle.crush_text.specs.Form.{Mode, first, second, begun, numbered, filling,
 abbrev pub tunable_line : Draft → Form
 tunable_line d = do
   x ← tunable_name
-  n ← number 4294967295
+  n ← number LARGEST_TUNABLE
   done (at first (with_tunable d x n))
 
 -- `type` N NAME
@@ -111,7 +112,7 @@ abbrev pub max_size : Draft → List ℕ → ℕ → List ℕ → Option ℕ →
 max_size d x n k least = optional (codes "max_size")
     (do
       key (codes "max_size")
-      most ← number 2147483647
+      most ← number LARGEST_RULE_NUMBER
       done (at (ruled (new_rule x n k least (Some most))) d))
     (done (at (ruled (new_rule x n k least None)) d))
 
@@ -120,7 +121,7 @@ abbrev pub sizes : Draft → List ℕ → ℕ → List ℕ → Form
 sizes d x n k = optional (codes "min_size")
     (do
       key (codes "min_size")
-      least ← number 2147483647
+      least ← number LARGEST_RULE_NUMBER
       max_size d x n k (Some least))
     (max_size d x n k None)
 
@@ -165,7 +166,7 @@ choose_step d r leaf = do
 -- N
 abbrev pub set_step : Draft → RuleData → List ℕ → Form
 set_step d r x = do
-  n ← number 2147483647
+  n ← number LARGEST_RULE_NUMBER
   step_done d r (set x n)
 
 -- a step by its first word

@@ -16,6 +16,7 @@ use Rattle.crush_bytes.specs.Words.{Word, Stop, ended, bad, Text, begins, past}
 use Rattle.crush_text.specs.declared.reader.word.PlacedWord.{PlacedWord}
 use Rattle.crush_text.specs.declared.reader.step.FirstOfStep.{FirstOfStep}
 use Rattle.crush_text.specs.declared.reader.step.FirstOfStep.TheVariants as steps
+use Rattle.crush_text.specs.declared.limits.TheConstants.{LARGEST_RULE_NUMBER}
 use Rattle.crush_text.specs.declared.opening.Opening.{Opening}
 use Rattle.crush_text.specs.declared.opening.Opening.TheVariants as openings
 use Rattle.crush_text.specs.Role.{Role, El, units, key, number, StepWord, takes, chooses, sets, emits}
@@ -63,7 +64,7 @@ unless_heavy e = if is_too_heavy e.table then Err SumTooLarge else Ok e
 
 -- a number that a key may announce, and what follows then
 abbrev pub number_behind : List ℕ → (Option ℕ → Form) → Form
-number_behind k more = optional k (word (key k) (λ _. word (number 2147483647) (λ n. more (Some n)))) (more None)
+number_behind k more = optional k (word (key k) (λ _. word (number LARGEST_RULE_NUMBER) (λ n. more (Some n)))) (more None)
 
 -- whether a word begins a step
 abbrev pub is_step : List ℕ → Bool

@@ -16,8 +16,10 @@ use Rattle.crush_map.specs.Building.{has_name, has_bucket_id, has_class, item_na
 use Rattle.crush_map.specs.Rules.{bucket_named, has_rule_name, has_rule_id}
 use Rattle.crush_text.specs.declared.fault.TextFaultKind.{TextFaultKind}
 use Rattle.crush_text.specs.declared.fault.TextFaultKind.TheVariants.{Unexpected, BadNumber, BadWeight, DuplicateId, DuplicateName, UnknownType, UnknownItem, SecondParent, OtherAlgorithm, LeftOut, UnknownBucketInRule, TooMany, SumTooLarge}
+use Rattle.crush_text.specs.declared.limits.TheConstants.{LARGEST_RULE_NUMBER}
 use Rattle.crush_text.specs.Fault.{fault_number}
-use Rattle.crush_text.specs.Forms.{is_number, is_negative, is_signed}
+use Rattle.crush_bytes.specs.Numbers.{is_number}
+use Rattle.crush_text.specs.Forms.{is_negative, is_signed}
 use Rattle.crush_text.specs.Role.{Role, number_of, item_of, units, key, number, opening, tunable_name, type_number, type_name, device_id, new_name, bucket_id, id_or_alg, id_class, algorithm, item_or_end, item, lone_item, weight, rule_name, rule_id_key, rule_id, step_or_end, step_word, taken_bucket, step_order, step_count, step_type}
 use Rattle.crush_text.specs.Tests.{is_full}
 use Rattle.crush_units.specs.declared.limits.TheConstants.{HEAVIEST_DEVICE, LAST_DEVICE_ID, LAST_TYPE, MOST_STEPS}
@@ -57,11 +59,11 @@ IsBadNumber (number most) w = is_number most w ≡ false
 IsBadNumber type_number w = is_number LAST_TYPE w ≡ false
 IsBadNumber device_id w = is_number LAST_DEVICE_ID w ≡ false
 IsBadNumber bucket_id w = is_negative w ≡ false
-IsBadNumber rule_id w = is_number 2147483647 w ≡ false
+IsBadNumber rule_id w = is_number LARGEST_RULE_NUMBER w ≡ false
 IsBadNumber step_count w = is_signed w ≡ false
 IsBadNumber r w = ⊥
 
--- no weight, or one above 2147483647 units for a device
+-- no weight, or one that is too heavy for a device
 abbrev pub IsNoWeightOf : ItemId → Result ℕ WeightFault → Type 0
 IsNoWeightOf i (Err f) = Unit {0}
 IsNoWeightOf (Device n) (Ok w) = HEAVIEST_DEVICE < w
@@ -88,7 +90,8 @@ IsDuplicateName d id_class w = has_class d w ≡ true
 IsDuplicateName d rule_name w = has_rule_name d.setting w ≡ true
 IsDuplicateName d r w = ⊥
 
--- a first word that names no type, or type 0, and that begins nothing else; a step's type that isn't declared
+-- a first word that names no type, or type 0, and that begins nothing else; a step's type that isn't declared. It holds of
+-- `class` too, which is unexpected
 abbrev pub IsUnknownType : Draft → Role → List ℕ → Type 0
 IsUnknownType d (opening late) w = (is_bucket_kind d.setting (number_of d w) ≡ false) × (w ≢ codes "tunable") × (w ≢ codes "device") × (w ≢ codes "type") × (w ≢ codes "rule") × (w ≢ codes "choose_args")
 IsUnknownType d step_type w = kind_number d.setting w ≡ None
@@ -100,7 +103,7 @@ IsUnknownItem d item w = item_named d w ≡ None
 IsUnknownItem d lone_item w = item_named d w ≡ None
 IsUnknownItem d r w = ⊥
 
--- an item that a bucket holds already
+-- an item that a bucket holds already. Of a name of no item, which is unknown, it holds as of device 0
 abbrev pub IsSecondParent : Draft → Role → List ℕ → Type 0
 IsSecondParent d item w = is_placed d.table (item_of d w) ≡ true
 IsSecondParent d lone_item w = is_placed d.table (item_of d w) ≡ true
@@ -111,7 +114,7 @@ abbrev pub IsOtherAlgorithm : Role → List ℕ → Type 0
 IsOtherAlgorithm algorithm w = alg_of_text w ≡ None
 IsOtherAlgorithm r w = ⊥
 
--- what isn't read
+-- what isn't read. It holds of `pos` where no item stands before it too, where that is unexpected
 abbrev pub IsLeftOut : Role → List ℕ → Type 0
 IsLeftOut (opening late) w = w ≡ codes "choose_args"
 IsLeftOut (item_or_end any) w = w ≡ codes "pos"
@@ -123,14 +126,16 @@ abbrev pub IsUnknownBucketInRule : Draft → Role → List ℕ → Type 0
 IsUnknownBucketInRule d taken_bucket w = bucket_named d w ≡ None
 IsUnknownBucketInRule d r w = ⊥
 
--- one more tunable, type, device, bucket, class id, rule or step than a map may have
+-- one more tunable, type, device, bucket, class id, rule or step than a map may have. In a map full of buckets it holds of
+-- each first word that begins no other statement, where a lesser row does unless it names a type of buckets
 abbrev pub IsTooMany : Draft → Role → List ℕ → Type 0
 IsTooMany d (opening late) w = is_full d w ≡ true
 IsTooMany d id_or_alg w = (w ≡ codes "id") × (is_full_of_class_ids d ≡ true)
 IsTooMany d (step_or_end k) w = (w ≡ codes "step") × (MOST_STEPS ≤ k)
 IsTooMany d r w = ⊥
 
--- an item with which a bucket's sum or the total is out of range
+-- an item with which a bucket's sum or the total is out of range. It is judged of a name of no item as of device 0, and of a
+-- word that is no weight as of the weight 0, where a lesser row holds
 abbrev pub IsSumTooLarge : Draft → Role → List ℕ → Type 0
 IsSumTooLarge d lone_item w = is_too_heavy (with_item d (item_of d w) None).table ≡ true
 IsSumTooLarge d (weight i) w = is_too_heavy (with_item d i (Some (units w))).table ≡ true

@@ -16,8 +16,10 @@ use Rattle.crush_map.specs.Building.{has_name, has_bucket_id, has_class, item_na
 use Rattle.crush_map.specs.Rules.{bucket_named, has_rule_name, has_rule_id, is_full_of_rules}
 use Rattle.crush_text.specs.declared.fault.TextFaultKind.{TextFaultKind}
 use Rattle.crush_text.specs.declared.fault.TextFaultKind.TheVariants.{Unexpected, BadNumber, BadWeight, DuplicateId, DuplicateName, UnknownType, UnknownItem, SecondParent, OtherAlgorithm, LeftOut, UnknownBucketInRule, TooMany, SumTooLarge}
+use Rattle.crush_bytes.specs.Numbers.{is_number}
 use Rattle.crush_bytes.specs.Words.{is_brace_word}
-use Rattle.crush_text.specs.Forms.{is_number, is_negative, is_signed}
+use Rattle.crush_text.specs.declared.limits.TheConstants.{LARGEST_RULE_NUMBER}
+use Rattle.crush_text.specs.Forms.{is_negative, is_signed}
 use Rattle.crush_text.specs.Role.{Role, El, value, number_of, item_of, units, key, any_word, number, opening, tunable_name, type_number, type_name, device_id, new_name, bucket_id, id_or_alg, id_class, algorithm, item_or_end, item, lone_item, weight, rule_name, rule_id_key, rule_id, step_or_end, step_word, taken_bucket, step_order, step_count, step_type}
 use Rattle.crush_units.specs.declared.limits.TheConstants.{HEAVIEST_DEVICE, LAST_DEVICE_ID, LAST_TYPE, MOST_STEPS}
 
@@ -98,7 +100,7 @@ tests d lone_item w = item_tests d w ((SumTooLarge when is_too_heavy (with_item 
 tests d (weight i) w = a_word w ((BadWeight when not (is_weight_for i (weight_of_text w))) ∷ (SumTooLarge when is_too_heavy (with_item d i (Some (units w))).table) ∷ [])
 tests d rule_name w = a_word w ((DuplicateName when has_rule_name d.setting w) ∷ [])
 tests d rule_id_key w = (Unexpected when not (is_either w (codes "id") (codes "ruleset"))) ∷ []
-tests d rule_id w = a_number 2147483647 w ((DuplicateId when has_rule_id d.setting (digits_value 10 w)) ∷ [])
+tests d rule_id w = a_number LARGEST_RULE_NUMBER w ((DuplicateId when has_rule_id d.setting (digits_value 10 w)) ∷ [])
 tests d (step_or_end k) w = (Unexpected when not (is_either w (codes "step") (codes "}"))) ∷ (TooMany when bytes_eq w (codes "step") && nat_le MOST_STEPS k) ∷ []
 tests d step_word w = (Unexpected when not (is_step_word w || bytes_eq w (codes "choosemsr"))) ∷ (LeftOut when bytes_eq w (codes "choosemsr")) ∷ []
 tests d taken_bucket w = a_word w ((UnknownBucketInRule when not (is_some (bucket_named d w))) ∷ [])

@@ -43,7 +43,8 @@ pub enum TextFaultKind {
     OutOfMemory,
 }
 
-/// What is wrong with a text, and the place of the byte or of the word's first byte, counted from 0.
+/// What is wrong with a text, and the place of the byte or of the word's first byte, counted from
+/// 0.
 #[derive(Clone, Copy, Debug, PartialEq, Eq, Error)]
 #[error("byte {place}: {kind}")]
 pub struct TextFault {

@@ -2,6 +2,7 @@
 #![tactic(auto)]
 
 mod fault;
+pub mod limits;
 mod opening;
 mod reader;
 

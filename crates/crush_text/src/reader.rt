@@ -1,6 +1,6 @@
 //! Reads the text of a map.
 
-ghost use Rattle.std.specs.Prelude.{◌≡◌, ℕ, List, IfOk, IfErr, MatchResult};
+ghost use Rattle.std.specs.Prelude.{◌≡◌, ℕ, List, IfOk, IfErr};
 ghost use Rattle.crush_edits.specs.Setting.{SettingData};
 ghost use Rattle.crush_table.specs.Table.{Row};
 ghost use Rattle.crush_table.specs.Stands.{Stands};
@@ -40,8 +40,12 @@ pub fn read_map(alloc: Global, text: &[u8]) -> Result<(CrushMap<Global>, u32), T
         × IsMapText text.now m.0.setting t m.1 × Stands m.0.forest t) }
 
     // Each map that the text spells is the one that is read.
+    ensures spelled { (s : SettingData) (t : List Row) (n : ℕ) → IsMapText text.now s t n
+        → IfOk result (λ m. MapStands m.0 s t × (m.1 ≡ n)) }
+
+    // A text that spells a map is refused only for want of memory.
     ensures only { (s : SettingData) (t : List Row) (n : ℕ) → IsMapText text.now s t n
-        → MatchResult result (λ m. MapStands m.0 s t × (m.1 ≡ n)) IsWant }
+        → IfErr result IsWant }
 
     // Where none is read the text has a flaw, which is told.
     ensures flaw { IfErr result (IsFlawOrWant text.now) }
@@ -61,8 +65,12 @@ pub fn read_map_in<A: Allocator + Clone>(
         × IsMapText text.now m.0.setting t m.1 × Stands m.0.forest t) }
 
     // Each map that the text spells is the one that is read.
+    ensures spelled { (s : SettingData) (t : List Row) (n : ℕ) → IsMapText text.now s t n
+        → IfOk result (λ m. MapStands m.0 s t × (m.1 ≡ n)) }
+
+    // A text that spells a map is refused only for want of memory.
     ensures only { (s : SettingData) (t : List Row) (n : ℕ) → IsMapText text.now s t n
-        → MatchResult result (λ m. MapStands m.0 s t × (m.1 ≡ n)) IsWant }
+        → IfErr result IsWant }
 
     // Where none is read the text has a flaw, which is told.
     ensures flaw { IfErr result (IsFlawOrWant text.now) }

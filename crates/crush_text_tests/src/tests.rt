@@ -77,15 +77,19 @@ fn behind_a_device(rt: &(impl Abort + AllocGlobal), text: &[u8]) -> Vec<u8> {
     joined(rt, &[b"type 1 host\ntype 11 root\ndevice 0 d\n", text])
 }
 
-/// Each line is refused for this behind these types and this device, at the place beside it.
-fn are_refused(rt: &(impl Abort + AllocGlobal), kind: TextFaultKind, lines: &[(&[u8], usize)]) {
-    for (line, place) in lines {
-        let text = behind_a_device(rt, *line);
-        let fault = TextFault {
-            kind,
-            place: *place,
-        };
-        assert_eq!(rt; fault_of(rt, text.as_slice()), Some(fault));
+/// Lines that are refused for one reason, each with the place.
+type Faults = (TextFaultKind, &'static [(&'static [u8], usize)]);
+
+/// Each line is refused for its reason behind these types and this device, at the place beside it.
+fn are_refused(rt: &(impl Abort + AllocGlobal), faults: &[Faults]) {
+    for (kind, lines) in faults {
+        for (line, place) in *lines {
+            let text = behind_a_device(rt, *line);
+            assert!(rt;
+                is_refused(rt, text.as_slice(), *kind, *place),
+                "{kind:?} at {place}"
+            );
+        }
     }
 }
 

@@ -2,7 +2,7 @@
 use Rattle.std.proofs.Common.{◌≡◌, [], ◌∷◌, refl}
 use Rattle.std.specs.Prelude.{codes}
 use Rattle.crush_edits.specs.declared.refusal.Refusal.TheVariants.{BadName, BadLocation, NoSuchType, NoPlace, WeightTooLarge, NoSuchItem, NameTaken, AlreadyPlaced, NotABucket, WrongType, NotEmpty}
-use Rattle.crush_edits.specs.declared.edit.Edit.TheVariants.{Insert, Move, Swap, Reweight, ReweightSubtree, Remove, AddBucket, Rename}
+use Rattle.crush_edits.specs.declared.edit.Edit.TheVariants.{Insert, CreateOrMove, Move, Swap, Reweight, ReweightSubtree, Remove, AddBucket, Rename}
 use Rattle.crush_edits.specs.Answer.{refused}
 use Rattle.crush_edits.specs.Edit.{edit}
 use Rattle.crush_edits.proofs.Worked.Examples.{table_with_spare, heavy_table, example_setting, plain_setting, at, host, rack, holding}
@@ -118,6 +118,13 @@ name_and_placed_hold = refl
 
 name_and_placed : edit example_setting table_with_spare (Insert 0 (codes "disk") 65536 (host (codes "h1") ∷ [])) ≡ refused NameTaken
 name_and_placed = refl
+
+-- 7, 11 and 12
+name_and_end_hold : holding example_setting table_with_spare (CreateOrMove 9 (codes "disk") 65536 (host (codes "osd.1") ∷ [])) ≡ 7 ∷ (11 ∷ (12 ∷ []))
+name_and_end_hold = refl
+
+name_and_end : edit example_setting table_with_spare (CreateOrMove 9 (codes "disk") 65536 (host (codes "osd.1") ∷ [])) ≡ refused NameTaken
+name_and_end = refl
 
 -- 7 and 12
 name_and_type_zero_hold : holding example_setting table_with_spare (AddBucket (codes "h1") (codes "osd")) ≡ 7 ∷ (12 ∷ [])

@@ -25,7 +25,8 @@ pub fn rows_are_taken_out()
     ensures fits { RemoveFits }
 {}
 
-/// A new bucket is one row at the end, with the first free id, and there is one bucket more. Beside 4,096 buckets there is no room for it.
+/// A new bucket is one row at the end, with the first free id, and there is one bucket more. Beside
+/// 4,096 buckets there is no room for it.
 pub fn buckets_are_added()
     ensures row { AddedIsRow }
     ensures changes { AddedChanges }

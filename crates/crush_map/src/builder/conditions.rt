@@ -140,8 +140,8 @@ impl<A: Allocator> MapBuilder<A> {
         self.setting.kind_number(name)
     }
 
-    /// The device or the complete bucket of this name, or [`BuildFault::UnknownItem`] where there is
-    /// none.
+    /// The device or the complete bucket of this name, or [`BuildFault::UnknownItem`] where there
+    /// is none.
     pub fn item_named(&self, name: &[u8]) -> Result<ItemId, BuildFault>
         ensures value { (d : Draft) → IsDraft self.now d
             → result ≡ ok_or (item_named d name.now) UnknownItem }

@@ -153,7 +153,8 @@ impl<A: Allocator> MapBuilder<A> {
     /// bucket what it weighs.
     fn weight_to_come(&self, id: ItemId, weight: Weight) -> Weight
         requires { is_there (rows_of self.now.forest) id ≡ true }
-        ensures { result ≡ weight_sum (with_first_weight weight (part_of id (all_items self.now.forest))) }
+        ensures { result
+            ≡ weight_sum (with_first_weight weight (part_of id (all_items self.now.forest))) }
     {
         self.forest.recall_invariant();
         let item = &id;

@@ -1,5 +1,6 @@
 //! Worked lines: an edit as it is asked, what it is answered, and what is then true of the map.
 
+use crate::tests::building::example_map;
 use crate::tests::owning::with;
 use crush_map::{BatchFault, CrushMap, Done, Dones, Edit, EditFault, Location, Refusal};
 use crush_tree::Node;
@@ -8,11 +9,11 @@ use std::alloc::{Allocator, Global};
 use std::process::Abort;
 
 /// The pairs of a location: a type name and a bucket name each.
-pub type Pairs = &'static [(&'static str, &'static str)];
+pub(super) type Pairs = &'static [(&'static str, &'static str)];
 
 /// An edit as a script asks for it, with weights in units. A device N is named osd.N.
 #[derive(Clone, Copy)]
-pub enum Asked {
+pub(super) enum Asked {
     Add(i32, u32, Pairs),
     CreateOrMove(i32, u32, Pairs),
     Set(i32, u32, Pairs),
@@ -26,8 +27,8 @@ pub enum Asked {
 }
 
 /// What may be true of a map, with weights in units.
-#[derive(Clone, Copy, Debug)]
-pub enum Fact {
+#[derive(Clone, Copy)]
+pub(super) enum Fact {
     /// The bucket of this name holds the items of these names, in order, and weighs so much.
     Holds(&'static str, &'static [&'static str], u32),
     /// The item of this name has the id of this number.
@@ -39,26 +40,26 @@ pub enum Fact {
 }
 
 /// An edit, its answer, and what is then true of the map.
-pub struct Line {
+pub(super) struct Line {
     pub asked: Asked,
     pub told: Result<Done, Refusal>,
     pub then: &'static [Fact],
 }
 
 /// The edit is made, and the map is another; no bucket is made.
-pub const CHANGED: Result<Done, Refusal> = Ok(Done {
+pub(super) const CHANGED: Result<Done, Refusal> = Ok(Done {
     changed: true,
     made: 0,
 });
 
 /// The edit is made, and the map is as before.
-pub const SAME: Result<Done, Refusal> = Ok(Done {
+pub(super) const SAME: Result<Done, Refusal> = Ok(Done {
     changed: false,
     made: 0,
 });
 
 /// A name in the machine's memory.
-pub fn name(rt: &impl Abort, alloc: Global, text: &str) -> Name<Global> {
+pub(super) fn name(rt: &impl Abort, alloc: Global, text: &str) -> Name<Global> {
     Name::read(alloc, text.as_bytes()).expect(rt, text)
 }
 
@@ -84,7 +85,7 @@ fn location(rt: &impl Abort, alloc: Global, pairs: Pairs) -> Location {
 }
 
 /// The edit that is asked for.
-pub fn edit(rt: &impl Abort, alloc: Global, asked: Asked) -> Edit {
+pub(super) fn edit(rt: &impl Abort, alloc: Global, asked: Asked) -> Edit {
     match asked {
         Asked::Add(number, units, pairs) => Edit::Insert {
             device: device(rt, number),
@@ -135,7 +136,7 @@ pub fn edit(rt: &impl Abort, alloc: Global, asked: Asked) -> Edit {
 }
 
 /// The edits that are asked for.
-pub fn edits(rt: &impl Abort, alloc: Global, all: &[Asked]) -> Vec<Edit> {
+pub(super) fn edits(rt: &impl Abort, alloc: Global, all: &[Asked]) -> Vec<Edit> {
     let mut made = Vec::new(alloc);
     for asked in all {
         made.push(edit(rt, alloc, *asked)).expect(rt, "memory");
@@ -175,7 +176,7 @@ fn holds<A: Allocator>(map: &CrushMap<A>, bucket: &str, items: &[&str]) -> bool 
 }
 
 /// Whether the item of this name has the id of this number.
-fn has_id<A: Allocator>(map: &CrushMap<A>, item: &str, number: i32) -> bool {
+pub(super) fn has_id<A: Allocator>(map: &CrushMap<A>, item: &str, number: i32) -> bool {
     match map.locate(item) {
         Some(id) => id.number() == number,
         None => false,
@@ -203,14 +204,19 @@ fn is_true_of<A: Allocator>(map: &CrushMap<A>, fact: Fact) -> bool {
 }
 
 /// Asserts that all that is said in a line is true of the map.
-pub fn are_true_of<A: Allocator>(rt: &impl Abort, map: &CrushMap<A>, place: usize, facts: &[Fact]) {
+pub(super) fn are_true_of<A: Allocator>(
+    rt: &impl Abort,
+    map: &CrushMap<A>,
+    place: usize,
+    facts: &[Fact],
+) {
     for fact in facts {
-        assert!(rt; is_true_of(map, *fact), "line {place}: {fact:?}");
+        assert!(rt; is_true_of(map, *fact), "line {place}");
     }
 }
 
 /// What a map in the machine's memory answers to an edit.
-pub fn told(
+pub(super) fn told(
     rt: &impl Abort,
     alloc: Global,
     map: &mut CrushMap<Global>,
@@ -246,17 +252,26 @@ fn is_change(told: Result<Done, Refusal>) -> bool {
 
 /// Makes the edits of the lines, and asserts what each is answered and what is then true of the
 /// map. It is another map exactly where the answer says so.
-pub fn makes(rt: &impl Abort, alloc: Global, map: &mut CrushMap<Global>, lines: &[Line]) {
+pub(super) fn makes(rt: &impl Abort, alloc: Global, map: &mut CrushMap<Global>, lines: &[Line]) {
     for (place, line) in lines.iter().enumerate() {
         let (told, same) = told_and_same(rt, alloc, map, line.asked);
-        assert!(rt; told == line.told, "line {place}: {told:?}");
-        assert!(rt; same != is_change(told), "line {place}: as before: {same}");
+        assert!(rt;
+            told == line.told && same != is_change(told),
+            "line {place}: {told:?}"
+        );
         are_true_of(rt, map, place, line.then);
     }
 }
 
+/// Makes the edits of each group of lines on the plain example map.
+pub(super) fn makes_each(rt: &impl Abort, alloc: Global, groups: &[&[Line]]) {
+    for lines in groups {
+        with(example_map(rt, alloc), |map| makes(rt, alloc, map, lines));
+    }
+}
+
 /// Makes a batch of at most 65,536 edits.
-pub fn make_batch<A: Allocator + Clone>(
+pub(super) fn make_batch<A: Allocator + Clone>(
     rt: &impl Abort,
     map: &mut CrushMap<A>,
     edits: &[Edit],
@@ -267,7 +282,7 @@ pub fn make_batch<A: Allocator + Clone>(
 
 /// What a map answers to a batch. Asserts that it is as it was where no edit changed it, and so
 /// where the batch is refused.
-pub fn told_of_batch(
+pub(super) fn told_of_batch(
     rt: &impl Abort,
     alloc: Global,
     map: &mut CrushMap<Global>,
@@ -281,10 +296,7 @@ pub fn told_of_batch(
             Ok(dones) => dones.changed > 0,
             Err(_) => false,
         };
-        assert!(rt;
-            changed || map.forest().is_same(before.forest()),
-            "{told:?}"
-        );
+        assert!(rt; changed || map.forest().is_same(before.forest()));
         told
     })
 }

@@ -2,7 +2,7 @@
 
 use crate::tests::building::{HOST, types_and_devices};
 use crate::tests::owning::with;
-use crate::tests::statements::{Statement, finish, refuses, takes, takes_all};
+use crate::tests::statements::{Statement, finish, refuses, refuses_all, takes, takes_all};
 use crush_map::BuildFault;
 
 /// The faults in the order of their numbers.
@@ -21,8 +21,8 @@ const FAULTS: &[(BuildFault, u8)] = &[
 
 #[test]
 fn faults_by_number(rt: HostRuntime) {
-    for (fault, number) in FAULTS.iter() {
-        assert_eq!(rt; fault.number(), *number);
+    for (fault, number) in FAULTS {
+        assert!(rt; fault.number() == *number);
     }
 }
 
@@ -50,14 +50,18 @@ const TWO_HOSTS: &[Statement] = &[
 #[test]
 fn names_and_numbers_that_are_taken(rt: HostRuntime) {
     with(types_and_devices(&rt, rt.alloc()), |builder| {
-        for (statement, fault) in REFUSED {
-            refuses(&rt, builder, *statement, *fault);
-        }
+        refuses_all(&rt, builder, REFUSED);
         takes_all(&rt, builder, TWO_HOSTS);
         let taken = Statement::Id(-2);
         refuses(&rt, builder, taken, BuildFault::DuplicateId);
     });
 }
+
+/// The item that the host h1 holds, and the host itself.
+const TWICE_AND_ITSELF: &[(Statement, BuildFault)] = &[
+    (Statement::Item("osd.0", 65536), BuildFault::SecondParent),
+    (Statement::Item("h1", 65536), BuildFault::UnknownItem),
+];
 
 /// A bucket takes no item that is too heavy, held already, or the bucket itself.
 #[test]
@@ -67,10 +71,7 @@ fn items_that_are_not_taken(rt: HostRuntime) {
         let heavy = Statement::Item("osd.0", 2147483648);
         refuses(&rt, builder, heavy, BuildFault::BadWeight);
         takes(&rt, builder, Statement::ItemAsItIs("osd.0"));
-        let twice = Statement::Item("osd.0", 65536);
-        refuses(&rt, builder, twice, BuildFault::SecondParent);
-        let itself = Statement::Item("h1", 65536);
-        refuses(&rt, builder, itself, BuildFault::UnknownItem);
+        refuses_all(&rt, builder, TWICE_AND_ITSELF);
     });
 }
 
@@ -102,12 +103,12 @@ const ROOT: &[Statement] = &[
 fn written_weights_of_buckets_are_adjusted(rt: HostRuntime) {
     let mut builder = types_and_devices(&rt, rt.alloc());
     takes_all(&rt, &mut builder, ROOT);
-    assert_eq!(rt; builder.adjusted(), 0);
+    assert!(rt; builder.adjusted() == 0);
     takes(&rt, &mut builder, Statement::Item("h3", 65537));
-    assert_eq!(rt; builder.adjusted(), 1);
+    assert!(rt; builder.adjusted() == 1);
     takes(&rt, &mut builder, Statement::End);
     with(finish(&rt, builder), |map| {
-        assert_eq!(rt; map.total(), 196608);
+        assert!(rt; map.total() == 196608);
     });
 }
 
@@ -118,7 +119,6 @@ fn a_device_of_a_class(rt: HostRuntime) {
     takes(&rt, &mut builder, classed);
     with(finish(&rt, builder), |map| {
         let id = map.locate("osd.9").expect(&rt, "a device");
-        let class = map.forest().class(id).expect(&rt, "a class");
-        assert_eq!(rt; class, "ssd");
+        assert!(rt; map.forest().class(id) == Some("ssd"));
     });
 }

@@ -54,7 +54,7 @@ fn full_map(rt: &impl Abort, alloc: Global) -> CrushMap<Global> {
 #[test]
 fn no_room_for_one_bucket_more(rt: HostRuntime) {
     with(full_map(&rt, rt.alloc()), |map| {
-        assert_eq!(rt; map.counts().buckets, 4096);
+        assert!(rt; map.counts().buckets == 4096);
         makes(&rt, rt.alloc(), map, LINES);
     });
 }

@@ -25,7 +25,7 @@ fn largest_piece(heap: &LocalHeap) -> usize {
 }
 
 /// What a call is answered.
-#[derive(Clone, Copy, Debug, PartialEq)]
+#[derive(Clone, Copy, PartialEq)]
 enum Told {
     /// Of an edit by itself.
     One(Result<Done, EditFault>),
@@ -52,6 +52,19 @@ fn answer(rt: &impl Abort, map: &mut CrushMap<&LocalHeap>, edits: &[Edit]) -> To
     Told::Batch(make_batch(rt, map, edits))
 }
 
+/// What the map answers to the call where the largest piece of its heap is `spare` bytes.
+fn answer_with(
+    rt: &impl Abort,
+    heap: &LocalHeap,
+    spare: usize,
+    map: &mut CrushMap<&LocalHeap>,
+    edits: &[Edit],
+) -> Told {
+    let size = largest_piece(heap).saturating_sub(spare);
+    let _ballast: Vec<u8, &LocalHeap> = Vec::with_capacity(heap, size).expect(rt, "a piece");
+    answer(rt, map, edits)
+}
+
 /// Whether memory lacked.
 fn is_want_of_memory(told: Told) -> bool {
     match told {
@@ -62,7 +75,7 @@ fn is_want_of_memory(told: Told) -> bool {
 
 /// Asserts that the call is answered as where there is memory, and that the map is as it then is.
 fn is_made(rt: &impl Abort, map: &CrushMap<&LocalHeap>, place: usize, call: &Call, told: Told) {
-    assert!(rt; told == call.told, "call {place}: {told:?}");
+    assert!(rt; told == call.told, "call {place}");
     are_true_of(rt, map, place, call.then);
     has_the_setting(rt, map.setting());
 }
@@ -88,10 +101,7 @@ fn lacks_with(
     let heap = LocalHeap::new(alloc, HEAP).expect(rt, "a heap");
     let map = whole_example_map_in(rt, alloc, &heap).expect(rt, "a map");
     with(map, |map| {
-        let size = largest_piece(&heap).saturating_sub(spare);
-        let ballast: Vec<u8, &LocalHeap> = Vec::with_capacity(&heap, size).expect(rt, "a piece");
-        let mut told = answer(rt, map, edits);
-        drop(ballast);
+        let mut told = answer_with(rt, &heap, spare, map, edits);
         let lacks = is_want_of_memory(told);
         if lacks {
             is_the_example_map(rt, alloc, map);
@@ -200,10 +210,7 @@ fn memory_lacks_at_each_growth(rt: HostRuntime) {
     for (place, call) in CALLS.iter().enumerate() {
         with(edits(&rt, rt.alloc(), call.asked), |edits| {
             let times = times_lacking(&rt, rt.alloc(), place, call, edits.as_slice());
-            assert!(rt;
-                times >= call.least,
-                "call {place}: memory lacked {times} times"
-            );
+            assert!(rt; times >= call.least, "call {place}");
         });
     }
 }
@@ -220,6 +227,18 @@ const EXCHANGED: &[Fact] = &[
     Fact::HasId("h1", -3),
 ];
 
+/// Asserts that each edit changes the map.
+fn are_changes(rt: &impl Abort, alloc: Global, map: &mut CrushMap<&LocalHeap>, all: &[Asked]) {
+    for asked in all {
+        let told = with(edit(rt, alloc, *asked), |edit| map.apply(edit));
+        let done = Done {
+            changed: true,
+            made: 0,
+        };
+        assert!(rt; told == Ok(done));
+    }
+}
+
 #[test]
 fn exchanges_and_removals_lack_none(rt: HostRuntime) {
     let heap = LocalHeap::new(rt.alloc(), HEAP).expect(&rt, "a heap");
@@ -227,14 +246,7 @@ fn exchanges_and_removals_lack_none(rt: HostRuntime) {
     with(map, |map| {
         let size = largest_piece(&heap);
         let _ballast: Vec<u8, &LocalHeap> = Vec::with_capacity(&heap, size).expect(&rt, "a piece");
-        for asked in NO_GROWTH {
-            let told = with(edit(&rt, rt.alloc(), *asked), |edit| map.apply(edit));
-            let done = Done {
-                changed: true,
-                made: 0,
-            };
-            assert!(rt; told == Ok(done), "{told:?}");
-        }
+        are_changes(&rt, rt.alloc(), map, NO_GROWTH);
         are_true_of(&rt, map, NO_GROWTH.len(), EXCHANGED);
     });
 }

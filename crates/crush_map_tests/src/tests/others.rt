@@ -1,7 +1,7 @@
 //! Edits without a location, on the plain example map.
 
-use crate::tests::asking::{Asked, CHANGED, Fact, Line, SAME, makes};
-use crate::tests::building::{example_map, map_of, map_with_spare};
+use crate::tests::asking::{Asked, CHANGED, Fact, Line, SAME, makes, makes_each};
+use crate::tests::building::{map_of, map_with_spare};
 use crate::tests::owning::with;
 use crate::tests::statements::Statement;
 use crush_map::{Done, Refusal};
@@ -204,16 +204,14 @@ const REFUSED: &[Line] = &[
     },
 ];
 
-/// What is asked of the plain example map, each time from the beginning.
-const ALL: &[&[Line]] = &[SWAPPED, REMOVED, ADDED, RENAMED, WEIGHED];
-
 #[test]
 fn edits_are_made(rt: HostRuntime) {
-    for lines in ALL {
-        with(example_map(&rt, rt.alloc()), |map| {
-            makes(&rt, rt.alloc(), map, lines);
-        });
-    }
+    makes_each(&rt, rt.alloc(), &[SWAPPED, REMOVED]);
+}
+
+#[test]
+fn names_and_weights_are_given(rt: HostRuntime) {
+    makes_each(&rt, rt.alloc(), &[ADDED, RENAMED, WEIGHED]);
 }
 
 #[test]

@@ -1,9 +1,7 @@
 //! Items put at the end of a location's route, on the plain example map.
 
-use crate::tests::asking::{Asked, CHANGED, Fact, Line, SAME, makes};
-use crate::tests::building::{
-    OTHER_BUCKETS, TYPES_AND_DEVICES, example_map, map_of, map_with_spare,
-};
+use crate::tests::asking::{Asked, CHANGED, Fact, Line, SAME, makes, makes_each};
+use crate::tests::building::{OTHER_BUCKETS, TYPES_AND_DEVICES, map_of, map_with_spare};
 use crate::tests::owning::with;
 use crate::tests::statements::Statement;
 use crush_map::{Done, Refusal};
@@ -233,24 +231,24 @@ const REFUSED: &[Line] = &[
     },
 ];
 
-/// What is asked of the plain example map, each time from the beginning.
-const ALL: &[&[Line]] = &[
-    NEW_BUCKETS,
-    ROUTE_ENDS,
-    OWN_WEIGHT,
-    MOVES,
-    NEW_ROOT,
-    WEIGHT_SET,
-    REFUSED,
-];
-
 #[test]
 fn items_are_put(rt: HostRuntime) {
-    for lines in ALL {
-        with(example_map(&rt, rt.alloc()), |map| {
-            makes(&rt, rt.alloc(), map, lines);
-        });
-    }
+    makes_each(&rt, rt.alloc(), &[NEW_BUCKETS, ROUTE_ENDS]);
+}
+
+#[test]
+fn items_are_moved(rt: HostRuntime) {
+    makes_each(&rt, rt.alloc(), &[OWN_WEIGHT, MOVES]);
+}
+
+#[test]
+fn weights_are_put(rt: HostRuntime) {
+    makes_each(&rt, rt.alloc(), &[NEW_ROOT, WEIGHT_SET]);
+}
+
+#[test]
+fn items_are_not_put(rt: HostRuntime) {
+    makes_each(&rt, rt.alloc(), &[REFUSED]);
 }
 
 /// What is asked of the map with a spare device, each time from the beginning.

@@ -1,24 +1,35 @@
 //! New weights for the devices of the plain example map.
 
-use crate::tests::asking::{Asked, told, told_of_batch};
+use crate::tests::asking::{Asked, CHANGED, SAME, told, told_of_batch};
 use crate::tests::building::{
     HOST, TYPES_AND_DEVICES, example_map, map_of, map_with_spare, weighs,
 };
 use crate::tests::owning::with;
 use crate::tests::statements::Statement;
-use crush_map::{BatchFault, Done, Dones, Refusal};
+use crush_map::{BatchFault, CrushMap, Done, Dones, Refusal};
+use std::alloc::Global;
+use std::process::Abort;
+
+/// Asserts what a new weight of osd.2 is answered, and what then weighs how much.
+fn is_reweighted(
+    rt: &impl Abort,
+    alloc: Global,
+    map: &mut CrushMap<Global>,
+    answer: Result<Done, Refusal>,
+) {
+    let told = told(rt, alloc, map, Asked::Reweight("osd.2", 65536));
+    assert!(rt; told == answer);
+    weighs(rt, map, "osd.2", 65536);
+    weighs(rt, map, "h2", 65536);
+    weighs(rt, map, "default", 196608);
+    assert!(rt; map.total() == 196608);
+}
 
 #[test]
 fn a_new_weight(rt: HostRuntime) {
     with(example_map(&rt, rt.alloc()), |map| {
-        for changed in [true, false] {
-            let told = told(&rt, rt.alloc(), map, Asked::Reweight("osd.2", 65536));
-            assert!(rt; told == Ok(Done { changed, made: 0 }));
-            weighs(&rt, map, "osd.2", 65536);
-            weighs(&rt, map, "h2", 65536);
-            weighs(&rt, map, "default", 196608);
-            assert_eq!(rt; map.total(), 196608);
-        }
+        is_reweighted(&rt, rt.alloc(), map, CHANGED);
+        is_reweighted(&rt, rt.alloc(), map, SAME);
     });
 }
 
@@ -72,11 +83,7 @@ fn a_full_host(rt: HostRuntime) {
         assert!(rt; heavier == Err(Refusal::SumTooLarge));
         weighs(&rt, map, "h1", 4294967295);
         let lighter = told(&rt, rt.alloc(), map, Asked::Reweight("osd.2", 0));
-        let done = Done {
-            changed: true,
-            made: 0,
-        };
-        assert!(rt; lighter == Ok(done));
+        assert!(rt; lighter == CHANGED);
         weighs(&rt, map, "h1", 4294967294);
     });
 }

@@ -4,7 +4,7 @@
 use crate::tests::asking::{Asked, CHANGED, Fact, Line, makes};
 use crate::tests::building::{bucket, types_and_devices};
 use crate::tests::owning::with;
-use crate::tests::statements::{Statement, empty, refuses, takes, takes_all};
+use crate::tests::statements::{Statement, empty, refuses, refuses_all, takes, takes_all};
 use crate::tests::whole::{Said, add_rule, has_the_setting, map_in_the_making, whole_example_map};
 use crush_map::{BuildFault, Done, MapBuilder, Refusal, RuleFault, RulePart};
 use std::alloc::Global;
@@ -135,18 +135,25 @@ fn at_most_256_rules(rt: HostRuntime) {
     });
 }
 
+/// Makes the tunable tN, where N is its value.
+fn takes_tunable(rt: &impl Abort, alloc: Global, builder: &mut MapBuilder<Global>, value: u32) {
+    let name = format!(in alloc; "t{value}").expect(rt, "memory");
+    takes(rt, builder, Statement::Tunable(name.as_str(), value));
+}
+
+/// Tunables behind as many as there may be.
+const BEHIND_64_TUNABLES: &[(Statement, BuildFault)] = &[
+    (Statement::Tunable("t0", 0), BuildFault::DuplicateName),
+    (Statement::Tunable("t64", 0), BuildFault::TooMany),
+];
+
 #[test]
 fn at_most_64_tunables(rt: HostRuntime) {
     with(empty(&rt, rt.alloc()), |builder| {
         for number in 0..64 {
-            let name = format!(in rt.alloc(); "t{number}").expect(&rt, "memory");
-            let tunable = Statement::Tunable(name.as_str(), number);
-            takes(&rt, builder, tunable);
+            takes_tunable(&rt, rt.alloc(), builder, number);
         }
-        let twice = Statement::Tunable("t0", 0);
-        refuses(&rt, builder, twice, BuildFault::DuplicateName);
-        let one_more = Statement::Tunable("t64", 0);
-        refuses(&rt, builder, one_more, BuildFault::TooMany);
+        refuses_all(&rt, builder, BEHIND_64_TUNABLES);
     });
 }
 
@@ -164,6 +171,9 @@ const TAKEN_IDS: &[(Statement, BuildFault)] = &[
     (Statement::ClassId(-5, "ssd"), BuildFault::DuplicateName),
 ];
 
+/// The end of that host.
+const END: &[Statement] = &[Statement::Alg, Statement::End];
+
 /// A second host.
 const SECOND: &[Statement] = &[Statement::Begin("host", "h2"), Statement::Id(-3)];
 
@@ -171,14 +181,10 @@ const SECOND: &[Statement] = &[Statement::Begin("host", "h2"), Statement::Id(-3)
 fn class_ids_of_a_bucket(rt: HostRuntime) {
     with(types_and_devices(&rt, rt.alloc()), |builder| {
         takes_all(&rt, builder, FIRST);
-        assert!(rt; builder.has_class(b"ssd"));
-        assert!(rt; !builder.has_class(b"hdd"));
+        assert!(rt; builder.has_class(b"ssd") && !builder.has_class(b"hdd"));
         assert!(rt; builder.has_bucket_id(bucket(&rt, -4)));
-        for (statement, fault) in TAKEN_IDS {
-            refuses(&rt, builder, *statement, *fault);
-        }
-        takes(&rt, builder, Statement::Alg);
-        takes(&rt, builder, Statement::End);
+        refuses_all(&rt, builder, TAKEN_IDS);
+        takes_all(&rt, builder, END);
         assert!(rt; builder.bucket_named(b"h1") == Some(bucket(&rt, -2)));
         assert!(rt; builder.bucket_named(b"osd.0").is_none());
         takes_all(&rt, builder, SECOND);
@@ -188,22 +194,31 @@ fn class_ids_of_a_bucket(rt: HostRuntime) {
     });
 }
 
+/// Makes the class id N of the class cN.
+fn takes_class_id(rt: &impl Abort, alloc: Global, builder: &mut MapBuilder<Global>, number: i32) {
+    let class = format!(in alloc; "c{number}").expect(rt, "memory");
+    takes(rt, builder, Statement::ClassId(number, class.as_str()));
+}
+
+/// A host with its id.
+const NUMBERED: &[Statement] = &[Statement::Begin("host", "h1"), Statement::Id(-1)];
+
+/// Class ids behind as many as a host may have.
+const BEHIND_16_CLASS_IDS: &[(Statement, BuildFault)] = &[
+    (Statement::ClassId(-18, "c-2"), BuildFault::DuplicateName),
+    (Statement::ClassId(-18, "c"), BuildFault::TooMany),
+];
+
 #[test]
 fn at_most_16_class_ids(rt: HostRuntime) {
     with(types_and_devices(&rt, rt.alloc()), |builder| {
-        takes(&rt, builder, Statement::Begin("host", "h1"));
-        takes(&rt, builder, Statement::Id(-1));
+        takes_all(&rt, builder, NUMBERED);
         for number in -17..-1 {
             assert!(rt; !builder.is_full_of_class_ids());
-            let class = format!(in rt.alloc(); "c{number}").expect(&rt, "memory");
-            let class_id = Statement::ClassId(number, class.as_str());
-            takes(&rt, builder, class_id);
+            takes_class_id(&rt, rt.alloc(), builder, number);
         }
         assert!(rt; builder.is_full_of_class_ids());
-        let twice = Statement::ClassId(-18, "c-2");
-        refuses(&rt, builder, twice, BuildFault::DuplicateName);
-        let one_more = Statement::ClassId(-18, "c");
-        refuses(&rt, builder, one_more, BuildFault::TooMany);
+        refuses_all(&rt, builder, BEHIND_16_CLASS_IDS);
     });
 }
 

@@ -7,7 +7,7 @@ use std::process::Abort;
 
 /// A statement of a map's text, with weights in units.
 #[derive(Clone, Copy)]
-pub enum Statement<'a> {
+pub(super) enum Statement<'a> {
     /// `type NUMBER NAME`
     Type(u16, &'a str),
     /// `device NUMBER NAME`
@@ -33,12 +33,12 @@ pub enum Statement<'a> {
 }
 
 /// A map without types and items.
-pub fn empty(rt: &impl Abort, alloc: Global) -> MapBuilder<Global> {
+pub(super) fn empty(rt: &impl Abort, alloc: Global) -> MapBuilder<Global> {
     MapBuilder::new(alloc, alloc).expect(rt, "memory")
 }
 
 /// Makes the statement.
-pub fn make<A: Allocator + Clone>(
+pub(super) fn make<A: Allocator + Clone>(
     rt: &impl Abort,
     builder: &mut MapBuilder<A>,
     statement: Statement,
@@ -73,7 +73,7 @@ pub fn make<A: Allocator + Clone>(
 }
 
 /// Makes the statements up to the first that isn't taken.
-pub fn make_all<A: Allocator + Clone>(
+pub(super) fn make_all<A: Allocator + Clone>(
     rt: &impl Abort,
     builder: &mut MapBuilder<A>,
     statements: &[Statement],
@@ -85,21 +85,24 @@ pub fn make_all<A: Allocator + Clone>(
 }
 
 /// Asserts that the statement is taken.
-pub fn takes(rt: &impl Abort, builder: &mut MapBuilder<Global>, statement: Statement) {
+pub(super) fn takes(rt: &impl Abort, builder: &mut MapBuilder<Global>, statement: Statement) {
     let told = make(rt, builder, statement);
     assert!(rt; told.is_ok(), "{told:?}");
 }
 
 /// Asserts that the statements are taken.
-pub fn takes_all(rt: &impl Abort, builder: &mut MapBuilder<Global>, statements: &[Statement]) {
-    for (place, statement) in statements.iter().enumerate() {
-        let told = make(rt, builder, *statement);
-        assert!(rt; told.is_ok(), "statement {place}: {told:?}");
+pub(super) fn takes_all(
+    rt: &impl Abort,
+    builder: &mut MapBuilder<Global>,
+    statements: &[Statement],
+) {
+    for statement in statements {
+        takes(rt, builder, *statement);
     }
 }
 
 /// Asserts that the statement isn't taken, and what is told of it.
-pub fn refuses(
+pub(super) fn refuses(
     rt: &impl Abort,
     builder: &mut MapBuilder<Global>,
     statement: Statement,
@@ -109,8 +112,19 @@ pub fn refuses(
     assert!(rt; told == Err(fault), "{told:?}");
 }
 
+/// Asserts that no statement is taken, and what is told of each.
+pub(super) fn refuses_all(
+    rt: &impl Abort,
+    builder: &mut MapBuilder<Global>,
+    statements: &[(Statement, BuildFault)],
+) {
+    for (statement, fault) in statements {
+        refuses(rt, builder, *statement, *fault);
+    }
+}
+
 /// The end of the text.
-pub fn finish<A: Allocator>(rt: &impl Abort, builder: MapBuilder<A>) -> CrushMap<A> {
+pub(super) fn finish<A: Allocator>(rt: &impl Abort, builder: MapBuilder<A>) -> CrushMap<A> {
     assert!(rt; builder.is_idle());
     builder.finish()
 }
@@ -121,9 +135,7 @@ fn add_type<A: Allocator + Clone>(
     number: u16,
     name: &[u8],
 ) -> Result<(), BuildFault> {
-    assert!(rt; builder.is_idle());
-    assert!(rt; is_name(name));
-    assert!(rt; !is_reserved(name));
+    assert!(rt; builder.is_idle() && is_name(name) && !is_reserved(name));
     builder.kind(TypeId::new(number), name)
 }
 
@@ -134,8 +146,7 @@ fn add_device<A: Allocator + Clone>(
     name: &[u8],
 ) -> Result<(), BuildFault> {
     let id = DeviceId::new(number).expect(rt, "a device");
-    assert!(rt; builder.is_idle());
-    assert!(rt; is_name(name));
+    assert!(rt; builder.is_idle() && is_name(name));
     builder.device(id, name, None)
 }
 
@@ -147,9 +158,7 @@ fn add_device_of_class<A: Allocator + Clone>(
     class: &[u8],
 ) -> Result<(), BuildFault> {
     let id = DeviceId::new(number).expect(rt, "a device");
-    assert!(rt; builder.is_idle());
-    assert!(rt; is_name(name));
-    assert!(rt; is_name(class));
+    assert!(rt; builder.is_idle() && is_name(name) && is_name(class));
     builder.device(id, name, Some(class))
 }
 
@@ -159,8 +168,7 @@ fn begin_bucket<A: Allocator + Clone>(
     kind: &[u8],
     name: &[u8],
 ) -> Result<(), BuildFault> {
-    assert!(rt; builder.is_idle());
-    assert!(rt; is_name(name));
+    assert!(rt; builder.is_idle() && is_name(name));
     builder.begin(kind, name)
 }
 
@@ -170,8 +178,7 @@ fn add_tunable<A: Allocator + Clone>(
     name: &[u8],
     value: u32,
 ) -> Result<(), BuildFault> {
-    assert!(rt; builder.is_idle());
-    assert!(rt; is_name(name));
+    assert!(rt; builder.is_idle() && is_name(name));
     builder.tunable(name, value)
 }
 
@@ -192,8 +199,7 @@ fn add_class_id<A: Allocator + Clone>(
     class: &[u8],
 ) -> Result<(), BuildFault> {
     let id = BucketId::new(number).expect(rt, "a class id");
-    assert!(rt; builder.is_numbered());
-    assert!(rt; is_name(class));
+    assert!(rt; builder.is_numbered() && is_name(class));
     builder.class_id(id, class)
 }
 

@@ -6,14 +6,16 @@ ghost use Rattle.crush_map.specs.Rules.{IsStepForm};
 use crate::tests::asking::name;
 use crate::tests::building::{FIRST_HOST, OTHER_BUCKETS, TYPES_AND_DEVICES, bucket, has_the_types};
 use crate::tests::statements::{Statement, empty, finish, make_all};
-use crush_map::{BuildFault, CrushMap, KeptStep, MapBuilder, Rule, RuleFault, Setting, Step};
+use crush_map::{
+    BuildFault, CrushMap, KeptRule, KeptStep, MapBuilder, Rule, RuleFault, Setting, Step,
+};
 use linked_list_allocator::LocalHeap;
 use std::alloc::{Allocator, Global};
 use std::process::Abort;
 
 /// A step as a rule's text has it.
 #[derive(Clone, Copy)]
-pub enum Said {
+pub(super) enum Said {
     Take(&'static str),
     ChooseLeaf(i32, &'static str),
     Emit,
@@ -55,7 +57,7 @@ fn steps(rt: &impl Abort, alloc: Global, all: &[Said]) -> Vec<Step>
 }
 
 /// `rule NAME { id ID type replicated min_size 1 max_size 10 STEPS }`
-pub fn add_rule<A: Allocator>(
+pub(super) fn add_rule<A: Allocator>(
     rt: &impl Abort,
     alloc: Global,
     builder: &mut MapBuilder<A>,
@@ -71,8 +73,7 @@ pub fn add_rule<A: Allocator>(
         max_size: Some(10),
         steps: steps(rt, alloc, all),
     };
-    assert!(rt; id <= 2147483647);
-    assert!(rt; builder.is_idle());
+    assert!(rt; id <= 2147483647 && builder.is_idle());
     builder.rule(&rule)
 }
 
@@ -93,12 +94,12 @@ fn make_whole<A: Allocator + Clone>(
         make_all(rt, builder, statements)?;
     }
     let told = add_rule(rt, alloc, builder, "replicated_rule", 0, REPLICATED);
-    assert!(rt; told.is_ok(), "{told:?}");
+    assert!(rt; told.is_ok());
     Ok(())
 }
 
 /// The example map in the making, after its rule.
-pub fn map_in_the_making(rt: &impl Abort, alloc: Global) -> MapBuilder<Global> {
+pub(super) fn map_in_the_making(rt: &impl Abort, alloc: Global) -> MapBuilder<Global> {
     let mut builder = empty(rt, alloc);
     let told = make_whole(rt, alloc, &mut builder);
     assert!(rt; told.is_ok(), "{told:?}");
@@ -106,28 +107,35 @@ pub fn map_in_the_making(rt: &impl Abort, alloc: Global) -> MapBuilder<Global> {
 }
 
 /// The example map.
-pub fn whole_example_map(rt: &impl Abort, alloc: Global) -> CrushMap<Global> {
+pub(super) fn whole_example_map(rt: &impl Abort, alloc: Global) -> CrushMap<Global> {
     let builder = map_in_the_making(rt, alloc);
     finish(rt, builder)
 }
 
-/// The example map with its hierarchy in a heap.
-pub fn whole_example_map_in<'h>(
+/// The example map of a builder that has made nothing.
+fn made_whole<A: Allocator + Clone>(
     rt: &impl Abort,
     alloc: Global,
-    heap: &'h LocalHeap,
-) -> Result<CrushMap<&'h LocalHeap>, BuildFault> {
-    let mut builder = MapBuilder::new(alloc, heap)?;
+    mut builder: MapBuilder<A>,
+) -> Result<CrushMap<A>, BuildFault> {
     make_whole(rt, alloc, &mut builder)?;
     Ok(finish(rt, builder))
 }
 
+/// The example map with its hierarchy in a heap.
+pub(super) fn whole_example_map_in<'h>(
+    rt: &impl Abort,
+    alloc: Global,
+    heap: &'h LocalHeap,
+) -> Result<CrushMap<&'h LocalHeap>, BuildFault> {
+    made_whole(rt, alloc, MapBuilder::new(alloc, heap)?)
+}
+
 /// Asserts that the tunable is that of the example map.
 fn has_the_tunable(rt: &impl Abort, setting: &Setting) {
-    assert_eq!(rt; setting.tunables().len(), 1);
+    assert!(rt; setting.tunables().len() == 1);
     for (name, value) in setting.tunables() {
-        assert!(rt; name.is(b"choose_total_tries"));
-        assert_eq!(rt; *value, 50);
+        assert!(rt; name.is(b"choose_total_tries") && *value == 50);
     }
 }
 
@@ -151,29 +159,34 @@ fn is_kept(step: &KeptStep, said: Said) -> bool {
 
 /// Asserts that the steps are those of the example map's rule.
 fn has_the_steps(rt: &impl Abort, steps: &[KeptStep]) {
-    assert_eq!(rt; steps.len(), REPLICATED.len());
-    for (place, (step, said)) in steps.iter().zip(REPLICATED).enumerate() {
-        assert!(rt; is_kept(step, *said), "step {place}");
+    assert!(rt; steps.len() == REPLICATED.len());
+    for (step, said) in steps.iter().zip(REPLICATED) {
+        assert!(rt; is_kept(step, *said));
     }
+}
+
+/// Whether all but the steps is that of the example map's rule.
+fn is_replicated_rule(rule: &KeptRule) -> bool {
+    rule.name.is(b"replicated_rule")
+        && rule.kind.is(b"replicated")
+        && rule.id == 0
+        && rule.min_size == Some(1)
+        && rule.max_size == Some(10)
 }
 
 /// Asserts that the rule is that of the example map.
 fn has_the_rule(rt: &impl Abort, setting: &Setting) {
-    assert_eq!(rt; setting.rules().len(), 1);
+    assert!(rt; setting.rules().len() == 1);
     for rule in setting.rules() {
-        assert!(rt; rule.name.is(b"replicated_rule"));
-        assert!(rt; rule.kind.is(b"replicated"));
-        assert_eq!(rt; rule.id, 0);
-        assert_eq!(rt; rule.min_size, Some(1));
-        assert_eq!(rt; rule.max_size, Some(10));
+        assert!(rt; is_replicated_rule(rule));
         has_the_steps(rt, rule.steps.as_slice());
     }
-    assert!(rt; setting.takes(bucket(rt, -1)));
-    assert!(rt; !setting.takes(bucket(rt, -2)));
+    let (taken, other) = (bucket(rt, -1), bucket(rt, -2));
+    assert!(rt; setting.takes(taken) && !setting.takes(other));
 }
 
 /// Asserts that types, tunables and rules are those of the example map.
-pub fn has_the_setting(rt: &impl Abort, setting: &Setting) {
+pub(super) fn has_the_setting(rt: &impl Abort, setting: &Setting) {
     has_the_types(rt, setting);
     has_the_tunable(rt, setting);
     has_the_rule(rt, setting);

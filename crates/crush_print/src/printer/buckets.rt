@@ -1,6 +1,6 @@
 //! The buckets of a printed map.
 
-ghost use Rattle.std.specs.Prelude.{◌≡◌, List, [], ◌∷◌, ◌++◌, OnOk, IfOk, map};
+ghost use Rattle.std.specs.Prelude.{◌≡◌, List, [], ◌∷◌, ◌++◌, OnOk, IfOk, flat_map, map};
 ghost use Rattle.std.specs.List.Sorted.{IsPermutation};
 ghost use Rattle.crush_table.specs.Stands.{Stands};
 ghost use Rattle.crush_table.specs.Table.{Row};
@@ -27,12 +27,9 @@ pub(crate) fn push_roots<A: Allocator>(
         → OnOk result (out.new.items ≡ out.old.items ++ bucket_section setting.now t) }
 {
     forest.recall_invariant();
-    let roots = roots_in_order(alloc, forest.roots())?;
     out.extend_from_slice(b"\n# buckets\n")?;
-    for root in &roots {
-        push_node(setting, *root, out)?;
-    }
-    Ok(())
+    let roots = roots_in_order(alloc, forest.roots())?;
+    push_nodes(setting, roots.as_slice(), out)
 }
 
 /// The nodes, by the numbers of their ids from the least.
@@ -44,12 +41,20 @@ fn roots_in_order<A: Allocator>(
     ensures rising { IfOk result (λ roots. map (λ r. id_number (node_id r.now)) roots.items
         ≡ ascending (map (λ node. id_number (node_id node)) nodes.now)) }
 {
-    let mut roots = Vec::new(alloc);
-    for node in nodes {
-        roots.push(node)?;
-    }
+    let mut roots = references(alloc, nodes)?;
     roots.sort_unstable_by_key(|root| number_of(*root));
     Ok(roots)
+}
+
+/// References to the nodes, in their order.
+fn references<A: Allocator>(alloc: Global, nodes: &[Node<A>]) -> Result<Vec<&Node<A>>, AllocError>
+    ensures { IfOk result (λ references. map (λ r. r.now) references.items ≡ nodes.now) }
+{
+    let mut references = Vec::new(alloc);
+    for node in nodes {
+        references.push(node)?;
+    }
+    Ok(references)
 }
 
 /// The number of an item's id: how far it is from 0.
@@ -60,6 +65,21 @@ fn number_of<A: Allocator>(node: &Node<A>) -> u32
         ItemId::Device(device) => device.number(),
         ItemId::Bucket(bucket) => bucket.distance(),
     }
+}
+
+/// The nodes in their order, each behind the buckets below it.
+fn push_nodes<A: Allocator>(
+    setting: &Setting,
+    nodes: &[&Node<A>],
+    out: &mut Vec<u8>,
+) -> Result<(), AllocError>
+    ensures { OnOk result (out.new.items ≡ out.old.items
+        ++ flat_map (λ r. texts setting.now (items_of (r.now ∷ []))) nodes.now) }
+{
+    for node in nodes {
+        push_node(setting, *node, out)?;
+    }
+    Ok(())
 }
 
 /// A bucket behind the buckets below it. Of a device nothing.

@@ -23,9 +23,17 @@ pub(crate) fn push_devices<A: Allocator>(
     ensures { (t : List Row) → Stands forest.now t
         → OnOk result (out.new.items ≡ out.old.items ++ device_section t) }
 {
-    let devices = devices_in_order(alloc, forest)?;
     out.extend_from_slice(b"\n# devices\n")?;
-    for device in &devices {
+    let devices = devices_in_order(alloc, forest)?;
+    push_leaves(devices.as_slice(), out)
+}
+
+/// The devices, in their order.
+fn push_leaves<A: Allocator>(devices: &[&Leaf<A>], out: &mut Vec<u8>) -> Result<(), AllocError>
+    ensures { OnOk result (out.new.items ≡ out.old.items
+        ++ flat_map (λ d. device_line (device_row None (leaf_data d.now))) devices.now) }
+{
+    for device in devices {
         lines::push_device(*device, out)?;
     }
     Ok(())

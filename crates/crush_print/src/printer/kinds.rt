@@ -1,7 +1,8 @@
 //! The types of a printed map.
 
-ghost use Rattle.std.specs.Prelude.{◌≡◌, ◌++◌, OnOk, IfOk};
+ghost use Rattle.std.specs.Prelude.{◌≡◌, ◌++◌, OnOk, IfOk, flat_map};
 ghost use Rattle.indexmap.specs.IndexMap.{keys};
+ghost use Rattle.crush_print.specs.Lines.{kind_line};
 ghost use Rattle.crush_print.specs.MapText.{kind_text, kind_numbers, kind_section};
 
 use crate::lines;
@@ -19,9 +20,17 @@ pub(crate) fn push_kinds(
 ) -> Result<(), AllocError>
     ensures { OnOk result (out.new.items ≡ out.old.items ++ kind_section setting.now) }
 {
-    let numbers = numbers_in_order(alloc, setting)?;
     out.extend_from_slice(b"\n# types\n")?;
-    for number in &numbers {
+    let numbers = numbers_in_order(alloc, setting)?;
+    push_numbers(setting, numbers.as_slice(), out)
+}
+
+/// The types of these numbers, in their order.
+fn push_numbers(setting: &Setting, numbers: &[u16], out: &mut Vec<u8>) -> Result<(), AllocError>
+    ensures { OnOk result (out.new.items ≡ out.old.items
+        ++ flat_map (λ n. kind_line n (kind_text setting.now n)) numbers.now) }
+{
+    for number in numbers {
         lines::push_kind(*number, kind_name(setting, TypeId::new(*number)), out)?;
     }
     Ok(())

@@ -69,3 +69,9 @@ fn is_read_back(rt: &impl AllocGlobal, example: &Example) -> bool {
     let map = lines_before(example.out, b"# 1 ");
     is_run(rt, example.out, map, b"")
 }
+
+/// Whether the example is met. Of a job that is refused nothing is written.
+fn is_example(rt: &impl AllocGlobal, example: &Example) -> bool {
+    is_met(rt, example)
+        && (example.out.is_empty() || is_printed(rt, example) && is_read_back(rt, example))
+}

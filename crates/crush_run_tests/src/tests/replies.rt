@@ -1,9 +1,6 @@
 //! Calls that are refused, each with its line in the history and the map as before.
 
-use super::{MODE, PLAIN, REWEIGHED, joined};
-use crush_report::Summary;
-use crush_run::run_job;
-use std::test::Fail;
+use super::{MODE, PLAIN, REWEIGHED, joined, summary, writes};
 
 /// A map with a device that no bucket holds, and one bucket that has all but room for a second
 /// device of the greatest weight.
@@ -18,37 +15,26 @@ const REPLIES: &[u8] =
     b"# 1 a reweight osd.7 1.00000 = refused NoSuchItem 2\n# 2 a reweight h1 1.00000 = refused NotADevice 22\n# 3 a reweight osd.9 1.00000 = refused NotPlaced 2\n# 4 a reweight osd.1 32768.00000 = refused WeightTooLarge 75\n# 5 a reweight osd.1 32767.99998 = refused SumTooLarge 34\n# 6 a reweight osd.7 32768.00000 = refused WeightTooLarge 75\n# 7 a reweight h1 40000.50000 = refused WeightTooLarge 75\n";
 
 #[test]
-fn refuses_calls_and_leaves_the_map(rt: HostRuntime) -> Result<(), Fail> {
-    let job = joined(&rt, HEAVY, REFUSED)?;
-    let mut out = Vec::new(rt.alloc());
-    let outcome = run_job(&rt, MODE, &mut job.as_slice(), &mut out);
-    let none_changed = Summary {
-        adjusted: 0,
-        calls: 7,
-        changes: 0,
-    };
-    assert!(rt; outcome == Ok(none_changed));
-    let expected = joined(&rt, HEAVY, REPLIES)?;
-    assert!(rt; out.as_slice() == expected.as_slice());
-    Ok(())
+fn refuses_calls_and_leaves_the_map(rt: HostRuntime) {
+    let job = joined(&rt, HEAVY, REFUSED);
+    assert!(rt; writes(&rt, MODE, job.as_slice(), HEAVY, REPLIES, summary(0, 7, 0)));
 }
 
 #[test]
-fn goes_on_after_a_refused_call(rt: HostRuntime) -> Result<(), Fail> {
+fn goes_on_after_a_refused_call(rt: HostRuntime) {
     let lines =
         b"%operator a\nreweight h2 1.0\nreweight osd.2 1.0\nreweight h2 1.0\nreweight osd.2 1\n";
-    let job = joined(&rt, PLAIN, lines.as_slice())?;
-    let mut out = Vec::new(rt.alloc());
-    let outcome = run_job(&rt, MODE, &mut job.as_slice(), &mut out);
-    let one_changed = Summary {
-        adjusted: 0,
-        calls: 4,
-        changes: 1,
-    };
-    assert!(rt; outcome == Ok(one_changed));
+    let job = joined(&rt, PLAIN, lines);
     let replies =
         b"# 1 a reweight h2 1.00000 = refused NotADevice 22\n# 2 a reweight osd.2 1.00000 = done changed 1 made 0\n# 3 a reweight h2 1.00000 = refused NotADevice 22\n# 4 a reweight osd.2 1.00000 = done changed 0 made 0\n";
-    let expected = joined(&rt, REWEIGHED, replies.as_slice())?;
-    assert!(rt; out.as_slice() == expected.as_slice());
-    Ok(())
+    assert!(rt;
+        writes(
+            &rt,
+            MODE,
+            job.as_slice(),
+            REWEIGHED,
+            replies,
+            summary(0, 4, 1)
+        )
+    );
 }

@@ -1,55 +1,41 @@
 //! Jobs that are run, with what is written and what is summed up.
 
-use super::{EMPTY, MODE, PLAIN, REWEIGHED, joined, writes};
+use super::{EMPTY, MODE, PLAIN, REWEIGHED, joined, summary, writes};
 use crush_options::Mode;
-use crush_report::Summary;
-use std::test::Fail;
 
-/// What one call comes to that changes the map.
-const CHANGED: Summary = Summary {
-    adjusted: 0,
-    calls: 1,
-    changes: 1,
-};
+/// A mode in which one device is reweighed, and the lines that then stand behind the map.
+const MODES: &[(Mode, &[u8])] = &[
+    (MODE, REPLY),
+    // It runs the same where the operators do not take turns.
+    (
+        Mode {
+            in_turn: false,
+            history: true,
+        },
+        REPLY,
+    ),
+    // The history is left out.
+    (
+        Mode {
+            in_turn: true,
+            history: false,
+        },
+        b"",
+    ),
+];
 
-#[test]
-fn reweighs_a_device(rt: HostRuntime) -> Result<(), Fail> {
-    let job = joined(&rt, PLAIN, b"%operator a\nreweight osd.2 1.0\n")?;
-    let line = b"# 1 a reweight osd.2 1.00000 = done changed 1 made 0\n";
-    assert!(rt; writes(&rt, MODE, job.as_slice(), REWEIGHED, line, CHANGED));
-    Ok(())
-}
-
-#[test]
-fn runs_the_same_in_either_mode(rt: HostRuntime) -> Result<(), Fail> {
-    let job = joined(&rt, PLAIN, b"%operator a\nreweight osd.2 1.0\n")?;
-    let line = b"# 1 a reweight osd.2 1.00000 = done changed 1 made 0\n";
-    let mode = Mode {
-        in_turn: false,
-        history: true,
-    };
-    assert!(rt; writes(&rt, mode, job.as_slice(), REWEIGHED, line, CHANGED));
-    Ok(())
-}
+const REPLY: &[u8] = b"# 1 a reweight osd.2 1.00000 = done changed 1 made 0\n";
 
 #[test]
-fn leaves_the_history_out(rt: HostRuntime) -> Result<(), Fail> {
-    let job = joined(&rt, PLAIN, b"%operator a\nreweight osd.2 1.0\n")?;
-    let mode = Mode {
-        in_turn: true,
-        history: false,
-    };
-    assert!(rt; writes(&rt, mode, job.as_slice(), REWEIGHED, b"", CHANGED));
-    Ok(())
+fn reweighs_a_device_in_each_mode(rt: HostRuntime) {
+    let job = joined(&rt, PLAIN, b"%operator a\nreweight osd.2 1.0\n");
+    for (mode, lines) in MODES {
+        let changed = summary(0, 1, 1);
+        assert!(rt; writes(&rt, *mode, job.as_slice(), REWEIGHED, lines, changed));
+    }
 }
 
 #[test]
 fn runs_an_empty_job(rt: HostRuntime) {
-    let nothing = Summary {
-        adjusted: 0,
-        calls: 0,
-        changes: 0,
-    };
-    assert_eq!(rt; EMPTY.len(), 75);
-    assert!(rt; writes(&rt, MODE, b"", EMPTY, b"", nothing));
+    assert!(rt; EMPTY.len() == 75 && writes(&rt, MODE, b"", EMPTY, b"", summary(0, 0, 0)));
 }

@@ -1,26 +1,13 @@
 //! Maps with tunables, rules and items without weights.
 
-use super::{EXAMPLE, MODE, is_told, joined};
-use crush_report::{RunFault, Summary};
+use super::{EXAMPLE, MODE, are_refused, is_told, summary, writes};
+use crush_report::RunFault;
 use crush_run::run_job;
 use crush_script::JobFault;
-use std::test::Fail;
-
-/// What a run comes to that replaces so many written weights and makes no call.
-fn adjusted(count: u32) -> Summary {
-    Summary {
-        adjusted: count,
-        calls: 0,
-        changes: 0,
-    }
-}
 
 #[test]
 fn the_example_map_is_printed_as_it_is(rt: HostRuntime) {
-    let mut out = Vec::new(rt.alloc());
-    let outcome = run_job(&rt, MODE, &mut &*EXAMPLE, &mut out);
-    assert!(rt; outcome == Ok(adjusted(0)));
-    assert!(rt; out.as_slice() == EXAMPLE);
+    assert!(rt; writes(&rt, MODE, EXAMPLE, EXAMPLE, b"", summary(0, 0, 0)));
 }
 
 /// The example map as a person may write it: leading zeros, items without weights, a written weight
@@ -30,11 +17,9 @@ const LOOSE: &[u8] =
 
 #[test]
 fn written_weights_that_are_no_sums_are_replaced(rt: HostRuntime) {
-    let mut out = Vec::new(rt.alloc());
-    let outcome = run_job(&rt, MODE, &mut &*LOOSE, &mut out);
-    assert!(rt; outcome == Ok(adjusted(1)));
-    assert!(rt; is_told(&rt, &outcome, b"crushedit: adjusted 1\n", 0));
-    assert!(rt; out.as_slice() == EXAMPLE);
+    let replaced = summary(1, 0, 0);
+    assert!(rt; writes(&rt, MODE, LOOSE, EXAMPLE, b"", replaced));
+    assert!(rt; is_told(&rt, &Ok(replaced), b"crushedit: adjusted 1\n", 0));
 }
 
 /// Two types and a device, in 36 bytes.
@@ -92,27 +77,24 @@ const FLAWED: &[(&[u8], &[u8])] = &[
 ];
 
 #[test]
-fn flaws_of_whole_texts_are_told(rt: HostRuntime) -> Result<(), Fail> {
-    for (place, (rest, line)) in FLAWED.iter().enumerate() {
-        let text = joined(&rt, DEVICE, rest)?;
-        let mut out = Vec::new(rt.alloc());
-        let outcome = run_job(&rt, MODE, &mut text.as_slice(), &mut out);
-        assert!(rt; out.is_empty(), "at {place}");
-        assert!(rt; is_told(&rt, &outcome, line, 1), "at {place}");
+fn flaws_of_whole_texts_are_told(rt: HostRuntime) {
+    are_refused(&rt, DEVICE, FLAWED);
+}
+
+/// Whether a text is read, or refused at a place within it.
+fn is_read_or_refused_within(rt: &impl AllocGlobal, text: &[u8]) -> bool {
+    let mut out = Vec::new(rt.alloc());
+    match run_job(rt, MODE, &mut &*text, &mut out) {
+        Ok(_) => true,
+        Err(RunFault::Job(JobFault::Text(fault))) => fault.place <= text.len() && out.is_empty(),
+        Err(_) => false,
     }
-    Ok(())
 }
 
 #[test]
 fn each_front_of_the_example_map_is_read_or_refused_within(rt: HostRuntime) {
     for len in 0..EXAMPLE.len() {
-        let (mut front, _) = EXAMPLE.split_at(len);
-        let mut out = Vec::new(rt.alloc());
-        let within = match run_job(&rt, MODE, &mut front, &mut out) {
-            Ok(_) => true,
-            Err(RunFault::Job(JobFault::Text(fault))) => fault.place <= len && out.is_empty(),
-            Err(_) => false,
-        };
-        assert!(rt; within, "at {len}");
+        let (front, _) = EXAMPLE.split_at(len);
+        assert!(rt; is_read_or_refused_within(&rt, front), "at {len}");
     }
 }

@@ -1,10 +1,8 @@
 //! The worked examples: what operators command, the whole map that is then printed, and the history
 //! behind it.
 
-use super::{EXAMPLE, MODE, is_told, writes};
-use crush_report::Summary;
-use crush_run::run_job;
-use std::test::Fail;
+use super::{EXAMPLE, MODE, is_told, summary, writes};
+use std::process::Abort;
 
 mod batches;
 mod others;
@@ -57,16 +55,22 @@ struct Worked {
     changes: u32,
 }
 
-/// Whether the job is run like that, and no written weight is replaced.
-fn is_written(rt: &impl AllocGlobal, worked: &Worked) -> Result<bool, Fail> {
-    let job = worked.job.concat(rt.alloc())?;
-    let out = worked.out.concat(rt.alloc())?;
-    let summary = Summary {
-        adjusted: 0,
-        calls: worked.calls,
-        changes: worked.changes,
-    };
-    Ok(writes(rt, MODE, job.as_slice(), out.as_slice(), b"", summary))
+/// The bytes of all parts, one behind the other.
+fn whole(rt: &(impl Abort + AllocGlobal), parts: &[&[u8]]) -> Vec<u8> {
+    parts.concat(rt.alloc()).expect(rt, "no memory")
+}
+
+/// Each job is run like that, and no written weight is replaced.
+fn are_written(rt: &(impl Abort + AllocGlobal), all: &[Worked]) {
+    for (place, worked) in all.iter().enumerate() {
+        let job = whole(rt, worked.job);
+        let out = whole(rt, worked.out);
+        let summary = summary(0, worked.calls, worked.changes);
+        assert!(rt;
+            writes(rt, MODE, job.as_slice(), out.as_slice(), b"", summary),
+            "at {place}"
+        );
+    }
 }
 
 /// The example map, where the weight that is written of h1 isn't the sum of its items.
@@ -84,17 +88,9 @@ const HEAVIER: &[&[u8]] = &[
 ];
 
 #[test]
-fn a_written_weight_that_is_no_sum_is_replaced(rt: HostRuntime) -> Result<(), Fail> {
-    let text = HEAVIER.concat(rt.alloc())?;
-    let mut out = Vec::new(rt.alloc());
-    let outcome = run_job(&rt, MODE, &mut text.as_slice(), &mut out);
-    let replaced = Summary {
-        adjusted: 1,
-        calls: 0,
-        changes: 0,
-    };
-    assert!(rt; outcome == Ok(replaced));
-    assert!(rt; is_told(&rt, &outcome, b"crushedit: adjusted 1\n", 0));
-    assert!(rt; out.as_slice() == EXAMPLE);
-    Ok(())
+fn a_written_weight_that_is_no_sum_is_replaced(rt: HostRuntime) {
+    let text = whole(&rt, HEAVIER);
+    let replaced = summary(1, 0, 0);
+    assert!(rt; writes(&rt, MODE, text.as_slice(), EXAMPLE, b"", replaced));
+    assert!(rt; is_told(&rt, &Ok(replaced), b"crushedit: adjusted 1\n", 0));
 }

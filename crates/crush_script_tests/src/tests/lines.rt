@@ -33,17 +33,16 @@ fn the_map_ends_before_a_line_with_a_percent_sign(rt: HostRuntime) {
 fn sections_are_read(rt: HostRuntime) {
     let text =
         b"%operator a.b-c_9 # one\r\n\n \treweight \tosd.2\t1.0#x\r\n\r\n# reweight\n\rx\nreweight osd.0 0.333\r";
-    assert_eq!(rt; fault_of(&rt, text), Some(JobFault::NoSuchCommand(6)));
+    assert!(rt; fault_of(&rt, text) == Some(JobFault::NoSuchCommand(6)));
     let text =
         b"%operator a.b-c_9 # one\r\n\n \treweight \tosd.2\t1.0#x\r\n\r\n# reweight\n\r\nreweight osd.0 0.333\r";
     with_job(&rt, text, |job| {
         let script = only_script(&rt, job);
-        assert!(rt; script.name.is(b"a.b-c_9"));
-        assert_eq!(rt; script.calls.len(), 2);
+        assert!(rt; script.name.is(b"a.b-c_9") && script.calls.len() == 2);
         assert!(rt; is_reweight(&script.calls[0], b"osd.2", 65536));
         assert!(rt; is_reweight(&script.calls[1], b"osd.0", 21823));
     });
-    assert_eq!(rt; script_count(&rt, b""), 0);
+    assert!(rt; script_count(&rt, b"") == 0);
 }
 
 /// Texts behind an empty line, with the number of their first faulty line.
@@ -98,7 +97,7 @@ const BEHIND_ALL_CALLS: &[(&[u8], JobFault)] = &[
 #[test]
 fn a_job_has_few_calls(rt: HostRuntime) {
     let text = with_lines(&rt, b"%operator a\n", b"reweight x 1\n", 65536);
-    assert_eq!(rt; call_count(&rt, text.as_slice()), 65536);
+    assert!(rt; call_count(&rt, text.as_slice()) == 65536);
     are_no_jobs(&rt, text.as_slice(), BEHIND_ALL_CALLS);
 }
 
@@ -182,16 +181,15 @@ fn batches_are_read(rt: HostRuntime) {
     let text =
         b"%operator a\nrm x\nbegin # one\nrm x\n\n# rm z\nrm y\ncommit\nbegin\ncommit\n%operator b\n";
     with_job(&rt, text, |job| {
-        assert_eq!(rt; job.scripts.len(), 2);
-        assert_eq!(rt; job.scripts[1].calls.len(), 0);
+        assert!(rt; job.scripts.len() == 2 && job.scripts[1].calls.is_empty());
         let calls = &job.scripts[0].calls;
-        assert_eq!(rt; calls.len(), 3);
+        assert!(rt; calls.len() == 3);
         let lens = [
             batch_len(&calls[0]),
             batch_len(&calls[1]),
             batch_len(&calls[2]),
         ];
-        assert_eq!(rt; lens, [None, Some(2), Some(0)]);
+        assert!(rt; lens == [None, Some(2), Some(0)]);
     });
 }
 
@@ -224,7 +222,7 @@ const SEVENTEENTH: &[(&[u8], JobFault)] = &[
 
 #[test]
 fn a_job_has_at_most_sixteen_operators(rt: HostRuntime) {
-    assert_eq!(rt; script_count(&rt, SIXTEEN), 16);
+    assert!(rt; script_count(&rt, SIXTEEN) == 16);
     are_no_jobs(&rt, SIXTEEN, SEVENTEENTH);
 }
 
@@ -238,7 +236,7 @@ const BEHIND_ALL_EDITS: &[(&[u8], JobFault)] = &[
 fn a_batch_has_at_most_65536_edits(rt: HostRuntime) {
     let open = with_lines(&rt, b"%operator a\nbegin\n", b"rm x\n", 65536);
     let text = joined(&rt, open.as_slice(), b"\ncommit");
-    assert_eq!(rt; call_count(&rt, text.as_slice()), 1);
+    assert!(rt; call_count(&rt, text.as_slice()) == 1);
     are_no_jobs(&rt, open.as_slice(), BEHIND_ALL_EDITS);
 }
 

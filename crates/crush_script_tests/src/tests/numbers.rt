@@ -17,6 +17,6 @@ const NUMBERS: &[(u32, &[u8], Option<u32>)] = &[
 #[test]
 fn numbers_are_read_up_to_the_greatest(rt: HostRuntime) {
     for (most, text, number) in NUMBERS {
-        assert_eq!(rt; number_up_to(*most, *text), *number);
+        assert!(rt; number_up_to(*most, *text) == *number);
     }
 }

@@ -60,7 +60,7 @@ fn has_line(rt: &(impl Abort + AllocGlobal), call: &Call, answer: &Answer<'_>) {
         answer.reply,
         &mut line,
     );
-    assert_eq!(rt; written, Ok(()));
+    assert!(rt; written.is_ok());
     assert_eq!(rt; line.as_slice(), answer.line);
 }
 
@@ -182,11 +182,9 @@ fn is_add(rt: &impl Abort, call: &Call) {
                 at,
             },
         ) => {
-            assert_eq!(rt; (device.number(), weight.units()), (2147483647, 65536));
-            assert!(rt; name.is(b"osd.2147483647"));
-            assert_eq!(rt; at.pairs().len(), 2);
-            assert!(rt; at.pairs()[0].kind.is(b"host"));
-            assert!(rt; at.pairs()[1].name.is(b"r"));
+            assert!(rt; device.number() == 2147483647 && weight.units() == 65536);
+            assert!(rt; name.is(b"osd.2147483647") && at.pairs().len() == 2);
+            assert!(rt; at.pairs()[0].kind.is(b"host") && at.pairs()[1].name.is(b"r"));
         }
         _ => assert!(rt; false, "another call"),
     }
@@ -201,7 +199,7 @@ fn devices_are_read_with_their_ids(rt: HostRuntime) {
 #[test]
 fn locations_have_at_most_sixteen_pairs(rt: HostRuntime) {
     let text = with_lines(&rt, b"%operator a\nmove h", b" host=h1", 16);
-    assert_eq!(rt; script_count(&rt, text.as_slice()), 1);
+    assert!(rt; script_count(&rt, text.as_slice()) == 1);
     are_no_jobs(&rt, text.as_slice(), &[(b" host=h1", JobFault::BadLine(2))]);
 }
 
@@ -243,7 +241,7 @@ fn batches_are_lines(rt: HostRuntime) {
         b"%operator a\nbegin\nadd osd.3 1 host=h2\nrename-bucket h1 hq\nrm h2\ncommit\nbegin\ncommit\n";
     with_job(&rt, text, |job| {
         let calls = &only_script(&rt, job).calls;
-        assert_eq!(rt; calls.len(), 2);
+        assert!(rt; calls.len() == 2);
         has_line(&rt, &calls[0], &REFUSED);
         has_line(&rt, &calls[1], &NONE_DONE);
         has_line(&rt, &calls[1], &MANY_DONE);
@@ -281,11 +279,8 @@ fn front_of_line(rt: &(impl Abort + AllocGlobal), call: &Call, room: usize) -> V
     let held = Vec::new(rt.alloc());
     let mut out = Short { held, room };
     let reply = Reply::Refused(Refusal::NotADevice);
-    assert_eq!(rt;
-        write_entry(1, b"a", call, reply, &mut out),
-        Err(WriteFault::Write),
-        "room for {room}"
-    );
+    let written = write_entry(1, b"a", call, reply, &mut out);
+    assert!(rt; written == Err(WriteFault::Write), "room for {room}");
     out.held
 }
 
@@ -295,7 +290,7 @@ fn a_front_of_the_line_stands_after_a_failure(rt: HostRuntime) {
     with_job(&rt, b"%operator a\nreweight osd.2 1", |job| {
         for room in 0..line.len() {
             let front = front_of_line(&rt, first_call(&rt, job), room);
-            assert_eq!(rt; front.as_slice(), &line[..room]);
+            assert!(rt; front.as_slice() == &line[..room]);
         }
     });
 }

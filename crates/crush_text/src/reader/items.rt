@@ -1,13 +1,15 @@
 //! The items of a bucket.
 
-ghost use Rattle.std.specs.Prelude.{◌≡◌, ◌≤◌, ◌<◌, length, true, false, IfOk, OnOk, Some, None};
+ghost use Rattle.std.specs.Prelude.{◌≡◌, ◌≤◌, ◌<◌, length, true, false, IfOk, IfSome, OnOk, Some, None};
 ghost use Rattle.crush_map.specs.Built.{Draft, with_item};
 ghost use Rattle.crush_map.specs.Building.{IsDraft, is_filling, item_named};
+ghost use Rattle.crush_map.specs.Faults.{is_closed, is_heavy_device};
 ghost use Rattle.crush_text.specs.Role.{item_or_end, item};
 ghost use Rattle.crush_text.specs.Form.{second, filling, at};
 ghost use Rattle.crush_text.specs.Grammar.{item_line, item_weight, lines};
 ghost use Rattle.crush_text.specs.Flow.{between, outcome, placed};
 ghost use Rattle.crush_text.specs.Tests.{word_for};
+ghost use Rattle.crush_text.specs.Room.{IsFreeItem};
 ghost use Rattle.crush_text.specs.Reads.{IsIdle, IsAmid, IsBehindItem, behind_item, Gives, Reads, ReadsLine, ReadsOn, Adds, own_weight, unless_heavy, word_at, line_at};
 
 use crate::fault::{TextFault, TextFaultKind};
@@ -90,6 +92,7 @@ fn read_weight<A: Allocator>(
     item: ItemId,
 ) -> Result<(), TextFault>
     requires filling { IsAmid is_filling builder.old }
+    requires free { (d : Draft) → IsDraft builder.old d → IsFreeItem d item }
     ensures filling { OnOk result (IsAmid is_filling builder.new) }
     ensures reads { (d : Draft) → IsDraft builder.old d
         → Reads (filling true) result builder.new reader.new
@@ -109,6 +112,8 @@ fn add_item<A: Allocator>(
     builder: &mut MapBuilder<A>,
 ) -> Result<(), TextFault>
     requires filling { IsAmid is_filling builder.old }
+    requires free { (d : Draft) → IsDraft builder.old d → IsFreeItem d item }
+    requires light { is_heavy_device item weight ≡ false }
     ensures filling { OnOk result (IsAmid is_filling builder.new) }
     ensures adds { (d : Draft) → IsDraft builder.old d
         → Adds result builder.new (with_item d item weight)
@@ -117,14 +122,15 @@ fn add_item<A: Allocator>(
     match builder.item(item, weight) {
         Ok(()) => Ok(()),
         Err(BuildFault::SumTooLarge) => Err(word.fault(TextFaultKind::SumTooLarge)),
-        Err(_) => Err(word.fault(TextFaultKind::OutOfMemory)),
+        Err(fault) => Err(word.want(fault)),
     }
 }
 
 /// The weight of an item: a device's is at most 2147483647 units.
 fn own_weight(word: PlacedWord<'_>, item: &ItemId) -> Result<Weight, TextFault>
-    ensures { (d : Draft)
+    ensures weighs { (d : Draft)
         → result ≡ placed word.entry.place (own_weight d item.now word.entry.text.now) }
+    ensures light { IfOk result (λ w. is_heavy_device item.now (Some w) ≡ false) }
 {
     if word.is_brace() {
         return Err(word.fault(TextFaultKind::Unexpected));
@@ -162,8 +168,9 @@ fn free_item<A: Allocator>(
     word: PlacedWord<'_>,
     builder: &MapBuilder<A>,
 ) -> Result<ItemId, TextFault>
-    ensures { (d : Draft) → IsDraft builder.now d
+    ensures gives { (d : Draft) → IsDraft builder.now d
         → result ≡ placed word.entry.place (word_for d item word.entry.text.now) }
+    ensures free { IfOk result (λ i. (d : Draft) → IsDraft builder.now d → IsFreeItem d i) }
 {
     if word.is_brace() {
         return Err(word.fault(TextFaultKind::Unexpected));
@@ -177,7 +184,9 @@ fn free_item<A: Allocator>(
 
 /// The device or the complete bucket of a name, if there is one.
 fn item_named<A: Allocator>(builder: &MapBuilder<A>, name: &[u8]) -> Option<ItemId>
-    ensures { (d : Draft) → IsDraft builder.now d → result ≡ item_named d name.now }
+    ensures value { (d : Draft) → IsDraft builder.now d → result ≡ item_named d name.now }
+    ensures closed { IfSome result (λ i. (d : Draft) → IsDraft builder.now d
+        → is_closed d i ≡ true) }
 {
     match builder.item_named(name) {
         Ok(id) => Some(id),

@@ -1,10 +1,14 @@
 //! The lines of a rule.
 
-ghost use Rattle.std.specs.Prelude.{◌≡◌, ◌≤◌, ◌<◌, length, map, None, Some, IfOk, IfSome, OnOk, Option, ℕ};
+ghost use Rattle.std.specs.Prelude.{◌≡◌, ◌≤◌, ◌<◌, length, map, true, false, None, Some, IfOk, IfErr, IfSome, OnOk, Option, ℕ};
 ghost use Rattle.crush_units.specs.Name.{IsName};
 ghost use Rattle.crush_map.specs.Built.{Draft};
 ghost use Rattle.crush_map.specs.Building.{IsDraft};
-ghost use Rattle.crush_map.specs.Rules.{IsRuleForm, kept_rule};
+ghost use Rattle.crush_map.specs.Rules.{IsRuleForm, kept_rule, has_rule_name, has_rule_id, is_full_of_rules};
+ghost use Rattle.crush_text.specs.declared.limits.TheConstants.{LARGEST_RULE_NUMBER};
+ghost use Rattle.crush_units.specs.declared.limits.TheConstants.{MOST_STEPS};
+ghost use Rattle.crush_text.specs.declared.fault.TextFaultKind.TheVariants.{OutOfMemory};
+ghost use Rattle.crush_text.specs.Room.{IsFreeRule, IsHead};
 ghost use Rattle.crush_text.specs.Role.{rule_name, rule_id_key, rule_id, step_or_end};
 ghost use Rattle.crush_text.specs.Form.{Form, second, ruled, at};
 ghost use Rattle.crush_text.specs.Grammar.{rule_line, lines};
@@ -12,17 +16,15 @@ ghost use Rattle.crush_text.specs.Flow.{between, outcome};
 ghost use Rattle.crush_text.specs.Reads.{IsIdle, Gives, GivesOn, ReadsOn, ReadsSteps, ReadsStep, number_behind, is_step, then_on, word_at, line_at};
 
 use crate::fault::{TextFault, TextFaultKind};
+use crate::limits::LARGEST_RULE_NUMBER;
 use crate::reader::roles::{read_key, read_number, read_word};
 use crate::reader::step::read_step;
 use crate::reader::word::{PlacedWord, next_word};
 use crush_bytes::Reader;
 use crush_bytes::number::number_up_to;
-use crush_map::{MapBuilder, Rule, Step};
+use crush_map::{BuildFault, MapBuilder, Rule, RuleFault, Step};
 use crush_units::limits::MOST_STEPS;
 use std::alloc::{Allocator, Global};
-
-/// The greatest number that a rule's words have.
-const LAST_NUMBER: u32 = 2147483647;
 
 /// A rule, behind the word `rule`. What was read of it so far is kept in the machine's memory.
 pub(crate) fn read_rule<A: Allocator>(
@@ -31,6 +33,7 @@ pub(crate) fn read_rule<A: Allocator>(
     machine: Global,
 ) -> Result<(), TextFault>
     requires idle { IsIdle builder.old }
+    requires room { (d : Draft) → IsDraft builder.old d → is_full_of_rules d ≡ false }
     ensures idle { OnOk result (IsIdle builder.new) }
     ensures reads { (d : Draft) → IsDraft builder.old d
         → ReadsOn second result builder.new reader.new
@@ -39,13 +42,24 @@ pub(crate) fn read_rule<A: Allocator>(
 {
     let mut rule = read_head(reader, builder, machine)?;
     let place = read_steps(reader, builder, machine, &mut rule)?;
-    let Ok(()) = builder.rule(&rule) else {
-        return Err(TextFault {
-            kind: TextFaultKind::OutOfMemory,
-            place,
-        });
+    match builder.rule(&rule) {
+        Ok(()) => Ok(()),
+        Err(refused) => Err(want_at(place, refused)),
+    }
+}
+
+/// What the builder refuses at the end of a rule, where nothing is left that it can lack but memory.
+fn want_at(place: usize, refused: RuleFault) -> TextFault
+    requires { refused.fault ≡ BuildFault.OutOfMemory }
+    ensures { result ≡ record { kind = OutOfMemory; place = place } }
+{
+    let BuildFault::OutOfMemory = refused.fault else {
+        unreachable!()
     };
-    Ok(())
+    TextFault {
+        kind: TextFaultKind::OutOfMemory,
+        place,
+    }
 }
 
 /// The head of a rule, up to its first step.
@@ -59,18 +73,41 @@ fn read_head<A: Allocator>(
     ensures gives { (d : Draft) → IsDraft builder.now d
         → Gives (λ r. (at (ruled (kept_rule d r)) d, reader.new)) result
         (line_at d (rule_line d) reader.old) }
+    ensures free { IfOk result (λ r. (d : Draft) → IsDraft builder.now d → IsFreeRule d r) }
     ensures shorter { OnOk result (length reader.new.words ≤ length reader.old.words) }
 {
     let name = read_rule_name(reader, builder)?;
-    let name = name.own_name(machine)?;
     read_key(reader, b"{")?;
     read_rule_id_key(reader)?;
     let id = read_rule_id(reader, builder)?;
     read_key(reader, b"type")?;
     let kind = read_word(reader)?;
-    let kind = kind.own_name(machine)?;
     let min_size = read_size(reader, b"min_size")?;
     let max_size = read_size(reader, b"max_size")?;
+    own_head(name, id, kind, min_size, max_size, machine)
+}
+
+/// A rule of these words in the machine's memory, which has no steps yet.
+fn own_head(
+    name: PlacedWord<'_>,
+    id: u32,
+    kind: PlacedWord<'_>,
+    min_size: Option<u32>,
+    max_size: Option<u32>,
+    machine: Global,
+) -> Result<Rule, TextFault>
+    requires name { IsName name.text.now }
+    requires id { id ≤ LARGEST_RULE_NUMBER }
+    requires kind { IsName kind.text.now }
+    requires least { IfSome min_size (λ n. n ≤ LARGEST_RULE_NUMBER) }
+    requires most { IfSome max_size (λ n. n ≤ LARGEST_RULE_NUMBER) }
+    ensures form { IfOk result IsRuleForm }
+    ensures head { IfOk result
+        (IsHead name.entry.text.now id kind.entry.text.now min_size max_size) }
+    ensures memory { IfErr result (λ f. f.kind ≡ OutOfMemory) }
+{
+    let name = name.own_name(machine)?;
+    let kind = kind.own_name(machine)?;
     Ok(Rule {
         name,
         id,
@@ -84,7 +121,7 @@ fn read_head<A: Allocator>(
 /// The size behind its key, if the key is next.
 #[tactic(auto, unfolding(crate::specs::Reads::line_at))]
 fn read_size(reader: &mut Reader<'_>, size: &[u8]) -> Result<Option<u32>, TextFault>
-    ensures most { IfOk result (λ n. IfSome n (λ k. k ≤ 2147483647)) }
+    ensures most { IfOk result (λ n. IfSome n (λ k. k ≤ LARGEST_RULE_NUMBER)) }
     ensures gives { (d : Draft) (more : Option ℕ → Form)
         → GivesOn (λ n. line_at d (more n) reader.new) result
         (line_at d (number_behind size.now more) reader.old) }
@@ -94,7 +131,7 @@ fn read_size(reader: &mut Reader<'_>, size: &[u8]) -> Result<Option<u32>, TextFa
         return Ok(None);
     }
     read_key(reader, size)?;
-    let number = read_number(reader, LAST_NUMBER)?;
+    let number = read_number(reader, LARGEST_RULE_NUMBER)?;
     Ok(Some(number))
 }
 
@@ -106,7 +143,9 @@ fn read_steps<A: Allocator>(
     rule: &mut Rule,
 ) -> Result<usize, TextFault>
     requires form { IsRuleForm rule.old }
+    requires free { (d : Draft) → IsDraft builder.now d → IsFreeRule d rule.old }
     ensures form { OnOk result (IsRuleForm rule.new) }
+    ensures free { OnOk result ((d : Draft) → IsDraft builder.now d → IsFreeRule d rule.new) }
     ensures reads { (d : Draft) → IsDraft builder.now d
         → ReadsSteps result d (kept_rule d rule.new) reader.new
         (outcome (between (at (ruled (kept_rule d rule.old)) d)) reader.old) }
@@ -130,7 +169,9 @@ fn read_step_line<A: Allocator>(
     rule: &mut Rule,
 ) -> Result<Option<usize>, TextFault>
     requires form { IsRuleForm rule.old }
+    requires free { (d : Draft) → IsDraft builder.now d → IsFreeRule d rule.old }
     ensures form { OnOk result (IsRuleForm rule.new) }
+    ensures free { OnOk result ((d : Draft) → IsDraft builder.now d → IsFreeRule d rule.new) }
     ensures reads { (d : Draft) → IsDraft builder.now d
         → ReadsStep result d (kept_rule d rule.new) reader.new
         (line_at d (lines d (ruled (kept_rule d rule.old))) reader.old) }
@@ -156,6 +197,7 @@ fn read_step_or_end<'a>(
     ensures gives { (d : Draft)
         → Gives (λ x. (is_step x.text.now, reader.new)) result
         (word_at d (step_or_end (length steps.now)) reader.old) }
+    ensures room { IfOk result (λ x. is_step x.text.now ≡ true → length steps.now < MOST_STEPS) }
     ensures shorter { OnOk result (length reader.new.words < length reader.old.words) }
 {
     let word = next_word(reader)?;
@@ -186,6 +228,8 @@ fn read_rule_name<'a, A: Allocator>(
     ensures gives { (d : Draft) → IsDraft builder.now d
         → Gives (λ x. (x.text.now, reader.new)) result (word_at d rule_name reader.old) }
     ensures named { IfOk result (λ x. IsName x.text.now) }
+    ensures free { IfOk result (λ x. (d : Draft) → IsDraft builder.now d
+        → has_rule_name d.setting x.text.now ≡ false) }
     ensures shorter { OnOk result (length reader.new.words < length reader.old.words) }
 {
     let word = next_word(reader)?;
@@ -221,14 +265,16 @@ fn read_rule_id<A: Allocator>(
 ) -> Result<u32, TextFault>
     ensures gives { (d : Draft) → IsDraft builder.now d
         → Gives (λ x. (x, reader.new)) result (word_at d rule_id reader.old) }
-    ensures most { IfOk result (λ n. n ≤ 2147483647) }
+    ensures most { IfOk result (λ n. n ≤ LARGEST_RULE_NUMBER) }
+    ensures free { IfOk result (λ n. (d : Draft) → IsDraft builder.now d
+        → has_rule_id d.setting n ≡ false) }
     ensures shorter { OnOk result (length reader.new.words < length reader.old.words) }
 {
     let word = next_word(reader)?;
     if word.is_brace() {
         return Err(word.fault(TextFaultKind::Unexpected));
     }
-    let Some(id) = number_up_to(LAST_NUMBER, word.text) else {
+    let Some(id) = number_up_to(LARGEST_RULE_NUMBER, word.text) else {
         return Err(word.fault(TextFaultKind::BadNumber));
     };
     if builder.has_rule_id(id) {

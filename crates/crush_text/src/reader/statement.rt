@@ -46,7 +46,8 @@ pub(crate) fn read_statements<A: Allocator + Clone>(
     }
 }
 
-/// The next statement, and whether only buckets and rules may follow it; `None` where the text ends.
+/// The next statement, and whether only buckets and rules may follow it; `None` where the text
+/// ends.
 fn read_next<A: Allocator + Clone>(
     reader: &mut Reader<'_>,
     builder: &mut MapBuilder<A>,

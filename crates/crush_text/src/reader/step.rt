@@ -1,13 +1,13 @@
 //! The steps of a rule.
 
-ghost use Rattle.std.specs.Prelude.{◌≡◌, ◌≤◌, ◌<◌, length, IfOk, OnOk, nat_eq, true, Some, None, if◌then◌else◌, codes};
+ghost use Rattle.std.specs.Prelude.{◌≡◌, ◌≤◌, ◌<◌, length, IfOk, OnOk, nat_eq, true, Some, None, is_some, if◌then◌else◌, codes};
 ghost use Rattle.std.specs.List.{starts_with};
 ghost use Rattle.crush_units.specs.Name.{IsName};
-ghost use Rattle.crush_edits.specs.Setting.{RuleData};
+ghost use Rattle.crush_edits.specs.Setting.{RuleData, kind_number};
 ghost use Rattle.crush_edits.specs.Fits.{IsSet};
 ghost use Rattle.crush_map.specs.Built.{Draft};
 ghost use Rattle.crush_map.specs.Building.{IsDraft};
-ghost use Rattle.crush_map.specs.Rules.{IsStepForm, kept_step, bucket_named, taken_number};
+ghost use Rattle.crush_map.specs.Rules.{IsStepForm, kept_step, bucket_named, taken_number, word_fault};
 ghost use Rattle.crush_text.specs.Forms.{is_signed, signed_value};
 ghost use Rattle.crush_text.specs.Role.{step_word, taken_bucket, step_order, step_count, step_type};
 ghost use Rattle.crush_text.specs.Form.{word};
@@ -15,6 +15,7 @@ ghost use Rattle.crush_text.specs.Grammar.{step_behind, take_step, choose_step, 
 ghost use Rattle.crush_text.specs.Reads.{Gives, behind_step, first_of_step, IsFirstOfStep, word_at, line_at};
 
 use crate::fault::{TextFault, TextFaultKind};
+use crate::limits::{FARTHEST_COUNT, LARGEST_COUNT, LARGEST_RULE_NUMBER};
 use crate::reader::roles::{read_key, read_number, read_word};
 use crate::reader::word::{PlacedWord, next_word};
 use crush_bytes::Reader;
@@ -49,6 +50,8 @@ pub(crate) fn read_step<A: Allocator>(
     ensures gives { (d : Draft) (r : RuleData) → IsDraft builder.now d
         → Gives (λ s. (behind_step d r s, reader.new)) result
         (line_at d (word step_word (step_behind d r)) reader.old) }
+    ensures free { IfOk result (λ s. (d : Draft) → IsDraft builder.now d
+        → word_fault d s ≡ None) }
     ensures shorter { OnOk result (length reader.new.words ≤ length reader.old.words) }
 {
     match read_first(reader)? {
@@ -70,6 +73,8 @@ fn read_take<A: Allocator>(
     ensures gives { (d : Draft) (r : RuleData) → IsDraft builder.now d
         → Gives (λ s. (behind_step d r s, reader.new)) result
         (line_at d (take_step d r) reader.old) }
+    ensures free { IfOk result (λ s. (d : Draft) → IsDraft builder.now d
+        → word_fault d s ≡ None) }
     ensures shorter { OnOk result (length reader.new.words ≤ length reader.old.words) }
 {
     let bucket = read_taken_bucket(reader, builder)?;
@@ -95,6 +100,8 @@ fn read_choose<A: Allocator>(
     ensures gives { (d : Draft) (r : RuleData) → IsDraft builder.now d
         → Gives (λ s. (behind_step d r s, reader.new)) result
         (line_at d (choose_step d r leaf) reader.old) }
+    ensures free { IfOk result (λ s. (d : Draft) → IsDraft builder.now d
+        → word_fault d s ≡ None) }
     ensures shorter { OnOk result (length reader.new.words ≤ length reader.old.words) }
 {
     let firstn = read_order(reader)?;
@@ -123,10 +130,11 @@ fn read_set(
     ensures gives { (d : Draft) (r : RuleData)
         → Gives (λ s. (behind_step d r s, reader.new)) result
         (line_at d (set_step d r word.entry.text.now) reader.old) }
+    ensures free { IfOk result (λ s. (d : Draft) → word_fault d s ≡ None) }
     ensures shorter { OnOk result (length reader.new.words ≤ length reader.old.words) }
 {
     let word = word.own_name(machine)?;
-    let value = read_number(reader, 2147483647)?;
+    let value = read_number(reader, LARGEST_RULE_NUMBER)?;
     Ok(Step::Set(word, value))
 }
 
@@ -173,6 +181,8 @@ fn read_taken_bucket<'a, A: Allocator>(
         → Gives (λ x. (taken_number (bucket_named d x.text.now), reader.new)) result
         (word_at d taken_bucket reader.old) }
     ensures named { IfOk result (λ x. IsName x.text.now) }
+    ensures there { IfOk result (λ x. (d : Draft) → IsDraft builder.now d
+        → is_some (bucket_named d x.text.now) ≡ true) }
     ensures shorter { OnOk result (length reader.new.words < length reader.old.words) }
 {
     let word = next_word(reader)?;
@@ -225,11 +235,11 @@ fn signed(text: &[u8]) -> Option<i32>
 {
     match text {
         [b'-', digits @ ..] => {
-            let below = number_up_to(2147483648, digits)?;
+            let below = number_up_to(FARTHEST_COUNT, digits)?;
             Some((0 - i64::from(below)) as i32)
         }
         _ => {
-            let number = number_up_to(2147483647, text)?;
+            let number = number_up_to(LARGEST_COUNT, text)?;
             Some(number as i32)
         }
     }
@@ -244,6 +254,8 @@ fn read_type<'a, A: Allocator>(
     ensures gives { (d : Draft) → IsDraft builder.now d
         → Gives (λ x. (x.text.now, reader.new)) result (word_at d step_type reader.old) }
     ensures named { IfOk result (λ x. IsName x.text.now) }
+    ensures there { IfOk result (λ x. (d : Draft) → IsDraft builder.now d
+        → is_some (kind_number d.setting x.text.now) ≡ true) }
     ensures shorter { OnOk result (length reader.new.words < length reader.old.words) }
 {
     let word = next_word(reader)?;

@@ -10,6 +10,7 @@ ghost use Rattle.crush_text.specs.Grammar.{tunable_line};
 ghost use Rattle.crush_text.specs.Reads.{IsIdle, Gives, Reads, word_at, line_at};
 
 use crate::fault::{TextFault, TextFaultKind};
+use crate::limits::LARGEST_TUNABLE;
 use crate::reader::roles::read_number;
 use crate::reader::word::{PlacedWord, next_word};
 use crush_bytes::Reader;
@@ -30,7 +31,7 @@ pub(crate) fn read_tunable<A: Allocator>(
     ensures shorter { OnOk result (length reader.new.words ≤ length reader.old.words) }
 {
     let name = read_name(reader, builder)?;
-    let value = read_number(reader, u32::MAX)?;
+    let value = read_number(reader, LARGEST_TUNABLE)?;
     match builder.tunable(name.text, value) {
         Ok(()) => Ok(()),
         Err(fault) => Err(name.want(fault)),

@@ -84,16 +84,15 @@ fn the_example_map_is_printed_as_it_stands(rt: HostRuntime) {
     let text = example_map(&rt, b" weight 2.00000");
     for (weight, count) in WEIGHTS {
         let written = example_map(&rt, *weight);
-        assert_eq!(rt; adjusted_in(&rt, written.as_slice()), *count);
-        assert!(rt; printed(&rt, written.as_slice()) == text);
+        let adjusted = adjusted_in(&rt, written.as_slice());
+        assert!(rt; adjusted == *count && printed(&rt, written.as_slice()) == text);
     }
 }
 
 #[test]
 fn the_empty_map_has_eleven_lines(rt: HostRuntime) {
     let out = printed(&rt, b"");
-    assert_eq!(rt; out.len(), 75);
-    assert!(rt; out.as_slice() == EMPTY_MAP);
+    assert!(rt; out.len() == 75 && out.as_slice() == EMPTY_MAP);
 }
 
 #[test]
@@ -124,7 +123,7 @@ fn front_of_map(
 ) -> Vec<u8> {
     let held = Vec::new(rt.alloc());
     let mut out = Slow { held, room, fails };
-    assert_eq!(rt; write_map(rt.alloc(), map, &mut out), answer);
+    assert!(rt; write_map(rt.alloc(), map, &mut out) == answer);
     out.held
 }
 
@@ -132,8 +131,7 @@ fn front_of_map(
 fn fronts_stand(rt: &(impl Abort + AllocGlobal), map: &CrushMap<Global>, text: &[u8], fails: bool) {
     for room in 0..text.len() {
         let front = front_of_map(rt, map, room, fails, Err(WriteFault::Write));
-        assert_eq!(rt; front.len(), room);
-        assert!(rt; text.starts_with(front.as_slice()));
+        assert!(rt; front.len() == room && text.starts_with(front.as_slice()));
     }
     let whole = front_of_map(rt, map, text.len(), fails, Ok(()));
     assert!(rt; whole.as_slice() == text);

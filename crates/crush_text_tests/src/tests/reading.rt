@@ -15,20 +15,19 @@ fn units_of(map: &CrushMap<Global>, name: &str) -> Option<u32> {
 #[test]
 fn the_plain_example_map_is_read(rt: HostRuntime) {
     let text = plain_example_map(&rt);
-    assert_eq!(rt; adjusted_in(&rt, text.as_slice()), 0);
+    assert!(rt; adjusted_in(&rt, text.as_slice()) == 0);
     with_map(&rt, text.as_slice(), |map| {
         let counts = (map.total(), map.counts().devices, map.counts().buckets);
-        assert_eq!(rt; counts, (163840, 3, 3));
+        assert!(rt; counts == (163840, 3, 3));
         let ids = [id_of(map, "osd.2"), id_of(map, "h2"), id_of(map, "h3")];
-        assert_eq!(rt; ids, [Some(2), Some(-3), None]);
+        assert!(rt; ids == [Some(2), Some(-3), None]);
         let weights = [units_of(map, "default"), units_of(map, "osd.2")];
-        assert_eq!(rt; weights, [Some(163840), Some(32768)]);
+        assert!(rt; weights == [Some(163840), Some(32768)]);
     });
 }
 
 #[test]
 fn the_empty_text_is_a_map(rt: HostRuntime) {
-    assert_eq!(rt; adjusted_in(&rt, b""), 0);
     let counts = with_map(&rt, b"", |map| {
         (
             map.counts().devices,
@@ -36,7 +35,7 @@ fn the_empty_text_is_a_map(rt: HostRuntime) {
             map.setting().kinds().len(),
         )
     });
-    assert_eq!(rt; counts, (0, 0, 0));
+    assert!(rt; counts == (0, 0, 0) && adjusted_in(&rt, b"") == 0);
 }
 
 const EDGES: &[&[u8]] = &[
@@ -81,6 +80,6 @@ const EDGES: &[&[u8]] = &[
 fn lines_at_the_edges_of_the_grammar_are_read(rt: HostRuntime) {
     for line in EDGES {
         let text = behind_a_device(&rt, *line);
-        assert_eq!(rt; fault_of(&rt, text.as_slice()), None);
+        assert!(rt; fault_of(&rt, text.as_slice()).is_none());
     }
 }

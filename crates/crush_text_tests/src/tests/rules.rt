@@ -1,10 +1,10 @@
 //! Faults of rules.
 
-use crate::tests::are_refused;
+use crate::tests::{Faults, are_refused};
 use crush_text::TextFaultKind;
 
 /// Lines with faults of rules, by their kinds, each with the place.
-const FAULTS_OF_RULES: &[(TextFaultKind, &[(&[u8], usize)])] = &[
+const FAULTS_OF_RULES: &[Faults] = &[
     (
         TextFaultKind::Ended,
         &[
@@ -128,7 +128,5 @@ const FAULTS_OF_RULES: &[(TextFaultKind, &[(&[u8], usize)])] = &[
 
 #[test]
 fn faults_of_rules(rt: HostRuntime) {
-    for (kind, lines) in FAULTS_OF_RULES {
-        are_refused(&rt, *kind, *lines);
-    }
+    are_refused(&rt, FAULTS_OF_RULES);
 }

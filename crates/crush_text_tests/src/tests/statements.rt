@@ -1,10 +1,10 @@
 //! Faults of tunables, class ids and items without weights.
 
-use crate::tests::are_refused;
+use crate::tests::{Faults, are_refused};
 use crush_text::TextFaultKind;
 
 /// Lines with such faults, by their kinds, each with the place.
-const FAULTS_OF_STATEMENTS: &[(TextFaultKind, &[(&[u8], usize)])] = &[
+const FAULTS_OF_STATEMENTS: &[Faults] = &[
     (
         TextFaultKind::Ended,
         &[
@@ -109,7 +109,5 @@ const FAULTS_OF_STATEMENTS: &[(TextFaultKind, &[(&[u8], usize)])] = &[
 
 #[test]
 fn faults_of_statements(rt: HostRuntime) {
-    for (kind, lines) in FAULTS_OF_STATEMENTS {
-        are_refused(&rt, *kind, *lines);
-    }
+    are_refused(&rt, FAULTS_OF_STATEMENTS);
 }

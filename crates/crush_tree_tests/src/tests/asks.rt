@@ -13,7 +13,7 @@ use crush_units::{BucketId, DeviceId, ItemId, Name, Weight};
 use std::alloc::Allocator;
 
 /// Whether the item is there.
-pub fn has_item<A: Allocator>(forest: &Forest<A>, id: &ItemId) -> bool
+pub(super) fn has_item<A: Allocator>(forest: &Forest<A>, id: &ItemId) -> bool
     ensures { result ≡ is_there (rows_of forest.now) id.now }
 {
     forest.recall_invariant();
@@ -21,7 +21,7 @@ pub fn has_item<A: Allocator>(forest: &Forest<A>, id: &ItemId) -> bool
 }
 
 /// Whether a bucket holds the item.
-pub fn is_held<A: Allocator>(forest: &Forest<A>, id: &ItemId) -> bool
+pub(super) fn is_held<A: Allocator>(forest: &Forest<A>, id: &ItemId) -> bool
     ensures { result ≡ is_placed (rows_of forest.now) id.now }
 {
     forest.recall_invariant();
@@ -29,7 +29,7 @@ pub fn is_held<A: Allocator>(forest: &Forest<A>, id: &ItemId) -> bool
 }
 
 /// Whether the bucket is the item, or below it.
-pub fn is_inside<A: Allocator>(forest: &Forest<A>, id: &ItemId, bucket: BucketId) -> bool
+pub(super) fn is_inside<A: Allocator>(forest: &Forest<A>, id: &ItemId, bucket: BucketId) -> bool
     ensures { result ≡ is_part (rows_of forest.now) id.now (BucketItem bucket) }
 {
     forest.recall_invariant();
@@ -40,14 +40,14 @@ pub fn is_inside<A: Allocator>(forest: &Forest<A>, id: &ItemId, bucket: BucketId
 }
 
 /// Whether one of two buckets is the other or below it.
-pub fn are_nested<A: Allocator>(forest: &Forest<A>, a: BucketId, b: BucketId) -> bool
+pub(super) fn are_nested<A: Allocator>(forest: &Forest<A>, a: BucketId, b: BucketId) -> bool
     ensures { result ≡ are_nested (rows_of forest.now) a b }
 {
     is_inside(forest, &ItemId::Bucket(a), b) || is_inside(forest, &ItemId::Bucket(b), a)
 }
 
 /// Whether an item has the name.
-pub fn has_name<A: Allocator>(forest: &Forest<A>, name: &Name<A>) -> bool
+pub(super) fn has_name<A: Allocator>(forest: &Forest<A>, name: &Name<A>) -> bool
     ensures named { result ≡ is_named (rows_of forest.now) name.now }
     ensures name { IsName name.now }
 {
@@ -56,7 +56,11 @@ pub fn has_name<A: Allocator>(forest: &Forest<A>, name: &Name<A>) -> bool
 }
 
 /// Whether sums stay in range where items of this weight come to a bucket, if it is there.
-pub fn fits<A: Allocator>(forest: &Forest<A>, bucket: BucketId, weight: Weight) -> Option<bool> {
+pub(super) fn fits<A: Allocator>(
+    forest: &Forest<A>,
+    bucket: BucketId,
+    weight: Weight,
+) -> Option<bool> {
     if has_item(forest, &ItemId::Bucket(bucket)) {
         Some(forest.fits_attach(Place::Bucket(bucket), weight))
     } else {
@@ -65,7 +69,7 @@ pub fn fits<A: Allocator>(forest: &Forest<A>, bucket: BucketId, weight: Weight) 
 }
 
 /// Whether sums stay in range where a device comes to a bucket with this weight, if both are there.
-pub fn fits_moved<A: Allocator>(
+pub(super) fn fits_moved<A: Allocator>(
     forest: &Forest<A>,
     device: DeviceId,
     bucket: BucketId,

@@ -8,7 +8,7 @@ use std::process::Abort;
 
 /// An item: a bucket by how far its id is below 0, a device by its number.
 #[derive(Clone, Copy)]
-pub enum Item<'a> {
+pub(super) enum Item<'a> {
     /// An empty root and its name.
     Root(u32, &'a str),
     /// An empty host and its name.
@@ -22,32 +22,32 @@ pub enum Item<'a> {
 }
 
 /// The bucket whose id is so far below 0.
-pub fn bucket(rt: &impl Abort, distance: u32) -> BucketId {
+pub(super) fn bucket(rt: &impl Abort, distance: u32) -> BucketId {
     BucketId::below_zero(distance).expect(rt, "a bucket")
 }
 
 /// The device of a number.
-pub fn device(rt: &impl Abort, number: u32) -> DeviceId {
+pub(super) fn device(rt: &impl Abort, number: u32) -> DeviceId {
     DeviceId::from_number(number).expect(rt, "a device")
 }
 
 /// The bucket whose id is so far below 0, as an item.
-pub fn bucket_item(rt: &impl Abort, distance: u32) -> ItemId {
+pub(super) fn bucket_item(rt: &impl Abort, distance: u32) -> ItemId {
     ItemId::Bucket(bucket(rt, distance))
 }
 
 /// The place inside the bucket whose id is so far below 0.
-pub fn inside(rt: &impl Abort, distance: u32) -> Place {
+pub(super) fn inside(rt: &impl Abort, distance: u32) -> Place {
     Place::Bucket(bucket(rt, distance))
 }
 
 /// The device of a number, as an item.
-pub fn device_item(rt: &impl Abort, number: u32) -> ItemId {
+pub(super) fn device_item(rt: &impl Abort, number: u32) -> ItemId {
     ItemId::Device(device(rt, number))
 }
 
 /// The header of a bucket without class ids.
-pub fn header<A: Allocator + Copy>(
+pub(super) fn header<A: Allocator + Copy>(
     rt: &impl Abort,
     alloc: A,
     distance: u32,
@@ -131,7 +131,7 @@ fn device_without_class<A: Allocator + Copy>(
 }
 
 /// The item by itself.
-pub fn made<A: Allocator + Copy>(
+pub(super) fn made<A: Allocator + Copy>(
     rt: &impl Abort,
     alloc: A,
     item: Item,
@@ -150,7 +150,7 @@ pub fn made<A: Allocator + Copy>(
 }
 
 /// Puts a child into a bucket, if it has room and their weights stay in range.
-pub fn hold<A: Allocator>(bucket: &mut Node<A>, child: Node<A>) -> Result<(), Refused> {
+pub(super) fn hold<A: Allocator>(bucket: &mut Node<A>, child: Node<A>) -> Result<(), Refused> {
     if !bucket.has_room() || bucket.weight().units() > u32::MAX - child.weight().units() {
         return Err(Refused::Unfit);
     }
@@ -170,7 +170,7 @@ fn hold_item<A: Allocator + Copy>(
 }
 
 /// A bucket that holds an item before both come to a forest.
-pub fn holding<A: Allocator + Copy>(
+pub(super) fn holding<A: Allocator + Copy>(
     rt: &impl Abort,
     alloc: A,
     bucket: Item,
@@ -182,12 +182,12 @@ pub fn holding<A: Allocator + Copy>(
 }
 
 /// The item by itself, in the machine's memory.
-pub fn node(rt: &(impl Abort + AllocGlobal), item: Item) -> Node<Global> {
+pub(super) fn node(rt: &(impl Abort + AllocGlobal), item: Item) -> Node<Global> {
     made(rt, rt.alloc(), item).expect(rt, "memory")
 }
 
 /// A bucket that holds a child before both come to a forest, in the machine's memory.
-pub fn node_with(
+pub(super) fn node_with(
     rt: &(impl Abort + AllocGlobal),
     bucket: Item,
     child: Node<Global>,

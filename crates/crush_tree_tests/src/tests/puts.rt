@@ -9,7 +9,7 @@ use std::process::Abort;
 
 /// Why a change isn't made.
 #[derive(Clone, Copy, Debug, PartialEq, Eq)]
-pub enum Refused {
+pub(super) enum Refused {
     /// There is no memory.
     NoMemory,
     /// A text is no name.
@@ -38,7 +38,7 @@ impl From<NameFault> for Refused {
 }
 
 /// Puts an item last at a place, if it can come there.
-pub fn put<A: Allocator>(
+pub(super) fn put<A: Allocator>(
     forest: &mut Forest<A>,
     place: Place,
     node: Node<A>,
@@ -53,7 +53,7 @@ pub fn put<A: Allocator>(
 }
 
 /// Puts a new item last at a place, if it can come there.
-pub fn add_in<A: Allocator + Copy>(
+pub(super) fn add_in<A: Allocator + Copy>(
     rt: &impl Abort,
     alloc: A,
     forest: &mut Forest<A>,
@@ -65,12 +65,17 @@ pub fn add_in<A: Allocator + Copy>(
 }
 
 /// Puts a new item last at a place where it can come, in the machine's memory.
-pub fn add(rt: &(impl Abort + AllocGlobal), forest: &mut Forest<Global>, place: Place, item: Item) {
+pub(super) fn add(
+    rt: &(impl Abort + AllocGlobal),
+    forest: &mut Forest<Global>,
+    place: Place,
+    item: Item,
+) {
     add_in(rt, rt.alloc(), forest, place, item).expect(rt, "a place");
 }
 
 /// Gives a placed device another weight.
-pub fn weigh<A: Allocator>(
+pub(super) fn weigh<A: Allocator>(
     forest: &mut Forest<A>,
     device: DeviceId,
     weight: Weight,
@@ -90,7 +95,7 @@ pub fn weigh<A: Allocator>(
 }
 
 /// Gives all devices below a bucket one weight.
-pub fn weigh_all<A: Allocator>(
+pub(super) fn weigh_all<A: Allocator>(
     forest: &mut Forest<A>,
     bucket: BucketId,
     weight: Weight,
@@ -110,7 +115,7 @@ pub fn weigh_all<A: Allocator>(
 }
 
 /// Gives an item another name, and answers the old one.
-pub fn give_name<A: Allocator>(
+pub(super) fn give_name<A: Allocator>(
     forest: &mut Forest<A>,
     id: &ItemId,
     name: Name<A>,
@@ -126,7 +131,7 @@ pub fn give_name<A: Allocator>(
 }
 
 /// Exchanges names and items of two buckets.
-pub fn exchange<A: Allocator>(
+pub(super) fn exchange<A: Allocator>(
     forest: &mut Forest<A>,
     a: BucketId,
     b: BucketId,

@@ -3,7 +3,7 @@
 
 use super::items::{Item, bucket, bucket_item, device_item, header, holding, node, node_with};
 use crush_nodes::search::{id_in, kids_in, uses_in, view_in};
-use crush_tree::{Forest, Node, Place};
+use crush_tree::{Forest, Header, Node, Place};
 use crush_units::{BucketId, DeviceId, ItemId};
 use linked_list_allocator::LocalHeap;
 use std::alloc::{Allocator, Global};
@@ -24,15 +24,26 @@ fn holder<A: Allocator>(items: &[Node<A>], number: u32) -> Option<BucketId> {
     }
 }
 
+/// Whether names are found in the host h1, as the only item.
+fn finds_names<A: Allocator>(rt: &impl Abort, items: &[Node<A>]) -> bool {
+    id_in(items, b"osd.0") == Some(device_item(rt, 0))
+        && id_in(items, b"h1") == Some(bucket_item(rt, 2))
+        && id_in(items, b"h2").is_none()
+}
+
+/// Whether ids are found in the host h1, as the only item.
+fn finds_ids<A: Allocator>(rt: &impl Abort, items: &[Node<A>]) -> bool {
+    let host = bucket(rt, 2);
+    let kids = kids_in(items, host).expect(rt, "h1");
+    kids.len() == 1
+        && uses_in(items, host)
+        && holder(items, 0) == Some(host)
+        && holder(items, 1).is_none()
+}
+
 /// Asserts what is found in the host h1, as the only item.
 fn searches<A: Allocator>(rt: &impl Abort, items: &[Node<A>]) {
-    let host = bucket(rt, 2);
-    assert!(rt; id_in(items, b"osd.0") == Some(device_item(rt, 0)));
-    assert!(rt; id_in(items, b"h1") == Some(bucket_item(rt, 2)));
-    assert!(rt; id_in(items, b"h2").is_none());
-    assert!(rt; holder(items, 0) == Some(host) && holder(items, 1).is_none());
-    assert!(rt; kids_in(items, host).expect(rt, "h1").len() == 1);
-    assert!(rt; uses_in(items, host));
+    assert!(rt; finds_names(rt, items) && finds_ids(rt, items));
 }
 
 #[test]
@@ -48,14 +59,19 @@ fn in_a_heap(rt: HostRuntime) {
     searches(&rt, items.as_slice());
 }
 
+/// Whether no bucket could be made and the header of this id is handed back.
+fn is_handed_back<A: Allocator>(made: &Result<Node<A>, Header<A>>, number: i32) -> bool {
+    match made {
+        Ok(_) => false,
+        Err(header) => header.id.number() == number,
+    }
+}
+
 #[test]
 fn bucket_without_memory(rt: HostRuntime) {
     let heap = LocalHeap::new(rt.alloc(), 64).expect(&rt, "a heap");
     let header = header(&rt, &heap, 2, 1, "h1").expect(&rt, "memory");
-    match Node::bucket(&heap, header) {
-        Ok(_) => assert!(rt; false),
-        Err(back) => assert!(rt; back.id.number() == -2),
-    }
+    assert!(rt; is_handed_back(&Node::bucket(&heap, header), -2));
 }
 
 /// Hosts -1 to -4096, each in the one after it, with a device in the first.
@@ -67,14 +83,17 @@ fn nested(rt: &(impl Abort + AllocGlobal)) -> Node<Global> {
     item
 }
 
+/// Asserts that the device and the bucket that holds it are found below all others.
+fn finds_the_lowest(rt: &impl Abort, items: &[Node<Global>]) {
+    let lowest = bucket(rt, 1);
+    assert!(rt; holder(items, 7) == Some(lowest) && id_in(items, b"osd.7").is_some());
+    assert!(rt; kids_in(items, lowest).is_some() && uses_in(items, lowest));
+}
+
 #[test]
 fn deep_below(rt: HostRuntime) {
     let items = [nested(&rt)];
-    let lowest = bucket(&rt, 1);
-    assert!(rt; id_in(items.as_slice(), b"osd.7").is_some());
-    assert!(rt; holder(items.as_slice(), 7) == Some(lowest));
-    assert!(rt; kids_in(items.as_slice(), lowest).is_some());
-    assert!(rt; uses_in(items.as_slice(), lowest));
+    finds_the_lowest(&rt, items.as_slice());
 }
 
 /// Asserts the first ids that are free in a forest without items.
@@ -84,15 +103,26 @@ fn frees_the_first_ids(rt: &impl Abort, forest: &Forest<Global>) {
     assert!(rt; ids.map(|id| id.number()) == [-1, -2, -3]);
 }
 
+/// Whether the forest counts and weighs nothing, and has no room.
+fn counts_nothing(forest: &Forest<Global>) -> bool {
+    let counts = forest.counts();
+    counts.devices == 0
+        && counts.buckets == 0
+        && forest.total() == 0
+        && !forest.has_room(Place::Root)
+}
+
+/// Whether neither a name nor an id is found.
+fn finds_nothing(rt: &impl Abort, forest: &Forest<Global>) -> bool {
+    forest.id_of("default").is_none()
+        && forest.kind(bucket_item(rt, 1)).is_none()
+        && forest.items(bucket(rt, 1)).is_none()
+        && !forest.is_used(bucket(rt, 1))
+}
+
 #[test]
 fn empty_forest(rt: HostRuntime) {
     let forest = Forest::new(rt.alloc(), rt.alloc());
-    let counts = forest.counts();
-    assert!(rt; forest.total() == 0 && counts.devices == 0 && counts.buckets == 0);
-    assert!(rt; forest.id_of("default").is_none());
-    assert!(rt; forest.kind(bucket_item(&rt, 1)).is_none());
-    assert!(rt; forest.items(bucket(&rt, 1)).is_none());
-    assert!(rt; !forest.is_used(bucket(&rt, 1)));
-    assert!(rt; !forest.has_room(Place::Root));
+    assert!(rt; counts_nothing(&forest) && finds_nothing(&rt, &forest));
     frees_the_first_ids(&rt, &forest);
 }

@@ -52,6 +52,12 @@ fn device(
     );
 }
 
+/// Whether the bucket can come to weigh so much more, and not that much.
+fn is_limit(forest: &Forest<Global>, bucket: BucketId, most: u32, too_much: u32) -> bool {
+    fits(forest, bucket, Weight::from_units(most)) == Some(true)
+        && fits(forest, bucket, Weight::from_units(too_much)) == Some(false)
+}
+
 #[test]
 fn of_a_host(rt: HostRuntime) {
     let mut forest = Forest::new(rt.alloc(), rt.alloc());
@@ -59,8 +65,7 @@ fn of_a_host(rt: HostRuntime) {
     let host = host(&rt, &mut forest, root, 2);
     device(&rt, &mut forest, host, 0, MOST);
     device(&rt, &mut forest, host, 1, MOST);
-    assert!(rt; fits(&forest, host, Weight::from_units(1)) == Some(true));
-    assert!(rt; fits(&forest, host, Weight::from_units(2)) == Some(false));
+    assert!(rt; is_limit(&forest, host, 1, 2));
 }
 
 #[test]
@@ -71,9 +76,9 @@ fn of_a_root(rt: HostRuntime) {
     let b = host(&rt, &mut forest, root, 3);
     device(&rt, &mut forest, a, 0, MOST);
     device(&rt, &mut forest, a, 1, MOST);
-    assert!(rt; fits(&forest, b, Weight::from_units(MOST)) == Some(false));
-    let moved = fits_moved(&forest, number(&rt, 0), b, Weight::from_units(MOST));
-    assert!(rt; moved == Some(true));
+    let all = Weight::from_units(MOST);
+    let moved = fits_moved(&forest, number(&rt, 0), b, all);
+    assert!(rt; fits(&forest, b, all) == Some(false) && moved == Some(true));
 }
 
 /// Puts 2,048 roots with as much weight as a bucket can have into a forest.
@@ -91,7 +96,5 @@ fn of_all_devices(rt: HostRuntime) {
     let mut forest = Forest::new(rt.alloc(), rt.alloc());
     add_full_roots(&rt, &mut forest);
     let empty = root(&rt, &mut forest, 2049);
-    assert!(rt; forest.total() == 8796093020160);
-    assert!(rt; fits(&forest, empty, Weight::from_units(2047)) == Some(true));
-    assert!(rt; fits(&forest, empty, Weight::from_units(2048)) == Some(false));
+    assert!(rt; forest.total() == 8796093020160 && is_limit(&forest, empty, 2047, 2048));
 }

@@ -9,7 +9,7 @@ use Rattle.crush_table.specs.Stands.{Stands}
 use Rattle.crush_table.proofs.Stands.{stands_for_rows}
 use Rattle.crush_edits.specs.declared.edit.Edit.TheVariants.{AddBucket}
 use Rattle.crush_edits.specs.Put.{new_header}
-use Rattle.crush_apply.proofs.Answered.{when_done, when_refused, when_lacking}
+use Rattle.crush_apply.proofs.Answered.{when_changed, when_refused, when_lacking}
 use Rattle.crush_apply.proofs.Singles.{add_bucket_done, add_bucket_lawful}
 use Rattle.crush_apply.proofs.Weights.{refused_edit}
 use Rattle.crush_apply.proofs.add_bucket.add_bucket.Goals as goal
@@ -38,7 +38,7 @@ attach-requires-clause-fits g c =
 
 pub returns : goal.returns
 returns g c =
-    when_done _ _ _ _
+    when_changed _ _ _ _
     (λ t st. (
       t ++ bucket_row None (new_header (record { id = c.first_free-id.result; kind = c.in_ok-number.number; name = c.args.name.now })) ∷ [],
       add_bucket_done c.args.setting.now t c.args.name.now c.args.kind.now c.in_ok-number.number c.first_free-id.result st.lawful (c.in_ok-number.ensures.can t st) (c.first_free-id.ensures t st),

@@ -7,7 +7,7 @@ use Rattle.crush_edits.specs.Placing.{put_after, edited_device, after_create_or_
 use Rattle.crush_edits.specs.Put.{held}
 use Rattle.crush_edits.specs.Stops.{stops}
 use Rattle.crush_apply.specs.Answered.{last_answer}
-use Rattle.crush_apply.proofs.Answered.{when_done, when_refused, when_same}
+use Rattle.crush_apply.proofs.Answered.{when_still, when_refused, when_same}
 use Rattle.crush_apply.proofs.Asked.{put_device, put_end, held_answer, move_answer, located, can_come}
 use Rattle.crush_apply.proofs.Weights.{refused_edit}
 use Rattle.crush_apply.proofs.create_or_move.create_or_move.Goals as goal
@@ -44,7 +44,7 @@ returns-then-is_held g c =
     let n = c.args.name.now in
     let w = c.args.weight in
     let l = c.args.at.now in
-    when_done _ _ _ _
+    when_still _ _ _
     (λ t st.
     let there : held t (Device d) (stops s l) ≡ true = ap (held t (Device d)) (sym c.in_ok-way.ensures.stops) ∙ sym (c.is_held.ensures t st) ∙ c.if-is_held.true in
     (t, held_answer s t d n w l (c.in_ok-check_device.ensures.passes t st) (c.in_ok-way.ensures.passes t st) there st.lawful, st))

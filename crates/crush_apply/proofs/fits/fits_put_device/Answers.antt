@@ -11,7 +11,8 @@ use Rattle.crush_table.specs.Stored.{weight_sum}
 use Rattle.crush_table.proofs.Stands.{stands_for_rows}
 use Rattle.crush_nodes.specs.Ops.{part_of, is_place, CanCome}
 use Rattle.crush_nodes.specs.Room.{parent_at}
-use Rattle.crush_apply.proofs.Fitting.{device_told, apart_from_device}
+use Rattle.crush_edits.proofs.Edits.{device_apart}
+use Rattle.crush_apply.proofs.Fitting.{device_told}
 use Rattle.crush_apply.proofs.Steps.{part_devices, one_device}
 use Rattle.crush_apply.proofs.Ways.{place_there}
 use Rattle.crush_apply.proofs.fits.fits_put_device.Goals as goal
@@ -28,7 +29,7 @@ fits_move-requires-clause-place g c =
     subst (λ p. is_place (rows_of f) p ≡ true) (sym c.place.ensures) (place_there (rows_of f) c.args.way.now can.leads)
 
 pub fits_move-requires-clause-apart : goal.fits_move-requires-clause-apart
-fits_move-requires-clause-apart g c = apart_from_device (rows_of c.args.forest.now) c.args.device (parent_at c.place.result)
+fits_move-requires-clause-apart g c = device_apart (rows_of c.args.forest.now) c.args.device (parent_at c.place.result)
 
 pub returns : goal.returns
 returns g c = λ t r st found room.

@@ -8,7 +8,7 @@ use Rattle.crush_table.proofs.Stands.{stands_for_rows}
 use Rattle.crush_edits.specs.Answer.{done}
 use Rattle.crush_edits.specs.Put.{put}
 use Rattle.crush_edits.specs.declared.refusal.Refusal.TheVariants.{NoRoom, SumTooLarge}
-use Rattle.crush_apply.proofs.Answered.{when_done, when_refused, when_lacking, put_no_room, sums_fail, both_pass, from_yes}
+use Rattle.crush_apply.proofs.Answered.{when_changed, when_refused, when_lacking, put_no_room, sums_fail, both_pass, from_yes}
 use Rattle.crush_apply.proofs.Devices.{kind_tells, device_moves, own_row, put_own}
 use Rattle.crush_apply.proofs.place.place_device.Goals as goal
 
@@ -69,7 +69,7 @@ returns-in_err-put_device g c =
 
 pub returns : goal.returns
 returns g c =
-    when_done _ _ _ _
+    when_changed _ _ _ _
     (λ t st.
     let w = c.args.weight in
     let can = c.requires.can t st in

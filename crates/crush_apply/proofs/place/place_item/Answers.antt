@@ -4,7 +4,7 @@ use Rattle.crush_table.proofs.Moved.{row_id}
 use Rattle.crush_edits.specs.Answer.{done}
 use Rattle.crush_edits.specs.Put.{put}
 use Rattle.crush_edits.specs.declared.refusal.Refusal.TheVariants.{NoRoom, SumTooLarge}
-use Rattle.crush_apply.proofs.Answered.{when_done, when_refused, when_lacking, put_no_room, sums_fail, both_pass, from_yes}
+use Rattle.crush_apply.proofs.Answered.{when_changed, when_refused, when_lacking, put_no_room, sums_fail, both_pass, from_yes}
 use Rattle.crush_apply.proofs.Moves.{own_item, put_own_item}
 use Rattle.crush_apply.proofs.place.place_item.Goals as goal
 
@@ -41,7 +41,7 @@ returns-in_err-put_item g c =
 
 pub returns : goal.returns
 returns g c =
-    when_done _ _ _ _
+    when_changed _ _ _ _
     (λ t st.
     let can = c.requires.can t st in
     let item = own_item t c.args.id c.args.way.now st.lawful can (c.requires.free t st) in

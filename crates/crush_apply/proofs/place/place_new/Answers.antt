@@ -8,7 +8,7 @@ use Rattle.crush_edits.specs.Answer.{done}
 use Rattle.crush_edits.specs.Put.{put}
 use Rattle.crush_edits.specs.declared.refusal.Refusal.TheVariants.{NoRoom, SumTooLarge}
 use Rattle.crush_apply.specs.Placed.{CanPutNew}
-use Rattle.crush_apply.proofs.Answered.{when_done, when_refused, when_lacking, put_no_room, sums_fail, both_pass, from_yes}
+use Rattle.crush_apply.proofs.Answered.{when_changed, when_refused, when_lacking, put_no_room, sums_fail, both_pass, from_yes}
 use Rattle.crush_apply.proofs.Devices.{new_leaf, new_is_put, device_put_new}
 use Rattle.crush_apply.proofs.place.place_new.Goals as goal
 
@@ -52,7 +52,7 @@ returns-in_err-put_new g c =
 
 pub returns : goal.returns
 returns g c =
-    when_done _ _ _ _
+    when_changed _ _ _ _
     (λ t st.
     let after = put t (device_row None (new_leaf c.args.device c.args.name.now c.args.weight)) c.args.way.now.stops in (
       after,

@@ -7,7 +7,7 @@ use Rattle.crush_table.specs.Forest.{rows_of}
 use Rattle.crush_table.specs.Stands.{Stands}
 use Rattle.crush_table.proofs.Stands.{stands_for_rows}
 use Rattle.crush_edits.specs.declared.edit.Edit.TheVariants.{Rename}
-use Rattle.crush_apply.proofs.Answered.{when_done, when_refused, when_lacking}
+use Rattle.crush_apply.proofs.Answered.{when_changed, when_refused, when_lacking}
 use Rattle.crush_apply.proofs.Found.{there_by_name}
 use Rattle.crush_apply.proofs.Names.{rename_done, rename_lawful}
 use Rattle.crush_apply.proofs.Weights.{refused_edit}
@@ -41,7 +41,7 @@ rename-requires-clause-fits g c =
 pub returns : goal.returns
 returns g c = λ s.
     let b = c.in_ok-bucket.bucket in
-    when_done _ _ _ _
+    when_changed _ _ _ _
     (λ t st. (
       set_name (Bucket b) c.args.to.now t,
       rename_done s t c.args.from.now c.args.to.now b st.lawful (c.in_ok-bucket.ensures.can t st),

@@ -1,4 +1,4 @@
-use Rattle.std.proofs.Common.{◌≡◌, List, ap, ◌∙◌}
+use Rattle.std.proofs.Common.{◌≡◌, List, true, false, sym, ◌∙◌}
 use Rattle.crush_units.specs.declared.id.ItemId.TheVariants.{Device}
 use Rattle.crush_table.specs.Table.{Row}
 use Rattle.crush_table.specs.Columns.{set_weight}
@@ -8,10 +8,11 @@ use Rattle.crush_table.proofs.Stands.{stands_for_rows}
 use Rattle.crush_edits.specs.declared.edit.Edit.TheVariants.{Reweight}
 use Rattle.crush_edits.specs.declared.edit.Edit.{Edit}
 use Rattle.crush_edits.specs.Setting.{SettingData}
-use Rattle.crush_edits.specs.Answer.{done, refused}
+use Rattle.crush_edits.specs.Answer.{refused}
 use Rattle.crush_edits.specs.Edit.{edit}
 use Rattle.crush_apply.proofs.Refused.{passed_on}
-use Rattle.crush_apply.proofs.Weights.{reweight_done, refused_edit, weight_changes, light_bound}
+use Rattle.crush_edits.proofs.Edits.{not_heavy}
+use Rattle.crush_apply.proofs.Weights.{refused_edit, weight_stays, reweight_still, reweight_changed}
 use Rattle.crush_table.proofs.Columns.{Lawful-set_weight}
 use Rattle.crush_apply.proofs.reweight.reweight.Goals as goal
 
@@ -28,13 +29,20 @@ set_weight-requires-clause-placed g c =
 pub set_weight-requires-clause-fits : goal.set_weight-requires-clause-fits
 set_weight-requires-clause-fits g c =
     let can = c.in_ok-device.ensures.can (rows_of c.args.forest.now) (stands_for_rows c.args.forest.now c.recall_invariant.ensures) in
-    Lawful-set_weight (rows_of c.args.forest.now) c.in_ok-device.device c.args.weight c.recall_invariant.ensures.lawful can.placed (light_bound c.args.weight can.light) can.fits
+    Lawful-set_weight (rows_of c.args.forest.now) c.in_ok-device.device c.args.weight c.recall_invariant.ensures.lawful can.placed (not_heavy c.args.weight can.light) can.fits
+
+pub returns-then-eq-clause-done : goal.returns-then-eq-clause-done
+returns-then-eq-clause-done g c = λ s t st.
+    let can = c.in_ok-device.ensures.can t st in
+    let d = c.in_ok-device.device in
+    (t, reweight_still s t c.args.name.now c.args.weight d can (weight_stays t c.args.name.now c.args.weight d can (st.lawful.ids (Device d)) c.weight.result (c.weight.ensures t st) true (sym c.if-eq.true ∙ c.eq.ensures)), st)
 
 pub returns-clause-done : goal.returns-clause-done
 returns-clause-done g c = λ s t st.
     let can = c.in_ok-device.ensures.can t st in
     let d = c.in_ok-device.device in
-    let w = c.args.weight in
-    let u : List Row = set_weight (Device d) w t in
-    let changed = weight_changes t c.args.name.now w d can (st.lawful.ids (Device d)) c.weight.result (c.weight.ensures t st) c.ne-changed.result c.ne-changed.ensures in
-    (u, reweight_done s t c.args.name.now w d can ∙ ap (λ b. done b 0 u) changed, c.set_weight.ensures.stands t st)
+    let w = c.args.weight in (
+      set_weight (Device d) w t,
+      reweight_changed s t c.args.name.now w d can (weight_stays t c.args.name.now w d can (st.lawful.ids (Device d)) c.weight.result (c.weight.ensures t st) false (sym c.if-eq.false ∙ c.eq.ensures)),
+      c.set_weight.ensures.stands t st,
+    )

@@ -1,4 +1,5 @@
 use Rattle.std.proofs.Common.{◌≡◌, List, ap, ◌∙◌}
+use Rattle.std.specs.Prelude.{not}
 use Rattle.crush_units.specs.declared.id.ItemId.TheVariants.{Bucket}
 use Rattle.crush_table.specs.Table.{Row}
 use Rattle.crush_table.specs.Columns.{set_subtree}
@@ -9,11 +10,12 @@ use Rattle.crush_table.proofs.Columns.{Lawful-set_subtree}
 use Rattle.crush_edits.specs.declared.edit.Edit.{Edit}
 use Rattle.crush_edits.specs.declared.edit.Edit.TheVariants.{ReweightSubtree}
 use Rattle.crush_edits.specs.Setting.{SettingData}
-use Rattle.crush_edits.specs.Answer.{done, refused}
+use Rattle.crush_edits.specs.Answer.{refused}
 use Rattle.crush_edits.specs.Edit.{edit}
 use Rattle.crush_apply.proofs.Found.{there_by_name}
 use Rattle.crush_apply.proofs.Refused.{passed_on}
-use Rattle.crush_apply.proofs.Weights.{reweight_subtree_done, refused_edit, subtree_changes, light_bound}
+use Rattle.crush_edits.proofs.Edits.{not_heavy}
+use Rattle.crush_apply.proofs.Weights.{refused_edit, subtree_stays, subtree_still, subtree_changed}
 use Rattle.crush_apply.proofs.subtree.reweight_subtree.Goals as goal
 
 pub returns-in_err-bucket-clause-refused : goal.returns-in_err-bucket-clause-refused
@@ -29,13 +31,19 @@ set_subtree-requires-clause-there g c =
 pub set_subtree-requires-clause-fits : goal.set_subtree-requires-clause-fits
 set_subtree-requires-clause-fits g c =
     let can = c.in_ok-bucket.ensures.can (rows_of c.args.forest.now) (stands_for_rows c.args.forest.now c.recall_invariant.ensures) in
-    Lawful-set_subtree (rows_of c.args.forest.now) c.in_ok-bucket.bucket c.args.weight c.recall_invariant.ensures.lawful (light_bound c.args.weight can.light) can.fits
+    Lawful-set_subtree (rows_of c.args.forest.now) c.in_ok-bucket.bucket c.args.weight c.recall_invariant.ensures.lawful (not_heavy c.args.weight can.light) can.fits
+
+pub returns-then-not-changes_subtree-clause-done : goal.returns-then-not-changes_subtree-clause-done
+returns-then-not-changes_subtree-clause-done g c = λ s t st.
+    let b = c.in_ok-bucket.bucket in
+    let w = c.args.weight in
+    (t, subtree_still s t c.args.name.now w b (c.in_ok-bucket.ensures.can t st) (subtree_stays t w b c.changes_subtree.result (c.changes_subtree.ensures t st) ∙ ap not c.if-not-changes_subtree.true), st)
 
 pub returns-clause-done : goal.returns-clause-done
 returns-clause-done g c = λ s t st.
-    let can = c.in_ok-bucket.ensures.can t st in
     let b = c.in_ok-bucket.bucket in
-    let w = c.args.weight in
-    let u : List Row = set_subtree b w t in
-    let changed = subtree_changes t w b c.changes_subtree-changed.result (c.changes_subtree-changed.ensures t st) in
-    (u, reweight_subtree_done s t c.args.name.now w b can ∙ ap (λ x. done x 0 u) changed, c.set_subtree.ensures.stands t st)
+    let w = c.args.weight in (
+      set_subtree b w t,
+      subtree_changed s t c.args.name.now w b (c.in_ok-bucket.ensures.can t st) (subtree_stays t w b c.changes_subtree.result (c.changes_subtree.ensures t st) ∙ ap not c.if-not-changes_subtree.false),
+      c.set_subtree.ensures.stands t st,
+    )

@@ -61,7 +61,7 @@ returns-then-is_held g c =
     let n = c.args.name.now in
     let w = c.args.weight in
     let l = c.args.at.now in
-    when_done _ _ _ _
+    when_done _ _ _ _ c.in_ok-reweight.ensures.still
     (λ t st.
     let can = can_come s t d n w l c.in_ok-way.way (c.in_ok-check_device.ensures.passes t st) c.in_ok-way.ensures.stops (c.in_ok-way.ensures.leads t st) in
     let there : held t (Device d) (stops s l) ≡ true = ap (held t (Device d)) (sym c.in_ok-way.ensures.stops) ∙ sym (c.is_held.ensures t st) ∙ c.if-is_held.true in

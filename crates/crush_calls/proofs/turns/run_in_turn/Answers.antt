@@ -8,10 +8,11 @@ use Rattle.crush_calls.specs.History.{EntryData, table_after, turn, turns}
 use Rattle.crush_calls.specs.Entries.{history_data}
 use Rattle.crush_calls.proofs.Histories.{table_after-append}
 use Rattle.crush_calls.proofs.InTurn.{script_run, table_run, count-take, no_script, no_script_table, turns_front, on_err}
+use Rattle.crush_calls.proofs.EntryLines.{none_yet}
 use Rattle.crush_calls.proofs.turns.run_in_turn.Goals as goal
 
 pub loop-operator-init : goal.loop-operator-init
-loop-operator-init c = record { count = ap length c.new-entries.ensures.items; entries = λ s t stands. (ap history_data c.new-entries.ensures.items ∙ no_script s t, subst (MapStands c.args.map.now s) (no_script_table s t) stands) }
+loop-operator-init c = record { count = ap length c.new-entries.ensures.items; operators = none_yet (length c.args.scripts.now) c.new-entries.result.items c.new-entries.ensures.items; entries = λ s t stands. (ap history_data c.new-entries.ensures.items ∙ no_script s t, subst (MapStands c.args.map.now s) (no_script_table s t) stands) }
 
 pub loop-operator-preserved : goal.loop-operator-preserved
 loop-operator-preserved c =
@@ -19,6 +20,7 @@ loop-operator-preserved c =
     let x = c.index-scripts-operator.result in
     record {
       count = omega (arith, c.in_ok-run_script.ensures.count, c.loop-operator.invariant.count, ap length c.as_slice.ensures.value, count-take c.args.scripts.now i x c.loop-operator-test.true c.index-scripts-operator.is);
+      operators = c.in_ok-run_script.ensures.operators (length c.args.scripts.now) c.loop-operator-test.true c.loop-operator.invariant.operators;
       entries = λ s t stands.
           let so_far = c.loop-operator.invariant.entries s t stands in
           let u = table_after s t (turns s t (scripts_data (take i c.args.scripts.now))) in
@@ -34,6 +36,7 @@ returns c =
     let all = take_all c.loop-operator.operator c.args.scripts.now (omega arith) in
     record {
       count = c.loop-operator.invariant.count ∙ ap (λ xs. call_count (scripts_data xs)) all;
+      operators = c.loop-operator.invariant.operators;
       entries = λ s t stands. (c.loop-operator.invariant.entries s t stands).0 ∙ ap (λ xs. turns s t (scripts_data xs)) all;
       map = λ s t stands. subst (λ xs. MapStands c.loop-operator.map s (table_after s t (turns s t (scripts_data xs)))) all (c.loop-operator.invariant.entries s t stands).1;
       begun = tt;

@@ -6,14 +6,16 @@ use Rattle.crush_map.specs.MapData.{MapStands}
 use Rattle.crush_calls.specs.History.{table_after, turn}
 use Rattle.crush_calls.specs.Entries.{entry_data, history_data}
 use Rattle.crush_calls.proofs.InTurn.{call_made, table_made, no_call, no_table, on_err}
+use Rattle.crush_calls.proofs.EntryLines.{one_more}
 use Rattle.crush_calls.proofs.turns.run_script.Goals as goal
 
 pub loop-call-init : goal.loop-call-init
-loop-call-init c = record { count = omega arith; entries = λ s t stands. (no_call s t c.args.operator (history_data c.args.entries.now.items), subst (MapStands c.args.map.now s) (no_table s t c.args.operator) stands) }
+loop-call-init c = record { count = omega arith; operators = λ n among before. before; entries = λ s t stands. (no_call s t c.args.operator (history_data c.args.entries.now.items), subst (MapStands c.args.map.now s) (no_table s t c.args.operator) stands) }
 
 pub loop-call-preserved : goal.loop-call-preserved
 loop-call-preserved c = record {
   count = omega (arith, c.in_ok-push.ensures.len, c.loop-call.invariant.count);
+  operators = λ n among before. one_more n c.loop-call.entries.items c.push.new.self.items _ c.in_ok-push.ensures.items (c.loop-call.invariant.operators n among before) among;
   entries = λ s t stands.
       let so_far = c.loop-call.invariant.entries s t stands in
       let made = c.in_ok-reply.ensures.made s (table_after s t (turn s t c.args.operator (take c.loop-call.call-index c.args.calls.now))) so_far.1 in (
@@ -26,6 +28,7 @@ loop-call-preserved c = record {
 pub returns : goal.returns
 returns c = record {
   count = omega (arith, c.loop-call.invariant.count);
+  operators = c.loop-call.invariant.operators;
   entries = λ s t stands.
       let all = take_all c.loop-call.call-index c.args.calls.now (omega arith) in
       subst (λ cs. (history_data c.loop-call.entries.items ≡ history_data c.args.entries.now.items ++ turn s t c.args.operator cs) × MapStands c.loop-call.map s (table_after s t (turn s t c.args.operator cs))) all (c.loop-call.invariant.entries s t stands);

@@ -1,6 +1,7 @@
 use Rattle.crush_laws.proofs.OneOfBoth.{words_are_judged_by_the_table, a_flaw_excludes_the_map, at_most_one_flaw, same_words_same_flaw, at_most_one_map, a_map_or_a_flaw}
 use Rattle.crush_laws.proofs.Keeps.{each_map_is_lawful}
 use Rattle.crush_laws.proofs.LawfulTexts.{maps_are_the_lawful_texts}
+use Rattle.crush_laws.proofs.FinalTexts.{maps_are_the_lawful_ends}
 use Rattle.crush_laws.proofs.texts.a_text_has_one_map_or_one_flaw.Goals as goal
 
 pub returns-clause-table : goal.returns-clause-table
@@ -23,6 +24,9 @@ returns-clause-lawful c = each_map_is_lawful
 
 pub returns-clause-admitted : goal.returns-clause-admitted
 returns-clause-admitted c = maps_are_the_lawful_texts
+
+pub returns-clause-ends : goal.returns-clause-ends
+returns-clause-ends c = maps_are_the_lawful_ends
 
 pub returns-clause-either : goal.returns-clause-either
 returns-clause-either c = a_map_or_a_flaw

@@ -4,6 +4,7 @@ use Rattle.crush_nodes.specs.Ops.{without_capacity}
 use Rattle.crush_nodes.specs.Seen.{header_data, items_of}
 use Rattle.crush_nodes.proofs.CopyLaws.{without_capacity-copied}
 use Rattle.crush_nodes.proofs.Steps.{kids_smaller}
+use Rattle.crush_nodes.proofs.Ends.{all_taken}
 use Rattle.crush_nodes.proofs.copy.+copy_items.Goals as goal
 use Rattle.crush_nodes.proofs.copy.+copy_items.Goals.{in-Device+in_ok-copy_leaf-in-Device, in-Bucket+in_ok-header-in-Bucket+in_ok-below-in-Bucket+in_ok-copy-in-Bucket}
 
@@ -33,3 +34,6 @@ loop-node-preserved g t c =
       same = without_capacity-copied c.push_reserved.new.self.items c.loop-node.copies.items c.args.items.now c.loop-node.node-index y x
           c.loop-node-test.true c.node-item.is c.push_reserved.ensures.items c.loop-node.invariant.same one;
     }
+
+pub returns : goal.returns
+returns g t c = c.loop-node.invariant.same ∙ all_taken without_capacity c.args.items.now c.loop-node.node-index c.loop-node-test.false

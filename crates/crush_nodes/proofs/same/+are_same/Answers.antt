@@ -1,10 +1,11 @@
-use Rattle.std.proofs.Common.{◌≡◌, ◌<◌, length, ap, ◌∙◌, arith}
+use Rattle.std.proofs.Common.{◌≡◌, ◌<◌, length, ap, ◌∙◌, arith, sym, refl}
 use Rattle.std.specs.Prelude.{IsTrue, ◌↔◌}
 use Rattle.crush_table.specs.Items.{BucketData, size_of}
 use Rattle.crush_nodes.specs.Ops.{without_capacity}
 use Rattle.crush_nodes.specs.Seen.{items_of}
 use Rattle.crush_nodes.proofs.SameLaws.{refuted, denied, item_at, same_count, same_more, device_told, bucket_told, unlike_told}
 use Rattle.crush_nodes.proofs.Steps.{kids_smaller}
+use Rattle.crush_nodes.proofs.Ends.{all_taken}
 use Rattle.crush_nodes.proofs.same.+are_same.Goals as goal
 use Rattle.crush_nodes.proofs.same.+are_same.Goals.{in-Device, in-Bucket+in-Some, in-Bucket+in-None}
 
@@ -48,3 +49,11 @@ loop-i-preserved g t c =
           c.match-node.same w.in-Bucket.is w.deref-bucket.ensures w.in-None.ensures.none w.same-is
     ] in
     record { count = c.loop-i.invariant.count; same = same_more ms ns k c.loop-i-test.true inside c.loop-i.invariant.same (told.0 c.if-not-same.false) }
+
+pub returns : goal.returns
+returns g t c =
+    let ms = c.args.items.now in
+    let ns = c.args.others.now in
+    let i = c.loop-i.i in
+    let e : without_capacity (items_of ms) ≡ without_capacity (items_of ns) = sym (all_taken without_capacity ms i c.loop-i-test.false) ∙ c.loop-i.invariant.same ∙ all_taken without_capacity ns i (omega (arith, c.loop-i.invariant.count, c.loop-i-test.false)) in
+    (λ _. e, λ _. refl)

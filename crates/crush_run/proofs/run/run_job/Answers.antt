@@ -1,8 +1,9 @@
-use Rattle.std.proofs.Common.{◌≡◌, sym, subst, List, ℕ, Option, take}
+use Rattle.std.proofs.Common.{◌≡◌, refl, sym, subst, List, ℕ, Option, Some, None, take}
 use Rattle.std.specs.Prelude.{IfSome}
+use Rattle.std.specs.Io.KnownBytes.{Keeps}
 use Rattle.std.proofs.lemmas.Result.{err_from_is_err_and}
 use Rattle.crush_script.specs.Job.{JobStands}
-use Rattle.crush_run.specs.Run.{summary_of}
+use Rattle.crush_run.specs.Run.{IsRunFault, summary_of}
 use Rattle.crush_run.proofs.Told.{has_job, is_job, job_of_all, summary_for, is_run_fault, run_fault_of_job, run_fault_of_input, nothing_written}
 use Rattle.crush_run.proofs.run.run_job.Goals as goal
 
@@ -20,34 +21,39 @@ returns-in_err-bytes-clause-output g c = λ bytes job all is.
     let p = err_from_is_err_and c.from_residual.result c.from_residual.ensures.1 in
     nothing_written _ _ _ _ p.1
 
-pub returns-in_err-job-clause-output : goal.returns-in_err-job-clause-output
-returns-in_err-job-clause-output g c = λ bytes job all is.
-    let p = err_from_is_err_and c.from_residual-in_err-job.result c.from_residual-in_err-job.ensures.1 in
-    nothing_written _ _ _ _ p.1
-
-pub returns-in_err-job-clause-fault : goal.returns-in_err-job-clause-fault
-returns-in_err-job-clause-fault g c =
-    let p = err_from_is_err_and c.from_residual-in_err-job.result c.from_residual-in_err-job.ensures.1 in
-    let bytes = as_read _ _ _ c.as_slice.ensures.value c.in_ok-bytes.ensures.bytes in
-    rw (p.1, p.2) (is_run_fault _ _ _ bytes c.in_err-job.ensures.fault)
-
-pub returns-clause-job : goal.returns-clause-job
-returns-clause-job g c =
-    let bytes = as_read _ _ _ c.as_slice.ensures.value c.in_ok-bytes.ensures.bytes in
-    is_job c.run_scripts.result _ (has_job _ _ _ bytes c.in_ok-job.ensures.job.1)
-
+-- where there is no job, nothing was written, and the fault is one of the bytes
 pub returns-clause-output : goal.returns-clause-output
-returns-clause-output g c = λ xs job all is.
-    let bytes = as_read _ _ _ c.as_slice.ensures.value c.in_ok-bytes.ensures.bytes in
-    c.run_scripts.ensures.writes job (c.in_ok-job.ensures.only job (job_of_all _ _ xs job bytes c.in_ok-job.ensures.job.1.short all is))
+returns-clause-output g c = λ bytes job all is. nothing_written _ c.from.result _ _ refl
 
-pub returns-clause-summary : goal.returns-clause-summary
-returns-clause-summary g c = λ xs job all is.
-    let bytes = as_read _ _ _ c.as_slice.ensures.value c.in_ok-bytes.ensures.bytes in
-    let stands = c.in_ok-job.ensures.only job (job_of_all _ _ xs job bytes c.in_ok-job.ensures.job.1.short all is) in
-    summary_for _ (JobStands c.in_ok-job.job) job summary_of c.run_scripts.ensures.summary stands
+kept : (bytes : Option (List ℕ)) → Keeps bytes bytes
+kept None = tt
+kept (Some xs) = refl
+
+pub returns-clause-nothing : goal.returns-clause-nothing
+returns-clause-nothing g c = λ told. kept (g.W.Write.contents c.args.writer.now)
 
 pub returns-clause-fault : goal.returns-clause-fault
 returns-clause-fault g c =
     let bytes = as_read _ _ _ c.as_slice.ensures.value c.in_ok-bytes.ensures.bytes in
-    run_fault_of_job c.run_scripts.result _ (has_job _ _ _ bytes c.in_ok-job.ensures.job.1) c.run_scripts.ensures.fault
+    subst (IsRunFault _) (sym c.from.ensures) (is_run_fault _ _ _ bytes c.in-Err.ensures.fault)
+
+pub returns-in-Ok-clause-job : goal.returns-in-Ok-clause-job
+returns-in-Ok-clause-job g c =
+    let bytes = as_read _ _ _ c.as_slice.ensures.value c.in_ok-bytes.ensures.bytes in
+    is_job c.run_scripts.result _ (has_job _ _ _ bytes c.in-Ok.ensures.job.1)
+
+pub returns-in-Ok-clause-output : goal.returns-in-Ok-clause-output
+returns-in-Ok-clause-output g c = λ xs job all is.
+    let bytes = as_read _ _ _ c.as_slice.ensures.value c.in_ok-bytes.ensures.bytes in
+    c.run_scripts.ensures.writes job (c.in-Ok.ensures.only job (job_of_all _ _ xs job bytes c.in-Ok.ensures.job.1.short all is))
+
+pub returns-in-Ok-clause-summary : goal.returns-in-Ok-clause-summary
+returns-in-Ok-clause-summary g c = λ xs job all is.
+    let bytes = as_read _ _ _ c.as_slice.ensures.value c.in_ok-bytes.ensures.bytes in
+    let stands = c.in-Ok.ensures.only job (job_of_all _ _ xs job bytes c.in-Ok.ensures.job.1.short all is) in
+    summary_for _ (JobStands c.in-Ok.job) job summary_of c.run_scripts.ensures.summary stands
+
+pub returns-in-Ok-clause-fault : goal.returns-in-Ok-clause-fault
+returns-in-Ok-clause-fault g c =
+    let bytes = as_read _ _ _ c.as_slice.ensures.value c.in_ok-bytes.ensures.bytes in
+    run_fault_of_job c.run_scripts.result _ (has_job _ _ _ bytes c.in-Ok.ensures.job.1) c.run_scripts.ensures.fault

@@ -1,12 +1,18 @@
-use Rattle.std.proofs.Common.{◌≡◌, ap, sym, ◌∙◌, length}
+use Rattle.std.proofs.Common.{◌≡◌, ap, sym, subst, ◌∙◌, length}
 use Rattle.std.proofs.lemmas.List.{length-map}
 use Rattle.std.proofs.lemmas.Result.{err_from_is_err_and}
-use Rattle.crush_calls.specs.Entries.{entry_data, history_data}
+use Rattle.crush_calls.specs.Entries.{AreOf, entry_data, history_data}
 use Rattle.crush_calls.specs.History.{changes, turns}
 use Rattle.crush_calls.specs.Script.{scripts_data}
 use Rattle.crush_run.specs.Run.{history_of}
 use Rattle.crush_run.proofs.Told.{nothing_written}
 use Rattle.crush_run.proofs.run.run_scripts.Goals as goal
+
+-- the entries are of the scripts that were run
+pub write_outcome-requires-clause-operators : goal.write_outcome-requires-clause-operators
+write_outcome-requires-clause-operators g c =
+    let scripts = ap length (c.as_slice.ensures.value ∙ sym c.as_slice-2.ensures.value) in
+    subst (AreOf _) (sym c.as_slice-3.ensures.value) (subst (λ n. AreOf n c.in_ok-entries.entries.items) scripts c.in_ok-entries.ensures.operators)
 
 pub returns-in_err-entries-clause-writes : goal.returns-in_err-entries-clause-writes
 returns-in_err-entries-clause-writes g c = λ read stands.

@@ -1,8 +1,8 @@
 //! The example `conf-3`, written here by `examples/as_tests.py`.
 
-use super::{Example, is_met, is_printed, is_read_back};
+use super::{Example, is_example};
 
-const EXAMPLE: Example = Example {
+const EXAMPLE: &Example = &Example {
     job: b"\
 # begin crush map\ntunable choose_local_tries 0\ntunable choose_local_fallback_tries 0\n\
 tunable choose_total_tries 50\ntunable chooseleaf_descend_once 1\ntunable chooseleaf_vary_r 1\n\
@@ -55,8 +55,5 @@ root default {\n\tid -1\t\t# do not change unnecessarily\n\t# weight 2.50000\n\t
 
 #[test]
 fn is_written(rt: HostRuntime) {
-    let example = &EXAMPLE;
-    assert!(rt; is_met(&rt, example));
-    assert!(rt; is_printed(&rt, example));
-    assert!(rt; is_read_back(&rt, example));
+    assert!(rt; is_example(&rt, EXAMPLE));
 }

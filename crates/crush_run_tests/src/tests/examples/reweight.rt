@@ -1,8 +1,8 @@
 //! The example `reweight`, written here by `examples/as_tests.py`.
 
-use super::{Example, is_met, is_printed, is_read_back};
+use super::{Example, is_example};
 
-const EXAMPLE: Example = Example {
+const EXAMPLE: &Example = &Example {
     job: b"\
 # begin crush map\ntunable choose_total_tries 50\n\n# devices\ndevice 0 osd.0\ndevice 1 osd.1\n\
 device 2 osd.2\n\n# types\ntype 0 osd\ntype 1 host\ntype 3 rack\ntype 11 root\n\n# buckets\n\
@@ -33,8 +33,5 @@ rule replicated_rule {\n\tid 0\n\ttype replicated\n\tstep take default\n\
 
 #[test]
 fn is_written(rt: HostRuntime) {
-    let example = &EXAMPLE;
-    assert!(rt; is_met(&rt, example));
-    assert!(rt; is_printed(&rt, example));
-    assert!(rt; is_read_back(&rt, example));
+    assert!(rt; is_example(&rt, EXAMPLE));
 }

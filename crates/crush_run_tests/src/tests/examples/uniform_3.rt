@@ -1,8 +1,8 @@
 //! The example `uniform-3`, written here by `examples/as_tests.py`.
 
-use super::{Example, is_met};
+use super::{Example, is_example};
 
-const EXAMPLE: Example = Example {
+const EXAMPLE: &Example = &Example {
     job: b"\
 # begin crush map\ntunable choose_local_tries 0\ntunable choose_local_fallback_tries 0\n\
 tunable choose_total_tries 50\ntunable chooseleaf_descend_once 1\ntunable chooseleaf_vary_r 1\n\
@@ -28,6 +28,5 @@ crushedit: byte 565: OtherAlgorithm\n",
 
 #[test]
 fn is_written(rt: HostRuntime) {
-    let example = &EXAMPLE;
-    assert!(rt; is_met(&rt, example));
+    assert!(rt; is_example(&rt, EXAMPLE));
 }

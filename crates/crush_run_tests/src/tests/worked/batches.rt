@@ -1,8 +1,7 @@
 //! Batches, which are made all or none.
 
-use super::{BEGIN, DEVICES, H1, H2, RULES, TYPES, Worked, is_written};
+use super::{BEGIN, DEVICES, H1, H2, RULES, TYPES, Worked, are_written};
 use crate::tests::EXAMPLE;
-use std::test::Fail;
 
 const BATCHES: &[Worked] = &[
     // The last edit is refused, so nothing is left of the ones before it.
@@ -70,9 +69,6 @@ const BATCHES: &[Worked] = &[
 ];
 
 #[test]
-fn batches(rt: HostRuntime) -> Result<(), Fail> {
-    for (place, worked) in BATCHES.iter().enumerate() {
-        assert!(rt; is_written(&rt, worked)?, "at {place}");
-    }
-    Ok(())
+fn batches(rt: HostRuntime) {
+    are_written(&rt, BATCHES);
 }

@@ -1,10 +1,9 @@
 //! Commands without a location, and calls that are refused.
 
 use super::{
-    BEGIN, DEFAULT, DEVICES, H1, H2, NO_RULES, PLAIN_BEGIN, RULES, TYPES, Worked, is_written,
+    BEGIN, DEFAULT, DEVICES, H1, H2, NO_RULES, PLAIN_BEGIN, RULES, TYPES, Worked, are_written,
 };
 use crate::tests::{EXAMPLE, PLAIN};
-use std::test::Fail;
 
 /// Two roots, of which p would be too heavy with the items of q in place of those of a.
 const HEAVY: &[u8] = b"\
@@ -306,25 +305,16 @@ const REFUSED: &[Worked] = &[Worked {
 }];
 
 #[test]
-fn names_and_items(rt: HostRuntime) -> Result<(), Fail> {
-    for (place, worked) in NAMES.iter().enumerate() {
-        assert!(rt; is_written(&rt, worked)?, "at {place}");
-    }
-    Ok(())
+fn names_and_items(rt: HostRuntime) {
+    are_written(&rt, NAMES);
 }
 
 #[test]
-fn weights(rt: HostRuntime) -> Result<(), Fail> {
-    for (place, worked) in WEIGHTS.iter().enumerate() {
-        assert!(rt; is_written(&rt, worked)?, "at {place}");
-    }
-    Ok(())
+fn weights(rt: HostRuntime) {
+    are_written(&rt, WEIGHTS);
 }
 
 #[test]
-fn refused_calls(rt: HostRuntime) -> Result<(), Fail> {
-    for (place, worked) in REFUSED.iter().enumerate() {
-        assert!(rt; is_written(&rt, worked)?, "at {place}");
-    }
-    Ok(())
+fn refused_calls(rt: HostRuntime) {
+    are_written(&rt, REFUSED);
 }

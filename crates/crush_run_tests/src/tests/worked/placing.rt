@@ -1,10 +1,9 @@
 //! Commands that put an item somewhere.
 
 use super::{
-    BEGIN, DEFAULT, DEVICES, H1, H2, NO_RULES, PLAIN_BEGIN, RULES, TYPES, Worked, is_written,
+    BEGIN, DEFAULT, DEVICES, H1, H2, NO_RULES, PLAIN_BEGIN, RULES, TYPES, Worked, are_written,
 };
 use crate::tests::{EXAMPLE, PLAIN};
-use std::test::Fail;
 
 /// The host h1 with an id for a class.
 const H1_OF_CLASS: &[u8] = b"\
@@ -111,6 +110,10 @@ const DEVICES_PUT: &[Worked] = &[
         calls: 1,
         changes: 0,
     },
+];
+
+/// Weights that are set, sums that are too large, and ids that are free.
+const WEIGHTS_AND_IDS: &[Worked] = &[
     // A weight is set in the device's place.
     Worked {
         job: &[
@@ -310,17 +313,16 @@ const BUCKETS_PUT: &[Worked] = &[
 ];
 
 #[test]
-fn devices_are_put(rt: HostRuntime) -> Result<(), Fail> {
-    for (place, worked) in DEVICES_PUT.iter().enumerate() {
-        assert!(rt; is_written(&rt, worked)?, "at {place}");
-    }
-    Ok(())
+fn devices_are_put(rt: HostRuntime) {
+    are_written(&rt, DEVICES_PUT);
 }
 
 #[test]
-fn buckets_are_put(rt: HostRuntime) -> Result<(), Fail> {
-    for (place, worked) in BUCKETS_PUT.iter().enumerate() {
-        assert!(rt; is_written(&rt, worked)?, "at {place}");
-    }
-    Ok(())
+fn weights_and_ids(rt: HostRuntime) {
+    are_written(&rt, WEIGHTS_AND_IDS);
+}
+
+#[test]
+fn buckets_are_put(rt: HostRuntime) {
+    are_written(&rt, BUCKETS_PUT);
 }

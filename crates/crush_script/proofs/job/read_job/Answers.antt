@@ -53,7 +53,7 @@ returns-clause-only c = λ job is.
 pub returns-clause-few : goal.returns-clause-few
 returns-clause-few c = calls_few (c.line_feeds.result + 1) (lines c.cut_job.result.1.now) (sections_data c.in_ok-sections.sections) c.in_ok-sections.ensures
 
-pub returns-in_err-map-clause-only : goal.returns-in_err-map-clause-only
-returns-in_err-map-clause-only c =
+pub returns-in_err-map-clause-want : goal.returns-in_err-map-clause-want
+returns-in_err-map-clause-want c =
     let p = err_from_is_err_and c.from_residual.result c.from_residual.ensures.1 in
-    λ job is. rw (p.1, p.2) (c.in_err-map.ensures.only job.setting job.table job.adjusted (subst (λ (x : List ℕ). IsMapText x job.setting job.table job.adjusted) (sym c.cut_job.ensures.map) is.map))
+    λ job is. rw (p.1, p.2) (c.in_err-map.ensures.want job.setting job.table job.adjusted (subst (λ (x : List ℕ). IsMapText x job.setting job.table job.adjusted) (sym c.cut_job.ensures.map) is.map))

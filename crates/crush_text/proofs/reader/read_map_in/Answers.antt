@@ -26,8 +26,8 @@ returns-clause-map g c =
     let text = is_map c.args.text.now c.new-reader.result c.new-reader.ensures a.0 a.2 in
     (a.0.table, subst (λ (k : ℕ). IsMapText c.args.text.now c.finish.result.setting a.0.table k) (sym n) (subst (λ (s : SettingData). IsMapText c.args.text.now s a.0.table a.0.adjusted) (sym m.setting) text), m.forest)
 
-pub returns-clause-only : goal.returns-clause-only
-returns-clause-only g c = λ s t n k.
+pub returns-clause-spelled : goal.returns-clause-spelled
+returns-clause-spelled g c = λ s t n k.
     let a = c.in_ok-read_statements.ensures.reads empty_draft c.in-Ok.ensures in
     let m = c.finish.ensures a.0 a.1 in
     let o = only_map c.args.text.now c.new-reader.result c.new-reader.ensures a.0 s t n a.2 k in

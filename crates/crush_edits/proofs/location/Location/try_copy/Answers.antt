@@ -1,5 +1,6 @@
-use Rattle.std.proofs.Common.{◌≡◌, [], ◌∷◌, ◌++◌, sym, ◌∙◌}
-use Rattle.std.proofs.lemmas.List.{take_more}
+use Rattle.std.proofs.Common.{◌≡◌, [], ◌∷◌, ◌++◌, sym, subst, ◌∙◌}
+use Rattle.std.proofs.lemmas.List.{take_more, take_all}
+use Rattle.crush_edits.specs.Pushed.{IsLocation}
 use Rattle.crush_edits.proofs.location.Location.try_copy.Goals as goal
 
 pub loop-pair-preserved : goal.loop-pair-preserved
@@ -9,3 +10,12 @@ loop-pair-preserved c =
     c.in_ok-push.ensures.items
     ∙ (λ k. c.loop-pair.invariant k ++ (one ∙ c.pair-item.is) k ∷ [])
     ∙ sym (take_more pairs c.loop-pair.pair-index c.pair-item.result c.loop-pair-test.true)
+
+pub returns : goal.returns
+returns c =
+    c.loop-pair.invariant ∙ take_all c.loop-pair.pair-index c.deref-pair-items.result.now c.loop-pair-test.false
+    ∙ c.deref-pair-items.ensures.value ∙ c.self.view_is
+
+pub invariant_of-copy : goal.invariant_of-copy
+invariant_of-copy c =
+    subst IsLocation (sym (c.loop-pair.invariant ∙ take_all c.loop-pair.pair-index c.deref-pair-items.result.now c.loop-pair-test.false ∙ c.deref-pair-items.ensures.value)) c.self.invariant

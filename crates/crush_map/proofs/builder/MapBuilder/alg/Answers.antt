@@ -23,8 +23,8 @@ attach-requires-clause-fits g c =
     subst (λ (n : Items). Lawful (d.table ++ rows None n)) (sym node)
     (bucket_lawful b.setting d.table c.in-Numbered.kind c.in-Numbered.name c.in-Numbered.id (listed c.in-Numbered.class_ids) c.args.alg at.stands.lawful can.0 can.1)
 
-pub invariant_of-self-3 : goal.invariant_of-self-3
-invariant_of-self-3 g c =
+pub invariant_of-self-2 : goal.invariant_of-self-2
+invariant_of-self-2 g c =
     let b : BuilderData = record { setting = c.self.inside.setting; forest = c.self.inside.forest; pending = pending_data c.self.inside.pending; adjusted = c.self.inside.adjusted } in
     let own : IsDraft b (own_draft b) = own_is_draft b c.recall_invariant.ensures c.self.invariant in
     let p : b.pending ≡ numbered c.in-Numbered.kind c.in-Numbered.name c.in-Numbered.id (listed c.in-Numbered.class_ids) = ap pending_data (sym c.replace.ensures.value ∙ c.in-Numbered.is) in

@@ -1,5 +1,4 @@
 use Rattle.std.proofs.Common.{rules, ◌∙◌, ap, subst, map}
-use Rattle.std.proofs.lemmas.List.{take_all}
 use Rattle.std.proofs.lemmas.List.Sorted.{IsNonDecreasingBy-from_sort_by_key, IsPermutation-map}
 use Rattle.std.specs.List.Sorted.{IsPermutation}
 use Rattle.crush_nodes.specs.Seen.{node_id}
@@ -11,11 +10,11 @@ use Rattle.crush_print.proofs.printer.buckets.roots_in_order.Goals as goal
 
 pub returns-clause-same : goal.returns-clause-same
 returns-clause-same g c =
-    subst (λ l. IsPermutation l (map (λ r. r.now) c.sort_unstable_by_key.new.self.items)) (c.loop-node.invariant ∙ take_all _ _ c.loop-node-test.false)
-    (IsPermutation-map (λ r. r.now) c.loop-node.roots.items c.sort_unstable_by_key.new.self.items c.sort_unstable_by_key.ensures.permutation)
+    subst (λ l. IsPermutation l (map (λ r. r.now) c.sort_unstable_by_key.new.self.items)) c.in_ok-roots.ensures
+    (IsPermutation-map (λ r. r.now) c.in_ok-roots.roots.items c.sort_unstable_by_key.new.self.items c.sort_unstable_by_key.ensures.permutation)
 
 pub returns-clause-rising : goal.returns-clause-rising
 returns-clause-rising g c =
-    sorted_is_ascending (λ r. id_number (node_id r.now)) c.loop-node.roots.items c.sort_unstable_by_key.new.self.items c.sort_unstable_by_key.ensures.permutation
+    sorted_is_ascending (λ r. id_number (node_id r.now)) c.in_ok-roots.roots.items c.sort_unstable_by_key.new.self.items c.sort_unstable_by_key.ensures.permutation
     (IsNonDecreasingBy-from_sort_by_key (λ r. id_number (node_id r.now)) _ c.sort_unstable_by_key.ensures.sorted (λ a r q k. search rules))
-    ∙ ap ascending (numbers_seen (λ n. id_number (node_id n)) (λ r. r.now) c.loop-node.roots.items c.args.nodes.now (c.loop-node.invariant ∙ take_all _ _ c.loop-node-test.false))
+    ∙ ap ascending (numbers_seen (λ n. id_number (node_id n)) (λ r. r.now) c.in_ok-roots.roots.items c.args.nodes.now c.in_ok-roots.ensures)

@@ -11,7 +11,7 @@ returns-in_err-word-clause-reads g c = λ d h.
 pub returns-in_err-weight-clause-reads : goal.returns-in_err-weight-clause-reads
 returns-in_err-weight-clause-reads g c = λ d h.
     let p = err_from_is_err_and c.from_residual-in_err-weight.result c.from_residual-in_err-weight.ensures.1 in
-    rw (p.1, p.2) (weight_fault d _ _ _ _ _ c.in_ok-word.ensures.gives (c.in_err-weight.ensures d))
+    rw (p.1, p.2) (weight_fault d _ _ _ _ _ c.in_ok-word.ensures.gives (c.in_err-weight.ensures.weighs d))
 
 pub returns-clause-reads : goal.returns-clause-reads
-returns-clause-reads g c = λ d h. weight_reads d _ _ _ _ _ _ _ c.in_ok-word.ensures.gives (c.in_ok-weight.ensures d) (c.add_item.ensures.adds d h)
+returns-clause-reads g c = λ d h. weight_reads d _ _ _ _ _ _ _ c.in_ok-word.ensures.gives (c.in_ok-weight.ensures.weighs d) (c.add_item.ensures.adds d h)

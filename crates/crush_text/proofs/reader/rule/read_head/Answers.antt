@@ -4,8 +4,39 @@ use Rattle.std.proofs.lemmas.Result.{err_from_is_err_and}
 use Rattle.crush_text.specs.Form.{ruled, at, done}
 use Rattle.crush_text.specs.Grammar.{max_size, new_rule}
 use Rattle.crush_text.proofs.LineByLine.{fails_so}
-use Rattle.crush_text.proofs.Steps.{head_goes, done_reads}
+use Rattle.crush_text.proofs.LineEnds.{word_fails, word_reads}
+use Rattle.crush_text.proofs.Steps.{head_goes, head_made, head_free}
 use Rattle.crush_text.proofs.reader.rule.read_head.Goals as goal
+
+pub returns-in_err-name-clause-gives : goal.returns-in_err-name-clause-gives
+returns-in_err-name-clause-gives g c = λ d h.
+    let p = err_from_is_err_and c.from_residual.result c.from_residual.ensures.1 in
+    rw (p.1, p.2) (word_fails d _ _ _ _ (c.in_err-name.ensures.gives d h))
+
+pub returns-in_err-read_key-clause-gives : goal.returns-in_err-read_key-clause-gives
+returns-in_err-read_key-clause-gives g c = λ d h.
+    let p = err_from_is_err_and c.from_residual-in_err-read_key.result c.from_residual-in_err-read_key.ensures.1 in
+    rw (p.1, p.2) (fails_so _ _ _ (word_reads d _ _ _ _ _ (c.in_ok-name.ensures.gives d h)) (word_fails d _ _ _ _ (c.in_err-read_key.ensures.gives d)))
+
+pub returns-in_err-read_rule_id_key-clause-gives : goal.returns-in_err-read_rule_id_key-clause-gives
+returns-in_err-read_rule_id_key-clause-gives g c = λ d h.
+    let p = err_from_is_err_and c.from_residual-in_err-read_rule_id_key.result c.from_residual-in_err-read_rule_id_key.ensures.1 in
+    rw (p.1, p.2) (fails_so _ _ _ (word_reads d _ _ _ _ _ (c.in_ok-name.ensures.gives d h) ∙ word_reads d _ _ _ _ _ (c.in_ok-read_key.ensures.gives d)) (word_fails d _ _ _ _ (c.in_err-read_rule_id_key.ensures.gives d)))
+
+pub returns-in_err-id-clause-gives : goal.returns-in_err-id-clause-gives
+returns-in_err-id-clause-gives g c = λ d h.
+    let p = err_from_is_err_and c.from_residual-in_err-id.result c.from_residual-in_err-id.ensures.1 in
+    rw (p.1, p.2) (fails_so _ _ _ (word_reads d _ _ _ _ _ (c.in_ok-name.ensures.gives d h) ∙ word_reads d _ _ _ _ _ (c.in_ok-read_key.ensures.gives d) ∙ word_reads d _ _ _ _ _ (c.in_ok-read_rule_id_key.ensures.gives d)) (word_fails d _ _ _ _ (c.in_err-id.ensures.gives d h)))
+
+pub returns-in_err-read_key-2-clause-gives : goal.returns-in_err-read_key-2-clause-gives
+returns-in_err-read_key-2-clause-gives g c = λ d h.
+    let p = err_from_is_err_and c.from_residual-in_err-read_key-2.result c.from_residual-in_err-read_key-2.ensures.1 in
+    rw (p.1, p.2) (fails_so _ _ _ (word_reads d _ _ _ _ _ (c.in_ok-name.ensures.gives d h) ∙ word_reads d _ _ _ _ _ (c.in_ok-read_key.ensures.gives d) ∙ word_reads d _ _ _ _ _ (c.in_ok-read_rule_id_key.ensures.gives d) ∙ word_reads d _ _ _ _ _ (c.in_ok-id.ensures.gives d h)) (word_fails d _ _ _ _ (c.in_err-read_key-2.ensures.gives d)))
+
+pub returns-in_err-kind-clause-gives : goal.returns-in_err-kind-clause-gives
+returns-in_err-kind-clause-gives g c = λ d h.
+    let p = err_from_is_err_and c.from_residual-in_err-kind.result c.from_residual-in_err-kind.ensures.1 in
+    rw (p.1, p.2) (fails_so _ _ _ (word_reads d _ _ _ _ _ (c.in_ok-name.ensures.gives d h) ∙ word_reads d _ _ _ _ _ (c.in_ok-read_key.ensures.gives d) ∙ word_reads d _ _ _ _ _ (c.in_ok-read_rule_id_key.ensures.gives d) ∙ word_reads d _ _ _ _ _ (c.in_ok-id.ensures.gives d h) ∙ word_reads d _ _ _ _ _ (c.in_ok-read_key-2.ensures.gives d)) (word_fails d _ _ _ _ (c.in_err-kind.ensures.gives d)))
 
 pub returns-in_err-min_size-clause-gives : goal.returns-in_err-min_size-clause-gives
 returns-in_err-min_size-clause-gives g c = λ d h.
@@ -25,4 +56,7 @@ returns-clause-gives g c = λ d h.
     let head = head_goes d _ _ _ _ _ _ _ _ _ _ (c.in_ok-name.ensures.gives d h) (c.in_ok-read_key.ensures.gives d) (c.in_ok-read_rule_id_key.ensures.gives d) (c.in_ok-id.ensures.gives d h) (c.in_ok-read_key-2.ensures.gives d) (c.in_ok-kind.ensures.gives d) in
     let least = c.in_ok-min_size.ensures.gives d (max_size d c.in_ok-name.name.text.now c.in_ok-id.id c.in_ok-kind.kind.text.now) in
     let most = c.in_ok-max_size.ensures.gives d (λ o. done (at (ruled (new_rule c.in_ok-name.name.text.now c.in_ok-id.id c.in_ok-kind.kind.text.now c.in_ok-min_size.min_size o)) d)) in
-    rw (c.in_ok-name-2.ensures.name, c.in_ok-kind-2.ensures.name, c.new.ensures.items) (head ∙ least ∙ most ∙ done_reads d _ _)
+    head_made d _ _ _ _ _ _ _ _ (head ∙ least ∙ most) c.own_head.ensures.head c.own_head.ensures.memory
+
+pub returns-clause-free : goal.returns-clause-free
+returns-clause-free g c = head_free _ _ _ _ _ _ _ c.own_head.ensures.head c.in_ok-name.ensures.free c.in_ok-id.ensures.free

@@ -3,6 +3,7 @@ use Rattle.std.proofs.Common.{◌∙◌, ap, refl}
 use Rattle.std.proofs.lemmas.Result.{err_from_is_err_and}
 use Rattle.crush_map.specs.Rules.{with_rule}
 use Rattle.crush_text.specs.Reads.{then_on}
+use Rattle.crush_text.proofs.Wants.{want_of_rule}
 use Rattle.crush_text.proofs.LineByLine.{fails_all, fails_so}
 use Rattle.crush_text.proofs.reader.rule.read_rule.Goals as goal
 
@@ -16,6 +17,11 @@ returns-in_err-place-clause-reads g c = λ d h.
     let p = err_from_is_err_and c.from_residual-in_err-place.result c.from_residual-in_err-place.ensures.1 in
     rw (p.1, p.2) (fails_so _ _ _ (ap then_on (c.in_ok-rule.ensures.gives d h)) (c.in_err-place.ensures.reads d h))
 
-pub returns-clause-reads : goal.returns-clause-reads
-returns-clause-reads g c = λ d h.
+pub returns-in-Ok-clause-reads : goal.returns-in-Ok-clause-reads
+returns-in-Ok-clause-reads g c = λ d h.
     (with_rule d c.read_steps.new.rule, (c.in-Ok.ensures.ok d h).1, ap then_on (c.in_ok-rule.ensures.gives d h) ∙ c.in_ok-place.ensures.reads d h)
+
+pub want_at-requires : goal.want_at-requires
+want_at-requires g c =
+    let d = c.requires.idle.some in
+    want_of_rule d.0 _ _ (c.requires.room d.0 d.1) (c.in_ok-place.ensures.free d.0 d.1) (c.in-Err.ensures.refused d.0 d.1)

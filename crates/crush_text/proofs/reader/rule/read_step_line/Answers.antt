@@ -1,12 +1,14 @@
 -- One more step of a rule.
-use Rattle.std.proofs.Common.{◌∙◌, sym, ap, length, Bool, List, Ok}
+use Rattle.std.proofs.Common.{◌∙◌, ◌<◌, sym, ap, subst, length, Bool, List, Ok}
 use Rattle.std.proofs.lemmas.Result.{err_from_is_err_and}
 use Rattle.std.proofs.lemmas.List.{length-map}
+use Rattle.crush_units.specs.declared.limits.TheConstants.{MOST_STEPS}
+use Rattle.crush_edits.specs.declared.rule.Step.{Step}
 use Rattle.crush_edits.specs.Setting.{StepData}
 use Rattle.crush_map.specs.Rules.{kept_rule, kept_step}
 use Rattle.crush_text.specs.Form.{ruled, at}
 use Rattle.crush_text.proofs.LineByLine.{fails_so}
-use Rattle.crush_text.proofs.Steps.{step_or_end_goes, steps_kept}
+use Rattle.crush_text.proofs.Steps.{step_or_end_goes, steps_kept, steps_free}
 use Rattle.crush_text.proofs.reader.rule.read_step_line.Goals as goal
 
 pub returns-in_err-step-clause-reads : goal.returns-in_err-step-clause-reads
@@ -20,3 +22,13 @@ returns-clause-reads g c = λ d h.
     let line = step_or_end_goes d (kept_rule d c.args.rule.now) _ _ _ _ (ap length c.deref.ensures.value ∙ sym (length-map c.args.rule.now.steps.items (kept_step d))) (c.in_ok-word.ensures.gives d ∙ ap (λ (b : Bool). Ok (b, c.read_step_or_end.new.reader)) (sym c.is_step.ensures ∙ c.if-not-is_step.false)) in
     line ∙ c.in_ok-step.ensures.gives d (kept_rule d c.args.rule.now) h
     ∙ ap (λ (l : List StepData). Ok (at (ruled (record (kept_rule d c.args.rule.now) { steps = l })) d, c.read_step.new.reader)) (steps_kept d c.args.rule.now.steps.items c.push.new.self.items c.in_ok-step.step c.in-Ok.ensures.items)
+
+pub returns-clause-free : goal.returns-clause-free
+returns-clause-free g c = λ d h.
+    let free = c.requires.free d h in
+    let room = subst (λ (l : List Step). length l < MOST_STEPS) c.deref.ensures.value (c.in_ok-word.ensures.room (sym c.is_step.ensures ∙ c.if-not-is_step.false)) in
+    record {
+      name = free.name;
+      id = free.id;
+      steps = steps_free d c.args.rule.now.steps.items c.push.new.self.items c.in_ok-step.step c.in-Ok.ensures.items free.steps room (c.in_ok-step.ensures.free d h);
+    }

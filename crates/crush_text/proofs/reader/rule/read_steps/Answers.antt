@@ -21,6 +21,7 @@ returns-in-Some-clause-reads g c = λ d h.
 pub steps-preserved : goal.steps-preserved
 steps-preserved g c = record {
   form = c.in_ok-end.ensures.form;
+  free = c.in_ok-end.ensures.free;
   shorter = omega (arith, c.steps.invariant.shorter, c.in_ok-end.ensures.shorter);
   reads = λ d h.
       let k = subst (λ (o : Option ℕ). ReadsStep (Ok o) d (kept_rule d c.read_step_line.new.rule) c.read_step_line.new.reader (line_at d (lines d (ruled (kept_rule d c.steps.rule))) c.steps.reader)) c.in-None.is (c.in_ok-end.ensures.reads d h) in

@@ -5,11 +5,13 @@ use Rattle.crush_map.specs.Building.{IsDraft}
 use Rattle.crush_map.specs.Rules.{IsRuleForm, kept_rule}
 use Rattle.crush_text.specs.Form.{ruled, at}
 use Rattle.crush_text.specs.Flow.{between, outcome}
+use Rattle.crush_text.specs.Room.{IsFreeRule}
 use Rattle.crush_text.proofs.reader.rule.read_steps.Given as goal
 
 abbrev pub invariant-steps : goal.invariant-steps
 invariant-steps g l = record {
   form : IsRuleForm l.rule;
+  free : (d : Draft) → IsDraft l.fn.builder d → IsFreeRule d l.rule;
   shorter : length l.reader.words ≤ length l.fn.reader.words;
   reads : (d : Draft) → IsDraft l.fn.builder d → outcome (between (at (ruled (kept_rule d l.fn.rule)) d)) l.fn.reader ≡ outcome (between (at (ruled (kept_rule d l.rule)) d)) l.reader;
 }

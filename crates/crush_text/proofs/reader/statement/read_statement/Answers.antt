@@ -41,3 +41,6 @@ read_device-requires-clause-room g c = λ d h. subst (HasRoom d) c.in-Device.is 
 
 pub read_type-requires-clause-room : goal.read_type-requires-clause-room
 read_type-requires-clause-room g c = λ d h. subst (HasRoom d) c.in-Type.is (c.requires.room d h)
+
+pub read_rule-requires-clause-room : goal.read_rule-requires-clause-room
+read_rule-requires-clause-room g c = λ d h. subst (HasRoom d) c.in-Rule.is (c.requires.room d h)

@@ -4,7 +4,7 @@ use Rattle.std.specs.Prelude.{Ok}
 use Rattle.std.proofs.lemmas.Result.{err_from_is_err_and}
 use Rattle.crush_text.specs.Form.{at}
 use Rattle.crush_text.specs.Flow.{between, outcome}
-use Rattle.crush_text.specs.Reads.{ReadsNext, behind}
+use Rattle.crush_text.specs.Reads.{ReadsNext, Shortens, behind}
 use Rattle.crush_text.proofs.LineByLine.{fails_so}
 use Rattle.crush_text.proofs.reader.statement.read_statements.Goals as goal
 
@@ -22,3 +22,6 @@ returns-in_err-more-clause-reads g c = λ d h.
     let s = c.statements.invariant.reads d h in
     let p = err_from_is_err_and c.from_residual.result c.from_residual.ensures.1 in
     rw (p.1, p.2) (fails_so _ _ _ s.2 (c.in_err-more.ensures.reads s.0 s.1))
+
+pub statements-smaller : goal.statements-smaller
+statements-smaller g c = subst (λ (o : Option Bool). Shortens (Ok o) c.statements.reader c.read_next.new.reader) c.in-Some.is c.in_ok-more.ensures.shorter

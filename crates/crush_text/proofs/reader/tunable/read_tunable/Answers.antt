@@ -1,5 +1,9 @@
--- What the builder refuses is want of memory.
+-- A tunable's line word by word, and what the builder refuses is want of memory.
+use Rattle.std.proofs.Common.{refl, ap, inl}
+use Rattle.crush_map.specs.Built.{with_tunable}
 use Rattle.crush_map.specs.declared.fault.BuildFault.TheVariants.{DuplicateName, TooMany}
+use Rattle.crush_text.specs.declared.fault.TextFault.{TextFault}
+use Rattle.crush_text.proofs.LineEnds.{still_idle, tunable_reads}
 use Rattle.crush_text.proofs.Wants.{want_of_two}
 use Rattle.crush_text.proofs.reader.tunable.read_tunable.Goals as goal
 
@@ -7,3 +11,15 @@ pub want-requires : goal.want-requires
 want-requires g c =
     let d = c.requires.idle.some in
     want_of_two DuplicateName TooMany _ _ _ (c.in_ok-name.ensures.free d.0 d.1) (c.requires.room d.0 d.1) (c.in-Err.ensures.refused d.0 d.1)
+
+pub returns-in-Ok-clause-idle : goal.returns-in-Ok-clause-idle
+returns-in-Ok-clause-idle g c =
+    let d = c.requires.idle.some in
+    still_idle _ _ d.0 _ c.requires.idle.part d.1 (c.in-Ok.ensures.ok d.0 d.1).1 refl
+
+pub returns-in-Ok-clause-reads : goal.returns-in-Ok-clause-reads
+returns-in-Ok-clause-reads g c = λ d h.
+    (with_tunable d _ _, (c.in-Ok.ensures.ok d h).1, tunable_reads d _ _ _ _ _ (c.in_ok-name.ensures.gives d h) (c.in_ok-value.ensures.gives d))
+
+pub returns-in-Err-clause-reads : goal.returns-in-Err-clause-reads
+returns-in-Err-clause-reads g c = λ d h. inl (ap (λ (f : TextFault). f.kind) c.want.ensures)

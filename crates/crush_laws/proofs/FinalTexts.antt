@@ -1,0 +1,117 @@
+-- The texts of maps are those whose words lead to a lawful map: what is lawful in the end was lawful wherever a line ended.
+use Rattle.std.proofs.Common.{◌≡◌, ℕ, true, false, List, [], ◌∷◌, refl, sym, subst}
+use Rattle.std.specs.Prelude.{drop}
+use Rattle.std.proofs.lemmas.Bool.{cond_both}
+use Rattle.std.proofs.lemmas.List.Elements.{All-nil}
+use Rattle.crush_table.specs.Table.{Row}
+use Rattle.crush_table.specs.Lawful.{Lawful, HasParent}
+use Rattle.crush_edits.specs.Setting.{SettingData}
+use Rattle.crush_edits.specs.Fits.{Fits, IsThere}
+use Rattle.crush_map.specs.Built.{Draft}
+use Rattle.crush_bytes.specs.Words.{Word, words, begins_with_key}
+use Rattle.crush_text.specs.Role.{value}
+use Rattle.crush_text.specs.Form.{Mode, first, second, begun, numbered, filling, ruled, Form, done, word, optional, ahead}
+use Rattle.crush_text.specs.Grammar.{next}
+use Rattle.crush_text.specs.Flow.{State, between, amid, arrive, is_idle}
+use Rattle.crush_text.specs.Document.{IsMap, start}
+use Rattle.crush_laws.specs.Admitted.{IsLawfulDraft, IsLawfulMode, LeadsFrom, Leads, IsLawfulState, Build}
+use Rattle.crush_laws.specs.Final.{LeadTo}
+use Rattle.crush_laws.specs.MapOrFlaw.{MapsAreTheLawfulEnds}
+use Rattle.crush_laws.proofs.Admitted.{Possible}
+use Rattle.crush_laws.proofs.Keeps.{each_map_is_lawful}
+use Rattle.crush_laws.proofs.LawfulTexts.{MayEnd, may_end, maps_are_the_lawful_texts}
+use Rattle.crush_laws.proofs.EarlierLines.{idle_draft, line_back}
+use Rattle.crush_laws.proofs.EarlierTables.{IsLoose}
+use Rattle.crush_laws.proofs.Shapes.{Shape, IsShaped, Shapes, shapes_lines}
+
+-- WHAT THE WORDS KEEP
+-- what was read has the shape, and what is built of the rest of a line
+abbrev HasShape : State → Type 0
+HasShape (between p) = IsShaped p
+HasShape (amid d f) = Shapes d f
+
+-- so it is of what is due next
+arrives_shaped : (d : Draft) (rest : List Word) (f : Form) → Shapes d f → HasShape (arrive d rest f)
+arrives_shaped d rest (done p) h = h
+arrives_shaped d rest (word r more) h = h
+arrives_shaped d rest (optional k f g) h = cond_both (begins_with_key k rest) (arrive d rest f) (arrive d rest g) HasShape (λ _. arrives_shaped d rest f h.0) (λ _. arrives_shaped d rest g h.1)
+arrives_shaped d rest (ahead k f g) h = cond_both (begins_with_key k (drop 1 rest)) (arrive d rest f) (arrive d rest g) HasShape (λ _. arrives_shaped d rest f h.0) (λ _. arrives_shaped d rest g h.1)
+
+-- wherever a word leads
+form_shaped : (d : Draft) (f : Form) (w : List ℕ) (rest : List Word) (u : State) → Shapes d f → LeadsFrom d f w rest u → HasShape u
+form_shaped d (word r more) w rest u k h = subst HasShape (sym h.1) (arrives_shaped d rest (more (value d r w)) (k w h.0))
+form_shaped d (done p) w rest u k h = absurd h
+form_shaped d (optional c f g) w rest u k h = absurd h
+form_shaped d (ahead c f g) w rest u k h = absurd h
+
+-- in a line or before one
+word_shaped : (s : State) (w : List ℕ) (rest : List Word) (u : State) → HasShape s → Leads s w rest u → HasShape u
+word_shaped (between p) w rest u k h = form_shaped p.draft (next p) w rest u (shapes_lines p.draft k.tied p.mode k.stage) h
+word_shaped (amid d f) w rest u k h = form_shaped d f w rest u k h
+
+-- FROM THE END BACKWARDS
+-- the last line is whole, and so nothing is pending
+whole_lawful : (d : Draft) (mode : Mode) → is_idle mode ≡ true → Shape mode d → IsMap d → IsLawfulDraft d × IsLawfulMode d mode
+whole_lawful d first idle s m = (idle_draft d s.0 m, tt)
+whole_lawful d second idle s m = (idle_draft d s m, tt)
+whole_lawful d begun idle s m = let no : false ≡ true = idle in absurd cc
+whole_lawful d numbered idle s m = let no : false ≡ true = idle in absurd cc
+whole_lawful d (filling any) idle s m = let no : false ≡ true = idle in absurd cc
+whole_lawful d (ruled r) idle s m = let no : false ≡ true = idle in absurd cc
+
+-- where a word leads to what may end lawfully, so may what is due there
+form_before : (d : Draft) (f : Form) (w : List ℕ) (rest : List Word) (u : State) → LeadsFrom d f w rest u → MayEnd u → Possible d f
+form_before d (word r more) w rest u h e = (w, h.0, may_end d rest (more (value d r w)) (subst MayEnd h.1 e))
+form_before d (done p) w rest u h e = absurd h
+form_before d (optional k f g) w rest u h e = absurd h
+form_before d (ahead k f g) w rest u h e = absurd h
+
+-- before a line, and in the middle of one
+state_before : (s : State) (w : List ℕ) (rest : List Word) (u : State) → HasShape s → Leads s w rest u → MayEnd u → MayEnd s
+state_before (between p) w rest u k h e = line_back p.draft k.tied p.mode k.stage (form_before p.draft (next p) w rest u h e)
+state_before (amid d f) w rest u k h e = form_before d f w rest u h e
+
+-- what may end is lawful where a line ends
+ended_lawful : (s : State) → MayEnd s → IsLawfulState s
+ended_lawful (between p) h = h
+ended_lawful (amid d f) h = tt
+
+-- from the last word backwards, all lines end lawfully
+led_back : (s : State) (ws : List Word) (e : Draft) → HasShape s → LeadTo s ws e → IsMap e → MayEnd s × Build s ws e
+led_back (between p) [] e k h m = (whole_lawful p.draft p.mode h.1 k.stage (subst IsMap (sym h.0) m), h)
+led_back (amid d f) [] e k h m = absurd h
+led_back (between p) (w ∷ ws) e k h m = let rest = led_back h.0 ws e (word_shaped (between p) w.text ws h.0 k h.1) h.2 m in (state_before (between p) w.text ws h.0 k h.1 rest.0, (h.0, h.1, ended_lawful h.0 rest.0, rest.1))
+led_back (amid d f) (w ∷ ws) e k h m = let rest = led_back h.0 ws e (word_shaped (amid d f) w.text ws h.0 k h.1) h.2 m in (state_before (amid d f) w.text ws h.0 k h.1 rest.0, (h.0, h.1, ended_lawful h.0 rest.0, rest.1))
+
+-- what is built leads there
+built_leads : (s : State) (ws : List Word) (e : Draft) → Build s ws e → LeadTo s ws e
+built_leads s [] e h = h
+built_leads s (w ∷ ws) e h = (h.0, h.1, built_leads h.0 ws e h.3)
+
+-- nothing was read
+start_shaped : HasShape start
+start_shaped = record {
+  tied = record { parents = All-nil (HasParent []); loose = All-nil IsLoose; taken = All-nil (IsThere []) };
+  stage = (refl, λ _. record { unruled = refl; devices = All-nil (λ (r : Row). r.kind ≡ 0) });
+}
+
+-- so the texts are the same
+pub maps_are_the_lawful_ends : MapsAreTheLawfulEnds
+maps_are_the_lawful_ends bytes s t n = (
+  λ x.
+      let text = (maps_are_the_lawful_texts bytes s t n).0 x in
+      let map = each_map_is_lawful bytes s t n x in
+      record {
+        draft = text.draft;
+        led = built_leads start (words 0 bytes).words text.draft text.built;
+        end = text.end;
+        setting = text.setting;
+        table = text.table;
+        count = text.count;
+        lawful = map.0;
+        fits = map.1;
+      },
+  λ x.
+      let map : IsMap x.draft = record { lawful = subst Lawful (sym x.table) x.lawful; fits = subst (λ (q : SettingData). Fits q x.draft.table) (sym x.setting) (subst (Fits s) (sym x.table) x.fits) } in
+      (maps_are_the_lawful_texts bytes s t n).1 (record { draft = x.draft; built = (led_back start (words 0 bytes).words x.draft start_shaped x.led map).1; end = x.end; setting = x.setting; table = x.table; count = x.count }),
+)

@@ -1,0 +1,75 @@
+-- Lines word by word, and what the builder's call at the end of a line leaves.
+use Rattle.std.proofs.Common.{◌≡◌, ℕ, Bool, true, false, List, Ok, Some, None, refl, sym, ap, ◌∙◌, inl, inr}
+use Rattle.std.specs.Prelude.{codes, if◌then◌else◌}
+use Rattle.crush_units.specs.declared.alg.Alg.{Alg}
+use Rattle.crush_map.specs.Built.{Draft, nothing, with_kind, with_tunable, with_device, with_class_id, with_alg}
+use Rattle.crush_map.specs.Building.{BuilderData, IsDraft}
+use Rattle.crush_bytes.specs.Words.{Text, begins}
+use Rattle.crush_text.specs.declared.limits.TheConstants.{LARGEST_TUNABLE}
+use Rattle.crush_text.specs.declared.fault.TextFault.{TextFault}
+use Rattle.crush_text.specs.Role.{Role, El, key, any_word, number, tunable_name, type_number, type_name, device_id, new_name, bucket_id, id_class, algorithm}
+use Rattle.crush_text.specs.Form.{first, numbered, filling, at, Form, word, optional}
+use Rattle.crush_text.specs.Grammar.{tunable_line, type_line, device_line, device_class, class_id_line, alg_line}
+use Rattle.crush_text.specs.Flow.{◌>>=◌}
+use Rattle.crush_text.specs.Reads.{Fails, IsIdle, word_at, line_at}
+
+-- what leaves the pending part alone leaves the builder between two statements
+pub still_idle : (old new : BuilderData) (d e : Draft) → old.pending ≡ nothing → IsDraft old d → IsDraft new e → e.pending ≡ d.pending → IsIdle new
+still_idle old new d e idle before after same = record { part = after.pending ∙ same ∙ sym before.pending ∙ idle; some = (e, after) }
+
+-- a line whose first word is at fault
+pub word_fails : (d : Draft) (r : Role) (more : El r → Form) (t : Text) (f : TextFault) → Fails f (word_at d r t) → Fails f (line_at d (word r more) t)
+unfolding line_at
+word_fails d r more t f (inl h) = inl h
+word_fails d r more t f (inr h) = inr (ap (λ q. q >>= λ x. line_at d (more x.0) x.1) h)
+
+-- a line that goes on behind its first word
+pub word_reads : (d : Draft) (r : Role) (more : El r → Form) (v : El r) (t rest : Text) → word_at d r t ≡ Ok (v, rest) → line_at d (word r more) t ≡ line_at d (more v) rest
+unfolding line_at
+word_reads d r more v t rest is = ap (λ q. q >>= λ x. line_at d (more x.0) x.1) is
+
+-- an optional part by whether its key is next
+pub part_reads : (d : Draft) (k : List ℕ) (f g : Form) (t : Text) (b : Bool) → b ≡ begins k t → line_at d (optional k f g) t ≡ (if b then line_at d f t else line_at d g t)
+unfolding line_at
+part_reads d k f g t b e = ap (λ (c : Bool). if c then line_at d f t else line_at d g t) (sym e)
+
+-- the line of a tunable
+pub tunable_reads : (d : Draft) (x : List ℕ) (n : ℕ) (t t1 t2 : Text) → word_at d tunable_name t ≡ Ok (x, t1) → word_at d (number LARGEST_TUNABLE) t1 ≡ Ok (n, t2) → line_at d (tunable_line d) t ≡ Ok (at first (with_tunable d x n), t2)
+unfolding line_at
+tunable_reads d x n t t1 t2 a b = rw (a, b) refl
+
+-- the line of a type
+pub type_reads : (d : Draft) (n : ℕ) (x : List ℕ) (t t1 t2 : Text) → word_at d type_number t ≡ Ok (n, t1) → word_at d (type_name n) t1 ≡ Ok (x, t2) → line_at d (type_line d) t ≡ Ok (at first (with_kind d n x), t2)
+unfolding line_at
+type_reads d n x t t1 t2 a b = rw (a, b) refl
+
+-- the line of a device, up to its class
+pub device_reads : (d : Draft) (n : ℕ) (x : List ℕ) (t t1 t2 : Text) → word_at d device_id t ≡ Ok (n, t1) → word_at d new_name t1 ≡ Ok (x, t2) → line_at d (device_line d) t ≡ line_at d (device_class d n x) t2
+unfolding line_at
+device_reads d n x t t1 t2 a b = rw (a, b) refl
+
+-- with its class
+pub class_reads : (d : Draft) (n : ℕ) (x c : List ℕ) (t t1 t2 : Text) → true ≡ begins (codes "class") t → word_at d (key (codes "class")) t ≡ Ok (tt, t1) → word_at d any_word t1 ≡ Ok (c, t2) → line_at d (device_class d n x) t ≡ Ok (at first (with_device d n x (Some c)), t2)
+unfolding line_at
+class_reads d n x c t t1 t2 e a b = rw (← e, a, b) refl
+
+-- and without one
+pub no_class_reads : (d : Draft) (n : ℕ) (x : List ℕ) (t : Text) → false ≡ begins (codes "class") t → line_at d (device_class d n x) t ≡ Ok (at first (with_device d n x None), t)
+unfolding line_at
+no_class_reads d n x t e = rw (← e) refl
+
+-- the line of a class id
+pub class_id_reads : (d : Draft) (b : ℕ) (c : List ℕ) (t t1 t2 t3 : Text) → word_at d bucket_id t ≡ Ok (b, t1) → word_at d (key (codes "class")) t1 ≡ Ok (tt, t2) → word_at d id_class t2 ≡ Ok (c, t3) → line_at d (class_id_line d) t ≡ Ok (at numbered (with_class_id d b c), t3)
+unfolding line_at
+class_id_reads d b c t t1 t2 t3 x y z = rw (x, y, z) refl
+
+-- the line of an algorithm with its hash
+pub hash_reads : (d : Draft) (a : Alg) (z : ℕ) (t t1 t2 t3 : Text) → word_at d algorithm t ≡ Ok (a, t1) → true ≡ begins (codes "hash") t1 → word_at d (key (codes "hash")) t1 ≡ Ok (tt, t2) → word_at d (number 0) t2 ≡ Ok (z, t3)
+    → line_at d (alg_line d) t ≡ Ok (at (filling false) (with_alg d a), t3)
+unfolding line_at
+hash_reads d a z t t1 t2 t3 x e y w = rw (x, ← e, y, w) refl
+
+-- and without one
+pub no_hash_reads : (d : Draft) (a : Alg) (t t1 : Text) → word_at d algorithm t ≡ Ok (a, t1) → false ≡ begins (codes "hash") t1 → line_at d (alg_line d) t ≡ Ok (at (filling false) (with_alg d a), t1)
+unfolding line_at
+no_hash_reads d a t t1 x e = rw (x, ← e) refl
