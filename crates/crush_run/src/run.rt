@@ -73,35 +73,31 @@ fn write_outcome<W: Write>(
 fn run_scripts<W: Write>(
     alloc: Global,
     mode: Mode,
-    job: Job,
+    job: &mut Job,
     writer: &mut W,
 ) -> Result<Summary, RunFault>
-    requires { call_count (scripts_data job.scripts.items) ≤ MOST_CALLS }
-    ensures writes { (read : JobData) → JobStands job read
+    requires { call_count (scripts_data job.old.scripts.items) ≤ MOST_CALLS }
+    ensures writes { (read : JobData) → JobStands job.old read
         → Writes result (W.contents writer.old) (W.contents writer.new)
         (output mode.history read) }
-    ensures summary { IfOk result (λ summary. (read : JobData) → JobStands job read
+    ensures summary { IfOk result (λ summary. (read : JobData) → JobStands job.old read
         → summary ≡ summary_of read) }
     ensures nothing { IfErr result (λ fault. fault ≢ RunFault.Write
         → Keeps (W.contents writer.old) (W.contents writer.new)) }
     ensures fault { IfErr result IsOutcomeFault }
 {
-    let Job {
-        mut map,
-        adjusted,
-        scripts,
-    } = job;
-    let entries = run_in_turn(alloc, &mut map, scripts.as_slice())?;
+    let scripts = job.scripts.as_slice();
+    let entries = run_in_turn(alloc, &mut job.map, scripts)?;
     write_outcome(
         alloc,
         mode.history,
-        &map,
-        scripts.as_slice(),
+        &job.map,
+        scripts,
         entries.as_slice(),
         writer,
     )?;
     Ok(Summary {
-        adjusted,
+        adjusted: job.adjusted,
         calls: entries.len() as u32,
         changes: count_changes(entries.as_slice()),
     })
@@ -143,7 +139,7 @@ pub fn run_job<H: AllocGlobal, R: Read, W: Write>(
     let alloc = rt.alloc();
     let bytes = read_bytes(alloc, reader)?;
     match read_job(alloc, bytes.as_slice()) {
-        Ok(job) => run_scripts(alloc, mode, job, writer),
+        Ok(mut job) => run_scripts(alloc, mode, &mut job, writer),
         Err(fault) => Err(RunFault::from(fault)),
     }
 }

@@ -5,11 +5,13 @@ use crush_report::{RunFault, Summary, report};
 use crush_run::run_job;
 use std::process::Abort;
 
+mod command_lines;
 mod examples;
 mod failing;
 mod limits;
 mod refusals;
 mod replies;
+mod reporting;
 mod runs;
 mod whole;
 mod worked;

@@ -20,3 +20,7 @@ loop-preserved g c = record {
   some = search rules;
   taken = Consumes-piece _ _ _ _ _ _ c.loop.invariant.taken c.in-Ok.ensures.bytes.0 c.in_ok-extend_from_slice-in-Ok.ensures.items;
 }
+
+-- a fault says nothing of bytes
+pub returns-in-Err-clause-bytes : goal.returns-in-Err-clause-bytes
+returns-in-Err-clause-bytes g c = tt

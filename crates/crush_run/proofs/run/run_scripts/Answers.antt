@@ -10,9 +10,7 @@ use Rattle.crush_run.proofs.run.run_scripts.Goals as goal
 
 -- the entries are of the scripts that were run
 pub write_outcome-requires-clause-operators : goal.write_outcome-requires-clause-operators
-write_outcome-requires-clause-operators g c =
-    let scripts = ap length (c.as_slice.ensures.value ∙ sym c.as_slice-2.ensures.value) in
-    subst (AreOf _) (sym c.as_slice-3.ensures.value) (subst (λ n. AreOf n c.in_ok-entries.entries.items) scripts c.in_ok-entries.ensures.operators)
+write_outcome-requires-clause-operators g c = subst (AreOf _) (sym c.as_slice.ensures.value) c.in_ok-entries.ensures.operators
 
 pub returns-in_err-entries-clause-writes : goal.returns-in_err-entries-clause-writes
 returns-in_err-entries-clause-writes g c = λ read stands.
@@ -23,8 +21,8 @@ pub returns-clause-summary : goal.returns-clause-summary
 returns-clause-summary g c = λ read stands.
     let told : history_data c.in_ok-entries.entries.items ≡ history_of read =
     c.in_ok-entries.ensures.entries read.setting read.table stands.map
-    ∙ ap (λ scripts. turns read.setting read.table (scripts_data scripts)) c.as_slice.ensures.value
+    ∙ ap (λ scripts. turns read.setting read.table (scripts_data scripts)) c.as_slice-scripts.ensures.value
     ∙ ap (turns read.setting read.table) stands.scripts in
-    let calls = c.len.ensures ∙ sym c.as_slice-4.ensures.len ∙ ap length c.as_slice-4.ensures.value ∙ sym (length-map c.in_ok-entries.entries.items entry_data) ∙ ap length told in
-    let changed = c.count_changes.ensures ∙ ap (λ entries. changes (history_data entries)) c.as_slice-4.ensures.value ∙ ap changes told in
+    let calls = c.len.ensures ∙ sym c.as_slice-2.ensures.len ∙ ap length c.as_slice-2.ensures.value ∙ sym (length-map c.in_ok-entries.entries.items entry_data) ∙ ap length told in
+    let changed = c.count_changes.ensures ∙ ap (λ entries. changes (history_data entries)) c.as_slice-2.ensures.value ∙ ap changes told in
     λ j. record { adjusted = stands.adjusted j; calls = calls j; changes = changed j }

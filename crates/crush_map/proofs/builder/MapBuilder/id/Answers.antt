@@ -1,4 +1,4 @@
-use Rattle.std.proofs.Common.{subst, sym, ap, ◌∙◌, arith}
+use Rattle.std.proofs.Common.{subst, sym, ap, ◌∙◌, arith, rules}
 use Rattle.crush_map.specs.Pending.{pending_data}
 use Rattle.crush_map.specs.Building.{BuilderData, IsDraft, own_draft}
 use Rattle.crush_map.proofs.Drafts.{own_is_draft}
@@ -10,3 +10,6 @@ invariant_of-self g c =
     let b : BuilderData = record { setting = c.self.inside.setting; forest = c.self.inside.forest; pending = pending_data c.self.inside.pending; adjusted = c.self.inside.adjusted } in
     let at : IsDraft c.args.self.now (own_draft b) = subst (λ (x : BuilderData). IsDraft x (own_draft b)) c.self.view_is (own_is_draft b c.recall_invariant.ensures c.self.invariant) in
     id_fits b c.in-Begun.kind c.in-Begun.name c.args.id c.self.invariant (ap pending_data (sym c.replace.ensures.value ∙ c.in-Begun.is)) (omega arith) (omega arith) (sym (c.if-has_bucket_id.ensures (own_draft b) at))
+
+pub returns-clause-ok : goal.returns-clause-ok
+returns-clause-ok g c = search rules

@@ -1,5 +1,6 @@
 //! What standard error is told, and standard output where help is asked for.
 
+use crate::tests::is_told;
 use crush_bytes::WriteFault;
 use crush_options::OptionsFault;
 use crush_report::{RunFault, Summary, report, tell};
@@ -8,17 +9,6 @@ use crush_text::{TextFault, TextFaultKind};
 use std::alloc::AllocError;
 use std::io::{self, ErrorKind, Write};
 use std::test::Fail;
-
-/// Whether standard error is told this line of an outcome, and the program ends with this status.
-fn is_told(
-    rt: &impl AllocGlobal,
-    outcome: &Result<Summary, RunFault>,
-    line: &[u8],
-    status: u8,
-) -> bool {
-    let mut err = Vec::new(rt.alloc());
-    report(outcome, &mut err) == status && err.as_slice() == line
-}
 
 #[test]
 fn reports_each_outcome(rt: HostRuntime) {
