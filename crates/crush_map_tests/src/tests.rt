@@ -9,7 +9,6 @@ mod full;
 mod lacking;
 mod memory;
 mod others;
-mod owning;
 mod placing;
 mod refusing;
 mod reweighting;
