@@ -11,9 +11,9 @@ use std::process::Abort;
 
 /// What is told of a device. Asserts that it is there if it is taken.
 fn device(rt: &impl Abort, builder: &mut MapBuilder<&LocalHeap>) -> Result<(), BuildFault> {
-    let told = make(rt, builder, Statement::Device(0, "osd.0"));
-    assert!(rt; told.is_err() || builder.has_name(b"osd.0"));
-    told
+    make(rt, builder, Statement::Device(0, "osd.0"))?;
+    assert!(rt; builder.has_name(b"osd.0"));
+    Ok(())
 }
 
 /// What is told of a device in a heap of so many bytes.

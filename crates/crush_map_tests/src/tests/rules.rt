@@ -93,11 +93,7 @@ fn refuses_rules(
         let told = add_rule(rt, alloc, builder, rule.name, rule.id, rule.steps);
         let part = rule.part;
         let fault = rule.fault;
-        assert!(rt;
-            told == Err(RuleFault { part, fault }),
-            "rule {place}, {}: {told:?}",
-            rule.name
-        );
+        assert!(rt; told == Err(RuleFault { part, fault }), "rule {place}");
     }
 }
 
@@ -121,6 +117,7 @@ const ONE_MORE: &[Faulty] = &[Faulty {
 fn takes_rule(rt: &impl Abort, alloc: Global, builder: &mut MapBuilder<Global>, id: u32) {
     let name = format!(in alloc; "r{id}").expect(rt, "memory");
     let told = add_rule(rt, alloc, builder, name.as_str(), id, &[]);
+    drop(name);
     assert!(rt; told.is_ok());
 }
 
