@@ -1,5 +1,8 @@
 //! The plain example map made statement by statement, in the machine's memory and in small heaps,
 //! what it tells, and its edits.
+//!
+//! What owns a map, a builder or an edit lets it go by `drop`: its parts are then taken apart in one
+//! place, and not in the proof of each function that owns one.
 
 mod asking;
 mod batches;
@@ -9,7 +12,6 @@ mod full;
 mod lacking;
 mod memory;
 mod others;
-mod owning;
 mod placing;
 mod refusing;
 mod reweighting;

@@ -1,9 +1,10 @@
 //! Worked lines: an edit as it is asked, what it is answered, and what is then true of the map.
 
-use crate::tests::building::example_map;
-use crate::tests::owning::with;
+use crate::tests::building::{bucket, map_of};
+use crate::tests::statements::Statement;
 use crush_map::{BatchFault, CrushMap, Done, Dones, Edit, EditFault, Location, Refusal};
 use crush_tree::Node;
+use crush_units::limits::MOST_EDITS;
 use crush_units::{DeviceId, ItemId, Name, Weight};
 use std::alloc::{Allocator, Global};
 use std::process::Abort;
@@ -37,6 +38,16 @@ pub(super) enum Fact {
     IsRoot(&'static str),
     /// No item has this name.
     IsAbsent(&'static str),
+    /// The item of this name weighs so much.
+    Weighs(&'static str, u32),
+    /// The device of this name has this class.
+    HasClass(&'static str, &'static str),
+    /// All placed devices weigh so much.
+    Total(u64),
+    /// There are so many devices and so many buckets.
+    Counts(u32, u32),
+    /// A rule takes the bucket with the id of this number.
+    IsTaken(i32),
 }
 
 /// An edit, its answer, and what is then true of the map.
@@ -176,7 +187,7 @@ fn holds<A: Allocator>(map: &CrushMap<A>, bucket: &str, items: &[&str]) -> bool 
 }
 
 /// Whether the item of this name has the id of this number.
-pub(super) fn has_id<A: Allocator>(map: &CrushMap<A>, item: &str, number: i32) -> bool {
+fn has_id<A: Allocator>(map: &CrushMap<A>, item: &str, number: i32) -> bool {
     match map.locate(item) {
         Some(id) => id.number() == number,
         None => false,
@@ -191,15 +202,39 @@ fn is_root<A: Allocator>(map: &CrushMap<A>, bucket: &str) -> bool {
         .any(|node| name_of(node) == bucket)
 }
 
+/// Whether the item of this name weighs so many units.
+fn weighs<A: Allocator>(map: &CrushMap<A>, item: &str, units: u32) -> bool {
+    map.weight_of(item) == Some(Weight::from_units(units))
+}
+
+/// Whether the device of this name has this class.
+fn has_class<A: Allocator>(map: &CrushMap<A>, device: &str, class: &str) -> bool {
+    match map.locate(device) {
+        Some(id) => map.forest().class(id) == Some(class),
+        None => false,
+    }
+}
+
+/// Whether there are so many devices and so many buckets.
+fn counts<A: Allocator>(map: &CrushMap<A>, devices: u32, buckets: u32) -> bool {
+    let counts = map.counts();
+    counts.devices == devices && counts.buckets == buckets
+}
+
 /// Whether it is true of the map.
-fn is_true_of<A: Allocator>(map: &CrushMap<A>, fact: Fact) -> bool {
+fn is_true_of<A: Allocator>(rt: &impl Abort, map: &CrushMap<A>, fact: Fact) -> bool {
     match fact {
         Fact::Holds(bucket, items, units) => {
-            holds(map, bucket, items) && map.weight_of(bucket) == Some(Weight::from_units(units))
+            holds(map, bucket, items) && weighs(map, bucket, units)
         }
         Fact::HasId(item, number) => has_id(map, item, number),
         Fact::IsRoot(bucket) => is_root(map, bucket),
-        Fact::IsAbsent(item) => map.locate(item).is_none(),
+        Fact::IsAbsent(item) => map.locate(item).is_none() && map.weight_of(item).is_none(),
+        Fact::Weighs(item, units) => weighs(map, item, units),
+        Fact::HasClass(device, class) => has_class(map, device, class),
+        Fact::Total(units) => map.total() == units && map.forest().total() == units,
+        Fact::Counts(devices, buckets) => counts(map, devices, buckets),
+        Fact::IsTaken(number) => map.setting().takes(bucket(rt, number)),
     }
 }
 
@@ -211,22 +246,30 @@ pub(super) fn are_true_of<A: Allocator>(
     facts: &[Fact],
 ) {
     for fact in facts {
-        assert!(rt; is_true_of(map, *fact), "line {place}");
+        assert!(rt; is_true_of(rt, map, *fact), "line {place}");
     }
 }
 
-/// What a map in the machine's memory answers to an edit.
-pub(super) fn told(
-    rt: &impl Abort,
-    alloc: Global,
-    map: &mut CrushMap<Global>,
-    asked: Asked,
-) -> Result<Done, Refusal> {
-    match with(edit(rt, alloc, asked), |edit| map.apply(edit)) {
+/// The answer where memory doesn't lack.
+fn with_memory(rt: &impl Abort, told: Result<Done, EditFault>) -> Result<Done, Refusal> {
+    match told {
         Ok(done) => Ok(done),
         Err(EditFault::Refused(refusal)) => Err(refusal),
         Err(EditFault::OutOfMemory) => panic!(rt; "out of memory"),
     }
+}
+
+/// What a map answers to an edit for which memory doesn't lack.
+pub(super) fn told<A: Allocator + Clone>(
+    rt: &impl Abort,
+    alloc: Global,
+    map: &mut CrushMap<A>,
+    asked: Asked,
+) -> Result<Done, Refusal> {
+    let edit = edit(rt, alloc, asked);
+    let told = map.apply(&edit);
+    drop(edit);
+    with_memory(rt, told)
 }
 
 /// What a map answers to an edit, and whether its items are then as they were.
@@ -236,10 +279,11 @@ fn told_and_same(
     map: &mut CrushMap<Global>,
     asked: Asked,
 ) -> (Result<Done, Refusal>, bool) {
-    with(map.try_copy().expect(rt, "memory"), |before| {
-        let told = told(rt, alloc, map, asked);
-        (told, map.forest().is_same(before.forest()))
-    })
+    let before = map.try_copy().expect(rt, "memory");
+    let told = told(rt, alloc, map, asked);
+    let same = map.forest().is_same(before.forest());
+    drop(before);
+    (told, same)
 }
 
 /// Whether the answer says that the map is another.
@@ -263,40 +307,65 @@ pub(super) fn makes(rt: &impl Abort, alloc: Global, map: &mut CrushMap<Global>, 
     }
 }
 
-/// Makes the edits of each group of lines on the plain example map.
-pub(super) fn makes_each(rt: &impl Abort, alloc: Global, groups: &[&[Line]]) {
+/// Asserts what is true of a map of these statements.
+pub(super) fn are_true_on(rt: &impl Abort, alloc: Global, parts: &[&[Statement]], facts: &[Fact]) {
+    let map = map_of(rt, alloc, parts);
+    are_true_of(rt, &map, 0, facts);
+    drop(map);
+}
+
+/// Makes the edits of the lines on a map of these statements.
+pub(super) fn makes_on(rt: &impl Abort, alloc: Global, parts: &[&[Statement]], lines: &[Line]) {
+    let mut map = map_of(rt, alloc, parts);
+    makes(rt, alloc, &mut map, lines);
+    drop(map);
+}
+
+/// Makes the edits of each group of lines on a map of these statements.
+pub(super) fn makes_each(
+    rt: &impl Abort,
+    alloc: Global,
+    parts: &[&[Statement]],
+    groups: &[&[Line]],
+) {
     for lines in groups {
-        with(example_map(rt, alloc), |map| makes(rt, alloc, map, lines));
+        makes_on(rt, alloc, parts, lines);
     }
 }
 
-/// Makes a batch of at most 65,536 edits.
+/// Makes a batch that isn't longer than one may be.
 pub(super) fn make_batch<A: Allocator + Clone>(
     rt: &impl Abort,
     map: &mut CrushMap<A>,
     edits: &[Edit],
 ) -> Result<Dones, BatchFault> {
-    assert!(rt; edits.len() <= 65536);
+    assert!(rt; edits.len() <= MOST_EDITS);
     map.apply_batch(edits)
 }
 
-/// What a map answers to a batch. Asserts that it is as it was where no edit changed it, and so
-/// where the batch is refused.
-pub(super) fn told_of_batch(
+/// What a map in the machine's memory answers to a batch.
+fn answer_to_batch(
     rt: &impl Abort,
     alloc: Global,
     map: &mut CrushMap<Global>,
     asked: &[Asked],
 ) -> Result<Dones, BatchFault> {
-    with(map.try_copy().expect(rt, "memory"), |before| {
-        let told = with(edits(rt, alloc, asked), |edits| {
-            make_batch(rt, map, edits.as_slice())
-        });
-        let changed = match told {
-            Ok(dones) => dones.changed > 0,
-            Err(_) => false,
-        };
-        assert!(rt; changed || map.forest().is_same(before.forest()));
-        told
-    })
+    let edits = edits(rt, alloc, asked);
+    let told = make_batch(rt, map, edits.as_slice());
+    drop(edits);
+    told
+}
+
+/// What a map answers to a batch, and whether its items are then as they were.
+pub(super) fn told_of_batch_and_same(
+    rt: &impl Abort,
+    alloc: Global,
+    map: &mut CrushMap<Global>,
+    asked: &[Asked],
+) -> (Result<Dones, BatchFault>, bool) {
+    let before = map.try_copy().expect(rt, "memory");
+    let told = answer_to_batch(rt, alloc, map, asked);
+    let same = map.forest().is_same(before.forest());
+    drop(before);
+    (told, same)
 }

@@ -1,7 +1,6 @@
 //! The plain example map, statement by statement.
 
-use crate::tests::asking::has_id;
-use crate::tests::owning::with;
+use crate::tests::asking::{Fact, are_true_of};
 use crate::tests::statements::{Statement, empty, finish, refuses, takes, takes_all};
 use crush_map::{BuildFault, CrushMap, MapBuilder, Setting};
 use crush_units::{BucketId, DeviceId, ItemId, TypeId, Weight};
@@ -68,7 +67,7 @@ pub(super) fn map_of(rt: &impl Abort, alloc: Global, parts: &[&[Statement]]) -> 
 }
 
 /// The statements of the plain example map.
-const PLAIN: &[&[Statement]] = &[TYPES_AND_DEVICES, FIRST_HOST, OTHER_BUCKETS];
+pub(super) const PLAIN: &[&[Statement]] = &[TYPES_AND_DEVICES, FIRST_HOST, OTHER_BUCKETS];
 
 /// The plain example map.
 pub(super) fn example_map(rt: &impl Abort, alloc: Global) -> CrushMap<Global> {
@@ -79,50 +78,31 @@ pub(super) fn example_map(rt: &impl Abort, alloc: Global) -> CrushMap<Global> {
 const SPARE: &[Statement] = &[Statement::Device(9, "osd.9")];
 
 /// The statements of the plain example map with the unplaced device osd.9.
-const WITH_SPARE: &[&[Statement]] = &[TYPES_AND_DEVICES, SPARE, FIRST_HOST, OTHER_BUCKETS];
-
-/// The plain example map with the unplaced device osd.9.
-pub(super) fn map_with_spare(rt: &impl Abort, alloc: Global) -> CrushMap<Global> {
-    map_of(rt, alloc, WITH_SPARE)
-}
-
-/// Asserts what the item of this name weighs, in units.
-pub(super) fn weighs(rt: &impl Abort, map: &CrushMap<Global>, name: &str, units: u32) {
-    assert!(rt;
-        map.weight_of(name) == Some(Weight::from_units(units)),
-        "at {name}"
-    );
-}
-
-/// The names of the plain example map's items, with their numbers and weights in units.
-const ITEMS: &[(&str, i32, u32)] = &[
-    ("osd.0", 0, 65536),
-    ("osd.1", 1, 65536),
-    ("osd.2", 2, 32768),
-    ("h1", -2, 131072),
-    ("h2", -3, 32768),
-    ("default", -1, 163840),
+pub(super) const WITH_SPARE: &[&[Statement]] = &[
+    TYPES_AND_DEVICES,
+    SPARE,
+    FIRST_HOST,
+    OTHER_BUCKETS,
 ];
 
-#[test]
-fn the_plain_example_map_is_made(rt: HostRuntime) {
-    with(example_map(&rt, rt.alloc()), |map| {
-        for (name, number, units) in ITEMS {
-            assert!(rt; has_id(map, name, *number), "at {name}");
-            weighs(&rt, map, name, *units);
-        }
-        assert!(rt; map.locate("h3").is_none() && map.weight_of("h3").is_none());
-    });
-}
-
-#[test]
-fn the_plain_example_map_is_counted(rt: HostRuntime) {
-    with(example_map(&rt, rt.alloc()), |map| {
-        let counts = map.counts();
-        assert!(rt; counts.devices == 3 && counts.buckets == 3);
-        assert!(rt; map.total() == 163840 && map.forest().total() == 163840);
-    });
-}
+/// What is true of the plain example map.
+const MADE: &[Fact] = &[
+    Fact::HasId("osd.0", 0),
+    Fact::Weighs("osd.0", 65536),
+    Fact::HasId("osd.1", 1),
+    Fact::Weighs("osd.1", 65536),
+    Fact::HasId("osd.2", 2),
+    Fact::Weighs("osd.2", 32768),
+    Fact::HasId("h1", -2),
+    Fact::Weighs("h1", 131072),
+    Fact::HasId("h2", -3),
+    Fact::Weighs("h2", 32768),
+    Fact::HasId("default", -1),
+    Fact::Weighs("default", 163840),
+    Fact::IsAbsent("h3"),
+    Fact::Counts(3, 3),
+    Fact::Total(163840),
+];
 
 /// Whether a type has this number and this name, and is found by both.
 fn is_type(setting: &Setting, number: u16, name: &str) -> bool {
@@ -137,49 +117,66 @@ fn is_type(setting: &Setting, number: u16, name: &str) -> bool {
 /// The plain example map's types in order.
 const KINDS: &[(u16, &str)] = &[(0, "osd"), (1, "host"), (3, "rack"), (11, "root")];
 
+/// Whether the setting has four types, and none of another name or number.
+fn has_no_other_type(setting: &Setting) -> bool {
+    setting.kinds().len() == KINDS.len()
+        && setting.kind_number(b"row").is_none()
+        && setting.kind_name(TypeId::new(2)).is_none()
+}
+
 /// Asserts that the types are those of the plain example map.
 pub(super) fn has_the_types(rt: &impl Abort, setting: &Setting) {
-    assert!(rt; setting.kinds().len() == KINDS.len());
     for (own, (number, name)) in setting.kinds().keys().zip(KINDS) {
-        assert!(rt;
-            own.number() == *number && is_type(setting, *number, name),
-            "at {name}"
-        );
+        assert!(rt; own.number() == *number && is_type(setting, *number, name));
     }
-    assert!(rt;
-        setting.kind_number(b"row").is_none() && setting.kind_name(TypeId::new(2)).is_none()
-    );
+    assert!(rt; has_no_other_type(setting));
 }
 
 #[test]
-fn the_types_of_the_plain_example_map(rt: HostRuntime) {
-    with(example_map(&rt, rt.alloc()), |map| {
-        has_the_types(&rt, map.setting());
-    });
+fn the_plain_example_map_is_made(rt: HostRuntime) {
+    let map = example_map(&rt, rt.alloc());
+    are_true_of(&rt, &map, 0, MADE);
+    has_the_types(&rt, map.setting());
+    drop(map);
+}
+
+/// Whether the types are there that were declared.
+fn has_declared_types(builder: &MapBuilder<Global>) -> bool {
+    let (osd, none, rack) = (TypeId::new(0), TypeId::new(2), TypeId::new(3));
+    builder.has_kind_number(rack)
+        && !builder.has_kind_number(none)
+        && builder.has_kind_name(b"rack")
+        && !builder.has_kind_name(b"row")
+        && !builder.is_bucket_kind(osd)
+        && !builder.is_bucket_kind(none)
 }
 
 #[test]
 fn types_that_were_declared(rt: HostRuntime) {
-    with(types_and_devices(&rt, rt.alloc()), |builder| {
-        let (osd, none, rack) = (TypeId::new(0), TypeId::new(2), TypeId::new(3));
-        assert!(rt; builder.has_kind_number(rack) && !builder.has_kind_number(none));
-        assert!(rt; builder.has_kind_name(b"rack") && !builder.has_kind_name(b"row"));
-        assert!(rt; !builder.is_bucket_kind(osd) && !builder.is_bucket_kind(none));
-    });
+    let builder = types_and_devices(&rt, rt.alloc());
+    let are_declared = has_declared_types(&builder);
+    drop(builder);
+    assert!(rt; are_declared);
+}
+
+/// Whether names and ids are taken by the devices and the host h1, and by nothing else.
+fn has_names_and_ids(rt: &impl Abort, builder: &MapBuilder<Global>) -> bool {
+    builder.has_name(b"osd.2")
+        && builder.has_name(b"h1")
+        && !builder.has_name(b"rack")
+        && builder.has_device(device(rt, 2))
+        && !builder.has_device(device(rt, 3))
+        && builder.has_bucket_id(bucket(rt, -2))
+        && !builder.has_bucket_id(bucket(rt, -1))
 }
 
 #[test]
 fn names_and_ids_that_are_taken(rt: HostRuntime) {
-    with(types_and_devices(&rt, rt.alloc()), |builder| {
-        takes_all(&rt, builder, HOST);
-        assert!(rt;
-            builder.has_name(b"osd.2") && builder.has_name(b"h1") && !builder.has_name(b"rack")
-        );
-        let (there, absent) = (device(&rt, 2), device(&rt, 3));
-        assert!(rt; builder.has_device(there) && !builder.has_device(absent));
-        let (taken, free) = (bucket(&rt, -2), bucket(&rt, -1));
-        assert!(rt; builder.has_bucket_id(taken) && !builder.has_bucket_id(free));
-    });
+    let mut builder = types_and_devices(&rt, rt.alloc());
+    takes_all(&rt, &mut builder, HOST);
+    let are_taken = has_names_and_ids(&rt, &builder);
+    drop(builder);
+    assert!(rt; are_taken);
 }
 
 /// The device of this number.
@@ -190,6 +187,28 @@ fn device(rt: &impl Abort, number: i32) -> DeviceId {
 /// The bucket of this number.
 pub(super) fn bucket(rt: &impl Abort, number: i32) -> BucketId {
     BucketId::new(number).expect(rt, "a bucket")
+}
+
+/// What a bucket has between its beginning and its items.
+const NUMBERED: &[Statement] = &[Statement::Id(-2), Statement::Alg];
+
+/// Whether the host h1 is no item before its end, beside a device that is one.
+fn is_open(rt: &impl Abort, builder: &MapBuilder<Global>) -> bool {
+    !builder.is_idle()
+        && builder.item_named(b"h1") == Err(BuildFault::UnknownItem)
+        && builder.item_named(b"osd.0") == Ok(ItemId::Device(device(rt, 0)))
+}
+
+/// A bucket has its name once it has begun, and is no item before its end.
+#[test]
+fn a_bucket_that_is_open(rt: HostRuntime) {
+    let mut builder = types_and_devices(&rt, rt.alloc());
+    takes(&rt, &mut builder, Statement::Begin("host", "h1"));
+    let is_named = builder.has_name(b"h1");
+    takes_all(&rt, &mut builder, NUMBERED);
+    let is_no_item = is_open(&rt, &builder);
+    drop(builder);
+    assert!(rt; is_named && is_no_item);
 }
 
 /// Asserts what the item of this name weighs so far, in units, and whether a bucket holds it.
@@ -203,33 +222,17 @@ fn weighs_now(rt: &impl Abort, builder: &MapBuilder<Global>, name: &str, units: 
     );
 }
 
-/// What a bucket has between its beginning and its items.
-const NUMBERED: &[Statement] = &[Statement::Id(-2), Statement::Alg];
-
-/// A bucket has its name once it has begun, and is no item before its end.
-#[test]
-fn a_bucket_that_is_open(rt: HostRuntime) {
-    with(types_and_devices(&rt, rt.alloc()), |builder| {
-        takes(&rt, builder, Statement::Begin("host", "h1"));
-        assert!(rt; builder.has_name(b"h1"));
-        takes_all(&rt, builder, NUMBERED);
-        assert!(rt; !builder.is_idle());
-        assert!(rt; builder.item_named(b"h1") == Err(BuildFault::UnknownItem));
-        assert!(rt; builder.item_named(b"osd.0") == Ok(ItemId::Device(device(&rt, 0))));
-    });
-}
-
 /// A device weighs what its host says, and so does the host.
 #[test]
 fn an_item_is_held_once(rt: HostRuntime) {
-    with(types_and_devices(&rt, rt.alloc()), |builder| {
-        takes_all(&rt, builder, HOST);
-        weighs_now(&rt, builder, "osd.0", 0, false);
-        takes(&rt, builder, Statement::Item("osd.0", 65536));
-        weighs_now(&rt, builder, "osd.0", 65536, true);
-        takes(&rt, builder, Statement::End);
-        weighs_now(&rt, builder, "h1", 65536, false);
-    });
+    let mut builder = types_and_devices(&rt, rt.alloc());
+    takes_all(&rt, &mut builder, HOST);
+    weighs_now(&rt, &builder, "osd.0", 0, false);
+    takes(&rt, &mut builder, Statement::Item("osd.0", 65536));
+    weighs_now(&rt, &builder, "osd.0", 65536, true);
+    takes(&rt, &mut builder, Statement::End);
+    weighs_now(&rt, &builder, "h1", 65536, false);
+    drop(builder);
 }
 
 /// Two of the heaviest devices.
@@ -241,12 +244,12 @@ const HEAVIEST: &[Statement] = &[
 /// A host takes two of the heaviest devices and not two units more.
 #[test]
 fn two_of_the_heaviest_devices_fit_a_host(rt: HostRuntime) {
-    with(types_and_devices(&rt, rt.alloc()), |builder| {
-        takes_all(&rt, builder, HOST);
-        takes_all(&rt, builder, HEAVIEST);
-        let third = Statement::Item("osd.2", 2);
-        refuses(&rt, builder, third, BuildFault::SumTooLarge);
-    });
+    let mut builder = types_and_devices(&rt, rt.alloc());
+    takes_all(&rt, &mut builder, HOST);
+    takes_all(&rt, &mut builder, HEAVIEST);
+    let third = Statement::Item("osd.2", 2);
+    refuses(&rt, &mut builder, third, BuildFault::SumTooLarge);
+    drop(builder);
 }
 
 /// Makes the type tN, where N is its number.
@@ -257,12 +260,13 @@ fn takes_type(rt: &impl Abort, alloc: Global, builder: &mut MapBuilder<Global>, 
 
 #[test]
 fn at_most_256_types(rt: HostRuntime) {
-    with(empty(&rt, rt.alloc()), |builder| {
-        for number in 0..256 {
-            takes_type(&rt, rt.alloc(), builder, number);
-        }
-        assert!(rt; builder.is_full_of_kinds());
-        let one_more = Statement::Type(256, "osd");
-        refuses(&rt, builder, one_more, BuildFault::TooMany);
-    });
+    let mut builder = empty(&rt, rt.alloc());
+    for number in 0..256 {
+        takes_type(&rt, rt.alloc(), &mut builder, number);
+    }
+    let is_full = builder.is_full_of_kinds();
+    let one_more = Statement::Type(256, "osd");
+    refuses(&rt, &mut builder, one_more, BuildFault::TooMany);
+    drop(builder);
+    assert!(rt; is_full);
 }

@@ -1,7 +1,7 @@
 //! What speaks against a statement, and weights that are adjusted.
 
-use crate::tests::building::{HOST, types_and_devices};
-use crate::tests::owning::with;
+use crate::tests::asking::{Fact, are_true_on};
+use crate::tests::building::{HOST, TYPES_AND_DEVICES, types_and_devices};
 use crate::tests::statements::{Statement, finish, refuses, refuses_all, takes, takes_all};
 use crush_map::BuildFault;
 
@@ -49,12 +49,12 @@ const TWO_HOSTS: &[Statement] = &[
 
 #[test]
 fn names_and_numbers_that_are_taken(rt: HostRuntime) {
-    with(types_and_devices(&rt, rt.alloc()), |builder| {
-        refuses_all(&rt, builder, REFUSED);
-        takes_all(&rt, builder, TWO_HOSTS);
-        let taken = Statement::Id(-2);
-        refuses(&rt, builder, taken, BuildFault::DuplicateId);
-    });
+    let mut builder = types_and_devices(&rt, rt.alloc());
+    refuses_all(&rt, &mut builder, REFUSED);
+    takes_all(&rt, &mut builder, TWO_HOSTS);
+    let taken = Statement::Id(-2);
+    refuses(&rt, &mut builder, taken, BuildFault::DuplicateId);
+    drop(builder);
 }
 
 /// The item that the host h1 holds, and the host itself.
@@ -66,13 +66,13 @@ const TWICE_AND_ITSELF: &[(Statement, BuildFault)] = &[
 /// A bucket takes no item that is too heavy, held already, or the bucket itself.
 #[test]
 fn items_that_are_not_taken(rt: HostRuntime) {
-    with(types_and_devices(&rt, rt.alloc()), |builder| {
-        takes_all(&rt, builder, HOST);
-        let heavy = Statement::Item("osd.0", 2147483648);
-        refuses(&rt, builder, heavy, BuildFault::BadWeight);
-        takes(&rt, builder, Statement::ItemAsItIs("osd.0"));
-        refuses_all(&rt, builder, TWICE_AND_ITSELF);
-    });
+    let mut builder = types_and_devices(&rt, rt.alloc());
+    takes_all(&rt, &mut builder, HOST);
+    let heavy = Statement::Item("osd.0", 2147483648);
+    refuses(&rt, &mut builder, heavy, BuildFault::BadWeight);
+    takes(&rt, &mut builder, Statement::ItemAsItIs("osd.0"));
+    refuses_all(&rt, &mut builder, TWICE_AND_ITSELF);
+    drop(builder);
 }
 
 /// Three hosts, and the root that holds them, but for the last of them.
@@ -103,22 +103,23 @@ const ROOT: &[Statement] = &[
 fn written_weights_of_buckets_are_adjusted(rt: HostRuntime) {
     let mut builder = types_and_devices(&rt, rt.alloc());
     takes_all(&rt, &mut builder, ROOT);
-    assert!(rt; builder.adjusted() == 0);
+    let before = builder.adjusted();
     takes(&rt, &mut builder, Statement::Item("h3", 65537));
-    assert!(rt; builder.adjusted() == 1);
+    let after = builder.adjusted();
     takes(&rt, &mut builder, Statement::End);
-    with(finish(&rt, builder), |map| {
-        assert!(rt; map.total() == 196608);
-    });
+    let map = finish(&rt, builder);
+    let total = map.total();
+    drop(map);
+    assert!(rt; before == 0 && after == 1 && total == 196608);
 }
+
+/// A device with a class.
+const OF_CLASS: &[Statement] = &[Statement::DeviceOfClass(9, "osd.9", "ssd")];
+
+/// What is true of it.
+const CLASSED: &[Fact] = &[Fact::HasClass("osd.9", "ssd")];
 
 #[test]
 fn a_device_of_a_class(rt: HostRuntime) {
-    let mut builder = types_and_devices(&rt, rt.alloc());
-    let classed = Statement::DeviceOfClass(9, "osd.9", "ssd");
-    takes(&rt, &mut builder, classed);
-    with(finish(&rt, builder), |map| {
-        let id = map.locate("osd.9").expect(&rt, "a device");
-        assert!(rt; map.forest().class(id) == Some("ssd"));
-    });
+    are_true_on(&rt, rt.alloc(), &[TYPES_AND_DEVICES, OF_CLASS], CLASSED);
 }

@@ -1,8 +1,7 @@
 //! Edits and batches for which memory lacks at each of their growths: the map is then as before,
 //! and the same call, made again where there is memory, answers and does as ever.
 
-use crate::tests::asking::{Asked, Fact, are_true_of, edit, edits, make_batch};
-use crate::tests::owning::with;
+use crate::tests::asking::{Asked, CHANGED, Fact, are_true_of, edits, make_batch, told};
 use crate::tests::whole::{has_the_setting, whole_example_map, whole_example_map_in};
 use crush_map::{BatchFault, CrushMap, Done, Dones, Edit, EditFault, Refusal};
 use linked_list_allocator::LocalHeap;
@@ -82,14 +81,36 @@ fn is_made(rt: &impl Abort, map: &CrushMap<&LocalHeap>, place: usize, call: &Cal
 
 /// Asserts that the map is the example map.
 fn is_the_example_map(rt: &impl Abort, alloc: Global, map: &CrushMap<&LocalHeap>) {
-    with(whole_example_map(rt, alloc), |whole| {
-        assert!(rt; map.forest().is_same(whole.forest()));
-    });
     has_the_setting(rt, map.setting());
+    let whole = whole_example_map(rt, alloc);
+    let same = map.forest().is_same(whole.forest());
+    drop(whole);
+    assert!(rt; same);
+}
+
+/// Whether memory lacked for the call, which was answered so. The map is then as before. With memory
+/// again the same call is made.
+fn lacked(
+    rt: &impl Abort,
+    alloc: Global,
+    map: &mut CrushMap<&LocalHeap>,
+    place: usize,
+    call: &Call,
+    edits: &[Edit],
+    told: Told,
+) -> bool {
+    let lacks = is_want_of_memory(told);
+    let mut made = told;
+    if lacks {
+        is_the_example_map(rt, alloc, map);
+        made = answer(rt, map, edits);
+    }
+    is_made(rt, map, place, call, made);
+    lacks
 }
 
 /// Whether memory lacks for the call on the example map in a heap whose largest piece is then
-/// `spare` bytes. The map is then as before. With memory again the same call is made.
+/// `spare` bytes.
 fn lacks_with(
     rt: &impl Abort,
     alloc: Global,
@@ -99,31 +120,20 @@ fn lacks_with(
     edits: &[Edit],
 ) -> bool {
     let heap = LocalHeap::new(alloc, HEAP).expect(rt, "a heap");
-    let map = whole_example_map_in(rt, alloc, &heap).expect(rt, "a map");
-    with(map, |map| {
-        let mut told = answer_with(rt, &heap, spare, map, edits);
-        let lacks = is_want_of_memory(told);
-        if lacks {
-            is_the_example_map(rt, alloc, map);
-            told = answer(rt, map, edits);
-        }
-        is_made(rt, map, place, call, told);
-        lacks
-    })
+    let mut map = whole_example_map_in(rt, alloc, &heap).expect(rt, "a map");
+    let told = answer_with(rt, &heap, spare, &mut map, edits);
+    let lacks = lacked(rt, alloc, &mut map, place, call, edits, told);
+    drop(map);
+    lacks
 }
 
-/// How often memory lacks for the call in a heap that has hardly any memory left, then 64 bytes
-/// more, and so on until there is enough.
-fn times_lacking(
-    rt: &impl Abort,
-    alloc: Global,
-    place: usize,
-    call: &Call,
-    edits: &[Edit],
-) -> usize {
+/// Asserts how often memory lacks at least for the call in a heap that has hardly any memory left,
+/// then 64 bytes more, and so on until there is enough.
+fn lacks_often(rt: &impl Abort, alloc: Global, place: usize, call: &Call, edits: &[Edit]) {
     for times in 0..256 {
         if !lacks_with(rt, alloc, 64 * times, place, call, edits) {
-            return times;
+            assert!(rt; times >= call.least, "call {place}");
+            return;
         }
     }
     panic!(rt; "no heap has enough memory")
@@ -208,10 +218,9 @@ const REFUSED: Call = Call {
 #[test]
 fn memory_lacks_at_each_growth(rt: HostRuntime) {
     for (place, call) in CALLS.iter().enumerate() {
-        with(edits(&rt, rt.alloc(), call.asked), |edits| {
-            let times = times_lacking(&rt, rt.alloc(), place, call, edits.as_slice());
-            assert!(rt; times >= call.least, "call {place}");
-        });
+        let edits = edits(&rt, rt.alloc(), call.asked);
+        lacks_often(&rt, rt.alloc(), place, call, edits.as_slice());
+        drop(edits);
     }
 }
 
@@ -230,23 +239,22 @@ const EXCHANGED: &[Fact] = &[
 /// Asserts that each edit changes the map.
 fn are_changes(rt: &impl Abort, alloc: Global, map: &mut CrushMap<&LocalHeap>, all: &[Asked]) {
     for asked in all {
-        let told = with(edit(rt, alloc, *asked), |edit| map.apply(edit));
-        let done = Done {
-            changed: true,
-            made: 0,
-        };
-        assert!(rt; told == Ok(done));
+        assert!(rt; told(rt, alloc, map, *asked) == CHANGED);
     }
+}
+
+/// Asserts that both are made where the heap has no large piece.
+fn lacks_none(rt: &impl Abort, alloc: Global, heap: &LocalHeap, map: &mut CrushMap<&LocalHeap>) {
+    let size = largest_piece(heap);
+    let _ballast: Vec<u8, &LocalHeap> = Vec::with_capacity(heap, size).expect(rt, "a piece");
+    are_changes(rt, alloc, map, NO_GROWTH);
+    are_true_of(rt, map, NO_GROWTH.len(), EXCHANGED);
 }
 
 #[test]
 fn exchanges_and_removals_lack_none(rt: HostRuntime) {
     let heap = LocalHeap::new(rt.alloc(), HEAP).expect(&rt, "a heap");
-    let map = whole_example_map_in(&rt, rt.alloc(), &heap).expect(&rt, "a map");
-    with(map, |map| {
-        let size = largest_piece(&heap);
-        let _ballast: Vec<u8, &LocalHeap> = Vec::with_capacity(&heap, size).expect(&rt, "a piece");
-        are_changes(&rt, rt.alloc(), map, NO_GROWTH);
-        are_true_of(&rt, map, NO_GROWTH.len(), EXCHANGED);
-    });
+    let mut map = whole_example_map_in(&rt, rt.alloc(), &heap).expect(&rt, "a map");
+    lacks_none(&rt, rt.alloc(), &heap, &mut map);
+    drop(map);
 }

@@ -1,8 +1,7 @@
 //! Edits without a location, on the plain example map.
 
-use crate::tests::asking::{Asked, CHANGED, Fact, Line, SAME, makes, makes_each};
-use crate::tests::building::{map_of, map_with_spare};
-use crate::tests::owning::with;
+use crate::tests::asking::{Asked, CHANGED, Fact, Line, SAME, makes_each, makes_on};
+use crate::tests::building::PLAIN;
 use crate::tests::statements::Statement;
 use crush_map::{Done, Refusal};
 
@@ -180,45 +179,12 @@ const WEIGHED: &[Line] = &[
     },
 ];
 
-/// Weights that are refused, on a map with a spare device.
-const REFUSED: &[Line] = &[
-    Line {
-        asked: Asked::Reweight("osd.0", 2147483648),
-        told: Err(Refusal::WeightTooLarge),
-        then: &[],
-    },
-    Line {
-        asked: Asked::Reweight("x", 65536),
-        told: Err(Refusal::NoSuchItem),
-        then: &[],
-    },
-    Line {
-        asked: Asked::Reweight("osd.9", 65536),
-        told: Err(Refusal::NotPlaced),
-        then: &[],
-    },
-    Line {
-        asked: Asked::Reweight("h1", 65536),
-        told: Err(Refusal::NotADevice),
-        then: &[],
-    },
-];
+/// What is asked of the plain example map, each time from the beginning.
+const MADE: &[&[Line]] = &[SWAPPED, REMOVED, ADDED, RENAMED, WEIGHED];
 
 #[test]
 fn edits_are_made(rt: HostRuntime) {
-    makes_each(&rt, rt.alloc(), &[SWAPPED, REMOVED]);
-}
-
-#[test]
-fn names_and_weights_are_given(rt: HostRuntime) {
-    makes_each(&rt, rt.alloc(), &[ADDED, RENAMED, WEIGHED]);
-}
-
-#[test]
-fn weights_are_refused(rt: HostRuntime) {
-    with(map_with_spare(&rt, rt.alloc()), |map| {
-        makes(&rt, rt.alloc(), map, REFUSED);
-    });
+    makes_each(&rt, rt.alloc(), PLAIN, MADE);
 }
 
 /// The root p with the host a, which has the device d0, and with d1; the root q with d2 and d3.
@@ -263,7 +229,5 @@ const HEAVY_SWAP: &[Line] = &[Line {
 
 #[test]
 fn an_exchange_that_is_too_heavy(rt: HostRuntime) {
-    with(map_of(&rt, rt.alloc(), &[HEAVY]), |map| {
-        makes(&rt, rt.alloc(), map, HEAVY_SWAP);
-    });
+    makes_on(&rt, rt.alloc(), &[HEAVY], HEAVY_SWAP);
 }

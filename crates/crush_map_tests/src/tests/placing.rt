@@ -1,8 +1,7 @@
 //! Items put at the end of a location's route, on the plain example map.
 
-use crate::tests::asking::{Asked, CHANGED, Fact, Line, SAME, makes, makes_each};
-use crate::tests::building::{OTHER_BUCKETS, TYPES_AND_DEVICES, map_of, map_with_spare};
-use crate::tests::owning::with;
+use crate::tests::asking::{Asked, CHANGED, Fact, Line, SAME, makes_each, makes_on};
+use crate::tests::building::{OTHER_BUCKETS, PLAIN, TYPES_AND_DEVICES, WITH_SPARE};
 use crate::tests::statements::Statement;
 use crush_map::{Done, Refusal};
 
@@ -231,36 +230,28 @@ const REFUSED: &[Line] = &[
     },
 ];
 
+/// What is asked of the plain example map, each time from the beginning.
+const PUT: &[&[Line]] = &[
+    NEW_BUCKETS,
+    ROUTE_ENDS,
+    OWN_WEIGHT,
+    MOVES,
+    NEW_ROOT,
+    WEIGHT_SET,
+    REFUSED,
+];
+
 #[test]
 fn items_are_put(rt: HostRuntime) {
-    makes_each(&rt, rt.alloc(), &[NEW_BUCKETS, ROUTE_ENDS]);
-}
-
-#[test]
-fn items_are_moved(rt: HostRuntime) {
-    makes_each(&rt, rt.alloc(), &[OWN_WEIGHT, MOVES]);
-}
-
-#[test]
-fn weights_are_put(rt: HostRuntime) {
-    makes_each(&rt, rt.alloc(), &[NEW_ROOT, WEIGHT_SET]);
-}
-
-#[test]
-fn items_are_not_put(rt: HostRuntime) {
-    makes_each(&rt, rt.alloc(), &[REFUSED]);
+    makes_each(&rt, rt.alloc(), PLAIN, PUT);
 }
 
 /// What is asked of the map with a spare device, each time from the beginning.
-const WITH_SPARE: &[&[Line]] = &[SPARE, SPARE_MOVED];
+const SPARE_PUT: &[&[Line]] = &[SPARE, SPARE_MOVED];
 
 #[test]
 fn spare_devices_are_put(rt: HostRuntime) {
-    for lines in WITH_SPARE {
-        with(map_with_spare(&rt, rt.alloc()), |map| {
-            makes(&rt, rt.alloc(), map, lines);
-        });
-    }
+    makes_each(&rt, rt.alloc(), WITH_SPARE, SPARE_PUT);
 }
 
 /// The host h1 with the class id -4, which is no free id.
@@ -293,7 +284,5 @@ const WITH_CLASS_ID: &[&[Statement]] = &[TYPES_AND_DEVICES, CLASSED, OTHER_BUCKE
 
 #[test]
 fn class_ids_are_not_free(rt: HostRuntime) {
-    with(map_of(&rt, rt.alloc(), WITH_CLASS_ID), |map| {
-        makes(&rt, rt.alloc(), map, BESIDE_CLASS_ID);
-    });
+    makes_on(&rt, rt.alloc(), WITH_CLASS_ID, BESIDE_CLASS_ID);
 }

@@ -1,66 +1,85 @@
 //! New weights for the devices of the plain example map.
 
-use crate::tests::asking::{Asked, CHANGED, SAME, told, told_of_batch};
-use crate::tests::building::{
-    HOST, TYPES_AND_DEVICES, example_map, map_of, map_with_spare, weighs,
-};
-use crate::tests::owning::with;
+use crate::tests::asking::{Asked, CHANGED, Fact, Line, SAME, makes_on};
+use crate::tests::batches::{Batch, makes_batch};
+use crate::tests::building::{HOST, PLAIN, TYPES_AND_DEVICES, WITH_SPARE, example_map};
 use crate::tests::statements::Statement;
-use crush_map::{BatchFault, CrushMap, Done, Dones, Refusal};
-use std::alloc::Global;
-use std::process::Abort;
+use crush_map::{BatchFault, Dones, Refusal};
 
-/// Asserts what a new weight of osd.2 is answered, and what then weighs how much.
-fn is_reweighted(
-    rt: &impl Abort,
-    alloc: Global,
-    map: &mut CrushMap<Global>,
-    answer: Result<Done, Refusal>,
-) {
-    let told = told(rt, alloc, map, Asked::Reweight("osd.2", 65536));
-    assert!(rt; told == answer);
-    weighs(rt, map, "osd.2", 65536);
-    weighs(rt, map, "h2", 65536);
-    weighs(rt, map, "default", 196608);
-    assert!(rt; map.total() == 196608);
-}
+/// What is true after a new weight of osd.2.
+const REWEIGHTED: &[Fact] = &[
+    Fact::Weighs("osd.2", 65536),
+    Fact::Weighs("h2", 65536),
+    Fact::Weighs("default", 196608),
+    Fact::Total(196608),
+];
+
+/// A new weight, and the same once more.
+const NEW_WEIGHT: &[Line] = &[
+    Line {
+        asked: Asked::Reweight("osd.2", 65536),
+        told: CHANGED,
+        then: REWEIGHTED,
+    },
+    Line {
+        asked: Asked::Reweight("osd.2", 65536),
+        told: SAME,
+        then: REWEIGHTED,
+    },
+];
 
 #[test]
 fn a_new_weight(rt: HostRuntime) {
-    with(example_map(&rt, rt.alloc()), |map| {
-        is_reweighted(&rt, rt.alloc(), map, CHANGED);
-        is_reweighted(&rt, rt.alloc(), map, SAME);
-    });
+    makes_on(&rt, rt.alloc(), PLAIN, NEW_WEIGHT);
 }
 
 /// New weights that are refused. One that is too large is so also of what has no weight to be set.
-const REFUSED: &[(Asked, Refusal)] = &[
-    (
-        Asked::Reweight("osd.0", 2147483648),
-        Refusal::WeightTooLarge,
-    ),
-    (Asked::Reweight("x", 2147483648), Refusal::WeightTooLarge),
-    (
-        Asked::Reweight("osd.9", 2147483648),
-        Refusal::WeightTooLarge,
-    ),
-    (Asked::Reweight("h1", 2621440000), Refusal::WeightTooLarge),
-    (Asked::Reweight("x", 65536), Refusal::NoSuchItem),
-    (Asked::Reweight("osd.9", 65536), Refusal::NotPlaced),
-    (Asked::Reweight("h1", 65536), Refusal::NotADevice),
-    (Asked::Reweight("default", 65536), Refusal::NotADevice),
+const REFUSED: &[Line] = &[
+    Line {
+        asked: Asked::Reweight("osd.0", 2147483648),
+        told: Err(Refusal::WeightTooLarge),
+        then: &[],
+    },
+    Line {
+        asked: Asked::Reweight("x", 2147483648),
+        told: Err(Refusal::WeightTooLarge),
+        then: &[],
+    },
+    Line {
+        asked: Asked::Reweight("osd.9", 2147483648),
+        told: Err(Refusal::WeightTooLarge),
+        then: &[],
+    },
+    Line {
+        asked: Asked::Reweight("h1", 2621440000),
+        told: Err(Refusal::WeightTooLarge),
+        then: &[],
+    },
+    Line {
+        asked: Asked::Reweight("x", 65536),
+        told: Err(Refusal::NoSuchItem),
+        then: &[],
+    },
+    Line {
+        asked: Asked::Reweight("osd.9", 65536),
+        told: Err(Refusal::NotPlaced),
+        then: &[],
+    },
+    Line {
+        asked: Asked::Reweight("h1", 65536),
+        told: Err(Refusal::NotADevice),
+        then: &[],
+    },
+    Line {
+        asked: Asked::Reweight("default", 65536),
+        told: Err(Refusal::NotADevice),
+        then: &[Fact::Weighs("osd.9", 0), Fact::Weighs("default", 163840)],
+    },
 ];
 
 #[test]
 fn refused_new_weights(rt: HostRuntime) {
-    with(map_with_spare(&rt, rt.alloc()), |map| {
-        for (asked, refusal) in REFUSED {
-            let told = told(&rt, rt.alloc(), map, *asked);
-            assert!(rt; told == Err(*refusal), "{told:?}");
-        }
-        weighs(&rt, map, "osd.9", 0);
-        weighs(&rt, map, "default", 163840);
-    });
+    makes_on(&rt, rt.alloc(), WITH_SPARE, REFUSED);
 }
 
 /// What the host h1 holds where it holds as much as it can: osd.0 and osd.1 of the largest weight,
@@ -75,40 +94,52 @@ const FULL: &[Statement] = &[
 /// The statements of a map with that host.
 const FULL_HOST: &[&[Statement]] = &[TYPES_AND_DEVICES, HOST, FULL];
 
-#[test]
-fn a_full_host(rt: HostRuntime) {
-    with(map_of(&rt, rt.alloc(), FULL_HOST), |map| {
-        weighs(&rt, map, "h1", 4294967295);
-        let heavier = told(&rt, rt.alloc(), map, Asked::Reweight("osd.2", 2));
-        assert!(rt; heavier == Err(Refusal::SumTooLarge));
-        weighs(&rt, map, "h1", 4294967295);
-        let lighter = told(&rt, rt.alloc(), map, Asked::Reweight("osd.2", 0));
-        assert!(rt; lighter == CHANGED);
-        weighs(&rt, map, "h1", 4294967294);
-    });
-}
-
-/// A new weight of osd.2, and one of osd.9, which isn't there.
-const NEW_WEIGHTS: &[Asked] = &[
-    Asked::Reweight("osd.2", 65536),
-    Asked::Reweight("osd.9", 65536),
+/// A weight that is too much for it, and a lighter one.
+const HEAVIER_AND_LIGHTER: &[Line] = &[
+    Line {
+        asked: Asked::Reweight("osd.2", 2),
+        told: Err(Refusal::SumTooLarge),
+        then: &[Fact::Weighs("h1", 4294967295)],
+    },
+    Line {
+        asked: Asked::Reweight("osd.2", 0),
+        told: CHANGED,
+        then: &[Fact::Weighs("h1", 4294967294)],
+    },
 ];
 
-/// The first of them alone.
-const FIRST: &[Asked] = &[Asked::Reweight("osd.2", 65536)];
-
 #[test]
-fn a_batch_of_new_weights(rt: HostRuntime) {
-    with(example_map(&rt, rt.alloc()), |map| {
-        let told = told_of_batch(&rt, rt.alloc(), map, NEW_WEIGHTS);
-        assert!(rt; told == Err(BatchFault::Refused(1, Refusal::NoSuchItem)));
-        let done = Dones {
+fn a_full_host(rt: HostRuntime) {
+    makes_on(&rt, rt.alloc(), FULL_HOST, HEAVIER_AND_LIGHTER);
+}
+
+/// A batch of a new weight of osd.2, and one of osd.9, which isn't there; and the first of them
+/// alone.
+const BATCHES: &[Batch] = &[
+    Batch {
+        asked: &[
+            Asked::Reweight("osd.2", 65536),
+            Asked::Reweight("osd.9", 65536),
+        ],
+        told: Err(BatchFault::Refused(1, Refusal::NoSuchItem)),
+        then: &[],
+    },
+    Batch {
+        asked: &[Asked::Reweight("osd.2", 65536)],
+        told: Ok(Dones {
             edits: 1,
             changed: 1,
             made: 0,
-        };
-        let told = told_of_batch(&rt, rt.alloc(), map, FIRST);
-        assert!(rt; told == Ok(done));
-        weighs(&rt, map, "default", 196608);
-    });
+        }),
+        then: &[Fact::Weighs("default", 196608)],
+    },
+];
+
+#[test]
+fn batches_of_new_weights(rt: HostRuntime) {
+    let mut map = example_map(&rt, rt.alloc());
+    for (place, batch) in BATCHES.iter().enumerate() {
+        makes_batch(&rt, rt.alloc(), &mut map, place, batch);
+    }
+    drop(map);
 }

@@ -3,7 +3,6 @@
 
 use crate::tests::asking::{Asked, CHANGED, Fact, Line, makes};
 use crate::tests::building::{bucket, types_and_devices};
-use crate::tests::owning::with;
 use crate::tests::statements::{Statement, empty, refuses, refuses_all, takes, takes_all};
 use crate::tests::whole::{Said, add_rule, has_the_setting, map_in_the_making, whole_example_map};
 use crush_map::{BuildFault, Done, MapBuilder, Refusal, RuleFault, RulePart};
@@ -12,9 +11,9 @@ use std::process::Abort;
 
 #[test]
 fn the_setting_of_the_example_map(rt: HostRuntime) {
-    with(whole_example_map(&rt, rt.alloc()), |map| {
-        has_the_setting(&rt, map.setting());
-    });
+    let map = whole_example_map(&rt, rt.alloc());
+    has_the_setting(&rt, map.setting());
+    drop(map);
 }
 
 /// What is told of a rule of this name and id, with these steps, after the example map's.
@@ -94,19 +93,15 @@ fn refuses_rules(
         let told = add_rule(rt, alloc, builder, rule.name, rule.id, rule.steps);
         let part = rule.part;
         let fault = rule.fault;
-        assert!(rt;
-            told == Err(RuleFault { part, fault }),
-            "rule {place}, {}: {told:?}",
-            rule.name
-        );
+        assert!(rt; told == Err(RuleFault { part, fault }), "rule {place}");
     }
 }
 
 #[test]
 fn rules_that_are_not_taken(rt: HostRuntime) {
-    with(map_in_the_making(&rt, rt.alloc()), |builder| {
-        refuses_rules(&rt, rt.alloc(), builder, FAULTY);
-    });
+    let mut builder = map_in_the_making(&rt, rt.alloc());
+    refuses_rules(&rt, rt.alloc(), &mut builder, FAULTY);
+    drop(builder);
 }
 
 /// A rule where there is no room for one.
@@ -122,17 +117,18 @@ const ONE_MORE: &[Faulty] = &[Faulty {
 fn takes_rule(rt: &impl Abort, alloc: Global, builder: &mut MapBuilder<Global>, id: u32) {
     let name = format!(in alloc; "r{id}").expect(rt, "memory");
     let told = add_rule(rt, alloc, builder, name.as_str(), id, &[]);
+    drop(name);
     assert!(rt; told.is_ok());
 }
 
 #[test]
 fn at_most_256_rules(rt: HostRuntime) {
-    with(empty(&rt, rt.alloc()), |builder| {
-        for id in 0..256 {
-            takes_rule(&rt, rt.alloc(), builder, id);
-        }
-        refuses_rules(&rt, rt.alloc(), builder, ONE_MORE);
-    });
+    let mut builder = empty(&rt, rt.alloc());
+    for id in 0..256 {
+        takes_rule(&rt, rt.alloc(), &mut builder, id);
+    }
+    refuses_rules(&rt, rt.alloc(), &mut builder, ONE_MORE);
+    drop(builder);
 }
 
 /// Makes the tunable tN, where N is its value.
@@ -149,12 +145,12 @@ const BEHIND_64_TUNABLES: &[(Statement, BuildFault)] = &[
 
 #[test]
 fn at_most_64_tunables(rt: HostRuntime) {
-    with(empty(&rt, rt.alloc()), |builder| {
-        for number in 0..64 {
-            takes_tunable(&rt, rt.alloc(), builder, number);
-        }
-        refuses_all(&rt, builder, BEHIND_64_TUNABLES);
-    });
+    let mut builder = empty(&rt, rt.alloc());
+    for number in 0..64 {
+        takes_tunable(&rt, rt.alloc(), &mut builder, number);
+    }
+    refuses_all(&rt, &mut builder, BEHIND_64_TUNABLES);
+    drop(builder);
 }
 
 /// A host with the class id -4.
@@ -177,25 +173,35 @@ const END: &[Statement] = &[Statement::Alg, Statement::End];
 /// A second host.
 const SECOND: &[Statement] = &[Statement::Begin("host", "h2"), Statement::Id(-3)];
 
-#[test]
-fn class_ids_of_a_bucket(rt: HostRuntime) {
-    with(types_and_devices(&rt, rt.alloc()), |builder| {
-        takes_all(&rt, builder, FIRST);
-        assert!(rt; builder.has_class(b"ssd") && !builder.has_class(b"hdd"));
-        assert!(rt; builder.has_bucket_id(bucket(&rt, -4)));
-        refuses_all(&rt, builder, TAKEN_IDS);
-        takes_all(&rt, builder, END);
-        assert!(rt; builder.bucket_named(b"h1") == Some(bucket(&rt, -2)));
-        assert!(rt; builder.bucket_named(b"osd.0").is_none());
-        takes_all(&rt, builder, SECOND);
-        let taken = Statement::ClassId(-4, "ssd");
-        refuses(&rt, builder, taken, BuildFault::DuplicateId);
-        takes(&rt, builder, Statement::ClassId(-5, "ssd"));
-    });
+/// Whether the first host has its class and its class id.
+fn has_class_id(rt: &impl Abort, builder: &MapBuilder<Global>) -> bool {
+    builder.has_class(b"ssd") && !builder.has_class(b"hdd") && builder.has_bucket_id(bucket(rt, -4))
 }
 
-/// Makes the class id N of the class cN.
+/// Whether the first host is a bucket with its name, and a device is none.
+fn is_a_bucket(rt: &impl Abort, builder: &MapBuilder<Global>) -> bool {
+    builder.bucket_named(b"h1") == Some(bucket(rt, -2)) && builder.bucket_named(b"osd.0").is_none()
+}
+
+#[test]
+fn class_ids_of_a_bucket(rt: HostRuntime) {
+    let mut builder = types_and_devices(&rt, rt.alloc());
+    takes_all(&rt, &mut builder, FIRST);
+    let is_classed = has_class_id(&rt, &builder);
+    refuses_all(&rt, &mut builder, TAKEN_IDS);
+    takes_all(&rt, &mut builder, END);
+    let is_ended = is_a_bucket(&rt, &builder);
+    takes_all(&rt, &mut builder, SECOND);
+    let taken = Statement::ClassId(-4, "ssd");
+    refuses(&rt, &mut builder, taken, BuildFault::DuplicateId);
+    takes(&rt, &mut builder, Statement::ClassId(-5, "ssd"));
+    drop(builder);
+    assert!(rt; is_classed && is_ended);
+}
+
+/// Makes the class id N of the class cN, where there is room for it.
 fn takes_class_id(rt: &impl Abort, alloc: Global, builder: &mut MapBuilder<Global>, number: i32) {
+    assert!(rt; !builder.is_full_of_class_ids());
     let class = format!(in alloc; "c{number}").expect(rt, "memory");
     takes(rt, builder, Statement::ClassId(number, class.as_str()));
 }
@@ -211,15 +217,15 @@ const BEHIND_16_CLASS_IDS: &[(Statement, BuildFault)] = &[
 
 #[test]
 fn at_most_16_class_ids(rt: HostRuntime) {
-    with(types_and_devices(&rt, rt.alloc()), |builder| {
-        takes_all(&rt, builder, NUMBERED);
-        for number in -17..-1 {
-            assert!(rt; !builder.is_full_of_class_ids());
-            takes_class_id(&rt, rt.alloc(), builder, number);
-        }
-        assert!(rt; builder.is_full_of_class_ids());
-        refuses_all(&rt, builder, BEHIND_16_CLASS_IDS);
-    });
+    let mut builder = types_and_devices(&rt, rt.alloc());
+    takes_all(&rt, &mut builder, NUMBERED);
+    for number in -17..-1 {
+        takes_class_id(&rt, rt.alloc(), &mut builder, number);
+    }
+    let is_full = builder.is_full_of_class_ids();
+    refuses_all(&rt, &mut builder, BEHIND_16_CLASS_IDS);
+    drop(builder);
+    assert!(rt; is_full);
 }
 
 /// A bucket that a rule takes is empty at last.
@@ -257,7 +263,7 @@ const TAKEN: &[Line] = &[
     Line {
         asked: Asked::Remove("default"),
         told: Err(Refusal::InUse),
-        then: &[],
+        then: &[Fact::IsTaken(-1)],
     },
 ];
 
@@ -297,7 +303,7 @@ const FOLLOWED: &[Line] = &[
     Line {
         asked: Asked::Remove("default"),
         told: Err(Refusal::NotEmpty),
-        then: &[],
+        then: &[Fact::IsTaken(-1)],
     },
 ];
 
@@ -307,9 +313,8 @@ const ALL: &[&[Line]] = &[TAKEN, FOLLOWED];
 #[test]
 fn a_rule_follows_the_id_that_it_takes(rt: HostRuntime) {
     for lines in ALL {
-        with(whole_example_map(&rt, rt.alloc()), |map| {
-            makes(&rt, rt.alloc(), map, lines);
-            assert!(rt; map.setting().takes(bucket(&rt, -1)));
-        });
+        let mut map = whole_example_map(&rt, rt.alloc());
+        makes(&rt, rt.alloc(), &mut map, lines);
+        drop(map);
     }
 }

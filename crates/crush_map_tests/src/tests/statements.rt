@@ -84,10 +84,20 @@ pub(super) fn make_all<A: Allocator + Clone>(
     Ok(())
 }
 
+/// Asserts what is told of the statement.
+fn is_told(
+    rt: &impl Abort,
+    builder: &mut MapBuilder<Global>,
+    statement: Statement,
+    answer: Result<(), BuildFault>,
+) {
+    let told = make(rt, builder, statement);
+    assert!(rt; told == answer, "{told:?}");
+}
+
 /// Asserts that the statement is taken.
 pub(super) fn takes(rt: &impl Abort, builder: &mut MapBuilder<Global>, statement: Statement) {
-    let told = make(rt, builder, statement);
-    assert!(rt; told.is_ok(), "{told:?}");
+    is_told(rt, builder, statement, Ok(()));
 }
 
 /// Asserts that the statements are taken.
@@ -108,8 +118,7 @@ pub(super) fn refuses(
     statement: Statement,
     fault: BuildFault,
 ) {
-    let told = make(rt, builder, statement);
-    assert!(rt; told == Err(fault), "{told:?}");
+    is_told(rt, builder, statement, Err(fault));
 }
 
 /// Asserts that no statement is taken, and what is told of each.

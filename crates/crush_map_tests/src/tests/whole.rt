@@ -65,6 +65,7 @@ pub(super) fn add_rule<A: Allocator>(
     id: u32,
     all: &[Said],
 ) -> Result<(), RuleFault> {
+    assert!(rt; id <= 2147483647 && builder.is_idle());
     let rule = Rule {
         name: name(rt, alloc, text),
         id,
@@ -73,8 +74,9 @@ pub(super) fn add_rule<A: Allocator>(
         max_size: Some(10),
         steps: steps(rt, alloc, all),
     };
-    assert!(rt; id <= 2147483647 && builder.is_idle());
-    builder.rule(&rule)
+    let told = builder.rule(&rule);
+    drop(rule);
+    told
 }
 
 /// The tunable of the example map.
@@ -118,8 +120,13 @@ fn made_whole<A: Allocator + Clone>(
     alloc: Global,
     mut builder: MapBuilder<A>,
 ) -> Result<CrushMap<A>, BuildFault> {
-    make_whole(rt, alloc, &mut builder)?;
-    Ok(finish(rt, builder))
+    match make_whole(rt, alloc, &mut builder) {
+        Ok(()) => Ok(finish(rt, builder)),
+        Err(fault) => {
+            drop(builder);
+            Err(fault)
+        }
+    }
 }
 
 /// The example map with its hierarchy in a heap.
@@ -131,9 +138,17 @@ pub(super) fn whole_example_map_in<'h>(
     made_whole(rt, alloc, MapBuilder::new(alloc, heap)?)
 }
 
-/// Asserts that the tunable is that of the example map.
+/// Whether the setting has as many tunables and rules as that of the example map, and a rule
+/// takes the bucket that it takes there.
+fn is_counted(rt: &impl Abort, setting: &Setting) -> bool {
+    setting.tunables().len() == 1
+        && setting.rules().len() == 1
+        && setting.takes(bucket(rt, -1))
+        && !setting.takes(bucket(rt, -2))
+}
+
+/// Asserts that each tunable is that of the example map.
 fn has_the_tunable(rt: &impl Abort, setting: &Setting) {
-    assert!(rt; setting.tunables().len() == 1);
     for (name, value) in setting.tunables() {
         assert!(rt; name.is(b"choose_total_tries") && *value == 50);
     }
@@ -157,9 +172,8 @@ fn is_kept(step: &KeptStep, said: Said) -> bool {
     }
 }
 
-/// Asserts that the steps are those of the example map's rule.
+/// Asserts that the steps are those of the example map's rule, as far as there are any.
 fn has_the_steps(rt: &impl Abort, steps: &[KeptStep]) {
-    assert!(rt; steps.len() == REPLICATED.len());
     for (step, said) in steps.iter().zip(REPLICATED) {
         assert!(rt; is_kept(step, *said));
     }
@@ -172,21 +186,20 @@ fn is_replicated_rule(rule: &KeptRule) -> bool {
         && rule.id == 0
         && rule.min_size == Some(1)
         && rule.max_size == Some(10)
+        && rule.steps.len() == REPLICATED.len()
 }
 
-/// Asserts that the rule is that of the example map.
+/// Asserts that each rule is that of the example map.
 fn has_the_rule(rt: &impl Abort, setting: &Setting) {
-    assert!(rt; setting.rules().len() == 1);
     for rule in setting.rules() {
         assert!(rt; is_replicated_rule(rule));
         has_the_steps(rt, rule.steps.as_slice());
     }
-    let (taken, other) = (bucket(rt, -1), bucket(rt, -2));
-    assert!(rt; setting.takes(taken) && !setting.takes(other));
 }
 
 /// Asserts that types, tunables and rules are those of the example map.
 pub(super) fn has_the_setting(rt: &impl Abort, setting: &Setting) {
+    assert!(rt; is_counted(rt, setting));
     has_the_types(rt, setting);
     has_the_tunable(rt, setting);
     has_the_rule(rt, setting);
