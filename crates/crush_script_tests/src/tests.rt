@@ -1,4 +1,7 @@
 //! The worked examples of jobs, of runs and of history lines.
+//!
+//! What owns a job or a call lets it go by `drop`: its parts are then taken apart in one place, and not
+//! in the proof of each function that owns one.
 
 mod histories;
 mod jobs;
@@ -32,7 +35,9 @@ fn with_job<T, F: FnOnce(&Job) -> T>(rt: &(impl Abort + AllocGlobal), text: &[u8
     requires { F.IsAlwaysCallable look }
 {
     let job = job_of(rt, text);
-    look(&job)
+    let seen = look(&job);
+    drop(job);
+    seen
 }
 
 /// The number of scripts in the job of a text that is one.
@@ -68,7 +73,13 @@ fn is_reweight(call: &Call, name: &[u8], units: u32) -> bool {
 
 /// Why the text is no job, or `None` where it is one.
 fn fault_of(rt: &(impl Abort + AllocGlobal), text: &[u8]) -> Option<JobFault> {
-    read_job(rt.alloc(), text).err()
+    match read_job(rt.alloc(), text) {
+        Ok(job) => {
+            drop(job);
+            None
+        }
+        Err(fault) => Some(fault),
+    }
 }
 
 /// Each text is no job where it stands behind the front, for the reason beside it.

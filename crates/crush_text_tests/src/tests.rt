@@ -1,4 +1,7 @@
 //! Expected values are written from the form of the text in docs/FORMATS.md.
+//!
+//! What owns a map lets it go by `drop`: its parts are then taken apart in one place, and not in the
+//! proof of each function that owns one.
 
 mod faults;
 mod heaps;
@@ -41,12 +44,15 @@ fn with_map<T, F: FnOnce(&CrushMap<Global>) -> T>(
     requires { F.IsAlwaysCallable look }
 {
     let (map, _) = map_of(rt, text);
-    look(&map)
+    let seen = look(&map);
+    drop(map);
+    seen
 }
 
 /// How many weights are adjusted in a text that spells a map.
 fn adjusted_in(rt: &(impl Abort + AllocGlobal), text: &[u8]) -> u32 {
-    let (_, adjusted) = map_of(rt, text);
+    let (map, adjusted) = map_of(rt, text);
+    drop(map);
     adjusted
 }
 
@@ -64,7 +70,13 @@ fn printed(rt: &(impl Abort + AllocGlobal), text: &[u8]) -> Vec<u8> {
 
 /// What is wrong with the text, or `None` where nothing is.
 fn fault_of(rt: &impl AllocGlobal, text: &[u8]) -> Option<TextFault> {
-    read_map(rt.alloc(), text).err()
+    match read_map(rt.alloc(), text) {
+        Ok((map, _)) => {
+            drop(map);
+            None
+        }
+        Err(fault) => Some(fault),
+    }
 }
 
 /// Whether the text is refused for this at this place.

@@ -4,7 +4,6 @@ use crate::tests::job_of;
 use crush_calls::{Entry, Reply, Script, count_changes, history_text, run_in_turn};
 use crush_edits::{Done, Refusal};
 use crush_map::CrushMap;
-use crush_script::Job;
 use std::alloc::Global;
 use std::process::Abort;
 
@@ -45,13 +44,11 @@ fn are_answered(rt: &(impl Abort + AllocGlobal), map: &mut CrushMap<Global>, scr
 
 #[test]
 fn calls_are_answered_in_turn(rt: HostRuntime) {
-    let Job {
-        mut map,
-        scripts,
-        ..
-    } = job_of(&rt, JOB);
-    are_answered(&rt, &mut map, scripts.as_slice());
-    assert!(rt; map.total() == 131072);
+    let mut job = job_of(&rt, JOB);
+    are_answered(&rt, &mut job.map, job.scripts.as_slice());
+    let total = job.map.total();
+    drop(job);
+    assert!(rt; total == 131072);
 }
 
 /// The history of the scripts, run in turn.
@@ -67,12 +64,9 @@ fn history_of(
 
 #[test]
 fn a_history_has_a_line_for_each_entry(rt: HostRuntime) {
-    let Job {
-        mut map,
-        scripts,
-        ..
-    } = job_of(&rt, JOB);
-    let text = history_of(&rt, &mut map, scripts.as_slice());
+    let mut job = job_of(&rt, JOB);
+    let text = history_of(&rt, &mut job.map, job.scripts.as_slice());
+    drop(job);
     assert!(rt; text.as_slice() == HISTORY);
 }
 

@@ -117,7 +117,9 @@ const REWEIGHTINGS: &[(&[u8], u32, Answer<'_>)] = &[
 #[test]
 fn an_entry_is_a_line(rt: HostRuntime) {
     for (name, units, answer) in REWEIGHTINGS {
-        has_line(&rt, &Call::One(reweight(&rt, *name, *units)), answer);
+        let call = Call::One(reweight(&rt, *name, *units));
+        has_line(&rt, &call, answer);
+        drop(call);
     }
 }
 
@@ -271,7 +273,10 @@ const LOOP: Answer<'_> = Answer {
 #[test]
 fn a_copy_of_a_call_prints_alike(rt: HostRuntime) {
     let call = batch_of(&rt, reweight(&rt, b"osd.2", 65536));
-    has_line(&rt, &copy_of(&rt, &call), &LOOP);
+    let copy = copy_of(&rt, &call);
+    drop(call);
+    has_line(&rt, &copy, &LOOP);
+    drop(copy);
 }
 
 /// What is written of a call where there is room for so many bytes, and for no more.

@@ -25,7 +25,9 @@ fn holds_the_map(
 ) -> Result<bool, TextFault> {
     let heap = LocalHeap::new(rt.alloc(), size).expect(rt, "no memory");
     let (map, adjusted) = read_map_in(rt.alloc(), &heap, text)?;
-    Ok(adjusted == 0 && is_plain_example_map(rt, &map, text))
+    let is_held = adjusted == 0 && is_plain_example_map(rt, &map, text);
+    drop(map);
+    Ok(is_held)
 }
 
 #[test]
