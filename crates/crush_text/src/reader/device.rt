@@ -38,14 +38,14 @@ pub(crate) fn read_device<A: Allocator + Clone>(
     if reader.is_next(b"class") {
         read_key(reader, b"class")?;
         let class = read_word(reader)?;
-        return match builder.device(id, name.text, Some(class.text)) {
+        return match builder.device_unchecked(id, name.text, Some(class.text)) {
             Ok(()) => Ok(()),
-            Err(fault) => Err(class.want(fault)),
+            Err(_) => Err(class.fault(TextFaultKind::OutOfMemory)),
         };
     }
-    match builder.device(id, name.text, None) {
+    match builder.device_unchecked(id, name.text, None) {
         Ok(()) => Ok(()),
-        Err(fault) => Err(name.want(fault)),
+        Err(_) => Err(name.fault(TextFaultKind::OutOfMemory)),
     }
 }
 

@@ -20,7 +20,7 @@ use Rattle.crush_map.specs.Built.{Draft, with_device}
 use Rattle.crush_map.specs.Building.{BuilderData, IsDraft, own_draft, has_name, is_full_of_devices}
 use Rattle.crush_map.proofs.Drafts.{own_is_draft, room_is_draft, draft_fits}
 use Rattle.crush_map.proofs.RowSteps.{device_lawful, device_step}
-use Rattle.crush_map.proofs.builder.MapBuilder.device.Goals as goal
+use Rattle.crush_map.proofs.builder.MapBuilder.device_unchecked.Goals as goal
 
 -- a class that is given has the form of a name
 class_form : (o : Option (Bor (List ℕ))) → IfSome o (λ c. IsName c.now) → IfSome (option_copied o) IsName
@@ -34,7 +34,7 @@ attach-requires-clause-fits g c =
     let at : IsDraft c.args.self.now d = subst (λ (x : BuilderData). IsDraft x d) c.self.view_is (room_is_draft b c.reserve.new.self c.recall_invariant.ensures c.self.invariant c.reserve.ensures.stands) in
     let node : ◌≡◌ {A = Items} (device (record { id = c.args.id; name = c.args.name.now; weight = 0; class = option_copied c.args.class }) none) (items_of (c.device-node.result ∷ [])) =
     sym (c.device-node.ensures ∙ (λ i. device (record { id = c.args.id; name = c.in_ok-name.ensures i; weight = c.from_units.ensures i; class = c.in_ok-class.ensures i }) none)) in
-    let clear : device_fault d c.args.id c.args.name.now ≡ None = sym (c.in_default.ensures d at) in
+    let clear : device_fault d c.args.id c.args.name.now ≡ None = c.requires.clear d at in
     let none = none_of_three DuplicateId DuplicateName TooMany (is_there d.table (Device c.args.id)) (has_name d c.args.name.now) (is_full_of_devices d) clear in
     subst (λ (n : Items). Lawful (d.table ++ rows None n)) node
     (device_lawful d.table c.args.id c.args.name.now (option_copied c.args.class) at.stands.lawful (omega arith) c.requires.name (class_form c.args.class c.requires.class) none.0 (or_left _ _ none.1.0) none.1.1)
@@ -50,14 +50,11 @@ invariant_of-self-2 g c =
     (device_step b c.attach.new.self d c.args.id c.args.name.now (option_copied c.args.class) own (ap (λ (x : BuilderData). x.pending) c.self.view_is ∙ c.requires.idle)
     (subst (λ (n : Items). Stands c.attach.new.self (d.table ++ rows None n)) node (c.attach.ensures.stands d.table (c.reserve.ensures.stands d.table own.stands))))
 
-pub returns-clause-ok : goal.returns-clause-ok
-returns-clause-ok g c = λ d i.
+pub returns : goal.returns
+returns g c = λ d i.
     let b : BuilderData = record { setting = c.self.inside.setting; forest = c.self.inside.forest; pending = pending_data c.self.inside.pending; adjusted = c.self.inside.adjusted } in
     let at : IsDraft b d = subst (λ (x : BuilderData). IsDraft x d) (sym c.self.view_is) i in
     let node : ◌≡◌ {A = Items} (items_of (c.device-node.result ∷ [])) (device (record { id = c.args.id; name = c.args.name.now; weight = 0; class = option_copied c.args.class }) none) =
     c.device-node.ensures ∙ (λ i. device (record { id = c.args.id; name = c.in_ok-name.ensures i; weight = c.from_units.ensures i; class = c.in_ok-class.ensures i }) none) in
-    let clear : device_fault d c.args.id c.args.name.now ≡ None = sym (c.in_default.ensures d i) in (
-      clear,
-      device_step b c.attach.new.self d c.args.id c.args.name.now (option_copied c.args.class) at (ap (λ (x : BuilderData). x.pending) c.self.view_is ∙ c.requires.idle)
-          (subst (λ (n : Items). Stands c.attach.new.self (d.table ++ rows None n)) node (c.attach.ensures.stands d.table (c.reserve.ensures.stands d.table at.stands))),
-    )
+    device_step b c.attach.new.self d c.args.id c.args.name.now (option_copied c.args.class) at (ap (λ (x : BuilderData). x.pending) c.self.view_is ∙ c.requires.idle)
+        (subst (λ (n : Items). Stands c.attach.new.self (d.table ++ rows None n)) node (c.attach.ensures.stands d.table (c.reserve.ensures.stands d.table at.stands)))
