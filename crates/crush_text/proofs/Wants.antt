@@ -1,18 +1,18 @@
 -- What a builder refuses where no test of its call holds.
-use Rattle.std.proofs.Common.{◌≡◌, Bool, true, false, [], ◌∷◌, Option, None, refl, sym, ◌∙◌}
+use Rattle.std.proofs.Common.{◌≡◌, ℕ, Bool, List, true, false, [], ◌∷◌, Option, None, refl, sym, ◌∙◌}
 use Rattle.std.specs.Prelude.{Some, is_some, if◌then◌else◌}
 use Rattle.crush_units.specs.declared.id.ItemId.{ItemId}
 use Rattle.crush_units.specs.declared.id.ItemId.TheVariants.{Device, Bucket}
 use Rattle.crush_table.specs.Table.{is_there}
 use Rattle.crush_map.specs.Built.{Draft}
-use Rattle.crush_map.specs.Building.{BuilderData, IsDraft, is_open}
+use Rattle.crush_map.specs.Building.{BuilderData, IsDraft, has_name, is_full_of_devices, is_open}
 use Rattle.crush_map.specs.declared.fault.BuildFault.{BuildFault}
 use Rattle.crush_map.specs.declared.fault.BuildFault.TheVariants.{BadWeight, DuplicateId, DuplicateName, UnknownType, UnknownItem, SecondParent, UnknownBucketInRule, TooMany, SumTooLarge, OutOfMemory}
 use Rattle.crush_edits.specs.declared.rule.Rule.{Rule}
 use Rattle.crush_map.specs.declared.fault.RuleFault.{RuleFault}
 use Rattle.crush_map.specs.Rules.{is_full_of_rules, rule_fault, rule_told}
 use Rattle.crush_text.specs.Room.{IsFreeRule}
-use Rattle.crush_map.specs.Faults.{told, first_fault, is_heavy_device, is_closed}
+use Rattle.crush_map.specs.Faults.{told, first_fault, device_fault, is_heavy_device, is_closed}
 
 -- what isn't told is want of memory
 is_want : (f : BuildFault) → None ≡ told f → f ≡ OutOfMemory
@@ -57,3 +57,7 @@ want_of_rule d r f room free e = is_want f.fault (untold (told f.fault) (sym non
     untold : (o : Option BuildFault) → None ≡ (if is_some o then Some f else None) → None ≡ o
     untold None e = refl
     untold (Some x) e = absurd (let no : ◌≡◌ {A = Option RuleFault} None (Some f) = e in cc)
+
+-- nothing speaks against a device of a free id and a free name where there is room
+pub free_device : (d : Draft) (i : ℕ) (n : List ℕ) → is_there d.table (Device i) ≡ false → has_name d n ≡ false → is_full_of_devices d ≡ false → device_fault d i n ≡ None
+free_device d i n id name room = rw (id, name, room) refl

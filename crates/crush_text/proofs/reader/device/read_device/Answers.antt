@@ -1,12 +1,11 @@
--- A device's line word by word, and what the builder refuses is want of memory.
+-- A device's line word by word, of which nothing speaks against the device.
 use Rattle.std.proofs.Common.{refl, sym, ap, ◌∙◌, inl}
 use Rattle.std.proofs.lemmas.Result.{err_from_is_err_and}
 use Rattle.crush_map.specs.Built.{with_device}
-use Rattle.crush_map.specs.declared.fault.BuildFault.TheVariants.{DuplicateId, DuplicateName, TooMany}
 use Rattle.crush_text.specs.declared.fault.TextFault.{TextFault}
 use Rattle.crush_text.proofs.LineByLine.{fails_so}
 use Rattle.crush_text.proofs.LineEnds.{still_idle, word_fails, word_reads, part_reads, device_reads, class_reads, no_class_reads}
-use Rattle.crush_text.proofs.Wants.{want_of_three}
+use Rattle.crush_text.proofs.Wants.{free_device}
 use Rattle.crush_text.proofs.reader.device.read_device.Goals as goal
 
 pub returns-in_err-id-clause-reads : goal.returns-in_err-id-clause-reads
@@ -31,35 +30,31 @@ returns-in_err-class-clause-reads g c = λ d h.
     let head = device_reads d _ _ _ _ _ (c.in_ok-id.ensures.gives d h) (c.in_ok-name.ensures.gives d h) in
     rw (p.1, p.2) (fails_so _ _ _ (head ∙ part_reads d _ _ _ _ _ (sym c.if-is_next.true ∙ c.is_next.ensures) ∙ word_reads d _ _ _ _ _ (c.in_ok-read_key.ensures.gives d)) (word_fails d _ _ _ _ (c.in_err-class.ensures.gives d)))
 
-pub want-requires : goal.want-requires
-want-requires g c =
-    let d = c.requires.idle.some in
-    want_of_three DuplicateId DuplicateName TooMany _ _ _ _ (c.in_ok-id.ensures.free d.0 d.1) (c.in_ok-name.ensures.free d.0 d.1) (c.requires.room d.0 d.1) (c.in-Err.ensures.refused d.0 d.1)
+pub device_unchecked-requires-clause-clear : goal.device_unchecked-requires-clause-clear
+device_unchecked-requires-clause-clear g c d h = free_device d _ _ (c.in_ok-id.ensures.free d h) (c.in_ok-name.ensures.free d h) (c.requires.room d h)
 
 pub returns-in-Ok-clause-idle : goal.returns-in-Ok-clause-idle
 returns-in-Ok-clause-idle g c =
     let d = c.requires.idle.some in
-    still_idle _ _ d.0 _ c.requires.idle.part d.1 (c.in-Ok.ensures.ok d.0 d.1).1 refl
+    still_idle _ _ d.0 _ c.requires.idle.part d.1 (c.in-Ok.ensures d.0 d.1) refl
 
 pub returns-in-Ok-clause-reads : goal.returns-in-Ok-clause-reads
 returns-in-Ok-clause-reads g c = λ d h.
     let head = device_reads d _ _ _ _ _ (c.in_ok-id.ensures.gives d h) (c.in_ok-name.ensures.gives d h) in
-    (with_device d _ _ _, (c.in-Ok.ensures.ok d h).1, head ∙ class_reads d _ _ _ _ _ _ (sym c.if-is_next.true ∙ c.is_next.ensures) (c.in_ok-read_key.ensures.gives d) (c.in_ok-class.ensures.gives d))
+    (with_device d _ _ _, c.in-Ok.ensures d h, head ∙ class_reads d _ _ _ _ _ _ (sym c.if-is_next.true ∙ c.is_next.ensures) (c.in_ok-read_key.ensures.gives d) (c.in_ok-class.ensures.gives d))
 
 pub returns-in-Err-clause-reads : goal.returns-in-Err-clause-reads
-returns-in-Err-clause-reads g c = λ d h. inl (ap (λ (f : TextFault). f.kind) c.want.ensures)
+returns-in-Err-clause-reads g c = λ d h. inl (ap (λ (f : TextFault). f.kind) c.fault.ensures)
 
-pub want-requires-in-Err-device : goal.want-requires-in-Err-device
-want-requires-in-Err-device g c =
-    let d = c.requires.idle.some in
-    want_of_three DuplicateId DuplicateName TooMany _ _ _ _ (c.in_ok-id.ensures.free d.0 d.1) (c.in_ok-name.ensures.free d.0 d.1) (c.requires.room d.0 d.1) (c.in-Err-device.ensures.refused d.0 d.1)
+pub device_unchecked-requires-clause-clear-2 : goal.device_unchecked-requires-clause-clear-2
+device_unchecked-requires-clause-clear-2 g c d h = free_device d _ _ (c.in_ok-id.ensures.free d h) (c.in_ok-name.ensures.free d h) (c.requires.room d h)
 
 pub returns-in-Ok-device-clause-idle : goal.returns-in-Ok-device-clause-idle
 returns-in-Ok-device-clause-idle g c =
     let d = c.requires.idle.some in
-    still_idle _ _ d.0 _ c.requires.idle.part d.1 (c.in-Ok-device.ensures.ok d.0 d.1).1 refl
+    still_idle _ _ d.0 _ c.requires.idle.part d.1 (c.in-Ok-device.ensures d.0 d.1) refl
 
 pub returns-in-Ok-device-clause-reads : goal.returns-in-Ok-device-clause-reads
 returns-in-Ok-device-clause-reads g c = λ d h.
     let head = device_reads d _ _ _ _ _ (c.in_ok-id.ensures.gives d h) (c.in_ok-name.ensures.gives d h) in
-    (with_device d _ _ _, (c.in-Ok-device.ensures.ok d h).1, head ∙ no_class_reads d _ _ _ (sym c.if-is_next.false ∙ c.is_next.ensures))
+    (with_device d _ _ _, c.in-Ok-device.ensures d h, head ∙ no_class_reads d _ _ _ (sym c.if-is_next.false ∙ c.is_next.ensures))
