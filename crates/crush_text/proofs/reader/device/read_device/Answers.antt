@@ -46,15 +46,15 @@ returns-in-Ok-clause-reads g c = λ d h.
 pub returns-in-Err-clause-reads : goal.returns-in-Err-clause-reads
 returns-in-Err-clause-reads g c = λ d h. inl (ap (λ (f : TextFault). f.kind) c.fault.ensures)
 
-pub device_unchecked-requires-clause-clear-2 : goal.device_unchecked-requires-clause-clear-2
-device_unchecked-requires-clause-clear-2 g c d h = free_device d _ _ (c.in_ok-id.ensures.free d h) (c.in_ok-name.ensures.free d h) (c.requires.room d h)
+pub device_unchecked-requires-2-clause-clear : goal.device_unchecked-requires-2-clause-clear
+device_unchecked-requires-2-clause-clear g c d h = free_device d _ _ (c.in_ok-id.ensures.free d h) (c.in_ok-name.ensures.free d h) (c.requires.room d h)
 
-pub returns-in-Ok-device-clause-idle : goal.returns-in-Ok-device-clause-idle
-returns-in-Ok-device-clause-idle g c =
+pub returns-in-Ok-device_unchecked-clause-idle : goal.returns-in-Ok-device_unchecked-clause-idle
+returns-in-Ok-device_unchecked-clause-idle g c =
     let d = c.requires.idle.some in
-    still_idle _ _ d.0 _ c.requires.idle.part d.1 (c.in-Ok-device.ensures d.0 d.1) refl
+    still_idle _ _ d.0 _ c.requires.idle.part d.1 (c.in-Ok-device_unchecked.ensures d.0 d.1) refl
 
-pub returns-in-Ok-device-clause-reads : goal.returns-in-Ok-device-clause-reads
-returns-in-Ok-device-clause-reads g c = λ d h.
+pub returns-in-Ok-device_unchecked-clause-reads : goal.returns-in-Ok-device_unchecked-clause-reads
+returns-in-Ok-device_unchecked-clause-reads g c = λ d h.
     let head = device_reads d _ _ _ _ _ (c.in_ok-id.ensures.gives d h) (c.in_ok-name.ensures.gives d h) in
-    (with_device d _ _ _, c.in-Ok-device.ensures d h, head ∙ no_class_reads d _ _ _ (sym c.if-is_next.false ∙ c.is_next.ensures))
+    (with_device d _ _ _, c.in-Ok-device_unchecked.ensures d h, head ∙ no_class_reads d _ _ _ (sym c.if-is_next.false ∙ c.is_next.ensures))
