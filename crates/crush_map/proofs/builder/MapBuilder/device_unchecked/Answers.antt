@@ -57,4 +57,4 @@ returns g c = λ d i.
     let node : ◌≡◌ {A = Items} (items_of (c.device-node.result ∷ [])) (device (record { id = c.args.id; name = c.args.name.now; weight = 0; class = option_copied c.args.class }) none) =
     c.device-node.ensures ∙ (λ i. device (record { id = c.args.id; name = c.in_ok-name.ensures i; weight = c.from_units.ensures i; class = c.in_ok-class.ensures i }) none) in
     device_step b c.attach.new.self d c.args.id c.args.name.now (option_copied c.args.class) at (ap (λ (x : BuilderData). x.pending) c.self.view_is ∙ c.requires.idle)
-        (subst (λ (n : Items). Stands c.attach.new.self (d.table ++ rows None n)) node (c.attach.ensures.stands d.table (c.reserve.ensures.stands d.table at.stands)))
+    (subst (λ (n : Items). Stands c.attach.new.self (d.table ++ rows None n)) node (c.attach.ensures.stands d.table (c.reserve.ensures.stands d.table at.stands)))
