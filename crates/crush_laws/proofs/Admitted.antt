@@ -1,6 +1,6 @@
 -- What may stand where it does, in a line that ends lawfully, has no fault.
 use Rattle.std.proofs.Common.{◌≡◌, ℕ, ◌<◌, ◌≤◌, ◌⊎◌, Bool, true, false, List, [], ◌∷◌, Option, Some, None, Ok, refl, sym, ap, subst, ◌∙◌, arith, inl, inr}
-use Rattle.std.proofs.lemmas.Bool.{and_from, and_right, or_parts, or_from, or_right, not_from_true, le-leb, lt-ltb, lt-leb, eq-eqb}
+use Rattle.std.proofs.lemmas.Bool.{and_from, and_right, or_from, or_right, not_from_true, le-leb, lt-ltb, lt-leb, eq-eqb}
 use Rattle.std.proofs.lemmas.Bool.Decides.{nat_tests}
 use Rattle.std.proofs.lemmas.Slice.Eq.{bytes_eq-Decides}
 use Rattle.std.specs.Prelude.{◌&&◌, ◌||◌, ◌==◌, not, codes, bytes_eq, drop, is_some, length, nat_eq, nat_le, slice_index, option_and_then}
@@ -35,6 +35,7 @@ use Rattle.crush_laws.proofs.Allowed.{tunable_free, kind_free, kind_form, type_n
 use Rattle.crush_laws.proofs.Keeps.{Stage, no_brace}
 use Rattle.crush_laws.proofs.Lawful.{listable}
 use Rattle.crush_text.proofs.Laws.{word_right}
+use Rattle.crush_text.proofs.Reserved.{no_key}
 
 -- none of the tests holds
 abbrev pub Pass : List Test → Type 0
@@ -76,35 +77,7 @@ right_any d w form = passed d any_word w (name_no_brace w form, tt)
 pub right_key : (d : Draft) (k w : List ℕ) → w ≡ k → IsRight d (key k) w
 right_key d k w h = passed d (key k) w (not_from_true _ ((bytes_eq-Decides w k).1 h), tt)
 
--- the words that begin a statement or a part of one are no type's name
-record NoKey (k : List ℕ) : Type 0 where
-  tunable : bytes_eq k (codes "tunable") ≡ false
-  device : bytes_eq k (codes "device") ≡ false
-  kind : bytes_eq k (codes "type") ≡ false
-  rule : bytes_eq k (codes "rule") ≡ false
-  class : bytes_eq k (codes "class") ≡ false
-  weights : bytes_eq k (codes "choose_args") ≡ false
-
--- that bytes differ doesn't depend on which stand first
-differs : (a b : List ℕ) → bytes_eq a b ≡ false → bytes_eq b a ≡ false
-differs a b e = by_test (bytes_eq b a) refl
-  where
-    by_test : (t : Bool) → bytes_eq b a ≡ t → bytes_eq b a ≡ false
-    by_test true h = let k : true ≡ false = sym ((bytes_eq-Decides a b).1 (sym ((bytes_eq-Decides b a).0 h))) ∙ e in absurd cc
-    by_test false h = h
-
--- a name that isn't reserved is none of those words
-no_key : (k : List ℕ) → is_reserved k ≡ false → NoKey k
-no_key k h =
-    let a = or_parts _ _ h in
-    let b = or_parts _ _ a.1 in
-    let c = or_parts _ _ b.1 in
-    let d = or_parts _ _ c.1 in
-    let e = or_parts _ _ d.1 in
-    let f = or_parts _ _ e.1 in
-    record { tunable = differs _ k a.0; device = differs _ k b.0; kind = differs _ k c.0; rule = differs _ k d.0; class = differs _ k e.0; weights = differs _ k f.0 }
-
--- so it opens a bucket
+-- a word that isn't reserved opens a bucket
 pub opens : (d : Draft) (w : List ℕ) (k : ℕ) → is_reserved w ≡ false → number_of d w ≡ k → opened d w ≡ openings.Bucket k
 opens d w k h e = let n = no_key w h in rw (n.tunable, n.device, n.kind, n.rule) (ap (λ (x : ℕ). openings.Bucket x) e)
 

@@ -33,13 +33,14 @@ use Rattle.crush_bytes.proofs.Forms.{words_are_formed}
 use Rattle.crush_text.specs.declared.fault.TextFaultKind.TheVariants.{Unexpected, BadNumber, BadWeight, DuplicateId, DuplicateName, UnknownType, UnknownItem, LeftOut, UnknownBucketInRule, TooMany, SumTooLarge}
 use Rattle.crush_text.specs.declared.opening.Opening.TheVariants as openings
 use Rattle.crush_text.specs.Forms.{is_number, is_signed, signed_value}
-use Rattle.crush_text.specs.Role.{opening, device_id, new_name, step_word, takes, chooses, sets, emits, value, number_of, item_of, bucket_of, units_or_none, units}
+use Rattle.crush_text.specs.Role.{opening, device_id, new_name, weight, step_word, takes, chooses, sets, emits, value, number_of, item_of, bucket_of, units_or_none, units}
 use Rattle.crush_text.specs.Form.{Mode, first, second, begun, numbered, filling, ruled, Progress, at, Form, done, word, optional, ahead}
 use Rattle.crush_text.specs.Grammar.{tunable_line, type_line, device_line, bucket_line, id_line, class_id_line, alg_line, id_or_alg_line, item_line, rule_line, new_rule, with_step, step_behind, step_or_brace, statement, item_or_brace, lines, next}
-use Rattle.crush_text.specs.Rows.{IsBrace, IsNoWeightOf, IsRight}
+use Rattle.crush_text.specs.Rows.{IsBrace, IsNoWeightOf, BeginsBucket, IsOneTooMany, IsRight}
 use Rattle.crush_text.specs.Flow.{State, between, amid, arrive}
 use Rattle.crush_text.specs.Document.{SpellsForm, SpellsNext, Spell, IsWhole, start, IsDocument, IsMap}
 use Rattle.crush_laws.specs.MapOrFlaw.{EachMapIsLawful}
+use Rattle.crush_text.proofs.Reserved.{not_reserved}
 use Rattle.crush_text.proofs.TheTable.{brace_tells}
 use Rattle.crush_laws.proofs.Lawful.{map_with_tunable, map_with_kind, map_with_device, kind_there, made_root, listable, IsLight, map_with_item}
 use Rattle.crush_laws.proofs.Ruled.{CanAdd, map_with_rule, can_begin, can_step}
@@ -187,6 +188,17 @@ one_for : (i : ItemId) → IsLight i 65536
 one_for (Device n) = omega arith
 one_for (Bucket c) = tt
 
+-- a weight's text without a fault has units
+pub has_units : (i : ItemId) (r : Result ℕ WeightFault) → (IsNoWeightOf i r → ⊥) → r ≡ Ok (units_or_none r)
+has_units i (Ok w) h = refl
+has_units i (Err f) h = absurd (h tt)
+
+-- and with them no sum is too large
+light_sum : (d : Draft) (i : ItemId) (w : List ℕ) → IsRight d (weight i) w → is_too_heavy (with_item d i (Some (units w))).table ≡ true → ⊥
+light_sum d i w r h =
+    let is = has_units i (weight_of_text w) (r BadWeight) in
+    r SumTooLarge (units w, is, λ no. r BadWeight (subst (λ (x : Result ℕ WeightFault). IsNoWeightOf i x) (sym is) no), h)
+
 -- a builder has nothing against a class id
 clear_of : (a b c : Bool) → a ≡ false → b ≡ false → c ≡ false → first_fault ((build.DuplicateId, a) ∷ ((build.DuplicateName, b) ∷ ((build.TooMany, c) ∷ []))) ≡ None
 clear_of a b c ha hb hc = λ i. first_fault ((build.DuplicateId, ha i) ∷ ((build.DuplicateName, hb i) ∷ ((build.TooMany, hc i) ∷ [])))
@@ -199,6 +211,20 @@ if_at_most false = omega arith
 -- words that differ
 differs : (w k : List ℕ) → bytes_eq w k ≡ false → w ≢ k
 differs w k other e = let t = (bytes_eq-Decides w k).1 e in absurd cc
+
+-- a first word without a fault begins a bucket where it begins nothing else
+pub begins_bucket : (d : Draft) (late : Bool) (w : List ℕ) → IsRight d (opening late) w → bytes_eq w (codes "tunable") ≡ false → bytes_eq w (codes "device") ≡ false → bytes_eq w (codes "type") ≡ false → bytes_eq w (codes "rule") ≡ false
+    → BeginsBucket d w
+begins_bucket d late w r tunable device kind rule =
+    let free = not_reserved w (record {
+      tunable = tunable;
+      device = device;
+      kind = kind;
+      rule = rule;
+      class = not_true _ (λ t. r Unexpected (inr (inl ((bytes_eq-Decides w _).0 t))));
+      weights = not_true _ (λ t. r LeftOut ((bytes_eq-Decides w _).0 t));
+    }) in
+    (free, not_false _ (λ none. r UnknownType (free, none)))
 
 module _ (d : Draft) (m : IsMap d) where
   -- a tunable
@@ -320,8 +346,8 @@ module _ (d : Draft) (m : IsMap d) where
   -- an item, with a weight or without
   keeps_item : (any : Bool) → Stage (filling any) d → Keeps Good d (item_line d)
   keeps_item any s = (
-    λ x fx rx. λ k fk rk. λ w fw rw_. added x (Some (units w)) (rx UnknownItem) (weight_for (item_of d x) (weight_of_text w) (rw_ BadWeight)) (rw_ SumTooLarge),
-    λ x fx rx. added x None (rx UnknownItem) (one_for (item_of d x)) (rx SumTooLarge),
+    λ x fx rx. λ k fk rk. λ w fw rw_. added x (Some (units w)) (rx UnknownItem) (weight_for (item_of d x) (weight_of_text w) (rw_ BadWeight)) (light_sum d (item_of d x) w rw_),
+    λ x fx rx. added x None (rx UnknownItem) (one_for (item_of d x)) (λ t. rx SumTooLarge (item_of d x, some_of (item_named d x) (rx UnknownItem), t)),
   )
     where
       added : (x : List ℕ) (w : Option ℕ) → (item_named d x ≡ None → ⊥) → IsLight (item_of d x) (device_weight w) → (is_too_heavy (with_item d (item_of d x) w).table ≡ true → ⊥) → Good (at (filling true) (with_item d (item_of d x) w))
@@ -394,15 +420,15 @@ module _ (d : Draft) (m : IsMap d) where
   keeps_statement late idle = λ w f r. by_it w r (bytes_eq w (codes "tunable")) (bytes_eq w (codes "device")) (bytes_eq w (codes "type")) (bytes_eq w (codes "rule")) refl refl refl refl (r TooMany)
     where
       by_it : (w : List ℕ) → IsRight d (opening late) w → (a b c e : Bool) → bytes_eq w (codes "tunable") ≡ a → bytes_eq w (codes "device") ≡ b → bytes_eq w (codes "type") ≡ c → bytes_eq w (codes "rule") ≡ e
-          → (cond a (is_full_of_tunables d) (cond b (is_full_of_devices d) (cond c (is_full_of_kinds d) (cond e (is_full_of_rules d) (is_full_of_buckets d)))) ≡ true → ⊥)
+          → (IsOneTooMany d w → ⊥)
           → Keeps Good d (statement d (cond a openings.Tunable (cond b openings.Device (cond c openings.Type (cond e openings.Rule (openings.Bucket (number_of d w)))))))
-      by_it w r true b c e ha hb hc he few = keeps_tunable idle (not_true _ few)
-      by_it w r false true c e ha hb hc he few = keeps_device idle (not_true _ few)
-      by_it w r false false true e ha hb hc he few = keeps_type idle (not_true _ few)
-      by_it w r false false false true ha hb hc he few = keeps_rule idle (not_true _ few)
+      by_it w r true b c e ha hb hc he few = keeps_tunable idle (not_true _ (λ t. few (inl ((bytes_eq-Decides w _).0 ha, t))))
+      by_it w r false true c e ha hb hc he few = keeps_device idle (not_true _ (λ t. few (inr (inl ((bytes_eq-Decides w _).0 hb, t)))))
+      by_it w r false false true e ha hb hc he few = keeps_type idle (not_true _ (λ t. few (inr (inr (inl ((bytes_eq-Decides w _).0 hc, t))))))
+      by_it w r false false false true ha hb hc he few = keeps_rule idle (not_true _ (λ t. few (inr (inr (inr (inl ((bytes_eq-Decides w _).0 he, t)))))))
       by_it w r false false false false ha hb hc he few =
-          let known = not_false (is_bucket_kind d.setting (number_of d w)) (λ none. r UnknownType (none, differs w _ ha, differs w _ hb, differs w _ hc, differs w _ he, λ e. r LeftOut e)) in
-          keeps_bucket w known (not_true _ few)
+          let opens = begins_bucket d late w r ha hb hc he in
+          keeps_bucket w opens.1 (not_true _ (λ t. few (inr (inr (inr (inr (opens, t)))))))
 
   -- each line
   pub keeps_lines : (mode : Mode) → Stage mode d → Keeps Good d (lines d mode)

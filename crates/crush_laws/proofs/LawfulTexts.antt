@@ -1,5 +1,5 @@
 -- The texts of maps are those whose words build a map line by line.
-use Rattle.std.proofs.Common.{◌≡◌, ◌≢◌, ℕ, ◌⊎◌, Bool, true, false, cond, List, [], ◌∷◌, Option, Some, None, Result, Ok, Err, refl, sym, subst, ◌∙◌, inl, inr}
+use Rattle.std.proofs.Common.{◌≡◌, ◌≢◌, ℕ, ◌⊎◌, Bool, true, false, cond, List, [], ◌∷◌, Option, Some, None, refl, sym, subst, ◌∙◌, inl, inr}
 use Rattle.std.proofs.lemmas.Bool.{cond_both, and_parts, ltb-true}
 use Rattle.std.proofs.lemmas.Bool.Decides.{Decides-eqb}
 use Rattle.std.proofs.lemmas.List.{append-nil}
@@ -9,27 +9,25 @@ use Rattle.std.specs.List.{list_any, starts_with}
 use Rattle.std.specs.Str.Parse.{digits_value}
 use Rattle.crush_units.specs.declared.alg.Alg.{Alg}
 use Rattle.crush_units.specs.declared.alg.Alg.TheVariants.{Straw, Straw2, List as Linked}
-use Rattle.crush_units.specs.declared.id.ItemId.{ItemId}
-use Rattle.crush_units.specs.declared.weight.WeightFault.{WeightFault}
 use Rattle.crush_units.specs.Alg.{alg_text, alg_of_text}
 use Rattle.crush_units.specs.Weight.{are_digits, weight_of_text}
 use Rattle.crush_edits.specs.Setting.{KindData}
 use Rattle.crush_map.specs.Built.{Draft}
-use Rattle.crush_map.specs.Building.{IsPending, is_bucket_kind, item_named}
+use Rattle.crush_map.specs.Building.{IsPending, item_named}
 use Rattle.crush_map.specs.Rules.{bucket_named}
 use Rattle.crush_bytes.specs.Words.{Word, words, AreFormed, begins_with_key}
 use Rattle.crush_bytes.proofs.Forms.{words_are_formed}
-use Rattle.crush_text.specs.declared.fault.TextFaultKind.TheVariants.{Unexpected, BadNumber, BadWeight, UnknownType, UnknownItem, SecondParent, OtherAlgorithm, LeftOut, UnknownBucketInRule}
+use Rattle.crush_text.specs.declared.fault.TextFaultKind.TheVariants.{Unexpected, BadNumber, BadWeight, UnknownItem, SecondParent, OtherAlgorithm, LeftOut, UnknownBucketInRule}
 use Rattle.crush_text.specs.Forms.{is_number}
-use Rattle.crush_text.specs.Role.{Role, value, number_of, units_or_none, key, any_word, number, opening, tunable_name, type_number, type_name, device_id, new_name, bucket_id, id_or_alg, id_class, algorithm, item_or_end, item, lone_item, weight, rule_name, rule_id_key, rule_id, step_or_end, step_word, taken_bucket, step_order, step_count, step_type}
+use Rattle.crush_text.specs.Role.{Role, value, number_of, item_of, key, any_word, number, opening, tunable_name, type_number, type_name, device_id, new_name, bucket_id, id_or_alg, id_class, algorithm, item_or_end, item, lone_item, weight, rule_name, rule_id_key, rule_id, step_or_end, step_word, taken_bucket, step_order, step_count, step_type}
 use Rattle.crush_text.specs.Form.{Mode, first, second, begun, numbered, filling, ruled, Progress, Form, done, word, optional, ahead}
 use Rattle.crush_text.specs.Grammar.{next}
-use Rattle.crush_text.specs.Rows.{ComesFirst, IsNeither, IsNoWeightOf, IsRight}
+use Rattle.crush_text.specs.Rows.{ComesFirst, IsNeither, IsHeldItem, IsRight}
 use Rattle.crush_text.specs.Flow.{State, between, amid, arrive}
 use Rattle.crush_text.specs.Document.{SpellsForm, SpellsNext, Spell, IsWhole, start}
-use Rattle.crush_laws.specs.Admitted.{IsLawfulDraft, IsLawfulMode, IsFor, BeginsStep, LeadsFrom, Leads, IsLawfulState, Build}
+use Rattle.crush_laws.specs.Admitted.{IsLawfulDraft, IsLawfulMode, IsFree, IsFor, BeginsStep, LeadsFrom, Leads, IsLawfulState, Build}
 use Rattle.crush_laws.specs.MapOrFlaw.{MapsAreTheLawfulTexts}
-use Rattle.crush_laws.proofs.Keeps.{IsWord, Has, Good, Stage, next_has, keeps_lines, nothing_there, not_true, not_false, some_of}
+use Rattle.crush_laws.proofs.Keeps.{IsWord, Has, Good, Stage, next_has, keeps_lines, nothing_there, not_true, not_false, some_of, has_units, begins_bucket}
 use Rattle.crush_laws.proofs.Ruled.{map_with_rule}
 use Rattle.crush_laws.proofs.Admitted.{Possible, Rightly, right_lines}
 
@@ -130,10 +128,9 @@ named_alg w h = by_it (bytes_eq w (codes "straw")) (bytes_eq w (codes "straw2"))
     by_it false false true ea eb ec h = (Linked, (bytes_eq-Decides w _).0 ec)
     by_it false false false ea eb ec h = absurd (h refl)
 
--- a weight's text has the units that it has
-has_units : (i : ItemId) (r : Result ℕ WeightFault) → (IsNoWeightOf i r → ⊥) → r ≡ Ok (units_or_none r)
-has_units i (Ok w) h = refl
-has_units i (Err f) h = absurd (h tt)
+-- an item without a fault is free
+free_item : (d : Draft) (w : List ℕ) → (item_named d w ≡ None → ⊥) → (IsHeldItem d w → ⊥) → IsFree d w
+free_item d w there free = let is = some_of (item_named d w) there in (is, not_true _ (λ t. free (item_of d w, is, t)))
 
 -- a bucket that is found is the one of its name
 some_bucket : (o : Option ℕ) → (o ≡ None → ⊥) → o ≡ Some (unwrap_or o 0)
@@ -157,8 +154,8 @@ begins_statement d late w h = by_it (bytes_eq w (codes "tunable")) (bytes_eq w (
     by_it false false true e ha hb hc he = early (inr (inr ((bytes_eq-Decides w _).0 hc)))
     by_it false false false true ha hb hc he = inr (inl ((bytes_eq-Decides w _).0 he))
     by_it false false false false ha hb hc he =
-        let known = not_false (is_bucket_kind d.setting (number_of d w)) (λ none. h UnknownType (none, other_word w _ ha, other_word w _ hb, other_word w _ hc, other_word w _ he, λ e. h LeftOut e)) in
-        inr (inr (ltb-true 0 (number_of d w) (and_parts (nat_lt 0 (number_of d w)) (list_any (λ (y : KindData). y.number == number_of d w) d.setting.kinds) known).0))
+        let opens = begins_bucket d late w h ha hb hc he in
+        inr (inr (ltb-true 0 (number_of d w) (and_parts (nat_lt 0 (number_of d w)) (list_any (λ (y : KindData). y.number == number_of d w) d.setting.kinds) opens.1).0))
 
 -- a word that opens a step
 begins_step : (d : Draft) (w : List ℕ) → IsRight d step_word w → BeginsStep w
@@ -190,9 +187,9 @@ is_for d bucket_id w h =
 is_for d id_or_alg w h = either_word w (codes "id") (codes "alg") (h Unexpected)
 is_for d id_class w h = tt
 is_for d algorithm w h = named_alg w (h OtherAlgorithm)
-is_for d (item_or_end any) w h = either_word w (codes "item") (codes "}") (λ o. h Unexpected (o.0, o.1, λ t e. h LeftOut e))
-is_for d item w h = (some_of (item_named d w) (h UnknownItem), not_true _ (h SecondParent))
-is_for d lone_item w h = (some_of (item_named d w) (h UnknownItem), not_true _ (h SecondParent))
+is_for d (item_or_end any) w h = either_word w (codes "item") (codes "}") (λ o. h Unexpected (o.0, o.1, λ t e. h LeftOut (t, e)))
+is_for d item w h = free_item d w (h UnknownItem) (h SecondParent)
+is_for d lone_item w h = free_item d w (h UnknownItem) (h SecondParent)
 is_for d (weight i) w h = has_units i (weight_of_text w) (h BadWeight)
 is_for d rule_name w h = tt
 is_for d rule_id_key w h = either_word w (codes "id") (codes "ruleset") (h Unexpected)

@@ -11,6 +11,10 @@ abbrev pub fires : TextFaultKind → List Test → Bool
 fires f [] = false
 fires f ((g when b) ∷ ts) = cond (fault_number g == fault_number f) b (fires f ts)
 
+-- no test of a lesser number holds
+abbrev pub NoneFires : TextFaultKind → List Test → Type 0
+NoneFires f ts = (g : TextFaultKind) → fault_number g < fault_number f → fires g ts ≡ false
+
 -- the tests stand in the order of the faults' numbers
 abbrev pub above : ℕ → List Test → Bool
 above n [] = true
@@ -31,7 +35,7 @@ passed true x e = refl
 passed false x e = e
 
 -- the fault is one whose test holds, and no lesser one's does
-pub first_fires : {A : Type 0} (n : ℕ) (ts : List Test) (v : A) (f : TextFaultKind) → above n ts ≡ true → unless ts v ≡ Err f → (fires f ts ≡ true) × ((g : TextFaultKind) → fault_number g < fault_number f → fires g ts ≡ false)
+pub first_fires : {A : Type 0} (n : ℕ) (ts : List Test) (v : A) (f : TextFaultKind) → above n ts ≡ true → unless ts v ≡ Err f → (fires f ts ≡ true) × NoneFires f ts
 first_fires n [] v f a e = absurd cc
 first_fires n ((g when true) ∷ ts) v f a e =
     let k : g ≡ f = cc in

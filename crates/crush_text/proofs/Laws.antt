@@ -47,7 +47,7 @@ word_right d r w v e =
 pub word_fault : (d : Draft) (r : Role) (w : List ℕ) (f : TextFaultKind) → word_for d r w ≡ Err f → IsFault f d r w
 word_fault d r w f e =
     let k = first_fires 2 (tests d r w) (value d r w) f (in_order d w r) e in (
-      (told d w f r).0 k.0,
+      (told d w f r).0 k.0 k.1,
       λ g lt h.
           let some : fires g (tests d r w) ≡ true = (told d w g r).1 h in
           let none : fires g (tests d r w) ≡ false = k.1 g lt in

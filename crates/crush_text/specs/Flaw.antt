@@ -28,10 +28,18 @@ abbrev pub is_whole : State → Bool
 is_whole (between p) = is_idle p.mode
 is_whole (amid d f) = false
 
+-- the text ends inside a statement
+abbrev pub IsEnded : State → ℕ → TextFault → Type 0
+IsEnded s place f = (f ≡ record { kind = Ended; place = place }) × (is_whole s ≡ false)
+
+-- a byte that no text may have, or a long word
+abbrev pub IsBadWord : ℕ → TextFault → Type 0
+IsBadWord place f = f ≡ record { kind = BadWord; place = place }
+
 -- what comes next is at fault
 abbrev pub IsFaulty : State → List Word → Stop → TextFault → Type 0
-IsFaulty s [] (ended place) f = (f ≡ record { kind = Ended; place = place }) × (is_whole s ≡ false)
-IsFaulty s [] (bad place) f = f ≡ record { kind = BadWord; place = place }
+IsFaulty s [] (ended place) f = IsEnded s place f
+IsFaulty s [] (bad place) f = IsBadWord place f
 IsFaulty s (w ∷ ws) stop f = FaultyNext f.kind s w.text × (f.place ≡ w.place)
 
 -- A FLAW of a text: the words before it spell lines and a part of one, and what comes next is at fault

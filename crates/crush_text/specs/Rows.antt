@@ -12,16 +12,15 @@ use Rattle.crush_table.specs.Lawful.{is_too_heavy}
 use Rattle.crush_edits.specs.Setting.{kind_number}
 use Rattle.crush_edits.specs.Fits.{is_reserved}
 use Rattle.crush_map.specs.Built.{Draft, with_item}
-use Rattle.crush_map.specs.Building.{has_name, has_bucket_id, has_class, item_named, is_bucket_kind, has_kind_number, has_kind_name, has_tunable, is_full_of_class_ids}
-use Rattle.crush_map.specs.Rules.{bucket_named, has_rule_name, has_rule_id}
+use Rattle.crush_map.specs.Building.{has_name, has_bucket_id, has_class, item_named, is_bucket_kind, has_kind_number, has_kind_name, has_tunable, is_full_of_devices, is_full_of_buckets, is_full_of_kinds, is_full_of_tunables, is_full_of_class_ids}
+use Rattle.crush_map.specs.Rules.{bucket_named, has_rule_name, has_rule_id, is_full_of_rules}
 use Rattle.crush_text.specs.declared.fault.TextFaultKind.{TextFaultKind}
 use Rattle.crush_text.specs.declared.fault.TextFaultKind.TheVariants.{Unexpected, BadNumber, BadWeight, DuplicateId, DuplicateName, UnknownType, UnknownItem, SecondParent, OtherAlgorithm, LeftOut, UnknownBucketInRule, TooMany, SumTooLarge}
 use Rattle.crush_text.specs.declared.limits.TheConstants.{LARGEST_RULE_NUMBER}
 use Rattle.crush_text.specs.Fault.{fault_number}
 use Rattle.crush_bytes.specs.Numbers.{is_number}
 use Rattle.crush_text.specs.Forms.{is_negative, is_signed}
-use Rattle.crush_text.specs.Role.{Role, number_of, item_of, units, key, number, opening, tunable_name, type_number, type_name, device_id, new_name, bucket_id, id_or_alg, id_class, algorithm, item_or_end, item, lone_item, weight, rule_name, rule_id_key, rule_id, step_or_end, step_word, taken_bucket, step_order, step_count, step_type}
-use Rattle.crush_text.specs.Tests.{is_full}
+use Rattle.crush_text.specs.Role.{Role, number_of, key, number, opening, tunable_name, type_number, type_name, device_id, new_name, bucket_id, id_or_alg, id_class, algorithm, item_or_end, item, lone_item, weight, rule_name, rule_id_key, rule_id, step_or_end, step_word, taken_bucket, step_order, step_count, step_type}
 use Rattle.crush_units.specs.declared.limits.TheConstants.{HEAVIEST_DEVICE, LAST_DEVICE_ID, LAST_TYPE, MOST_STEPS}
 
 -- `{` or `}`
@@ -90,10 +89,10 @@ IsDuplicateName d id_class w = has_class d w ≡ true
 IsDuplicateName d rule_name w = has_rule_name d.setting w ≡ true
 IsDuplicateName d r w = ⊥
 
--- a first word that names no type, or type 0, and that begins nothing else; a step's type that isn't declared. It holds of
--- `class` too, which is unexpected
+-- a first word that names no type, or type 0, and is none of the words that only type 0 may have as its name; a step's type that
+-- isn't declared
 abbrev pub IsUnknownType : Draft → Role → List ℕ → Type 0
-IsUnknownType d (opening late) w = (is_bucket_kind d.setting (number_of d w) ≡ false) × (w ≢ codes "tunable") × (w ≢ codes "device") × (w ≢ codes "type") × (w ≢ codes "rule") × (w ≢ codes "choose_args")
+IsUnknownType d (opening late) w = (is_reserved w ≡ false) × (is_bucket_kind d.setting (number_of d w) ≡ false)
 IsUnknownType d step_type w = kind_number d.setting w ≡ None
 IsUnknownType d r w = ⊥
 
@@ -103,10 +102,13 @@ IsUnknownItem d item w = item_named d w ≡ None
 IsUnknownItem d lone_item w = item_named d w ≡ None
 IsUnknownItem d r w = ⊥
 
--- an item that a bucket holds already. Of a name of no item, which is unknown, it holds as of device 0
+-- an item that a bucket holds already
+abbrev pub IsHeldItem : Draft → List ℕ → Type 0
+IsHeldItem d w = (i : ItemId) × (item_named d w ≡ Some i) × (is_placed d.table i ≡ true)
+
 abbrev pub IsSecondParent : Draft → Role → List ℕ → Type 0
-IsSecondParent d item w = is_placed d.table (item_of d w) ≡ true
-IsSecondParent d lone_item w = is_placed d.table (item_of d w) ≡ true
+IsSecondParent d item w = IsHeldItem d w
+IsSecondParent d lone_item w = IsHeldItem d w
 IsSecondParent d r w = ⊥
 
 -- another algorithm
@@ -114,10 +116,10 @@ abbrev pub IsOtherAlgorithm : Role → List ℕ → Type 0
 IsOtherAlgorithm algorithm w = alg_of_text w ≡ None
 IsOtherAlgorithm r w = ⊥
 
--- what isn't read. It holds of `pos` where no item stands before it too, where that is unexpected
+-- what isn't read: `choose_args` as a first word, `pos` behind an item, `choosemsr` as the first word of a step
 abbrev pub IsLeftOut : Role → List ℕ → Type 0
 IsLeftOut (opening late) w = w ≡ codes "choose_args"
-IsLeftOut (item_or_end any) w = w ≡ codes "pos"
+IsLeftOut (item_or_end any) w = (any ≡ true) × (w ≡ codes "pos")
 IsLeftOut step_word w = w ≡ codes "choosemsr"
 IsLeftOut r w = ⊥
 
@@ -126,19 +128,30 @@ abbrev pub IsUnknownBucketInRule : Draft → Role → List ℕ → Type 0
 IsUnknownBucketInRule d taken_bucket w = bucket_named d w ≡ None
 IsUnknownBucketInRule d r w = ⊥
 
--- one more tunable, type, device, bucket, class id, rule or step than a map may have. In a map full of buckets it holds of
--- each first word that begins no other statement, where a lesser row does unless it names a type of buckets
+-- the first word of a bucket: it names a type, but type 0, and is none of the words that only type 0 may have as its name
+abbrev pub BeginsBucket : Draft → List ℕ → Type 0
+BeginsBucket d w = (is_reserved w ≡ false) × (is_bucket_kind d.setting (number_of d w) ≡ true)
+
+-- the first word of a tunable, a device, a type, a rule or a bucket of which a map has no room for one more
+abbrev pub IsOneTooMany : Draft → List ℕ → Type 0
+IsOneTooMany d w =
+    ((w ≡ codes "tunable") × (is_full_of_tunables d ≡ true))
+    ⊎ (((w ≡ codes "device") × (is_full_of_devices d ≡ true))
+    ⊎ (((w ≡ codes "type") × (is_full_of_kinds d ≡ true))
+    ⊎ (((w ≡ codes "rule") × (is_full_of_rules d ≡ true))
+    ⊎ (BeginsBucket d w × (is_full_of_buckets d ≡ true)))))
+
+-- one more tunable, type, device, bucket, class id, rule or step than a map may have
 abbrev pub IsTooMany : Draft → Role → List ℕ → Type 0
-IsTooMany d (opening late) w = is_full d w ≡ true
+IsTooMany d (opening late) w = IsOneTooMany d w
 IsTooMany d id_or_alg w = (w ≡ codes "id") × (is_full_of_class_ids d ≡ true)
 IsTooMany d (step_or_end k) w = (w ≡ codes "step") × (MOST_STEPS ≤ k)
 IsTooMany d r w = ⊥
 
--- an item with which a bucket's sum or the total is out of range. It is judged of a name of no item as of device 0, and of a
--- word that is no weight as of the weight 0, where a lesser row holds
+-- an item with which a bucket's sum or the total is out of range: one without a weight, or with a weight that it may have
 abbrev pub IsSumTooLarge : Draft → Role → List ℕ → Type 0
-IsSumTooLarge d lone_item w = is_too_heavy (with_item d (item_of d w) None).table ≡ true
-IsSumTooLarge d (weight i) w = is_too_heavy (with_item d i (Some (units w))).table ≡ true
+IsSumTooLarge d lone_item w = (i : ItemId) × (item_named d w ≡ Some i) × (is_too_heavy (with_item d i None).table ≡ true)
+IsSumTooLarge d (weight i) w = (u : ℕ) × (weight_of_text w ≡ Ok u) × (IsNoWeightOf i (Ok u) → ⊥) × (is_too_heavy (with_item d i (Some u)).table ≡ true)
 IsSumTooLarge d r w = ⊥
 
 -- a row of the table holds of a word
