@@ -3,12 +3,9 @@
 //! These can hold at one word:
 //!
 //! - 1 of a long word, and 3, 4, 5, 6, 8, 9, 11, 13, 15.
-//! - 3 of a brace, and 4, 5, 8, 9, 11, 13, 15; of a type's forbidden name, and 7; of a first word
-//!   that stands behind a bucket or a rule, and 14.
+//! - 3 of a brace, and 4, 5, 8, 9, 11, 13; of a type's forbidden name, and 7; of a first word that
+//!   stands behind a bucket or a rule, and 14.
 //! - 4 and 6, of a number that is taken and isn't written as one.
-//! - 5 and 15, since a bucket weighs its sum, whatever is written, and a device can be too heavy for
-//!   itself and for its bucket.
-//! - 8 and 14, of the first word of a bucket that there is no room for.
 //! - 10 and 15, of an item without a weight.
 //!
 //! Those with 14 are in `limits.rt`. No others can:
@@ -18,12 +15,10 @@
 //! - A brace is no id, no name and no item that is there (6, 7, 10). 3 gives way where 12 names the
 //!   word.
 //! - 8 isn't of the six words that only type 0 may have as its name, and so not of `choose_args` (12).
-//!   The definition `IsUnknownType` holds of `class` too, of which 3 is told.
 //! - 9 isn't of what a bucket holds (10), and what isn't there weighs nothing (15).
-//! - 14 is of a word that begins what there is one too many of: no brace (3), and not `choose_args` (12).
-//!   The definition `IsTooMany` holds of more: where there is no room for a bucket, of each first word
-//!   but `tunable`, `device`, `type` and `rule`, and so of a brace, of `class` and of `choose_args`.
-//!   What is told is the same, since 3 and 12 are the lesser numbers: `limits.rt` has these words.
+//! - 14 is of a word that begins what there is one too many of: no brace (3), no word that names no
+//!   type of buckets (8), and not `choose_args` (12). `limits.rt` has such words, told by the others.
+//! - 15 is of an item that has a weight which it may have (3, 5).
 //! - All others are of words for different things: 4 and 6 of numbers and ids, 5 of weights, 7 of
 //!   new names, 8 of first words and of the types of steps, 9 and 10 of items, 11 of algorithms, 12 of
 //!   first words, of those of steps and of what follows an item, 13 of buckets that are taken, 14 of
@@ -72,13 +67,6 @@ const PAIRS: &[([u8; 2], &[u8], &[u8])] = &[
         b"rule x { id 0 type replicated }\nrule y { id ",
         b"00000000000 type replicated",
     ),
-    ([5, 15], HEAVY_HOST, b"x }"),
-    ([5, 15], HEAVY_HOST, b"65536 }"),
-    (
-        [5, 15],
-        b"device 1 e\nhost a { id -1 alg straw2 item d weight 32767.99998 item e weight ",
-        b"65535 }",
-    ),
     (
         [10, 15],
         b"device 1 e\nhost a { id -1 alg straw2 item d weight 32767.99998 item e weight 32767.99998 item ",
@@ -121,7 +109,6 @@ const PAIRS_OF_WORDS_OUT_OF_PLACE: &[([u8; 2], &[u8], &[u8])] = &[
     ([3, 9], b"host a { id -1 alg straw2 item ", b"}"),
     ([3, 11], b"host a { id -1 alg ", b"{"),
     ([3, 13], b"rule x { id 0 type replicated step take ", b"{"),
-    ([3, 15], HEAVY_HOST, b"}"),
 ];
 
 /// Words at which only the first of the two rows holds, where the other may seem to hold as well.
@@ -134,10 +121,18 @@ const NO_PAIRS: &[([u8; 2], &[u8], &[u8])] = &[
         b"type 0 type\nrule x { id 0 type replicated }\n",
         b"type 2 rack",
     ),
+    ([3, 15], HEAVY_HOST, b"}"),
     (
         [5, 12],
         b"host a { id -1 alg straw2 item d weight ",
         b"pos 0",
+    ),
+    ([5, 15], HEAVY_HOST, b"x }"),
+    ([5, 15], HEAVY_HOST, b"65536 }"),
+    (
+        [5, 15],
+        b"device 1 e\nhost a { id -1 alg straw2 item d weight 32767.99998 item e weight ",
+        b"65535 }",
     ),
     ([9, 12], b"host a { id -1 alg straw2 item d item ", b"pos 0"),
     (
