@@ -12,6 +12,7 @@ pub mod Kept
 pub mod KidSums
 pub mod Marked
 pub mod Moved
+pub mod Numbered
 pub mod Parted
 pub mod Passing
 pub mod Relocated
@@ -24,6 +25,7 @@ pub mod Summed
 pub mod Sums
 pub mod Swapped
 pub mod Tested
+pub mod TooMany
 pub mod Unlawful
 pub mod Weighs
 pub mod Worked

@@ -13,13 +13,13 @@ use Rattle.crush_table.proofs.Counted.{sum_by-replicate}
 use Rattle.crush_table.proofs.Reorder.{one_if}
 
 -- of some tests the one after the first n fails, and the m after it hold
-abbrev all_but : ℕ → ℕ → List Bool
+abbrev pub all_but : ℕ → ℕ → List Bool
 all_but n m = replicate n true ++ false ∷ replicate m true
 
-abbrev disk : ℕ → List ℕ → Option ℕ → ℕ → Row
+abbrev pub disk : ℕ → List ℕ → Option ℕ → ℕ → Row
 disk d n p w = device_row p (record { id = d; name = n; weight = w; class = None })
 
-abbrev box : ℕ → List ℕ → Option ℕ → List ShadowData → Row
+abbrev pub box : ℕ → List ℕ → Option ℕ → List ShadowData → Row
 box b n p c = bucket_row p (record { id = b; kind = 1; name = n; alg = Straw2; class_ids = c })
 
 abbrev ssd : ℕ → ShadowData
