@@ -65,13 +65,13 @@ letter_of_a_name n =
 pub is_name-letters : (n : ℕ) → is_name (letters n) ≡ true
 unfolding letters
 is_name-letters n =
-    (λ i. letter_of_a_name n i && (letter_of_a_name (n / 26) i && (letter_of_a_name (n / 26 / 26) i && (letter_of_a_name (n / 26 / 26 / 26) i && true))))
+    λ i. letter_of_a_name n i && (letter_of_a_name (n / 26) i && (letter_of_a_name (n / 26 / 26) i && (letter_of_a_name (n / 26 / 26 / 26) i && true)))
 
 -- also after one more letter
 pub is_name-lettered : (c n : ℕ) → is_name_byte c ≡ true → is_name (c ∷ letters n) ≡ true
 unfolding letters
 is_name-lettered c n h =
-    (λ i. h i && (letter_of_a_name n i && (letter_of_a_name (n / 26) i && (letter_of_a_name (n / 26 / 26) i && (letter_of_a_name (n / 26 / 26 / 26) i && true)))))
+    λ i. h i && (letter_of_a_name n i && (letter_of_a_name (n / 26) i && (letter_of_a_name (n / 26 / 26) i && (letter_of_a_name (n / 26 / 26 / 26) i && true))))
 
 -- the number that a name stands for
 number : List ℕ → ℕ

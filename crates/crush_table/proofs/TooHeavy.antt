@@ -1,4 +1,4 @@
--- Tables of any number of full buckets, lawful but for their total: with one too many they break that condition alone.
+-- Tables of up to 4,096 full buckets, lawful but for their total: with one too many they break that condition alone.
 use Rattle.std.proofs.Common.{◌≡◌, ℕ, zero, suc, ◌+◌, ◌*◌, ◌≤◌, ◌<◌, Bool, true, false, List, [], ◌∷◌, ◌++◌, ap, subst, ◌∙◌, refl, arith, ⊎_elim}
 use Rattle.std.specs.Prelude.{Some, None, replicate, nat_lt, nat_le, not, ◌==◌, ◌||◌, ◌&&◌, map, bytes_eq, is_some, if◌then◌else◌}
 use Rattle.std.specs.List.{list_any, list_all, sum_by}
@@ -177,6 +177,7 @@ rows_have_room n h =
     let buckets : bucket_count (heavy_rows n) ≡ n * 1 = rows_add (λ r. one_if (is_bucket r)) 1 0 (λ k. refl) (λ k. refl) (λ k. refl) n in
     λ i. le-ltb MOST_DEVICES (device_count (heavy_rows n)) (omega (arith, devices)) i || le-ltb MOST_BUCKETS (bucket_count (heavy_rows n)) (omega (arith, buckets)) i
 
+-- each test but that of sums and total holds, and of these it is the total that fails
 many_roots : (n : ℕ) → n ≤ 4096 → table_tests (heavy_rows n) ≡ replicate 6 true ++ not (nat_lt 8796093022207 (n * 4294967294)) ∷ (true ∷ [])
 many_roots n h =
     let used : are_apart (λ a b. a == b) (used_ids (heavy_rows n)) ≡ true =

@@ -1,4 +1,4 @@
--- Tables of any number of devices or buckets, lawful but for that number: with one too many they break that condition alone.
+-- Tables of up to 456,976 devices or buckets, lawful but for that number: with one too many they break that condition alone.
 use Rattle.std.proofs.Common.{◌≡◌, ℕ, zero, suc, ◌≤◌, ◌<◌, Bool, true, false, List, [], ◌∷◌, ◌++◌, ap, ◌∙◌, refl, arith}
 use Rattle.std.specs.Prelude.{Option, Some, None, replicate, nat_lt, nat_le, not, ◌==◌, ◌||◌, ◌&&◌, map, bytes_eq, length, option_and_then, is_some, if◌then◌else◌}
 use Rattle.std.specs.List.{list_any, list_all}
@@ -49,6 +49,7 @@ disks_fill n =
       or_false true = refl
       or_false false = refl
 
+-- each test but that of counts holds
 many_disks : (n : ℕ) → n ≤ 456976 → table_tests (disks n) ≡ replicate 7 true ++ not (nat_lt 65536 n) ∷ []
 many_disks n h =
     let ids : are_apart same_id (map (λ (r : Row). r.id) (disks n)) ≡ true =
@@ -117,6 +118,7 @@ boxes_fill n =
     let buckets : bucket_count (boxes n) ≡ n = sum_by-numbered box_at (λ r. one_if (is_bucket r)) 1 (λ k. refl) n ∙ omega arith in
     λ i. nat_lt 65536 (none_else i) || nat_lt 4096 (buckets i)
 
+-- each test but that of counts holds
 many_boxes : (n : ℕ) → n ≤ 456976 → table_tests (boxes n) ≡ replicate 7 true ++ not (nat_lt 4096 n) ∷ []
 many_boxes n h =
     let ids : are_apart same_id (map (λ (r : Row). r.id) (boxes n)) ≡ true =
