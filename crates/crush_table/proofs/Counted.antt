@@ -1,8 +1,7 @@
 -- What rows that come last add to counts, used ids and the total.
-use Rattle.std.proofs.Common.{◌≡◌, ℕ, zero, suc, ◌+◌, ◌*◌, List, ◌++◌, ap, ◌∙◌, arith}
-use Rattle.std.specs.Prelude.{if◌then◌else◌, is_some, replicate}
-use Rattle.std.specs.List.{sum_by}
-use Rattle.std.proofs.lemmas.List.Sums.{sum_by-append, sum_by-cons}
+use Rattle.std.proofs.Common.{◌≡◌, ◌+◌, List, ◌++◌}
+use Rattle.std.specs.Prelude.{if◌then◌else◌, is_some}
+use Rattle.std.proofs.lemmas.List.Sums.{sum_by-append}
 use Rattle.std.proofs.lemmas.Grind.{flat_map-append}
 use Rattle.crush_table.specs.Table.{Row, is_device, is_bucket, summed_weight, total, device_count, bucket_count, used_ids}
 use Rattle.crush_table.proofs.Reorder.{one_if}
@@ -19,10 +18,3 @@ total-append t u = sum_by-append (λ (r : Row). if is_some r.parent then summed_
 
 pub used_ids-append : (t u : List Row) → used_ids (t ++ u) ≡ used_ids t ++ used_ids u
 used_ids-append t u = flat_map-append uses t u
-
--- one row, so many times
-pub sum_by-replicate : {X : Type 0} (f : X → ℕ) (n : ℕ) (x : X) → sum_by f (replicate n x) ≡ n * f x
-sum_by-replicate f zero x = omega arith
-sum_by-replicate f (suc n) x =
-    let spread : f x + n * f x ≡ suc n * f x = omega arith in
-    sum_by-cons f x (replicate n x) ∙ ap (λ k. f x + k) (sum_by-replicate f n x) ∙ spread

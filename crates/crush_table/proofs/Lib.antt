@@ -25,6 +25,7 @@ pub mod Summed
 pub mod Sums
 pub mod Swapped
 pub mod Tested
+pub mod TooHeavy
 pub mod TooMany
 pub mod Unlawful
 pub mod Weighs

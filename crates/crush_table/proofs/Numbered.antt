@@ -10,44 +10,44 @@ use Rattle.crush_table.proofs.Tested.{bytes_equal}
 use Rattle.crush_table.proofs.Weighs.{true_or_false}
 
 -- the elements below n, the last first
-unfoldable pub below : {X : Type 0} → (ℕ → X) → ℕ → List X
-below f zero = []
-below f (suc n) = f n ∷ below f n
+unfoldable pub numbered : {X : Type 0} → (ℕ → X) → ℕ → List X
+numbered f zero = []
+numbered f (suc n) = f n ∷ numbered f n
 
 module _ {X : Type 0} (f : ℕ → X) where
-  pub length-below : (n : ℕ) → length (below f n) ≡ n
-  unfolding below
-  length-below zero = refl
-  length-below (suc n) = ap suc (length-below n)
+  pub length-numbered : (n : ℕ) → length (numbered f n) ≡ n
+  unfolding numbered
+  length-numbered zero = refl
+  length-numbered (suc n) = ap suc (length-numbered n)
 
-  pub map-below : {Y : Type 0} (g : X → Y) (n : ℕ) → map g (below f n) ≡ below (λ k. g (f k)) n
-  unfolding below
-  map-below g zero = refl
-  map-below g (suc n) = ap (λ xs. g (f n) ∷ xs) (map-below g n)
+  pub map-numbered : {Y : Type 0} (g : X → Y) (n : ℕ) → map g (numbered f n) ≡ numbered (λ k. g (f k)) n
+  unfolding numbered
+  map-numbered g zero = refl
+  map-numbered g (suc n) = ap (λ xs. g (f n) ∷ xs) (map-numbered g n)
 
-  pub list_all-below : (p : X → Bool) (n : ℕ) → ((k : ℕ) → k < n → p (f k) ≡ true) → list_all p (below f n) ≡ true
-  unfolding below
-  list_all-below p zero h = refl
-  list_all-below p (suc n) h = (λ i. h n (omega arith) i && list_all p (below f n)) ∙ list_all-below p n (λ k l. h k (omega arith))
+  pub list_all-numbered : (p : X → Bool) (n : ℕ) → ((k : ℕ) → k < n → p (f k) ≡ true) → list_all p (numbered f n) ≡ true
+  unfolding numbered
+  list_all-numbered p zero h = refl
+  list_all-numbered p (suc n) h = (λ i. h n (omega arith) i && list_all p (numbered f n)) ∙ list_all-numbered p n (λ k l. h k (omega arith))
 
-  pub list_any-below : (p : X → Bool) (n : ℕ) → ((k : ℕ) → k < n → p (f k) ≡ false) → list_any p (below f n) ≡ false
-  unfolding below
-  list_any-below p zero h = refl
-  list_any-below p (suc n) h = (λ i. h n (omega arith) i || list_any p (below f n)) ∙ list_any-below p n (λ k l. h k (omega arith))
+  pub list_any-numbered : (p : X → Bool) (n : ℕ) → ((k : ℕ) → k < n → p (f k) ≡ false) → list_any p (numbered f n) ≡ false
+  unfolding numbered
+  list_any-numbered p zero h = refl
+  list_any-numbered p (suc n) h = (λ i. h n (omega arith) i || list_any p (numbered f n)) ∙ list_any-numbered p n (λ k l. h k (omega arith))
 
-  pub are_apart-below : (same : X → X → Bool) (n : ℕ) → ((m k : ℕ) → k < m → m < n → same (f m) (f k) ≡ false) → are_apart same (below f n) ≡ true
-  unfolding below
-  are_apart-below same zero h = refl
-  are_apart-below same (suc n) h =
-      let last : list_any (same (f n)) (below f n) ≡ false = list_any-below (same (f n)) n (λ k l. h n k l (omega arith)) in
-      (λ i. not (last i) && are_apart same (below f n)) ∙ are_apart-below same n (λ m k l e. h m k l (omega arith))
+  pub are_apart-numbered : (same : X → X → Bool) (n : ℕ) → ((m k : ℕ) → k < m → m < n → same (f m) (f k) ≡ false) → are_apart same (numbered f n) ≡ true
+  unfolding numbered
+  are_apart-numbered same zero h = refl
+  are_apart-numbered same (suc n) h =
+      let last : list_any (same (f n)) (numbered f n) ≡ false = list_any-numbered (same (f n)) n (λ k l. h n k l (omega arith)) in
+      (λ i. not (last i) && are_apart same (numbered f n)) ∙ are_apart-numbered same n (λ m k l e. h m k l (omega arith))
 
-  pub sum_by-below : (g : X → ℕ) (c : ℕ) → ((k : ℕ) → g (f k) ≡ c) → (n : ℕ) → sum_by g (below f n) ≡ n * c
-  unfolding below
-  sum_by-below g c h zero = omega arith
-  sum_by-below g c h (suc n) =
+  pub sum_by-numbered : (g : X → ℕ) (c : ℕ) → ((k : ℕ) → g (f k) ≡ c) → (n : ℕ) → sum_by g (numbered f n) ≡ n * c
+  unfolding numbered
+  sum_by-numbered g c h zero = omega arith
+  sum_by-numbered g c h (suc n) =
       let more : c + n * c ≡ suc n * c = omega arith in
-      omega (arith, more, sum_by-cons g (f n) (below f n), h n, sum_by-below g c h n)
+      omega (arith, more, sum_by-cons g (f n) (numbered f n), h n, sum_by-numbered g c h n)
 
 -- NAMES: four letters for each number below 456,976, the fourth power of 26
 abbrev letter : ℕ → ℕ
@@ -65,7 +65,13 @@ letter_of_a_name n =
 pub is_name-letters : (n : ℕ) → is_name (letters n) ≡ true
 unfolding letters
 is_name-letters n =
-    (λ i. letter_of_a_name n i && (letter_of_a_name (n / 26) i && (letter_of_a_name (n / 26 / 26) i && (letter_of_a_name (n / 26 / 26 / 26) i && true))))
+    λ i. letter_of_a_name n i && (letter_of_a_name (n / 26) i && (letter_of_a_name (n / 26 / 26) i && (letter_of_a_name (n / 26 / 26 / 26) i && true)))
+
+-- also after one more letter
+pub is_name-lettered : (c n : ℕ) → is_name_byte c ≡ true → is_name (c ∷ letters n) ≡ true
+unfolding letters
+is_name-lettered c n h =
+    λ i. h i && (letter_of_a_name n i && (letter_of_a_name (n / 26) i && (letter_of_a_name (n / 26 / 26) i && (letter_of_a_name (n / 26 / 26 / 26) i && true))))
 
 -- the number that a name stands for
 number : List ℕ → ℕ
@@ -76,7 +82,7 @@ number-letters : (n : ℕ) → n < 456976 → number (letters n) ≡ n
 unfolding letters number
 number-letters n h = omega arith
 
--- the names of two numbers differ, also after the same letters
+-- the names of two numbers differ
 pub letters_differ : (m n : ℕ) → m < 456976 → n < m → bytes_eq (letters m) (letters n) ≡ false
 letters_differ m n h l = ⊎_elim
     (λ e. absurd (let same : number (letters m) ≡ number (letters n) = ap number (bytes_equal (letters m) (letters n) e) in omega (arith, same, number-letters m h, number-letters n (omega arith))))

@@ -1,16 +1,14 @@
--- Tables that break one condition of a lawful table, but for total and counts alone, and what the limits are, computed. That a parent is a device can't be
+-- Tables and rows that break one condition of a lawful table alone, computed: for total see TooHeavy, for counts TooMany. That a parent is a device can't be
 -- written: a row's parent is the number of a bucket.
-use Rattle.std.proofs.Common.{◌≡◌, ℕ, zero, suc, ◌*◌, Bool, true, false, List, [], ◌∷◌, ◌++◌, ◌∙◌, refl, arith}
-use Rattle.std.specs.Prelude.{Option, Some, None, codes, replicate, nat_lt, ◌||◌}
+use Rattle.std.proofs.Common.{◌≡◌, ℕ, zero, suc, Bool, true, false, List, [], ◌∷◌, ◌++◌, refl}
+use Rattle.std.specs.Prelude.{Option, Some, None, codes, replicate, nat_lt}
 use Rattle.crush_units.specs.declared.alg.Alg.TheVariants.{Straw2}
 use Rattle.crush_units.specs.Name.{is_name}
 use Rattle.crush_table.specs.Items.{ShadowData}
 use Rattle.crush_table.specs.ItemRows.{device_row, bucket_row}
-use Rattle.crush_table.specs.Table.{Row, sum_below, total, is_device, is_bucket, device_count, bucket_count}
-use Rattle.crush_table.specs.Lawful.{is_too_heavy, has_too_many}
+use Rattle.crush_table.specs.Table.{Row, sum_below, total}
+use Rattle.crush_table.specs.Lawful.{is_too_heavy}
 use Rattle.crush_table.specs.Tested.{device_tests, bucket_tests, table_tests}
-use Rattle.crush_table.proofs.Counted.{sum_by-replicate}
-use Rattle.crush_table.proofs.Reorder.{one_if}
 
 -- of some tests the one after the first n fails, and the m after it hold
 abbrev pub all_but : ℕ → ℕ → List Bool
@@ -25,7 +23,7 @@ box b n p c = bucket_row p (record { id = b; kind = 1; name = n; alg = Straw2; c
 abbrev ssd : ℕ → ShadowData
 ssd n = record { id = n; class = codes "ssd" }
 
--- TABLES: ids, names, used ids, rows, parents, loops, sums and total, counts
+-- TABLES: ids, names, used ids, rows, parents, loops, sums
 
 id_twice : table_tests (box 1 (codes "r") None [] ∷ (disk 0 (codes "a") (Some 1) 1 ∷ (disk 0 (codes "b") (Some 1) 1 ∷ []))) ≡ all_but 0 7
 id_twice = refl
@@ -90,32 +88,6 @@ weighs_too_much = refl
 
 weighs_nothing_there : is_too_heavy other_order ≡ false
 weighs_nothing_there = refl
-
--- COUNTS AND TOTAL at any size: so many rows that are alike
-many_devices : (n : ℕ) → has_too_many (replicate n (disk 0 (codes "a") None 0)) ≡ nat_lt 65536 n
-many_devices n =
-    let devices : device_count (replicate n (disk 0 (codes "a") None 0)) ≡ n = sum_by-replicate (λ (r : Row). one_if (is_device r)) n (disk 0 (codes "a") None 0) ∙ omega arith in
-    let none_else : bucket_count (replicate n (disk 0 (codes "a") None 0)) ≡ 0 = sum_by-replicate (λ (r : Row). one_if (is_bucket r)) n (disk 0 (codes "a") None 0) ∙ omega arith in
-    (λ k. nat_lt 65536 (devices k) || nat_lt 4096 (none_else k)) ∙ or_false (nat_lt 65536 n) where
-      or_false : (b : Bool) → (b || false) ≡ b
-      or_false true = refl
-      or_false false = refl
-
-many_buckets : (n : ℕ) → has_too_many (replicate n (box 1 (codes "r") None [])) ≡ nat_lt 4096 n
-many_buckets n =
-    let none_else : device_count (replicate n (box 1 (codes "r") None [])) ≡ 0 = sum_by-replicate (λ (r : Row). one_if (is_device r)) n (box 1 (codes "r") None []) ∙ omega arith in
-    let buckets : bucket_count (replicate n (box 1 (codes "r") None [])) ≡ n = sum_by-replicate (λ (r : Row). one_if (is_bucket r)) n (box 1 (codes "r") None []) ∙ omega arith in
-    λ k. nat_lt 65536 (none_else k) || nat_lt 4096 (buckets k)
-
-heavy_total : (n : ℕ) → total (replicate n (disk 0 (codes "a") (Some 1) 2147483647)) ≡ n * 2147483647
-heavy_total n = sum_by-replicate _ n (disk 0 (codes "a") (Some 1) 2147483647)
-
--- 4,096 of the heaviest devices are no total out of range, one more are
-total_in_range : nat_lt 8796093022207 (4096 * 2147483647) ≡ false
-total_in_range = refl
-
-total_out_of_range : nat_lt 8796093022207 (4097 * 2147483647) ≡ true
-total_out_of_range = refl
 
 -- A DEVICE'S ROW: id, type, weight, weightless while unplaced, algorithm, class ids, class
 

@@ -43,7 +43,7 @@ light_sums t a h b = ⊎_elim
 pub light_total : (t : List Row) → is_too_heavy t ≡ false → total t ≤ HEAVIEST_MAP
 light_total t h = ltb-false HEAVIEST_MAP (total t) (or_right (list_any (λ (r : Row). is_over t r.id) t) (nat_lt HEAVIEST_MAP (total t)) h)
 
-none_over : (t : List Row) → ((b : ℕ) → sum_below t b ≤ HEAVIEST_BUCKET) → (u : List Row) → list_any (λ (r : Row). is_over t r.id) u ≡ false
+pub none_over : (t : List Row) → ((b : ℕ) → sum_below t b ≤ HEAVIEST_BUCKET) → (u : List Row) → list_any (λ (r : Row). is_over t r.id) u ≡ false
 none_over t h [] = refl
 none_over t h (r ∷ u) = ap (λ z. z || list_any (λ (x : Row). is_over t x.id) u) (not_over r.id) ∙ none_over t h u where
   not_over : (i : ItemId) → is_over t i ≡ false

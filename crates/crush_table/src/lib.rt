@@ -15,8 +15,8 @@
 //! | `Law`, `KeepsLaw`, `MoveLaw` | the statements of the laws |
 //!
 //! [`law`] has the laws, each the contract of a function that does nothing. Lemmas are in
-//! `proofs/`: `Worked` computes an example map before and after changes, `Unlawful` tables that
-//! break one condition alone.
+//! `proofs/`: `Worked` computes an example map before and after changes, `Unlawful`, `TooMany` and
+//! `TooHeavy` have tables that break one condition alone.
 #![tactic(auto)]
 
 pub mod law;
