@@ -1,10 +1,10 @@
 //! Columns of the example map's forest, weights below a bucket, and ids that are free.
 
 use super::example::example;
-use super::items::{Item, bucket, bucket_item, device_item};
+use super::items::{Item, bucket, bucket_item, device_item, name};
 use super::puts::add;
 use crush_tree::{Forest, Place};
-use crush_units::{Alg, Name, Weight};
+use crush_units::{Alg, Weight};
 use std::alloc::Global;
 use std::process::Abort;
 
@@ -23,11 +23,19 @@ fn tells_of_osd_2(rt: &impl Abort, forest: &Forest<Global>) -> bool {
         && forest.alg(device_item(rt, 2)).is_none()
 }
 
+/// Whether the columns of both are told, and none of an item that isn't there.
+fn tells_of_columns(rt: &impl Abort, forest: &Forest<Global>) -> bool {
+    tells_of_h2(rt, forest)
+        && tells_of_osd_2(rt, forest)
+        && forest.name(device_item(rt, 3)).is_none()
+}
+
 #[test]
 fn columns(rt: HostRuntime) {
     let forest = example(&rt);
-    assert!(rt; tells_of_h2(&rt, &forest) && tells_of_osd_2(&rt, &forest));
-    assert!(rt; forest.name(device_item(&rt, 3)).is_none());
+    let are_told = tells_of_columns(&rt, &forest);
+    drop(forest);
+    assert!(rt; are_told);
 }
 
 #[test]
@@ -39,7 +47,9 @@ fn class_of_a_device(rt: HostRuntime) {
         Place::Unplaced,
         Item::DeviceOfClass(3, "osd.3", 0),
     );
-    assert!(rt; forest.class(device_item(&rt, 3)) == Some("ssd"));
+    let is_told = forest.class(device_item(&rt, 3)) == Some("ssd");
+    drop(forest);
+    assert!(rt; is_told);
 }
 
 /// Whether osd.2 alone weighs other than 1.0: below the root and h2, and not below h1 or a bucket
@@ -54,21 +64,34 @@ fn has_one_other_weight(rt: &impl Abort, forest: &Forest<Global>) -> bool {
 
 #[test]
 fn other_weights_below(rt: HostRuntime) {
-    assert!(rt; has_one_other_weight(&rt, &example(&rt)));
+    let forest = example(&rt);
+    let is_told = has_one_other_weight(&rt, &forest);
+    drop(forest);
+    assert!(rt; is_told);
+}
+
+/// Whether a name is read into the forest's memory.
+fn has_memory_for_a_name(rt: &impl Abort, forest: &Forest<Global>) -> bool {
+    let name = name(rt, *forest.allocator(), "osd.3");
+    let is_read = name.as_str() == "osd.3";
+    drop(name);
+    is_read
 }
 
 #[test]
 fn in_the_forests_memory(rt: HostRuntime) {
     let forest = example(&rt);
-    let name = Name::read(*forest.allocator(), b"osd.3").expect(&rt, "a name");
-    assert!(rt; name.as_str() == "osd.3");
+    let is_read = has_memory_for_a_name(&rt, &forest);
+    drop(forest);
+    assert!(rt; is_read);
 }
 
-/// Asserts the first four ids that are free beside -1, -2, -3 and -5.
+/// Asserts the first four ids that are free beside -1, -2, -3 and -5, and which of two are used.
 fn frees_four_ids(rt: &impl Abort, forest: &Forest<Global>) {
     let mut ids = [bucket(rt, 1); 4];
     forest.free_ids(&mut ids);
     assert!(rt; ids.map(|id| id.number()) == [-4, -6, -7, -8]);
+    assert!(rt; !forest.is_used(bucket(rt, 4)) && forest.is_used(bucket(rt, 5)));
 }
 
 /// Of the buckets -1 and -3 with the class ids -2 and -5.
@@ -77,6 +100,6 @@ fn free_ids(rt: HostRuntime) {
     let mut forest = Forest::new(rt.alloc(), rt.alloc());
     add(&rt, &mut forest, Place::Root, Item::HostOfClass(1, "h1", 2));
     add(&rt, &mut forest, Place::Root, Item::HostOfClass(3, "h3", 5));
-    assert!(rt; !forest.is_used(bucket(&rt, 4)) && forest.is_used(bucket(&rt, 5)));
     frees_four_ids(&rt, &forest);
+    drop(forest);
 }

@@ -3,37 +3,43 @@
 
 use super::asks::{has_item, is_held};
 use super::items::{
-    Item, bucket, bucket_item, device, device_item, holding, inside, node, node_with,
+    Item, bucket, bucket_item, device, device_item, holding, inside, name, node, node_with,
 };
 use super::puts::{Refused, add, add_in, exchange, give_name, put, weigh, weigh_all};
-use crush_tree::{Forest, Node, Place};
-use crush_units::{Alg, ItemId, Name, Weight};
+use crush_tree::{Forest, Node, Place, View};
+use crush_units::{Alg, BucketId, ItemId, Weight};
 use linked_list_allocator::LocalHeap;
 use std::alloc::{Allocator, Global};
 use std::process::Abort;
 
-/// Puts the root `default` and the host h1 with osd.0 and osd.1 into a forest, item by item.
-fn put_root_and_h1<A: Allocator + Copy>(
+/// The host h1 with osd.0 and osd.1, each with how far the id of its bucket is below 0.
+const H1: &[(u32, Item)] = &[
+    (1, Item::Host(2, "h1")),
+    (2, Item::Device(0, "osd.0", 65536)),
+    (2, Item::Device(1, "osd.1", 65536)),
+];
+
+/// Puts the host h1 into a forest, item by item.
+fn put_h1<A: Allocator + Copy>(
+    rt: &impl Abort,
+    alloc: A,
+    forest: &mut Forest<A>,
+) -> Result<(), Refused> {
+    for (distance, item) in H1 {
+        add_in(rt, alloc, forest, inside(rt, *distance), *item)?;
+    }
+    Ok(())
+}
+
+/// Puts the root `default` and both hosts into a forest.
+fn put_all<A: Allocator + Copy>(
     rt: &impl Abort,
     alloc: A,
     forest: &mut Forest<A>,
 ) -> Result<(), Refused> {
     add_in(rt, alloc, forest, Place::Root, Item::Root(1, "default"))?;
-    add_in(rt, alloc, forest, inside(rt, 1), Item::Host(2, "h1"))?;
-    add_in(
-        rt,
-        alloc,
-        forest,
-        inside(rt, 2),
-        Item::Device(0, "osd.0", 65536),
-    )?;
-    add_in(
-        rt,
-        alloc,
-        forest,
-        inside(rt, 2),
-        Item::Device(1, "osd.1", 65536),
-    )
+    put_h1(rt, alloc, forest)?;
+    put_h2(rt, alloc, forest)
 }
 
 /// Puts the host h2 into a forest, which holds osd.2 before it comes.
@@ -55,9 +61,13 @@ fn put_h2<A: Allocator + Copy>(
 /// weighs 0.5.
 fn example_in<A: Allocator + Copy>(rt: &impl Abort, alloc: A) -> Result<Forest<A>, Refused> {
     let mut forest = Forest::new(alloc, alloc);
-    put_root_and_h1(rt, alloc, &mut forest)?;
-    put_h2(rt, alloc, &mut forest)?;
-    Ok(forest)
+    match put_all(rt, alloc, &mut forest) {
+        Ok(()) => Ok(forest),
+        Err(refused) => {
+            drop(forest);
+            Err(refused)
+        }
+    }
 }
 
 /// The forest of the example map in the machine's memory.
@@ -68,13 +78,6 @@ pub(super) fn example(rt: &(impl Abort + AllocGlobal)) -> Forest<Global> {
 /// A copy of a forest.
 fn copy_of<A: Allocator + Copy>(rt: &impl Abort, forest: &Forest<A>) -> Forest<A> {
     forest.try_copy().expect(rt, "memory")
-}
-
-/// The forest of the example map, and a copy of it.
-fn example_and_copy(rt: &(impl Abort + AllocGlobal)) -> (Forest<Global>, Forest<Global>) {
-    let forest = example(rt);
-    let copy = copy_of(rt, &forest);
-    (forest, copy)
 }
 
 /// Whether the bucket weighs so many units.
@@ -98,16 +101,33 @@ fn is_osd_2_in_h2<A: Allocator>(rt: &impl Abort, forest: &Forest<A>) -> bool {
         && forest.parent(device_item(rt, 2)) == Some(bucket(rt, 3))
 }
 
+/// Whether a copy of the forest is the same.
+pub(super) fn is_copied<A: Allocator + Copy>(rt: &impl Abort, forest: &Forest<A>) -> bool {
+    let copy = copy_of(rt, forest);
+    let is_copied = copy.is_same(forest);
+    drop(copy);
+    is_copied
+}
+
+/// Whether a copy of the forest counts and weighs what the example map does.
+fn sums_up_in_a_copy<A: Allocator + Copy>(rt: &impl Abort, forest: &Forest<A>) -> bool {
+    let copy = copy_of(rt, forest);
+    let is_summed = sums_up(rt, &copy);
+    drop(copy);
+    is_summed
+}
+
 /// Asserts what is told of the example map's forest and of a copy of it.
 fn is_built<A: Allocator + Copy>(rt: &impl Abort, forest: &Forest<A>) {
     assert!(rt; sums_up(rt, forest) && is_osd_2_in_h2(rt, forest));
-    let copy = copy_of(rt, forest);
-    assert!(rt; copy.is_same(forest) && sums_up(rt, &copy));
+    assert!(rt; is_copied(rt, forest) && sums_up_in_a_copy(rt, forest));
 }
 
 #[test]
 fn in_the_machines_memory(rt: HostRuntime) {
-    is_built(&rt, &example(&rt));
+    let forest = example(&rt);
+    is_built(&rt, &forest);
+    drop(forest);
 }
 
 #[test]
@@ -115,37 +135,45 @@ fn in_a_heap(rt: HostRuntime) {
     let heap = LocalHeap::new(rt.alloc(), 65536).expect(&rt, "a heap");
     let forest = example_in(&rt, &heap).expect(&rt, "memory");
     is_built(&rt, &forest);
+    drop(forest);
 }
 
-/// Whether the forest is this one, and has no memory for a copy.
-fn is_in_full_memory(forest: &Forest<&LocalHeap>, whole: &Forest<Global>) -> bool {
-    forest.is_same(whole) && forest.try_copy().is_err()
+/// Whether the forest has no memory for a copy.
+fn lacks_a_copy(forest: &Forest<&LocalHeap>) -> bool {
+    match forest.try_copy() {
+        Ok(copy) => {
+            drop(copy);
+            false
+        }
+        Err(_) => true,
+    }
 }
 
-/// Asserts that a forest that could be made is the whole one, in memory that has no more, and that
-/// one that couldn't lacked memory. Answers whether it could.
-fn is_whole_or_lacks_memory(
-    rt: &impl Abort,
-    made: &Result<Forest<&LocalHeap>, Refused>,
-    whole: &Forest<Global>,
-) -> bool {
-    match made {
+/// Whether a heap of this size has the forest that the machine's memory has, and no memory for a copy.
+/// One that is too small has no memory for it.
+fn holds_the_forest(rt: &(impl Abort + AllocGlobal), size: usize, whole: &Forest<Global>) -> bool {
+    let heap = LocalHeap::new(rt.alloc(), size).expect(rt, "a heap");
+    match example_in(rt, &heap) {
         Ok(forest) => {
-            assert!(rt; is_in_full_memory(forest, whole));
+            assert!(rt; forest.is_same(whole) && lacks_a_copy(&forest));
+            drop(forest);
             true
         }
         Err(refused) => {
-            assert!(rt; *refused == Refused::NoMemory);
+            assert!(rt; refused == Refused::NoMemory);
             false
         }
     }
 }
 
-/// Whether a heap of this size has the forest that the machine's memory has. One that is too small
-/// has no memory for it.
-fn holds_the_forest(rt: &(impl Abort + AllocGlobal), size: usize, whole: &Forest<Global>) -> bool {
-    let heap = LocalHeap::new(rt.alloc(), size).expect(rt, "a heap");
-    is_whole_or_lacks_memory(rt, &example_in(rt, &heap), whole)
+/// Asserts that a heap holds the forest, after those that are too small.
+fn is_held_by_a_heap(rt: &(impl Abort + AllocGlobal), whole: &Forest<Global>) {
+    for i in 1..1024 {
+        if holds_the_forest(rt, 64 * i, whole) {
+            return;
+        }
+    }
+    panic!(rt; "no heap holds the forest")
 }
 
 /// Heaps that are too small have no memory for the forest. The first that holds it has none for a
@@ -153,76 +181,112 @@ fn holds_the_forest(rt: &(impl Abort + AllocGlobal), size: usize, whole: &Forest
 #[test]
 fn in_heaps_of_each_size(rt: HostRuntime) {
     let whole = example(&rt);
-    let holds = (1..1024).any(|i| holds_the_forest(&rt, 64 * i, &whole));
-    assert!(rt; holds, "no heap holds the forest");
+    is_held_by_a_heap(&rt, &whole);
+    drop(whole);
 }
 
-/// Asserts that forests that are the same differ while osd.2 weighs something else in one.
+/// Whether the forests are the same once osd.2 weighs so much in one.
+fn is_same_of_weight<A: Allocator>(
+    rt: &impl Abort,
+    forest: &Forest<Global>,
+    other: &mut Forest<A>,
+    units: u32,
+) -> bool {
+    weigh(other, device(rt, 2), Weight::from_units(units)).expect(rt, "a weight");
+    forest.is_same(other)
+}
+
+/// Whether forests that are the same differ while osd.2 weighs something else in one.
 fn differ_by_a_weight<A: Allocator>(
     rt: &impl Abort,
     forest: &Forest<Global>,
     other: &mut Forest<A>,
-) {
-    assert!(rt; forest.is_same(other));
-    weigh(other, device(rt, 2), Weight::from_units(32769)).expect(rt, "a weight");
-    assert!(rt; !forest.is_same(other));
-    weigh(other, device(rt, 2), Weight::from_units(32768)).expect(rt, "a weight");
-    assert!(rt; forest.is_same(other));
+) -> bool {
+    forest.is_same(other)
+        && !is_same_of_weight(rt, forest, other, 32769)
+        && is_same_of_weight(rt, forest, other, 32768)
 }
 
-/// Gives an item another name, and asserts which it had.
+/// Whether an item had this name, if it gets another.
 fn renames<A: Allocator>(
     rt: &impl Abort,
+    alloc: A,
     forest: &mut Forest<A>,
     id: &ItemId,
-    name: Name<A>,
+    text: &str,
     old: &str,
-) {
-    let had = give_name(forest, id, name).expect(rt, "a name");
-    assert!(rt; had.as_str() == old);
+) -> Option<bool> {
+    match give_name(forest, id, name(rt, alloc, text)) {
+        Ok(had) => {
+            let is_old = had.as_str() == old;
+            drop(had);
+            Some(is_old)
+        }
+        Err(_) => None,
+    }
 }
 
-/// Asserts that forests that are the same differ once osd.1 has another name in one.
-fn differ_by_a_name<A: Allocator + Copy>(
+/// Whether forests that are the same differ once osd.1 has another name in one.
+fn differ_by_a_name<A: Allocator>(
     rt: &impl Abort,
     forest: &Forest<Global>,
     alloc: A,
     other: &mut Forest<A>,
-) {
-    let name = Name::read(alloc, b"osd.9").expect(rt, "a name");
-    renames(rt, other, &device_item(rt, 1), name, "osd.1");
-    assert!(rt; !other.is_same(forest));
+) -> bool {
+    renames(rt, alloc, other, &device_item(rt, 1), "osd.9", "osd.1") == Some(true)
+        && !other.is_same(forest)
+}
+
+/// Whether a heap has the forest that the machine's memory has, and one that differs by a weight or a
+/// name is another.
+fn is_same_in_a_heap(rt: &impl Abort, heap: &LocalHeap, forest: &Forest<Global>) -> bool {
+    let mut other = example_in(rt, heap).expect(rt, "memory");
+    let is_told = differ_by_a_weight(rt, forest, &mut other)
+        && differ_by_a_name(rt, forest, heap, &mut other);
+    drop(other);
+    is_told
 }
 
 #[test]
 fn same_in_any_memory(rt: HostRuntime) {
     let heap = LocalHeap::new(rt.alloc(), 65536).expect(&rt, "a heap");
     let forest = example(&rt);
-    let mut other = example_in(&rt, &heap).expect(&rt, "memory");
-    differ_by_a_weight(&rt, &forest, &mut other);
-    differ_by_a_name(&rt, &forest, &heap, &mut other);
+    let is_told = is_same_in_a_heap(&rt, &heap, &forest);
+    drop(forest);
+    assert!(rt; is_told);
 }
 
-/// Asserts that forests that are the same differ where one has an idle device and the other none, or
-/// one of another class.
+/// Whether a forest differs from the other once it has this idle device.
+fn differs_with(
+    rt: &(impl Abort + AllocGlobal),
+    forest: &mut Forest<Global>,
+    other: &Forest<Global>,
+    idle: Item,
+) -> bool {
+    add(rt, forest, Place::Unplaced, idle);
+    !forest.is_same(other)
+}
+
+/// Whether forests that are the same differ where one has an idle device and the other none, or one of
+/// another class.
 fn differ_by_a_class(
     rt: &(impl Abort + AllocGlobal),
     forest: &mut Forest<Global>,
     other: &mut Forest<Global>,
-) {
-    let ssd = Item::DeviceOfClass(3, "osd.3", 0);
-    add(rt, forest, Place::Unplaced, ssd);
-    assert!(rt; !forest.is_same(other));
-    let plain = Item::Device(3, "osd.3", 0);
-    add(rt, other, Place::Unplaced, plain);
-    assert!(rt; !forest.is_same(other));
+) -> bool {
+    differs_with(rt, forest, other, Item::DeviceOfClass(3, "osd.3", 0))
+        && differs_with(rt, other, forest, Item::Device(3, "osd.3", 0))
+        && is_copied(rt, forest)
 }
 
 #[test]
 fn class_matters(rt: HostRuntime) {
-    let (mut forest, mut other) = example_and_copy(&rt);
-    differ_by_a_class(&rt, &mut forest, &mut other);
-    assert!(rt; copy_of(&rt, &forest).is_same(&forest));
+    let mut forest = example(&rt);
+    let mut other = copy_of(&rt, &forest);
+    let is_told = differ_by_a_class(&rt, &mut forest, &mut other);
+    drop(other);
+    drop(forest);
+    assert!(rt; is_told);
 }
 
 /// Asserts the sums after new weights, of osd.2 and of all devices.
@@ -237,22 +301,26 @@ fn sums_follow(rt: &impl Abort, forest: &mut Forest<Global>) {
 fn weights(rt: HostRuntime) {
     let mut forest = example(&rt);
     sums_follow(&rt, &mut forest);
-    assert!(rt; !is_held(&forest, &device_item(&rt, 3)));
+    let is_held = is_held(&forest, &device_item(&rt, 3));
+    drop(forest);
+    assert!(rt; !is_held);
 }
 
-/// Asserts that h1 gets a name that is free, and none that another has.
-fn gives_a_free_name(rt: &(impl Abort + AllocGlobal), forest: &mut Forest<Global>) {
+/// Whether h1 gets a name that is free, and none that another has.
+fn gives_a_free_name(rt: &(impl Abort + AllocGlobal), forest: &mut Forest<Global>) -> bool {
     let h1 = bucket_item(rt, 2);
-    let free = Name::read(rt.alloc(), b"h9").expect(rt, "a name");
-    renames(rt, forest, &h1, free, "h1");
-    assert!(rt; forest.id_of("h9") == Some(h1) && forest.id_of("h1").is_none());
-    let taken = Name::read(rt.alloc(), b"h2").expect(rt, "a name");
-    assert!(rt; give_name(forest, &h1, taken).is_err());
+    renames(rt, rt.alloc(), forest, &h1, "h9", "h1") == Some(true)
+        && forest.id_of("h9") == Some(h1)
+        && forest.id_of("h1").is_none()
+        && renames(rt, rt.alloc(), forest, &h1, "h2", "h9").is_none()
 }
 
 #[test]
 fn names(rt: HostRuntime) {
-    gives_a_free_name(&rt, &mut example(&rt));
+    let mut forest = example(&rt);
+    let is_told = gives_a_free_name(&rt, &mut forest);
+    drop(forest);
+    assert!(rt; is_told);
 }
 
 /// Whether the items have these ids in order, as the numbers that a map shows.
@@ -281,7 +349,10 @@ fn is_in_order(rt: &impl Abort, forest: &Forest<Global>) -> bool {
 
 #[test]
 fn items_in_order(rt: HostRuntime) {
-    assert!(rt; is_in_order(&rt, &example(&rt)));
+    let forest = example(&rt);
+    let is_told = is_in_order(&rt, &forest);
+    drop(forest);
+    assert!(rt; is_told);
 }
 
 #[test]
@@ -289,7 +360,17 @@ fn unplaced_devices(rt: HostRuntime) {
     let mut forest = example(&rt);
     let idle = Item::Device(3, "osd.3", 0);
     add(&rt, &mut forest, Place::Unplaced, idle);
-    assert!(rt; forest.roots().len() == 1 && are_numbered(forest.unplaced(), &[3]));
+    let is_told = forest.roots().len() == 1 && are_numbered(forest.unplaced(), &[3]);
+    drop(forest);
+    assert!(rt; is_told);
+}
+
+/// Whether an item that weighs 0.5 is seen with this type, this name and this bucket that holds it.
+fn is_seen(view: &View<'_>, kind: u16, name: &str, parent: BucketId) -> bool {
+    view.kind.number() == kind
+        && view.name == name
+        && view.weight.units() == 32768
+        && view.parent == Some(parent)
 }
 
 /// Whether the host h2 is found.
@@ -297,11 +378,8 @@ fn finds_h2(rt: &impl Abort, forest: &Forest<Global>) -> bool {
     match forest.find(bucket_item(rt, 3)) {
         Some(view) => {
             view.id.number() == -3
-                && view.kind.number() == 1
-                && view.name == "h2"
-                && view.weight.units() == 32768
-                && view.parent == Some(bucket(rt, 1))
                 && view.alg == Some(Alg::Straw2)
+                && is_seen(&view, 1, "h2", bucket(rt, 1))
         }
         None => false,
     }
@@ -310,57 +388,78 @@ fn finds_h2(rt: &impl Abort, forest: &Forest<Global>) -> bool {
 /// Whether the device osd.2 is found, without a class.
 fn finds_osd_2(rt: &impl Abort, forest: &Forest<Global>) -> bool {
     match forest.find(device_item(rt, 2)) {
-        Some(view) => {
-            view.kind.number() == 0
-                && view.name == "osd.2"
-                && view.weight.units() == 32768
-                && view.parent == Some(bucket(rt, 3))
-                && view.class.is_none()
-        }
+        Some(view) => { view.class.is_none() && is_seen(&view, 0, "osd.2", bucket(rt, 3)) }
         None => false,
     }
+}
+
+/// Whether both are found, and no item for an id that isn't there.
+fn finds_both_and_no_other(rt: &impl Abort, forest: &Forest<Global>) -> bool {
+    finds_h2(rt, forest) && finds_osd_2(rt, forest) && forest.find(bucket_item(rt, 4)).is_none()
 }
 
 #[test]
 fn one_item(rt: HostRuntime) {
     let forest = example(&rt);
-    assert!(rt; finds_h2(&rt, &forest) && finds_osd_2(&rt, &forest));
-    assert!(rt; forest.find(bucket_item(&rt, 4)).is_none());
+    let is_told = finds_both_and_no_other(&rt, &forest);
+    drop(forest);
+    assert!(rt; is_told);
+}
+
+/// Whether osd.2 is below the root and h1 is in itself, and neither osd.2 nor the root is below h1.
+fn tells_what_is_below(rt: &impl Abort, forest: &Forest<Global>) -> bool {
+    let (root, h1) = (bucket(rt, 1), bucket(rt, 2));
+    forest.contains(root, device_item(rt, 2))
+        && forest.contains(h1, ItemId::Bucket(h1))
+        && !forest.contains(h1, device_item(rt, 2))
+        && !forest.contains(h1, ItemId::Bucket(root))
 }
 
 #[test]
 fn what_is_below(rt: HostRuntime) {
     let forest = example(&rt);
-    let (root, h1) = (bucket(&rt, 1), bucket(&rt, 2));
-    let below = [
-        forest.contains(root, device_item(&rt, 2)),
-        forest.contains(h1, ItemId::Bucket(h1)),
-        forest.contains(h1, device_item(&rt, 2)),
-        forest.contains(h1, ItemId::Bucket(root)),
-    ];
-    assert!(rt; below == [true, true, false, false]);
+    let is_told = tells_what_is_below(&rt, &forest);
+    drop(forest);
+    assert!(rt; is_told);
 }
 
 /// Takes the host h2 out of the example map's forest, and asserts what it weighs.
 fn takes_h2_out(rt: &impl Abort, forest: &mut Forest<Global>) {
     let h2 = forest.detach(bucket_item(rt, 3)).expect(rt, "h2");
-    assert!(rt; h2.weight() == Weight::from_units(32768));
+    let weight = h2.weight();
+    drop(h2);
+    assert!(rt; weight == Weight::from_units(32768));
+}
+
+/// Whether no item is taken out for an id that isn't there.
+fn detaches_nothing(forest: &mut Forest<Global>, id: ItemId) -> bool {
+    match forest.detach(id) {
+        Some(node) => {
+            drop(node);
+            false
+        }
+        None => true,
+    }
 }
 
 /// Asserts what is told of the example map's forest without the host h2.
 fn is_without_h2(rt: &impl Abort, forest: &mut Forest<Global>) {
     let osd = device_item(rt, 2);
     assert!(rt; forest.total() == 131072 && !has_item(forest, &osd));
-    assert!(rt; forest.detach(osd).is_none() && forest.has_room(inside(rt, 1)));
+    assert!(rt; detaches_nothing(forest, osd) && forest.has_room(inside(rt, 1)));
 }
 
 #[test]
 fn out_and_in_again(rt: HostRuntime) {
-    let (mut forest, whole) = example_and_copy(&rt);
+    let mut forest = example(&rt);
+    let whole = copy_of(&rt, &forest);
     takes_h2_out(&rt, &mut forest);
     is_without_h2(&rt, &mut forest);
     put_h2(&rt, rt.alloc(), &mut forest).expect(&rt, "memory");
-    assert!(rt; forest.is_same(&whole));
+    let is_whole = forest.is_same(&whole);
+    drop(whole);
+    drop(forest);
+    assert!(rt; is_whole);
 }
 
 /// Whether h1 has the id and the weight that h2 had.
@@ -382,14 +481,20 @@ fn exchanges_hosts(rt: &impl Abort, forest: &mut Forest<Global>) {
 
 #[test]
 fn two_hosts_exchanged(rt: HostRuntime) {
-    let (mut forest, whole) = example_and_copy(&rt);
+    let mut forest = example(&rt);
+    let whole = copy_of(&rt, &forest);
     exchanges_hosts(&rt, &mut forest);
-    assert!(rt; forest.is_same(&whole));
+    let is_whole = forest.is_same(&whole);
+    drop(whole);
+    drop(forest);
+    assert!(rt; is_whole);
 }
 
 #[test]
 fn held_by_hand(rt: HostRuntime) {
     let device = node(&rt, Item::Device(0, "osd.0", 65536));
     let host = node_with(&rt, Item::Host(2, "h1"), device);
-    assert!(rt; host.weight() == Weight::from_units(65536));
+    let weight = host.weight();
+    drop(host);
+    assert!(rt; weight == Weight::from_units(65536));
 }

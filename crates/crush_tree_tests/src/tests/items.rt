@@ -46,23 +46,34 @@ pub(super) fn device_item(rt: &impl Abort, number: u32) -> ItemId {
     ItemId::Device(device(rt, number))
 }
 
+/// A name for which there is memory.
+pub(super) fn name<A: Allocator>(rt: &impl Abort, alloc: A, text: &str) -> Name<A> {
+    Name::read(alloc, text.as_bytes()).expect(rt, "a name")
+}
+
 /// The header of a bucket without class ids.
 pub(super) fn header<A: Allocator + Copy>(
     rt: &impl Abort,
     alloc: A,
     distance: u32,
     kind: u16,
-    name: &str,
-) -> Result<Header<A>, Refused> {
-    let id = bucket(rt, distance);
-    let name = Name::read(alloc, name.as_bytes())?;
-    Ok(Header {
-        id,
+    name: Name<A>,
+) -> Header<A> {
+    Header {
+        id: bucket(rt, distance),
         kind: TypeId::new(kind),
         name,
         alg: Alg::Straw2,
         class_ids: Vec::new(alloc),
-    })
+    }
+}
+
+/// A class id of `ssd`.
+fn class_id<A: Allocator>(rt: &impl Abort, alloc: A, distance: u32) -> ShadowId<A> {
+    ShadowId {
+        id: bucket(rt, distance),
+        class: name(rt, alloc, "ssd"),
+    }
 }
 
 /// The header of a host with a class id of `ssd`.
@@ -70,15 +81,13 @@ fn header_of_class<A: Allocator + Copy>(
     rt: &impl Abort,
     alloc: A,
     distance: u32,
-    name: &str,
-    class_id: u32,
+    text: &str,
+    class_distance: u32,
 ) -> Header<A> {
-    let id = bucket(rt, class_id);
-    let class = Name::read(alloc, b"ssd").expect(rt, "a class");
-    let mut header = header(rt, alloc, distance, 1, name).expect(rt, "memory");
+    let mut header = header(rt, alloc, distance, 1, name(rt, alloc, text));
     header
         .class_ids
-        .push(ShadowId { id, class })
+        .push(class_id(rt, alloc, class_distance))
         .expect(rt, "memory");
     header
 }
@@ -88,21 +97,18 @@ fn device_of_class<A: Allocator + Copy>(
     rt: &impl Abort,
     alloc: A,
     number: u32,
-    name: &str,
+    text: &str,
     units: u32,
 ) -> Node<A> {
     let id = device(rt, number);
-    let class = Name::read(alloc, b"ssd").expect(rt, "a class");
-    let name = Name::read(alloc, name.as_bytes()).expect(rt, "a name");
+    let class = name(rt, alloc, "ssd");
+    let name = name(rt, alloc, text);
     Node::device(id, name, Weight::from_units(units), Some(class))
 }
 
 /// An empty bucket.
 fn empty<A: Allocator + Copy>(alloc: A, header: Header<A>) -> Result<Node<A>, Refused> {
-    match Node::bucket(alloc, header) {
-        Ok(node) => Ok(node),
-        Err(_) => Err(Refused::NoMemory),
-    }
+    Node::bucket(alloc, header).ok().ok_or(Refused::NoMemory)
 }
 
 /// An empty bucket of a type, without class ids.
@@ -113,8 +119,8 @@ fn empty_of_kind<A: Allocator + Copy>(
     kind: u16,
     name: &str,
 ) -> Result<Node<A>, Refused> {
-    let header = header(rt, alloc, distance, kind, name)?;
-    empty(alloc, header)
+    let name = Name::read(alloc, name.as_bytes())?;
+    empty(alloc, header(rt, alloc, distance, kind, name))
 }
 
 /// A device without a class.
@@ -152,6 +158,7 @@ pub(super) fn made<A: Allocator + Copy>(
 /// Puts a child into a bucket, if it has room and their weights stay in range.
 pub(super) fn hold<A: Allocator>(bucket: &mut Node<A>, child: Node<A>) -> Result<(), Refused> {
     if !bucket.has_room() || bucket.weight().units() > u32::MAX - child.weight().units() {
+        drop(child);
         return Err(Refused::Unfit);
     }
     bucket.hold(child);
@@ -177,8 +184,13 @@ pub(super) fn holding<A: Allocator + Copy>(
     item: Item,
 ) -> Result<Node<A>, Refused> {
     let mut node = made(rt, alloc, bucket)?;
-    hold_item(rt, alloc, &mut node, item)?;
-    Ok(node)
+    match hold_item(rt, alloc, &mut node, item) {
+        Ok(()) => Ok(node),
+        Err(refused) => {
+            drop(node);
+            Err(refused)
+        }
+    }
 }
 
 /// The item by itself, in the machine's memory.

@@ -16,6 +16,7 @@ fn room_of_a_node(rt: HostRuntime) {
     assert!(rt; !host.has_room());
     let second = node(&rt, Item::Device(3, "osd.3", 32768));
     assert!(rt; hold(&mut host, second).is_err());
+    drop(host);
 }
 
 /// The host h2 with osd.2, which weighs 0.5.
@@ -38,7 +39,9 @@ fn root_of_weight(rt: &(impl Abort + AllocGlobal), units: u32) -> Node<Global> {
 
 /// Whether the weights of the item are sums of those below it.
 fn stores_sums(node: Node<Global>) -> bool {
-    node.stores_sums()
+    let stores_sums = node.stores_sums();
+    drop(node);
+    stores_sums
 }
 
 #[test]
@@ -73,8 +76,10 @@ const KEYS_IN_H3: &[(Item, bool)] = &[
 ];
 
 /// Asserts whether ids and names of the item are new to the forest and differ among themselves.
-fn tells_of_keys(rt: &impl Abort, forest: &Forest<Global>, node: &Node<Global>, told: bool) {
-    assert!(rt; forest.has_new_keys(node) == told);
+fn tells_of_keys(rt: &impl Abort, forest: &Forest<Global>, node: Node<Global>, told: bool) {
+    let is_new = forest.has_new_keys(&node);
+    drop(node);
+    assert!(rt; is_new == told);
 }
 
 /// Asserts the same of the item in the host h3.
@@ -85,25 +90,27 @@ fn tells_of_keys_in_h3(
     told: bool,
 ) {
     let h3 = node_with(rt, Item::HostOfClass(4, "h3", 5), node(rt, item));
-    tells_of_keys(rt, forest, &h3, told);
+    tells_of_keys(rt, forest, h3, told);
 }
 
 #[test]
 fn apart_from_the_forest(rt: HostRuntime) {
     let forest = example(&rt);
     for (item, told) in KEYS {
-        tells_of_keys(&rt, &forest, &node(&rt, *item), *told);
+        tells_of_keys(&rt, &forest, node(&rt, *item), *told);
     }
+    drop(forest);
 }
 
 #[test]
 fn apart_among_themselves(rt: HostRuntime) {
     let forest = example(&rt);
     let twice = node(&rt, Item::HostOfClass(4, "h3", 4));
-    tells_of_keys(&rt, &forest, &twice, false);
+    tells_of_keys(&rt, &forest, twice, false);
     for (item, told) in KEYS_IN_H3 {
         tells_of_keys_in_h3(&rt, &forest, *item, *told);
     }
+    drop(forest);
 }
 
 /// Whether an item can come to a place of a forest.
@@ -113,7 +120,10 @@ fn can_come(
     place: Place,
     item: Item,
 ) -> bool {
-    forest.can_attach(place, &node(rt, item))
+    let node = node(rt, item);
+    let can_come = forest.can_attach(place, &node);
+    drop(node);
+    can_come
 }
 
 /// Whether a device that weighs something can come to a bucket that is there, unless its id is used,
@@ -140,5 +150,7 @@ fn hosts_come_as_roots(rt: &(impl Abort + AllocGlobal), forest: &Forest<Global>)
 #[test]
 fn places_of_a_node(rt: HostRuntime) {
     let forest = example(&rt);
-    assert!(rt; devices_come_to_buckets(&rt, &forest) && hosts_come_as_roots(&rt, &forest));
+    let is_told = devices_come_to_buckets(&rt, &forest) && hosts_come_as_roots(&rt, &forest);
+    drop(forest);
+    assert!(rt; is_told);
 }

@@ -45,9 +45,13 @@ pub(super) fn put<A: Allocator>(
 ) -> Result<(), Refused> {
     let place = &place; // a place that was passed on by value can't be passed on again
     if !forest.can_attach(*place, &node) {
+        drop(node);
         return Err(Refused::Unfit);
     }
-    forest.reserve(*place)?;
+    if forest.reserve(*place).is_err() {
+        drop(node);
+        return Err(Refused::NoMemory);
+    }
     forest.attach(*place, node);
     Ok(())
 }
@@ -122,9 +126,11 @@ pub(super) fn give_name<A: Allocator>(
 ) -> Result<Name<A>, Refused> {
     forest.recall_invariant();
     if !has_item(forest, id) {
+        drop(name);
         return Err(Refused::Missing);
     }
     if has_name(forest, &name) {
+        drop(name);
         return Err(Refused::Unfit);
     }
     Ok(forest.rename(*id, name))

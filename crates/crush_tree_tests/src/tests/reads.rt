@@ -1,7 +1,9 @@
 //! Items in the machine's memory, in a small heap, and deep below one another; and a forest
 //! without items.
 
-use super::items::{Item, bucket, bucket_item, device_item, header, holding, node, node_with};
+use super::items::{
+    Item, bucket, bucket_item, device_item, header, holding, name, node, node_with,
+};
 use crush_nodes::search::{id_in, kids_in, uses_in, view_in};
 use crush_tree::{Forest, Header, Node, Place};
 use crush_units::{BucketId, DeviceId, ItemId};
@@ -50,6 +52,7 @@ fn searches<A: Allocator>(rt: &impl Abort, items: &[Node<A>]) {
 fn in_the_machines_memory(rt: HostRuntime) {
     let items = [host(&rt, rt.alloc())];
     searches(&rt, items.as_slice());
+    drop(items);
 }
 
 #[test]
@@ -57,21 +60,29 @@ fn in_a_heap(rt: HostRuntime) {
     let heap = LocalHeap::new(rt.alloc(), 65536).expect(&rt, "a heap");
     let items = [host(&rt, &heap)];
     searches(&rt, items.as_slice());
+    drop(items);
 }
 
 /// Whether no bucket could be made and the header of this id is handed back.
-fn is_handed_back<A: Allocator>(made: &Result<Node<A>, Header<A>>, number: i32) -> bool {
+fn is_handed_back<A: Allocator>(made: Result<Node<A>, Header<A>>, number: i32) -> bool {
     match made {
-        Ok(_) => false,
-        Err(header) => header.id.number() == number,
+        Ok(node) => {
+            drop(node);
+            false
+        }
+        Err(header) => {
+            let is_that = header.id.number() == number;
+            drop(header);
+            is_that
+        }
     }
 }
 
 #[test]
 fn bucket_without_memory(rt: HostRuntime) {
     let heap = LocalHeap::new(rt.alloc(), 64).expect(&rt, "a heap");
-    let header = header(&rt, &heap, 2, 1, "h1").expect(&rt, "memory");
-    assert!(rt; is_handed_back(&Node::bucket(&heap, header), -2));
+    let header = header(&rt, &heap, 2, 1, name(&rt, &heap, "h1"));
+    assert!(rt; is_handed_back(Node::bucket(&heap, header), -2));
 }
 
 /// Hosts -1 to -4096, each in the one after it, with a device in the first.
@@ -94,6 +105,7 @@ fn finds_the_lowest(rt: &impl Abort, items: &[Node<Global>]) {
 fn deep_below(rt: HostRuntime) {
     let items = [nested(&rt)];
     finds_the_lowest(&rt, items.as_slice());
+    drop(items);
 }
 
 /// Asserts the first ids that are free in a forest without items.
@@ -123,6 +135,8 @@ fn finds_nothing(rt: &impl Abort, forest: &Forest<Global>) -> bool {
 #[test]
 fn empty_forest(rt: HostRuntime) {
     let forest = Forest::new(rt.alloc(), rt.alloc());
-    assert!(rt; counts_nothing(&forest) && finds_nothing(&rt, &forest));
+    let is_empty = counts_nothing(&forest) && finds_nothing(&rt, &forest);
     frees_the_first_ids(&rt, &forest);
+    drop(forest);
+    assert!(rt; is_empty);
 }

@@ -15,6 +15,7 @@ const MOST: u32 = 2147483647;
 fn root(rt: &(impl Abort + AllocGlobal), forest: &mut Forest<Global>, distance: u32) -> BucketId {
     let name = format!(in rt.alloc(); "r{}", distance).expect(rt, "memory");
     add(rt, forest, Place::Root, Item::Root(distance, name.as_str()));
+    drop(name);
     bucket(rt, distance)
 }
 
@@ -32,6 +33,7 @@ fn host(
         Place::Bucket(root),
         Item::Host(distance, name.as_str()),
     );
+    drop(name);
     bucket(rt, distance)
 }
 
@@ -50,6 +52,7 @@ fn device(
         Place::Bucket(bucket),
         Item::Device(number, name.as_str(), units),
     );
+    drop(name);
 }
 
 /// Whether the bucket can come to weigh so much more, and not that much.
@@ -65,7 +68,9 @@ fn of_a_host(rt: HostRuntime) {
     let host = host(&rt, &mut forest, root, 2);
     device(&rt, &mut forest, host, 0, MOST);
     device(&rt, &mut forest, host, 1, MOST);
-    assert!(rt; is_limit(&forest, host, 1, 2));
+    let is_limit = is_limit(&forest, host, 1, 2);
+    drop(forest);
+    assert!(rt; is_limit);
 }
 
 #[test]
@@ -78,7 +83,9 @@ fn of_a_root(rt: HostRuntime) {
     device(&rt, &mut forest, a, 1, MOST);
     let all = Weight::from_units(MOST);
     let moved = fits_moved(&forest, number(&rt, 0), b, all);
-    assert!(rt; fits(&forest, b, all) == Some(false) && moved == Some(true));
+    let added = fits(&forest, b, all);
+    drop(forest);
+    assert!(rt; added == Some(false) && moved == Some(true));
 }
 
 /// Puts 2,048 roots with as much weight as a bucket can have into a forest.
@@ -96,5 +103,7 @@ fn of_all_devices(rt: HostRuntime) {
     let mut forest = Forest::new(rt.alloc(), rt.alloc());
     add_full_roots(&rt, &mut forest);
     let empty = root(&rt, &mut forest, 2049);
-    assert!(rt; forest.total() == 8796093020160 && is_limit(&forest, empty, 2047, 2048));
+    let is_limit = forest.total() == 8796093020160 && is_limit(&forest, empty, 2047, 2048);
+    drop(forest);
+    assert!(rt; is_limit);
 }
