@@ -3,108 +3,66 @@
 use crush_edits::*;
 use crush_units::limits::MOST_PAIRS;
 use crush_units::{DeviceId, Name, Weight};
-use std::alloc::Global;
-use std::test::Fail;
+use std::alloc::{AllocGlobal, Global};
+use std::process::Abort;
 
-#[test]
-fn locations(rt: HostRuntime) -> Result<(), Fail> {
-    let mut at = Location::new(rt.alloc());
-    at.push(b"host", b"h1")?;
-    at.push(b"root", b"default")?;
-    assert_eq!(rt; at.push(b"", b"h1"), Err(LocationFault::BadName));
-    assert_eq!(rt; at.push(b"host", b"h 1"), Err(LocationFault::BadName));
-    assert_eq!(rt; at.pairs().len(), 2);
-    assert!(rt; at.pairs()[0].kind.is(b"host"));
-    assert!(rt; at.pairs()[1].name.is(b"default"));
-    let copy = at.try_copy(rt.alloc())?;
-    assert_eq!(rt; copy.pairs().len(), 2);
-    Ok(())
+/// Whether the location has the pairs of a host and a root, each by its names.
+fn leads_to_a_host(at: &Location<Global>) -> bool {
+    let pairs = at.pairs();
+    pairs.len() == 2 && pairs[0].kind.is(b"host") && pairs[1].name.is(b"default")
 }
 
 #[test]
-fn full_location(rt: HostRuntime) -> Result<(), Fail> {
+fn locations(rt: HostRuntime) {
+    let mut at = Location::new(rt.alloc());
+    let is_pushed = at.push(b"host", b"h1").is_ok() && at.push(b"root", b"default").is_ok();
+    assert!(rt; is_pushed);
+    assert!(rt; at.push(b"", b"h1") == Err(LocationFault::BadName));
+    assert!(rt; at.push(b"host", b"h 1") == Err(LocationFault::BadName));
+    assert!(rt; leads_to_a_host(&at));
+    let copy = at.try_copy(rt.alloc()).expect(&rt, "memory");
+    assert!(rt; leads_to_a_host(&copy));
+    drop(copy);
+    drop(at);
+}
+
+#[test]
+fn full_location(rt: HostRuntime) {
     let mut at = Location::new(rt.alloc());
     for _ in 0..MOST_PAIRS {
-        at.push(b"host", b"h1")?;
+        let is_pushed = at.push(b"host", b"h1").is_ok();
+        assert!(rt; is_pushed);
     }
-    assert_eq!(rt; at.push(b"host", b"h1"), Err(LocationFault::TooMany));
-    assert_eq!(rt; at.push(b"", b""), Err(LocationFault::TooMany));
-    assert_eq!(rt; at.pairs().len(), 16);
-    Ok(())
+    assert!(rt; at.push(b"host", b"h1") == Err(LocationFault::TooMany));
+    assert!(rt; at.push(b"", b"") == Err(LocationFault::TooMany));
+    assert!(rt; at.pairs().len() == 16);
+    drop(at);
 }
 
 /// A name in the machine's memory.
-fn name(alloc: Global, bytes: &[u8]) -> Result<Name<Global>, Fail> {
-    Ok(Name::read(alloc, bytes)?)
+fn name(rt: &(impl Abort + AllocGlobal), bytes: &[u8]) -> Name<Global> {
+    Name::read(rt.alloc(), bytes).expect(rt, "a name")
+}
+
+/// The location of the host h1.
+fn at_h1(rt: &(impl Abort + AllocGlobal)) -> Location<Global> {
+    let mut at = Location::new(rt.alloc());
+    let is_pushed = at.push(b"host", b"h1").is_ok();
+    assert!(*rt; is_pushed);
+    at
+}
+
+/// Asserts that the edit can be copied.
+fn assert_copied(rt: &(impl Abort + AllocGlobal), edit: Edit<Global>) {
+    let copy = edit.try_copy(rt.alloc()).expect(rt, "memory");
+    drop(copy);
+    drop(edit);
 }
 
 #[test]
-fn copies(rt: HostRuntime) -> Result<(), Fail> {
-    let alloc = rt.alloc();
-    let mut at = Location::new(alloc);
-    at.push(b"host", b"h1")?;
+fn copies_of_placing_edits(rt: HostRuntime) {
     let weight = Weight::from_units(65536);
-    let device = DeviceId::new(3).ok_or("a device")?;
-    let edits = [
-        Edit::Insert {
-            device,
-            name: name(alloc, b"osd.3")?,
-            weight,
-            at: at.try_copy(alloc)?,
-        },
-        Edit::CreateOrMove {
-            device,
-            name: name(alloc, b"osd.3")?,
-            weight,
-            at: at.try_copy(alloc)?,
-        },
-        Edit::Update {
-            device,
-            name: name(alloc, b"osd.3")?,
-            weight,
-            at: at.try_copy(alloc)?,
-        },
-        Edit::Move {
-            name: name(alloc, b"h2")?,
-            at,
-        },
-        Edit::Swap {
-            a: name(alloc, b"h1")?,
-            b: name(alloc, b"h2")?,
-        },
-        Edit::Reweight {
-            name: name(alloc, b"osd.3")?,
-            weight,
-        },
-        Edit::ReweightSubtree {
-            name: name(alloc, b"h1")?,
-            weight,
-        },
-        Edit::Remove {
-            name: name(alloc, b"h1")?,
-        },
-        Edit::AddBucket {
-            name: name(alloc, b"h9")?,
-            kind: name(alloc, b"host")?,
-        },
-        Edit::Rename {
-            from: name(alloc, b"h1")?,
-            to: name(alloc, b"hq")?,
-        },
-    ];
-    for edit in &edits {
-        let _copy = edit.try_copy(alloc)?;
-    }
-    Ok(())
-}
-
-#[test]
-fn refusals(rt: HostRuntime) {
-    assert_eq!(rt; Refusal::Loop.name(), "Loop");
-    assert_eq!(rt; (Refusal::Loop.number(), Refusal::Loop.error()), (13, 40));
-    assert_eq!(rt;
-        EditFault::from(Refusal::Loop),
-        EditFault::Refused(Refusal::Loop)
-    );
-    assert_eq!(rt; LocationFault::OutOfMemory.number(), 3);
+    let device = DeviceId::new(3).expect(&rt, "a device");
+    let (name, at) = (name(&rt, b"osd.3"), at_h1(&rt));
+    assert_copied(&rt, Edit::Insert { device, name, weight, at });
 }

@@ -2,104 +2,149 @@
 
 use crush_units::limits::*;
 use crush_units::*;
-use std::test::Fail;
+use std::alloc::{AllocGlobal, Allocator};
+use std::process::Abort;
 
-#[test]
-fn limits(rt: HostRuntime) {
-    assert_eq!(rt; UNITS_OF_ONE, 1 << 16);
-    assert_eq!(rt;
-        (HEAVIEST_DEVICE, HEAVIEST_BUCKET),
-        ((1 << 31) - 1, u32::MAX)
-    );
-    assert_eq!(rt; HEAVIEST_MAP, (1 << 43) - 1);
-    assert_eq!(rt; (LAST_DEVICE_ID, DEVICE_IDS), ((1 << 31) - 1, 1 << 31));
-    assert_eq!(rt; (FARTHEST_BUCKET_ID, LAST_TYPE), (1 << 31, 65_535));
-    assert_eq!(rt; (MOST_DEVICES, MOST_BUCKETS), (65_536, 4_096));
-    assert_eq!(rt; (LONGEST_NAME, MOST_CLASS_IDS, MOST_TYPES), (255, 16, 256));
-    assert_eq!(rt; MOST_FREE_IDS, 65_536);
-    assert_eq!(rt; (MOST_TUNABLES, MOST_RULES, MOST_STEPS), (64, 256, 64));
-    assert_eq!(rt; (MOST_PAIRS, MOST_EDITS), (16, 65_536));
-    assert_eq!(rt;
-        (MOST_OPERATORS, MOST_CALLS, MOST_ENTRIES),
-        (16, 65_536, 65_536)
-    );
-    assert_eq!(rt; LONGEST_JOB, 16 << 20);
+const _: () = prove!(UNITS_OF_ONE == 1 << 16);
+
+const _: () = prove!(HEAVIEST_DEVICE == (1 << 31) - 1);
+
+const _: () = prove!(HEAVIEST_BUCKET == u32::MAX);
+
+const _: () = prove!(HEAVIEST_MAP == (1 << 43) - 1);
+
+const _: () = prove!(LAST_DEVICE_ID == (1 << 31) - 1);
+
+const _: () = prove!(DEVICE_IDS == 1 << 31);
+
+const _: () = prove!(FARTHEST_BUCKET_ID == 1 << 31);
+
+const _: () = prove!(LAST_TYPE == 65_535);
+
+const _: () = prove!(MOST_DEVICES == 65_536);
+
+const _: () = prove!(MOST_BUCKETS == 4_096);
+
+const _: () = prove!(LONGEST_NAME == 255);
+
+const _: () = prove!(MOST_CLASS_IDS == 16);
+
+const _: () = prove!(MOST_TYPES == 256);
+
+const _: () = prove!(MOST_FREE_IDS == 65_536);
+
+const _: () = prove!(MOST_TUNABLES == 64);
+
+const _: () = prove!(MOST_RULES == 256);
+
+const _: () = prove!(MOST_STEPS == 64);
+
+const _: () = prove!(MOST_PAIRS == 16);
+
+const _: () = prove!(MOST_EDITS == 65_536);
+
+const _: () = prove!(MOST_OPERATORS == 16);
+
+const _: () = prove!(MOST_CALLS == 65_536);
+
+const _: () = prove!(MOST_ENTRIES == 65_536);
+
+const _: () = prove!(LONGEST_JOB == 16 << 20);
+
+/// What a device's id of the number tells, where it is one.
+fn device_number(number: i32) -> Option<u32> {
+    let id = DeviceId::new(number)?;
+    Some(id.number())
 }
 
 #[test]
-fn device_ids(rt: HostRuntime) -> Result<(), Fail> {
-    let last = DeviceId::new(2147483647).ok_or("a device")?;
-    assert_eq!(rt; last.number(), 2147483647);
-    assert_eq!(rt; DeviceId::from_number(2147483647).ok_or("a device")?, last);
-    assert_eq!(rt; DeviceId::new(0).ok_or("a device")?.number(), 0);
-    assert_eq!(rt; DeviceId::new(-1), None);
-    assert_eq!(rt; DeviceId::from_number(2147483648), None);
-    Ok(())
+fn device_ids(rt: HostRuntime) {
+    assert!(rt; device_number(2147483647) == Some(2147483647));
+    assert!(rt; device_number(0) == Some(0) && device_number(-1).is_none());
+    let last = DeviceId::from_number(2147483647);
+    assert!(rt; last == DeviceId::new(2147483647) && last.is_some());
+    assert!(rt; DeviceId::from_number(2147483648).is_none());
+}
+
+/// What a bucket's id of the number tells, and its distance below 0, where it is one.
+fn bucket_number(number: i32) -> Option<(i32, u32)> {
+    let id = BucketId::new(number)?;
+    Some((id.number(), id.distance()))
 }
 
 #[test]
-fn bucket_ids(rt: HostRuntime) -> Result<(), Fail> {
-    let last = BucketId::new(-2147483648).ok_or("a bucket")?;
-    assert_eq!(rt; last.number(), -2147483648);
-    assert_eq!(rt; last.distance(), 2147483648);
-    assert_eq!(rt; BucketId::below_zero(2147483648).ok_or("a bucket")?, last);
-    assert_eq!(rt; BucketId::below_zero(3).ok_or("a bucket")?.number(), -3);
-    assert_eq!(rt; BucketId::new(0), None);
-    assert_eq!(rt; BucketId::below_zero(0), None);
-    assert_eq!(rt; BucketId::below_zero(2147483649), None);
-    Ok(())
+fn bucket_ids(rt: HostRuntime) {
+    assert!(rt; bucket_number(-2147483648) == Some((-2147483648, 2147483648)));
+    assert!(rt; bucket_number(-3) == Some((-3, 3)) && bucket_number(0).is_none());
+    let last = BucketId::below_zero(2147483648);
+    assert!(rt; last == BucketId::new(-2147483648) && last.is_some());
+    assert!(rt; BucketId::below_zero(3) == BucketId::new(-3));
+    assert!(rt; BucketId::below_zero(0).is_none() && BucketId::below_zero(2147483649).is_none());
+}
+
+/// Whether the items tell their numbers and which of them is a device, and are two.
+fn are_two_items(device: &ItemId, bucket: &ItemId) -> bool {
+    device.number() == 1
+        && bucket.number() == -1
+        && device.is_device_id()
+        && !bucket.is_device_id()
+        && device.is_same(*device)
+        && !device.is_same(*bucket)
 }
 
 #[test]
-fn item_ids(rt: HostRuntime) -> Result<(), Fail> {
-    let device = ItemId::Device(DeviceId::new(1).ok_or("a device")?);
-    let bucket = ItemId::Bucket(BucketId::new(-1).ok_or("a bucket")?);
-    assert_eq!(rt; (device.number(), bucket.number()), (1, -1));
-    assert!(rt; device.is_device_id());
-    assert!(rt; !bucket.is_device_id());
-    assert!(rt; device.is_same(device));
-    assert!(rt; !device.is_same(bucket));
-    assert_eq!(rt; TypeId::new(65535).number(), 65535);
-    Ok(())
+fn item_ids(rt: HostRuntime) {
+    let device = DeviceId::new(1).expect(&rt, "a device");
+    let bucket = BucketId::new(-1).expect(&rt, "a bucket");
+    assert!(rt; are_two_items(&ItemId::Device(device), &ItemId::Bucket(bucket)));
+    assert!(rt; TypeId::new(65535).number() == 65535);
+}
+
+/// Whether an algorithm is read as itself by the name that it has.
+fn is_named(alg: Alg, name: &str) -> bool {
+    alg.name() == name && alg.is_same(alg) && Alg::read(name.as_bytes()) == Some(alg)
 }
 
 #[test]
 fn algorithms(rt: HostRuntime) {
-    for alg in [Alg::Straw, Alg::Straw2, Alg::List] {
-        assert_eq!(rt; Alg::read(alg.name().as_bytes()), Some(alg));
-        assert!(rt; alg.is_same(alg));
-    }
-    assert_eq!(rt; Alg::Straw2.name(), "straw2");
-    assert_eq!(rt; Alg::read(b"uniform"), None);
-    assert_eq!(rt; Alg::read(b"straw22"), None);
+    assert!(rt; is_named(Alg::Straw, "straw") && is_named(Alg::List, "list"));
+    assert!(rt; is_named(Alg::Straw2, "straw2"));
+    assert!(rt; Alg::read(b"uniform").is_none() && Alg::read(b"straw22").is_none());
+}
+
+/// Whether the name tells its text, and is told from another.
+fn is_osd_0<A: Allocator>(name: &Name<A>) -> bool {
+    name.as_str() == "osd.0"
+        && name.as_bytes() == b"osd.0".as_slice()
+        && name.is(b"osd.0")
+        && !name.is(b"osd.1")
 }
 
 #[test]
-fn names(rt: HostRuntime) -> Result<(), Fail> {
-    let name = Name::read(rt.alloc(), b"osd.0")?;
-    assert_eq!(rt; name.as_str(), "osd.0");
-    assert_eq!(rt; name.as_bytes(), b"osd.0".as_slice());
-    assert!(rt; name.is(b"osd.0"));
-    assert!(rt; !name.is(b"osd.1"));
-    assert!(rt; name.try_copy(rt.alloc())? == name);
-    assert!(rt; Name::read(rt.alloc(), &[b'Z'; 255]).is_ok());
-    Ok(())
+fn names(rt: HostRuntime) {
+    let name = Name::read(rt.alloc(), b"osd.0").expect(&rt, "a name");
+    assert!(rt; is_osd_0(&name));
+    let copy = name.try_copy(rt.alloc()).expect(&rt, "memory");
+    assert!(rt; is_osd_0(&copy) && copy == name);
+    drop(copy);
+    drop(name);
+    let is_read = Name::read(rt.alloc(), &[b'Z'; 255]).is_ok();
+    assert!(rt; is_read);
+}
+
+/// Asserts that the bytes are no name, by this fault with its number.
+fn assert_refused(rt: &(impl Abort + AllocGlobal), bytes: &[u8], fault: NameFault, number: u8) {
+    let told = Name::read(rt.alloc(), bytes).err();
+    assert!(rt; !is_name(bytes) && told == Some(fault) && fault.number() == number);
 }
 
 #[test]
 fn names_refused(rt: HostRuntime) {
-    let bad: [(&[u8], NameFault, u8); 4] = [
-        (b"", NameFault::Empty, 1),
-        (b"a b", NameFault::BadByte(1), 2),
-        (&[b'{'; 256], NameFault::BadByte(0), 2),
-        (&[b'a'; 256], NameFault::TooLong, 3),
-    ];
-    for (bytes, fault, number) in bad {
-        assert!(rt; !is_name(bytes));
-        assert_eq!(rt; Name::read(rt.alloc(), bytes).err(), Some(fault));
-        assert_eq!(rt; fault.number(), number);
-    }
-    assert_eq!(rt; NameFault::OutOfMemory.number(), 4);
+    assert_refused(&rt, b"", NameFault::Empty, 1);
+    assert_refused(&rt, b"a b", NameFault::BadByte(1), 2);
+    assert_refused(&rt, &[b'{'; 256], NameFault::BadByte(0), 2);
+    assert_refused(&rt, &[b'a'; 256], NameFault::TooLong, 3);
+    assert!(rt; NameFault::OutOfMemory.number() == 4);
     for byte in b"azAZ09-_." {
         assert!(rt; is_name_byte(*byte));
     }
@@ -125,25 +170,28 @@ const WEIGHTS: [(&str, u32, &str); 13] = [
     ("0000000001", 65536, "1.00000"),
 ];
 
+/// Whether the text is read as the units, and these as they are printed.
+fn is_weight(text: &str, units: u32, printed: &str) -> bool {
+    let weight = Weight::from_units(units);
+    Weight::read(text) == Ok(weight)
+        && Weight::read_bytes(printed.as_bytes()) == Ok(weight)
+        && weight.units() == units
+        && weight.is_device_weight() == (units <= 2147483647)
+        && is_printed(weight, printed.as_bytes())
+}
+
+fn is_printed(weight: Weight, printed: &[u8]) -> bool {
+    let mut buffer = [0; 16];
+    let length = weight.text(&mut buffer);
+    length <= 16 && &buffer[..length] == printed
+}
+
 #[test]
-fn weights(rt: HostRuntime) -> Result<(), Fail> {
+fn weights(rt: HostRuntime) {
     for (text, units, printed) in WEIGHTS {
-        let weight = Weight::read(text)?;
-        assert_eq!(rt; weight.units(), units, "at {text}");
-        assert_eq!(rt;
-            Weight::read_bytes(printed.as_bytes())?,
-            weight,
-            "at {text}"
-        );
-        assert_eq!(rt; Weight::from_units(units), weight);
-        assert_eq!(rt; weight.is_device_weight(), units <= 2147483647, "at {text}");
-        let mut buffer = [0; 16];
-        let length = weight.text(&mut buffer);
-        assert!(rt; length <= 16);
-        assert_eq!(rt; &buffer[..length], printed.as_bytes(), "at {text}");
+        assert!(rt; is_weight(text, units, printed), "at {text}");
     }
     printed_is_read_back();
-    Ok(())
 }
 
 #[test]
@@ -162,21 +210,13 @@ fn weights_refused(rt: HostRuntime) {
         "0.0000000000000000001",
     ];
     for text in syntax {
-        assert_eq!(rt;
-            Weight::read(text).err(),
-            Some(WeightFault::Syntax),
-            "at {text}"
-        );
+        assert!(rt; Weight::read(text) == Err(WeightFault::Syntax), "at {text}");
     }
     for text in ["65536", "65535.999999", "9999999999"] {
-        assert_eq!(rt;
-            Weight::read(text).err(),
-            Some(WeightFault::TooLarge),
+        assert!(rt;
+            Weight::read(text) == Err(WeightFault::TooLarge),
             "at {text}"
         );
     }
-    assert_eq!(rt;
-        (WeightFault::Syntax.number(), WeightFault::TooLarge.number()),
-        (1, 2)
-    );
+    assert!(rt; WeightFault::Syntax.number() == 1 && WeightFault::TooLarge.number() == 2);
 }
