@@ -3,11 +3,11 @@
 use crush_edits::*;
 use crush_units::limits::MOST_PAIRS;
 use crush_units::{DeviceId, Name, Weight};
-use std::alloc::{AllocGlobal, Global};
+use std::alloc::Global;
 use std::process::Abort;
 
-/// Whether the location has the pairs of a host and a root, each by its names.
-fn leads_to_a_host(at: &Location<Global>) -> bool {
+/// Whether the location has two pairs, a host's and that of the bucket default.
+fn leads_to_a_host(at: &Location) -> bool {
     let pairs = at.pairs();
     pairs.len() == 2 && pairs[0].kind.is(b"host") && pairs[1].name.is(b"default")
 }
@@ -15,8 +15,8 @@ fn leads_to_a_host(at: &Location<Global>) -> bool {
 #[test]
 fn locations(rt: HostRuntime) {
     let mut at = Location::new(rt.alloc());
-    let is_pushed = at.push(b"host", b"h1").is_ok() && at.push(b"root", b"default").is_ok();
-    assert!(rt; is_pushed);
+    at.push(b"host", b"h1").expect(&rt, "a pair");
+    at.push(b"root", b"default").expect(&rt, "a pair");
     assert!(rt; at.push(b"", b"h1") == Err(LocationFault::BadName));
     assert!(rt; at.push(b"host", b"h 1") == Err(LocationFault::BadName));
     assert!(rt; leads_to_a_host(&at));
@@ -30,8 +30,7 @@ fn locations(rt: HostRuntime) {
 fn full_location(rt: HostRuntime) {
     let mut at = Location::new(rt.alloc());
     for _ in 0..MOST_PAIRS {
-        let is_pushed = at.push(b"host", b"h1").is_ok();
-        assert!(rt; is_pushed);
+        at.push(b"host", b"h1").expect(&rt, "a pair");
     }
     assert!(rt; at.push(b"host", b"h1") == Err(LocationFault::TooMany));
     assert!(rt; at.push(b"", b"") == Err(LocationFault::TooMany));
@@ -40,29 +39,99 @@ fn full_location(rt: HostRuntime) {
 }
 
 /// A name in the machine's memory.
-fn name(rt: &(impl Abort + AllocGlobal), bytes: &[u8]) -> Name<Global> {
-    Name::read(rt.alloc(), bytes).expect(rt, "a name")
+fn name(rt: &impl Abort, alloc: Global, text: &str) -> Name<Global> {
+    Name::read(alloc, text.as_bytes()).expect(rt, text)
 }
 
 /// The location of the host h1.
-fn at_h1(rt: &(impl Abort + AllocGlobal)) -> Location<Global> {
-    let mut at = Location::new(rt.alloc());
-    let is_pushed = at.push(b"host", b"h1").is_ok();
-    assert!(*rt; is_pushed);
+fn at_h1(rt: &impl Abort, alloc: Global) -> Location {
+    let mut at = Location::new(alloc);
+    at.push(b"host", b"h1").expect(rt, "a pair");
     at
 }
 
-/// Asserts that the edit can be copied.
-fn assert_copied(rt: &(impl Abort + AllocGlobal), edit: Edit<Global>) {
-    let copy = edit.try_copy(rt.alloc()).expect(rt, "memory");
-    drop(copy);
-    drop(edit);
+/// The edits that put device 3 at the host h1.
+fn placing_edits(rt: &impl Abort, alloc: Global) -> [Edit; 3] {
+    let device = DeviceId::new(3).expect(rt, "a device");
+    let weight = Weight::from_units(65536);
+    [
+        Edit::Insert {
+            device,
+            name: name(rt, alloc, "osd.3"),
+            weight,
+            at: at_h1(rt, alloc),
+        },
+        Edit::CreateOrMove {
+            device,
+            name: name(rt, alloc, "osd.3"),
+            weight,
+            at: at_h1(rt, alloc),
+        },
+        Edit::Update {
+            device,
+            name: name(rt, alloc, "osd.3"),
+            weight,
+            at: at_h1(rt, alloc),
+        },
+    ]
+}
+
+/// An edit of each other kind.
+fn other_edits(rt: &impl Abort, alloc: Global) -> [Edit; 7] {
+    let weight = Weight::from_units(65536);
+    [
+        Edit::Move {
+            name: name(rt, alloc, "h2"),
+            at: at_h1(rt, alloc),
+        },
+        Edit::Swap {
+            a: name(rt, alloc, "h1"),
+            b: name(rt, alloc, "h2"),
+        },
+        Edit::Reweight {
+            name: name(rt, alloc, "osd.3"),
+            weight,
+        },
+        Edit::ReweightSubtree {
+            name: name(rt, alloc, "h1"),
+            weight,
+        },
+        Edit::Remove {
+            name: name(rt, alloc, "h1"),
+        },
+        Edit::AddBucket {
+            name: name(rt, alloc, "h9"),
+            kind: name(rt, alloc, "host"),
+        },
+        Edit::Rename {
+            from: name(rt, alloc, "h1"),
+            to: name(rt, alloc, "hq"),
+        },
+    ]
+}
+
+/// Asserts that each of the edits can be copied.
+fn assert_copied(rt: &impl Abort, alloc: Global, edits: &[Edit]) {
+    for edit in edits {
+        let copy = edit.try_copy(alloc).expect(rt, "memory");
+        drop(copy);
+    }
 }
 
 #[test]
-fn copies_of_placing_edits(rt: HostRuntime) {
-    let weight = Weight::from_units(65536);
-    let device = DeviceId::new(3).expect(&rt, "a device");
-    let (name, at) = (name(&rt, b"osd.3"), at_h1(&rt));
-    assert_copied(&rt, Edit::Insert { device, name, weight, at });
+fn copies(rt: HostRuntime) {
+    let placing = placing_edits(&rt, rt.alloc());
+    assert_copied(&rt, rt.alloc(), &placing);
+    drop(placing);
+    let others = other_edits(&rt, rt.alloc());
+    assert_copied(&rt, rt.alloc(), &others);
+    drop(others);
+}
+
+#[test]
+fn refusals(rt: HostRuntime) {
+    assert!(rt; Refusal::Loop.name() == "Loop");
+    assert!(rt; Refusal::Loop.number() == 13 && Refusal::Loop.error() == 40);
+    assert!(rt; EditFault::from(Refusal::Loop) == EditFault::Refused(Refusal::Loop));
+    assert!(rt; LocationFault::OutOfMemory.number() == 3);
 }
