@@ -4,6 +4,7 @@
 //! proof of each function that owns one.
 
 mod faults;
+mod fronts;
 mod heaps;
 mod limits;
 mod pairs;
