@@ -11,9 +11,10 @@ use Rattle.crush_table.proofs.Found.{row_of-same}
 use Rattle.crush_table.proofs.Tested.{bytes_itself}
 use Rattle.crush_edits.specs.Setting.{StepData, take, choose, set, emit, RuleData, SettingData, bucket_taken}
 use Rattle.crush_edits.specs.Fits.{Fits, IsStep, IsRule, IsThere}
+use Rattle.crush_edits.specs.Stops.{number_of}
 use Rattle.crush_map.specs.Built.{nothing, add_rule}
 use Rattle.crush_map.specs.Building.{closed_item}
-use Rattle.crush_map.specs.Rules.{bucket_number, bucket_named}
+use Rattle.crush_map.specs.Rules.{bucket_named}
 use Rattle.crush_print.specs.RuleLines.{bucket_name}
 use Rattle.crush_print.proofs.PrintedLines.{size_words, step_words, rule_words, rule_head_words}
 use Rattle.crush_print.proofs.PrintedTexts.{All-left, All-right}
@@ -64,7 +65,7 @@ module _ (s : SettingData) (t u : List Row) (l : Lawful t) (f : Fits s t) (built
   taken_again rs b h =
       let n = named t b h in
       let found : id_named u (bucket_name t b) ≡ Some (Bucket b) = ap (id_named u) n.2 ∙ found_by_name u (Bucket b) n.0 built.names (sym (row_of-same t u same.rows l.ids (Bucket b)) ∙ n.1) in
-      ap (λ o. option_and_then bucket_number (option_and_then (closed_item nothing) o)) found
+      ap (λ o. option_and_then number_of (option_and_then (closed_item nothing) o)) found
 
   -- a step keeps its form
   step_again : (rs : List RuleData) (x : StepData) → IsStep s x → IsStep (ruled_setting rs) x

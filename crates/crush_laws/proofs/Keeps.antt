@@ -17,6 +17,7 @@ use Rattle.crush_table.specs.Items.{ShadowData}
 use Rattle.crush_table.specs.Lawful.{Lawful, IsShadowId, is_too_heavy}
 use Rattle.crush_edits.specs.Setting.{KindData, StepData, take, choose, set, emit, RuleData, SettingData, kind_number, bucket_taken}
 use Rattle.crush_edits.specs.Fits.{Fits, IsKind, IsTunable, IsCount, IsStep, IsRule, IsThere, HasKind}
+use Rattle.crush_edits.specs.Stops.{number_of as bucket_number}
 use Rattle.crush_table.specs.Count.{one_if}
 use Rattle.crush_table.specs.Table.{Row, bucket_count, member, used_ids}
 use Rattle.crush_table.proofs.Attached.{Lawful-nil}
@@ -24,7 +25,7 @@ use Rattle.crush_map.specs.declared.fault.BuildFault.TheVariants as build
 use Rattle.crush_map.specs.Faults.{first_fault, class_id_fault}
 use Rattle.crush_map.specs.Built.{Draft, Pending, nothing, begun as is_begun, numbered as is_numbered, filling as is_filling, empty_draft, pending_with_id, pending_with_class_id, pending_row, pending_with_alg, with_alg, with_device, device_weight, with_item}
 use Rattle.crush_map.specs.Building.{CanBegin, CanNumber, IsRoot, is_bucket_kind, is_full_of_kinds, is_full_of_tunables, is_full_of_devices, is_full_of_buckets, is_full_of_class_ids, item_named}
-use Rattle.crush_map.specs.Rules.{bucket_number, bucket_named, is_full_of_rules}
+use Rattle.crush_map.specs.Rules.{bucket_named, is_full_of_rules}
 use Rattle.crush_map.proofs.KindSteps.{less}
 use Rattle.crush_map.proofs.RowSteps.{new_bucket, bucket_lawful, one_more_class_id}
 use Rattle.crush_edits.proofs.FitLaws.{Fits-push}

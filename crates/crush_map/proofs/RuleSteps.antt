@@ -12,6 +12,7 @@ use Rattle.crush_units.specs.declared.id.ItemId.TheVariants.{Device, Bucket}
 use Rattle.crush_table.specs.Table.{id_named}
 use Rattle.crush_edits.specs.Setting.{StepData, take, choose, set, emit, RuleData, SettingData, kind_number, bucket_taken}
 use Rattle.crush_edits.specs.SettingSeen.{rule_data}
+use Rattle.crush_edits.specs.Stops.{number_of}
 use Rattle.crush_edits.specs.declared.setting.KeptRule.{KeptRule}
 use Rattle.crush_edits.specs.declared.rule.Rule.{Rule}
 use Rattle.crush_edits.specs.declared.rule.Step.{Step}
@@ -25,7 +26,7 @@ use Rattle.crush_map.specs.declared.fault.RulePart.TheVariants.{Statement as AtS
 use Rattle.crush_map.specs.Faults.{told}
 use Rattle.crush_map.specs.Built.{Draft, nothing}
 use Rattle.crush_map.specs.Building.{BuilderData, IsDraft, IsPending, closed_item, is_open}
-use Rattle.crush_map.specs.Rules.{IsStepForm, IsRuleForm, bucket_number, bucket_named, taken_number, kept_step, kept_rule, with_rule, has_rule_name, has_rule_id, is_full_of_rules, word_fault, step_fault, or_later, steps_fault, rule_fault, rule_told}
+use Rattle.crush_map.specs.Rules.{IsStepForm, IsRuleForm, bucket_named, taken_number, kept_step, kept_rule, with_rule, has_rule_name, has_rule_id, is_full_of_rules, word_fault, step_fault, or_later, steps_fault, rule_fault, rule_told}
 use Rattle.crush_map.proofs.KindSteps.{count_one_more, less}
 use Rattle.crush_apply.proofs.Found.{there_by_name}
 
@@ -128,10 +129,10 @@ rule_form d r f c = record {
 }
 
 -- THE BUCKETS that it takes are there
-bucket_there : (d : Draft) (n : List ℕ) (o : Option ItemId) → id_named d.table n ≡ o → is_some (option_and_then bucket_number (option_and_then (closed_item d.pending) o)) ≡ true → IsThere d.table (taken_number (option_and_then bucket_number (option_and_then (closed_item d.pending) o)))
+bucket_there : (d : Draft) (n : List ℕ) (o : Option ItemId) → id_named d.table n ≡ o → is_some (option_and_then number_of (option_and_then (closed_item d.pending) o)) ≡ true → IsThere d.table (taken_number (option_and_then number_of (option_and_then (closed_item d.pending) o)))
 bucket_there d n None e h = absurd (let no : false ≡ true = h in cc)
 bucket_there d n (Some i) e h = by_open (is_open d.pending i) i e h where
-  by_open : (b : Bool) (j : ItemId) → id_named d.table n ≡ Some j → is_some (option_and_then bucket_number (if b then None else Some j)) ≡ true → IsThere d.table (taken_number (option_and_then bucket_number (if b then None else Some j)))
+  by_open : (b : Bool) (j : ItemId) → id_named d.table n ≡ Some j → is_some (option_and_then number_of (if b then None else Some j)) ≡ true → IsThere d.table (taken_number (option_and_then number_of (if b then None else Some j)))
   by_open true j q k = absurd (let no : false ≡ true = k in cc)
   by_open false (Device x) q k = absurd (let no : false ≡ true = k in cc)
   by_open false (Bucket b) q k = there_by_name d.table n (Bucket b) q

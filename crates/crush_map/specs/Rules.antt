@@ -1,12 +1,11 @@
 -- A rule that a builder is given: its form, what speaks against it, and what is kept of it.
 use Rattle.std.specs.Prelude.{ℕ, ◌+◌, ◌≤◌, List, [], ◌∷◌, Option, Some, None, Bool, ◌==◌, if◌then◌else◌, IfSome, All, map, length, bytes_eq, is_some, nat_le, option_and_then}
 use Rattle.std.specs.List.{list_any}
-use Rattle.crush_units.specs.declared.id.ItemId.{ItemId}
-use Rattle.crush_units.specs.declared.id.ItemId.TheVariants.{Device, Bucket}
 use Rattle.crush_units.specs.declared.limits.TheConstants.{MOST_RULES, MOST_STEPS}
 use Rattle.crush_units.specs.Name.{IsName}
 use Rattle.crush_edits.specs.Setting.{StepData, take, choose, set, emit, RuleData, SettingData, kind_number}
 use Rattle.crush_edits.specs.Fits.{greatest_signed, IsCount, IsSet}
+use Rattle.crush_edits.specs.Stops.{number_of}
 use Rattle.crush_edits.specs.declared.rule.Rule.{Rule}
 use Rattle.crush_edits.specs.declared.rule.Step.{Step}
 use Rattle.crush_edits.specs.declared.rule.Step.TheVariants.{Take, Choose, Set, Emit}
@@ -35,12 +34,8 @@ pub record IsRuleForm (r : Rule) : Type 0 where
   pub steps : All IsStepForm r.steps.items
 
 -- the bucket of a name, where a device or no complete bucket has it none
-abbrev pub bucket_number : ItemId → Option ℕ
-bucket_number (Device x) = None
-bucket_number (Bucket b) = Some b
-
 abbrev pub bucket_named : Draft → List ℕ → Option ℕ
-bucket_named d n = option_and_then bucket_number (item_named d n)
+bucket_named d n = option_and_then number_of (item_named d n)
 
 -- WHAT IS KEPT: the buckets by their ids
 abbrev pub taken_number : Option ℕ → ℕ
