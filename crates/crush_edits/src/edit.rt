@@ -105,6 +105,20 @@ pub enum Edit {
     },
 }
 
+/// A name, and where its item comes.
+#[derive(Drop)]
+struct Placed {
+    name: Name<Global>,
+    at: Location,
+}
+
+/// Two names of an edit, in its order.
+#[derive(Drop)]
+struct Names {
+    first: Name<Global>,
+    second: Name<Global>,
+}
+
 impl Edit {
     /// A copy of the edit. An Err is want of memory.
     pub fn try_copy(&self, alloc: Global) -> Result<Edit, AllocError>
@@ -116,42 +130,54 @@ impl Edit {
                 name,
                 weight,
                 at,
-            } => Ok(Edit::Insert {
-                device: *device,
-                name: name.try_copy(alloc)?,
-                weight: *weight,
-                at: at.try_copy(alloc)?,
-            }),
+            } => {
+                let Placed { name, at } = copied_placed(name, at, alloc)?;
+                Ok(Edit::Insert {
+                    device: *device,
+                    name,
+                    weight: *weight,
+                    at,
+                })
+            }
             Edit::CreateOrMove {
                 device,
                 name,
                 weight,
                 at,
-            } => Ok(Edit::CreateOrMove {
-                device: *device,
-                name: name.try_copy(alloc)?,
-                weight: *weight,
-                at: at.try_copy(alloc)?,
-            }),
+            } => {
+                let Placed { name, at } = copied_placed(name, at, alloc)?;
+                Ok(Edit::CreateOrMove {
+                    device: *device,
+                    name,
+                    weight: *weight,
+                    at,
+                })
+            }
             Edit::Update {
                 device,
                 name,
                 weight,
                 at,
-            } => Ok(Edit::Update {
-                device: *device,
-                name: name.try_copy(alloc)?,
-                weight: *weight,
-                at: at.try_copy(alloc)?,
-            }),
-            Edit::Move { name, at } => Ok(Edit::Move {
-                name: name.try_copy(alloc)?,
-                at: at.try_copy(alloc)?,
-            }),
-            Edit::Swap { a, b } => Ok(Edit::Swap {
-                a: a.try_copy(alloc)?,
-                b: b.try_copy(alloc)?,
-            }),
+            } => {
+                let Placed { name, at } = copied_placed(name, at, alloc)?;
+                Ok(Edit::Update {
+                    device: *device,
+                    name,
+                    weight: *weight,
+                    at,
+                })
+            }
+            Edit::Move { name, at } => {
+                let Placed { name, at } = copied_placed(name, at, alloc)?;
+                Ok(Edit::Move { name, at })
+            }
+            Edit::Swap { a, b } => {
+                let Names { first, second } = copied_names(a, b, alloc)?;
+                Ok(Edit::Swap {
+                    a: first,
+                    b: second,
+                })
+            }
             Edit::Reweight { name, weight } => Ok(Edit::Reweight {
                 name: name.try_copy(alloc)?,
                 weight: *weight,
@@ -163,14 +189,42 @@ impl Edit {
             Edit::Remove { name } => Ok(Edit::Remove {
                 name: name.try_copy(alloc)?,
             }),
-            Edit::AddBucket { name, kind } => Ok(Edit::AddBucket {
-                name: name.try_copy(alloc)?,
-                kind: kind.try_copy(alloc)?,
-            }),
-            Edit::Rename { from, to } => Ok(Edit::Rename {
-                from: from.try_copy(alloc)?,
-                to: to.try_copy(alloc)?,
-            }),
+            Edit::AddBucket { name, kind } => {
+                let Names { first, second } = copied_names(name, kind, alloc)?;
+                Ok(Edit::AddBucket {
+                    name: first,
+                    kind: second,
+                })
+            }
+            Edit::Rename { from, to } => {
+                let Names { first, second } = copied_names(from, to, alloc)?;
+                Ok(Edit::Rename {
+                    from: first,
+                    to: second,
+                })
+            }
         }
     }
+}
+
+/// Copies of a name and of where its item comes. An Err is want of memory.
+fn copied_placed(name: &Name<Global>, at: &Location, alloc: Global) -> Result<Placed, AllocError>
+    ensures { IfOk result (λ copy. copy ≡ record { name = name.now; at = at.now }) }
+{
+    let name = name.try_copy(alloc)?;
+    let at = at.try_copy(alloc)?;
+    Ok(Placed { name, at })
+}
+
+/// Copies of two names, in their order. An Err is want of memory.
+fn copied_names(
+    first: &Name<Global>,
+    second: &Name<Global>,
+    alloc: Global,
+) -> Result<Names, AllocError>
+    ensures { IfOk result (λ copy. copy ≡ record { first = first.now; second = second.now }) }
+{
+    let first = first.try_copy(alloc)?;
+    let second = second.try_copy(alloc)?;
+    Ok(Names { first, second })
 }

@@ -16,7 +16,7 @@ use std::marker::Model;
 
 /// A rule as a map keeps it: it names the buckets that it takes by their ids, so that a bucket's
 /// new name changes no rule.
-#[derive(Debug, Drop)]
+#[derive(Drop)]
 pub struct KeptRule {
     /// Its name.
     pub name: Name<Global>,
@@ -33,7 +33,7 @@ pub struct KeptRule {
 }
 
 /// A step of a rule as a map keeps it.
-#[derive(Debug, Drop)]
+#[derive(Drop)]
 pub enum KeptStep {
     /// Takes the bucket of this id, or of its devices those of a class.
     Take(BucketId, Option<Name<Global>>),
@@ -62,7 +62,7 @@ pub enum KeptStep {
 /// tunable of placement is a name and a value, as `tunable chooseleaf_stable 1` says. They are kept
 /// in maps, so that no two types have one number and no two tunables one name. Contracts see three
 /// lists.
-#[derive(Debug, Drop)]
+#[derive(Drop)]
 pub struct Setting {
     kinds: IndexMap<TypeId, Name<Global>>,
     tunables: IndexMap<Name<Global>, u32>,
@@ -229,10 +229,20 @@ impl Setting {
     pub fn try_copy(&self, alloc: Global) -> Result<Setting, AllocError>
         ensures { IfOk result (λ copy. copy ≡ self.now) }
     {
+        let kinds = copied_kinds(&self.kinds, alloc)?;
+        let Ok(tunables) = copied_tunables(&self.tunables, alloc) else {
+            drop(kinds);
+            return Err(AllocError);
+        };
+        let Ok(rules) = copied_rules(&self.rules, alloc) else {
+            drop(kinds);
+            drop(tunables);
+            return Err(AllocError);
+        };
         Ok(Setting {
-            kinds: copied_kinds(&self.kinds, alloc)?,
-            tunables: copied_tunables(&self.tunables, alloc)?,
-            rules: copied_rules(&self.rules, alloc)?,
+            kinds,
+            tunables,
+            rules,
         })
     }
 
@@ -304,8 +314,14 @@ fn copied_kinds(
 {
     let mut copies = IndexMap::new(alloc);
     for (number, name) in kinds {
-        let name = name.try_copy(alloc)?;
-        copies.insert(*number, name)?;
+        let Ok(name) = name.try_copy(alloc) else {
+            drop(copies);
+            return Err(AllocError);
+        };
+        let Ok(_) = copies.insert(*number, name) else {
+            drop(copies);
+            return Err(AllocError);
+        };
     }
     Ok(copies)
 }
@@ -319,8 +335,14 @@ fn copied_tunables(
 {
     let mut copies = IndexMap::new(alloc);
     for (name, value) in tunables {
-        let name = name.try_copy(alloc)?;
-        copies.insert(name, *value)?;
+        let Ok(name) = name.try_copy(alloc) else {
+            drop(copies);
+            return Err(AllocError);
+        };
+        let Ok(_) = copies.insert(name, *value) else {
+            drop(copies);
+            return Err(AllocError);
+        };
     }
     Ok(copies)
 }
