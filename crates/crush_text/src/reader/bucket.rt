@@ -231,13 +231,13 @@ fn read_id_or_alg<A: Allocator>(
     ensures shorter { OnOk result (length reader.new.words < length reader.old.words) }
 {
     let word = next_word(reader)?;
-    if word.text == b"id".as_slice() {
+    if word.is(b"id") {
         if builder.is_full_of_class_ids() {
             return Err(word.fault(TextFaultKind::TooMany));
         }
         return Ok(true);
     }
-    if word.text == b"alg".as_slice() {
+    if word.is(b"alg") {
         return Ok(false);
     }
     Err(word.fault(TextFaultKind::Unexpected))

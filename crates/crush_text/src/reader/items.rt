@@ -152,11 +152,11 @@ fn read_item_or_end(reader: &mut Reader<'_>, any: bool) -> Result<bool, TextFaul
     ensures shorter { OnOk result (length reader.new.words < length reader.old.words) }
 {
     let word = next_word(reader)?;
-    if word.text == b"item".as_slice() {
+    if word.is(b"item") {
         Ok(true)
-    } else if word.text == b"}".as_slice() {
+    } else if word.is(b"}") {
         Ok(false)
-    } else if any && word.text == b"pos".as_slice() {
+    } else if any && word.is(b"pos") {
         Err(word.fault(TextFaultKind::LeftOut))
     } else {
         Err(word.fault(TextFaultKind::Unexpected))

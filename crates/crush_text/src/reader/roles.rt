@@ -22,7 +22,7 @@ pub(crate) fn read_key(reader: &mut Reader<'_>, expected: &[u8]) -> Result<(), T
     ensures shorter { OnOk result (length reader.new.words < length reader.old.words) }
 {
     let word = next_word(reader)?;
-    if word.text == expected {
+    if word.is(expected) {
         Ok(())
     } else {
         Err(word.fault(TextFaultKind::Unexpected))

@@ -201,7 +201,7 @@ fn read_step_or_end<'a>(
     ensures shorter { OnOk result (length reader.new.words < length reader.old.words) }
 {
     let word = next_word(reader)?;
-    if !word.is_step() && word.text != b"}".as_slice() {
+    if !word.is_step() && !word.is(b"}") {
         return Err(word.fault(TextFaultKind::Unexpected));
     }
     if word.is_step() && steps.len() >= MOST_STEPS {
@@ -215,7 +215,7 @@ impl<'a> PlacedWord<'a> {
     fn is_step(self) -> bool
         ensures { result ≡ is_step self.entry.text.now }
     {
-        self.text == b"step".as_slice()
+        self.is(b"step")
     }
 }
 
@@ -250,7 +250,7 @@ fn read_rule_id_key(reader: &mut Reader<'_>) -> Result<(), TextFault>
     ensures shorter { OnOk result (length reader.new.words < length reader.old.words) }
 {
     let word = next_word(reader)?;
-    if word.text == b"id".as_slice() || word.text == b"ruleset".as_slice() {
+    if word.is(b"id") || word.is(b"ruleset") {
         Ok(())
     } else {
         Err(word.fault(TextFaultKind::Unexpected))

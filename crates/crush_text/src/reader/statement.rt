@@ -129,26 +129,25 @@ fn opening_of<A: Allocator>(
         → IfOk result (λ o. IsKnown d o word.entry.text.now) }
     ensures room { IfOk result (λ o. (d : Draft) → IsDraft builder.now d → HasRoom d o) }
 {
-    let text = word.text;
-    if is_out_of_place(text, late) {
+    if is_out_of_place(word, late) {
         return Err(word.fault(TextFaultKind::Unexpected));
     }
-    if text == b"tunable".as_slice() {
+    if word.is(b"tunable") {
         return with_room(word, Opening::Tunable, builder.is_full_of_tunables());
     }
-    if text == b"device".as_slice() {
+    if word.is(b"device") {
         return with_room(word, Opening::Device, builder.is_full_of_devices());
     }
-    if text == b"type".as_slice() {
+    if word.is(b"type") {
         return with_room(word, Opening::Type, builder.is_full_of_kinds());
     }
-    if text == b"rule".as_slice() {
+    if word.is(b"rule") {
         return with_room(word, Opening::Rule, builder.is_full_of_rules());
     }
-    if text == b"choose_args".as_slice() {
+    if word.is(b"choose_args") {
         return Err(word.fault(TextFaultKind::LeftOut));
     }
-    match builder.kind_number(text) {
+    match builder.kind_number(word.text) {
         Some(kind) if builder.is_bucket_kind(kind) => {
             with_room(word, Opening::Bucket(kind), builder.is_full_of_buckets())
         }
@@ -158,20 +157,17 @@ fn opening_of<A: Allocator>(
 
 /// Whether a first word may not stand here: tunables, devices and types come before the buckets and
 /// the rules.
-fn is_out_of_place(text: &[u8], late: bool) -> bool
-    ensures { result ≡ is_out_of_place late text.now }
+fn is_out_of_place(word: PlacedWord<'_>, late: bool) -> bool
+    ensures { result ≡ is_out_of_place late word.entry.text.now }
 {
-    text == b"{".as_slice()
-        || text == b"}".as_slice()
-        || text == b"class".as_slice()
-        || (late && comes_first(text))
+    word.is(b"{") || word.is(b"}") || word.is(b"class") || (late && comes_first(word))
 }
 
 /// Whether a first word begins a tunable, a device or a type.
-fn comes_first(text: &[u8]) -> bool
-    ensures { result ≡ comes_first text.now }
+fn comes_first(word: PlacedWord<'_>) -> bool
+    ensures { result ≡ comes_first word.entry.text.now }
 {
-    text == b"tunable".as_slice() || text == b"device".as_slice() || text == b"type".as_slice()
+    word.is(b"tunable") || word.is(b"device") || word.is(b"type")
 }
 
 /// What is opened, unless there is no room for one more.

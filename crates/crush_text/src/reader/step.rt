@@ -147,17 +147,17 @@ fn read_first<'a>(reader: &mut Reader<'a>) -> Result<FirstOfStep<'a>, TextFault>
     ensures shorter { OnOk result (length reader.new.words < length reader.old.words) }
 {
     let word = next_word(reader)?;
-    if word.text == b"take".as_slice() {
+    if word.is(b"take") {
         Ok(FirstOfStep::Take)
-    } else if word.text == b"choose".as_slice() {
+    } else if word.is(b"choose") {
         Ok(FirstOfStep::Choose { leaf: false })
-    } else if word.text == b"chooseleaf".as_slice() {
+    } else if word.is(b"chooseleaf") {
         Ok(FirstOfStep::Choose { leaf: true })
-    } else if word.text == b"emit".as_slice() {
+    } else if word.is(b"emit") {
         Ok(FirstOfStep::Emit)
     } else if sets(word.text) {
         Ok(FirstOfStep::Set(word))
-    } else if word.text == b"choosemsr".as_slice() {
+    } else if word.is(b"choosemsr") {
         Err(word.fault(TextFaultKind::LeftOut))
     } else {
         Err(word.fault(TextFaultKind::Unexpected))
@@ -203,9 +203,9 @@ fn read_order(reader: &mut Reader<'_>) -> Result<bool, TextFault>
     ensures shorter { OnOk result (length reader.new.words < length reader.old.words) }
 {
     let word = next_word(reader)?;
-    if word.text == b"firstn".as_slice() {
+    if word.is(b"firstn") {
         Ok(true)
-    } else if word.text == b"indep".as_slice() {
+    } else if word.is(b"indep") {
         Ok(false)
     } else {
         Err(word.fault(TextFaultKind::Unexpected))

@@ -1,6 +1,6 @@
 //! One word of a map's text.
 
-ghost use Rattle.std.specs.Prelude.{◌≡◌, ◌<◌, ◌||◌, if◌then◌else◌, length, true, IfOk, IfErr, OnOk, Ok, Err};
+ghost use Rattle.std.specs.Prelude.{◌≡◌, ◌<◌, ◌||◌, if◌then◌else◌, length, true, IfOk, IfErr, OnOk, Ok, Err, bytes_eq};
 ghost use Rattle.crush_units.specs.Name.{is_name, IsName};
 ghost use Rattle.crush_bytes.specs.Words.{is_brace_word};
 ghost use Rattle.crush_text.specs.declared.fault.TextFaultKind.TheVariants.{Unexpected, OutOfMemory};
@@ -61,11 +61,18 @@ impl<'a> PlacedWord<'a> {
         self.fault(TextFaultKind::OutOfMemory)
     }
 
+    /// Whether the word is this one.
+    pub(crate) fn is(self, word: &[u8]) -> bool
+        ensures { result ≡ bytes_eq self.entry.text.now word.now }
+    {
+        self.text == word
+    }
+
     /// Whether the word is a brace.
     pub(crate) fn is_brace(self) -> bool
         ensures { result ≡ is_brace_word self.entry.text.now }
     {
-        self.text == b"{".as_slice() || self.text == b"}".as_slice()
+        self.is(b"{") || self.is(b"}")
     }
 
     /// The word as a name in memory of its own, or `OutOfMemory` at the word.
