@@ -1,152 +1,89 @@
 #!/usr/bin/env python3
-"""Writes the examples into tests of crush_run, since a test reads no file.
+"""Writes the examples into what the program crush_examples runs, and what it must print of them.
 
-Each NAME.job of this folder and of maps/, with the NAME.out that the program must write for it and the
-NAME.err that standard error must get, if there is one, becomes a module of
-crates/crush_run_tests/src/tests/examples/, and examples.rt beside it runs them all. What is written is run again
-and gives the same map, and the job's map alone is printed as it is, or, where there is a NAME.map, as that.
-With --check nothing is written, and the status is 1 where a test has other bytes than the files.
+Each NAME.job of this folder, of maps/ and of worked/ has a NAME.out, which must be written for it, and, if
+standard error must get anything, a NAME.err. It becomes a file of crates/crush_examples/data, a line of `jobs`
+there for each mode that it is run in, and a part of the crate's `stdout`. Of an example of this folder or of
+maps/ that is no refused one, what is written is run again and gives the same map (NAME.again.job), and the
+job's map alone is printed as it is, or, where there is a NAME.map, as that (NAME.alone.job). What a run is
+summed up as is counted here from the history. With --check nothing is written, and the status is 1 where the
+crate has other files or other bytes.
 """
 import pathlib
+import re
 import sys
 
 HERE = pathlib.Path(__file__).resolve().parent
-TEST = HERE.parent / "crates/crush_run_tests/src/tests/examples.rt"
-WIDTH = 96
-MODULES = """\
-//! The examples of the folder `examples`, a module each, written here by its `as_tests.py`.
-
-use super::{{MODE, is_told}};
-use crush_run::run_job;
-
-{modules}
-/// A job of the examples, what is written for it, and what standard error is told.
-struct Example {{
-    job: &'static [u8],
-    out: &'static [u8],
-    err: &'static [u8],
-    /// What is printed of the job's map alone; empty where that is printed as it is.
-    map: &'static [u8],
-}}
-
-/// The lines before the first one that begins like this.
-fn lines_before<'a>(text: &'a [u8], begin: &[u8]) -> &'a [u8] {{
-    for place in 0..text.len() {{
-        let (front, rest) = text.split_at(place);
-        if front.ends_with(b"\\n") && rest.starts_with(begin) {{
-            return front;
-        }}
-    }}
-    text
-}}
-
-/// Whether the run of a job writes and tells that.
-fn is_run(rt: &impl AllocGlobal, job: &[u8], out: &[u8], err: &[u8]) -> bool {{
-    let mut written = Vec::new(rt.alloc());
-    let outcome = run_job(rt, MODE, &mut &*job, &mut written);
-    written.as_slice() == out && is_told(rt, &outcome, err, u8::from(out.is_empty()))
-}}
-
-/// Whether the run of the job writes and tells that.
-fn is_met(rt: &impl AllocGlobal, example: &Example) -> bool {{
-    is_run(rt, example.job, example.out, example.err)
-}}
-
-/// Whether the job's map is printed like that where no operator follows.
-fn is_printed(rt: &impl AllocGlobal, example: &Example) -> bool {{
-    let text = lines_before(example.job, b"%");
-    let map = if example.map.is_empty() {{
-        text
-    }} else {{
-        example.map
-    }};
-    is_run(rt, text, map, example.err)
-}}
-
-/// Whether what is written is a job again, for which the same map is written: the history is a
-/// comment, and no weight is replaced.
-fn is_read_back(rt: &impl AllocGlobal, example: &Example) -> bool {{
-    let map = lines_before(example.out, b"# 1 ");
-    is_run(rt, example.out, map, b"")
-}}
-
-/// Whether the example is met. Of a job that is refused nothing is written.
-fn is_example(rt: &impl AllocGlobal, example: &Example) -> bool {{
-    is_met(rt, example)
-        && (example.out.is_empty() || is_printed(rt, example) && is_read_back(rt, example))
-}}
-"""
-EXAMPLE = """\
-//! The example `{name}`, written here by `examples/as_tests.py`.
-
-use super::{{Example, is_example}};
-
-const EXAMPLE: &Example = &Example {{
-    job: {job},
-    out: {out},
-    err: {err},
-    map: {map},
-}};
-
-#[test]
-fn is_written(rt: HostRuntime) {{
-    assert!(rt; is_example(&rt, EXAMPLE));
-}}
-"""
+CRATE = HERE.parent / "crates/crush_examples"
+# The words before a job's name, for each run of it.
+MODE = ["--in-turn "]
+MODES = {"each_mode": ["", "--in-turn ", "--in-turn --no-history "]}
 
 
-def escaped(line):
-    """A line of a file and its end, as a literal has them."""
-    return line.replace("\\", "\\\\").replace('"', '\\"').replace("\t", "\\t") + "\\n"
+def read(path):
+    return path.read_bytes().decode("ascii") if path.exists() else ""
 
 
-def rows(lines):
-    """The lines side by side, as many as have room in a row."""
-    row = ""
-    for line in map(escaped, lines):
-        if row and len(row) + len(line) > WIDTH:
-            yield row
-            row = ""
-        row += line
-    yield row
+def lines_before(text, begin):
+    """The lines before the first one that begins like this."""
+    return re.split(f"(?m)^{begin}", text, maxsplit=1)[0]
 
 
-def literal(path):
-    """The file's bytes; none where there is no file. A blank at the front of a row would mean nothing."""
-    lines = path.read_text(encoding="ascii").splitlines() if path.exists() else []
-    kept = ["\\x20" + row[1:] if row.startswith(" ") else row for row in rows(lines)] if lines else []
-    return 'b"' + "".join(f"\\\n{row}" for row in kept) + '"'
+def map_of(out):
+    """What is written but for the history."""
+    return lines_before(out, "# 1 ")
 
 
-def example(job):
-    out, err, map_alone = (job.with_suffix(suffix) for suffix in (".out", ".err", ".map"))
-    assert out.exists(), f"{job.name} has no output"
-    return EXAMPLE.format(
-        name=job.stem,
-        job=literal(job),
-        out=literal(out),
-        err=literal(err),
-        map=literal(map_alone),
-    )
+def summary(out, err):
+    """How many weights were replaced, how many calls there were, and how many of them changed the map."""
+    adjusted = re.match(r"crushedit: adjusted (\d+)\n$", err)
+    history = out[len(map_of(out)) :].splitlines()
+    changes = [re.search(r" = (?:done|dones \d+) changed (\d+) made (\d+)$", line) for line in history]
+    changed = sum(counts is not None and counts.groups() != ("0", "0") for counts in changes)
+    return f"adjusted {adjusted.group(1) if adjusted else 0} calls {len(history)} changes {changed}"
 
 
-def tests():
-    """What each file of the tests has to hold."""
-    jobs = sorted(HERE.glob("*.job")) + sorted(HERE.glob("maps/*.job"))
-    modules = {job.stem.replace("-", "_"): example(job) for job in jobs}
-    table = MODULES.format(modules="".join(f"mod {name};\n" for name in sorted(modules)))
-    return {TEST: table} | {TEST.with_suffix("") / f"{name}.rt": text for name, text in modules.items()}
+def printed(line, out, err):
+    """What the program prints of a run. Of a job that is refused nothing is written."""
+    ending = f"< {summary(out, err)}\n{err}< status 0\n" if out else f"< not done\n{err}< status 1\n"
+    return f"> {line}\n{map_of(out) if '--no-history' in line else out}{ending}"
+
+
+def runs(job):
+    """The runs of an example: the words before the job's name, its name and bytes, and what it must write and tell."""
+    name, text, out, err = job.stem, read(job), read(job.with_suffix(".out")), read(job.with_suffix(".err"))
+    assert job.with_suffix(".out").exists(), f"{job.name} has no output"
+    for words in MODES.get(name, MODE):
+        yield words, f"{name}.job", text, out, err
+    if out and job.parent.name != "worked":
+        alone = lines_before(text, "%")
+        yield MODE[0], f"{name}.alone.job", alone, read(job.with_suffix(".map")) or alone, err
+        yield MODE[0], f"{name}.again.job", out, map_of(out), ""
+
+
+def wanted():
+    """What each file of the crate beside src/ has to hold."""
+    jobs = [job for folder in (HERE, HERE / "maps", HERE / "worked") for job in sorted(folder.glob("*.job"))]
+    assert len({job.name for job in jobs}) == len(jobs), "two examples have one name"
+    files, lines, stdout = {}, [], []
+    for words, name, text, out, err in (run for job in jobs for run in runs(job)):
+        files[CRATE / "data" / name] = text
+        lines.append(f"{words}{name}\n")
+        stdout.append(printed(f"{words}{name}", out, err))
+    return files | {CRATE / "data/jobs": "".join(lines), CRATE / "stdout": "".join(stdout)}
 
 
 def main():
-    files = tests()
+    files = wanted()
+    there = {CRATE / "stdout", *(CRATE / "data").glob("*")}
     if sys.argv[1:] == ["--check"]:
-        there = {TEST, *TEST.with_suffix("").glob("*.rt")}
-        same = there == files.keys() and all(path.read_text(encoding="ascii") == text for path, text in files.items())
-        sys.exit(0 if same else f"{TEST.name} and its modules are older than the examples")
-    TEST.with_suffix("").mkdir(exist_ok=True)
+        same = there == files.keys() and all(read(path) == text for path, text in files.items())
+        sys.exit(0 if same else f"{CRATE.name} is older than the examples: run examples/as_tests.py")
+    (CRATE / "data").mkdir(exist_ok=True)
+    for path in there - files.keys():
+        path.unlink()
     for path, text in files.items():
-        path.write_text(text, encoding="ascii")
+        path.write_bytes(text.encode("ascii"))
 
 
 main()

@@ -1,26 +1,9 @@
-//! Maps with tunables, rules and items without weights.
+//! Maps with tunables and rules: their flaws, and the fronts of one.
 
-use super::{EXAMPLE, MODE, are_refused, is_told, summary, writes};
+use super::{EXAMPLE, MODE, are_refused};
 use crush_report::RunFault;
 use crush_run::run_job;
 use crush_script::JobFault;
-
-#[test]
-fn the_example_map_is_printed_as_it_is(rt: HostRuntime) {
-    assert!(rt; writes(&rt, MODE, EXAMPLE, EXAMPLE, b"", summary(0, 0, 0)));
-}
-
-/// The example map as a person may write it: leading zeros, items without weights, a written weight
-/// that isn't the sum, `ruleset`, and statements in another order.
-const LOOSE: &[u8] =
-    b"type 011 root type 0 osd device 2 osd.2 device 0 osd.0 type 1 host\ntunable choose_total_tries 0050\ndevice 1 osd.1 type 3 rack host h2{id -03 alg straw2 item osd.2 weight 0.5}\nhost h1 { id -2 alg straw2 item osd.0 item osd.1 weight 1 }\nroot default { id -1 alg straw2 hash 00 item h1 weight 9.000 item h2 }\nrule replicated_rule { ruleset 0 type replicated step take default step chooseleaf firstn 00 type host step emit }";
-
-#[test]
-fn written_weights_that_are_no_sums_are_replaced(rt: HostRuntime) {
-    let replaced = summary(1, 0, 0);
-    assert!(rt; writes(&rt, MODE, LOOSE, EXAMPLE, b"", replaced));
-    assert!(rt; is_told(&rt, &Ok(replaced), b"crushedit: adjusted 1\n", 0));
-}
 
 /// Two types and a device, in 36 bytes.
 const DEVICE: &[u8] = b"type 1 host\ntype 11 root\ndevice 0 d\n";
