@@ -1,166 +1,158 @@
 //! As many types, devices, buckets, tunables, class ids, rules and steps as a map can have, and as heavy
 //! as it can be, and one more.
 
-use crate::tests::{fault_of, is_refused, joined, printed, put_behind, with_map};
+use crate::tests::{
+    counts_in, fault_of, is_printed, is_refused, is_refused_behind, joined, put_behind, units_in,
+};
 use crush_text::TextFaultKind;
-use crush_units::Weight;
 use std::ops::Range;
 use std::process::Abort;
 
-/// Puts a number behind a text, with such words before it.
-fn put_number(rt: &(impl Abort + AllocGlobal), text: &mut Vec<u8>, words: &str, number: u32) {
-    let part = format!(in rt.alloc(); "{words}{number}").expect(rt, "no memory");
-    put_behind(rt, text, part.as_bytes());
+/// Puts a number behind a text.
+fn put_number(rt: &(impl Abort + AllocGlobal), text: &mut Vec<u8>, number: u32) {
+    let digits = format!(in rt.alloc(); "{number}").expect(rt, "no memory");
+    put_behind(rt, text, digits.as_bytes());
 }
 
-/// Puts a number behind a text twice, between and round the parts.
-fn put_twice(rt: &(impl Abort + AllocGlobal), text: &mut Vec<u8>, parts: [&str; 3], number: u32) {
-    let [first, second, third] = parts;
-    put_number(rt, text, first, number);
-    put_number(rt, text, second, number);
-    put_behind(rt, text, third.as_bytes());
+/// Puts a line behind a text, with the number for each `@` and the one before it for each `~`.
+fn put_line(rt: &(impl Abort + AllocGlobal), text: &mut Vec<u8>, line: &[u8], number: u32) {
+    for byte in line {
+        match *byte {
+            b'@' => put_number(rt, text, number),
+            b'~' => put_number(rt, text, number.saturating_sub(1)),
+            byte => text.push(byte).expect(rt, "no memory"),
+        }
+    }
 }
 
-/// Such lines for each of the numbers, each behind the text.
+/// Puts such lines for each of the numbers behind a text.
+fn put_lines(
+    rt: &(impl Abort + AllocGlobal),
+    text: &mut Vec<u8>,
+    line: &[u8],
+    numbers: Range<u32>,
+) {
+    for number in numbers {
+        put_line(rt, text, line, number);
+    }
+}
+
+/// Such lines for each of the numbers behind the front.
 fn with_lines(
     rt: &(impl Abort + AllocGlobal),
     front: &[u8],
-    parts: [&str; 3],
+    line: &[u8],
     numbers: Range<u32>,
 ) -> Vec<u8> {
     let mut text = joined(rt, &[front]);
-    for number in numbers {
-        put_twice(rt, &mut text, parts, number);
-    }
+    put_lines(rt, &mut text, line, numbers);
     text
 }
 
-/// A text with so many types, numbered from 0.
-fn with_types(rt: &(impl Abort + AllocGlobal), count: u32) -> Vec<u8> {
-    with_lines(rt, b"", ["type ", " t", "\n"], 0..count)
+/// A text with 256 types, numbered from 0.
+fn all_types(rt: &(impl Abort + AllocGlobal)) -> Vec<u8> {
+    with_lines(rt, b"", b"type @ t@\n", 0..256)
 }
 
-/// A text with so many devices, numbered from 0.
-fn with_devices(rt: &(impl Abort + AllocGlobal), count: u32) -> Vec<u8> {
-    with_lines(rt, b"", ["device ", " d", "\n"], 0..count)
-}
-
-/// How the hosts of a chain stand in a text, each but the first with the one before it as its item.
-struct Form {
-    /// Round the number of a host and its id.
-    head: [&'static str; 3],
-    /// Before and behind the number of its item.
-    item: [&'static str; 2],
-    /// Behind its items.
-    end: &'static str,
-}
-
-/// A chain in few words.
-const SHORT: Form = Form {
-    head: ["host b", " { id -", " alg straw2"],
-    item: [" item b", " weight 0"],
-    end: " }\n",
-};
-
-/// A chain as it is printed.
-const PRINTED: Form = Form {
-    head: [
-        "host b",
-        " {\n\tid -",
-        "\t\t# do not change unnecessarily\n\t# weight 0.00000\n\talg straw2\n\thash 0\t# rjenkins1\n",
-    ],
-    item: ["\titem b", " weight 0.00000\n"],
-    end: "}\n",
-};
-
-/// Puts the host of this number behind a text.
-fn put_host(rt: &(impl Abort + AllocGlobal), text: &mut Vec<u8>, form: &Form, number: u32) {
-    put_twice(rt, text, form.head, number);
-    if number > 1 {
-        let [before, behind] = form.item;
-        put_number(rt, text, before, number - 1);
-        put_behind(rt, text, behind.as_bytes());
-    }
-    put_behind(rt, text, form.end.as_bytes());
-}
-
-/// A text with a chain of the buckets 1 to 4,096 behind its front: a bucket stands before it is an item,
-/// so the first is the lowest.
-fn with_chain(rt: &(impl Abort + AllocGlobal), front: &[u8], form: &Form) -> Vec<u8> {
-    let mut text = joined(rt, &[front]);
-    for number in 1..4097 {
-        put_host(rt, &mut text, form, number);
-    }
-    text
-}
-
-/// A text with a chain of 4,096 buckets.
+/// A text with a chain of the buckets 1 to 4,096, each but the first with the one before it as its item:
+/// a bucket stands before it is an item, so the first is the lowest.
 fn chain(rt: &(impl Abort + AllocGlobal)) -> Vec<u8> {
-    with_chain(rt, b"type 1 host\n", &SHORT)
+    let front = b"type 1 host\nhost b1 { id -1 alg straw2 }\n";
+    let line = b"host b@ { id -@ alg straw2 item b~ weight 0 }\n";
+    with_lines(rt, front, line, 2..4097)
 }
+
+/// What is printed of the chain up to its second bucket.
+const PRINTED_FRONT: &[u8] = b"\
+    # begin crush map\n\n# devices\n\n# types\ntype 1 host\n\n# buckets\n\
+    host b1 {\n\tid -1\t\t# do not change unnecessarily\n\t# weight 0.00000\n\
+    \talg straw2\n\thash 0\t# rjenkins1\n}\n";
+
+/// What is printed of each further bucket.
+const PRINTED_BUCKET: &[u8] = b"\
+    host b@ {\n\tid -@\t\t# do not change unnecessarily\n\t# weight 0.00000\n\
+    \talg straw2\n\thash 0\t# rjenkins1\n\titem b~ weight 0.00000\n}\n";
 
 /// What is printed of the chain.
 fn printed_chain(rt: &(impl Abort + AllocGlobal)) -> Vec<u8> {
-    let front = b"# begin crush map\n\n# devices\n\n# types\ntype 1 host\n\n# buckets\n";
-    let mut text = with_chain(rt, front, &PRINTED);
+    let mut text = with_lines(rt, PRINTED_FRONT, PRINTED_BUCKET, 2..4097);
     put_behind(rt, &mut text, b"\n# rules\n\n# end crush map\n");
     text
 }
 
-/// Whether the words are refused for this at their first behind the front.
-fn is_refused_behind(
-    rt: &(impl Abort + AllocGlobal),
-    front: &[u8],
-    words: &[u8],
-    kind: TextFaultKind,
-) -> bool {
-    let text = joined(rt, &[front, words]);
-    is_refused(rt, text.as_slice(), kind, front.len())
+/// What there is at most of one kind.
+struct Limit {
+    /// The text before it.
+    front: &'static [u8],
+    /// The line of each number.
+    line: &'static [u8],
+    most: u32,
+    /// The text behind it.
+    back: &'static [u8],
 }
 
 /// That many lines are read between the two texts, with numbers from 2 on, and one more is refused at
 /// its first word.
-fn is_limit(
-    rt: &(impl Abort + AllocGlobal),
-    front: &[u8],
-    parts: [&str; 3],
-    most: u32,
-    back: &[u8],
-) -> bool {
-    let end = most.saturating_add(2);
-    let mut text = with_lines(rt, front, parts, 2..end);
+fn is_limit(rt: &(impl Abort + AllocGlobal), limit: &Limit) -> bool {
+    let end = limit.most.saturating_add(2);
+    let mut text = with_lines(rt, limit.front, limit.line, 2..end);
     let place = text.len();
-    put_behind(rt, &mut text, back);
-    let more = with_lines(rt, front, parts, 2..end.saturating_add(1));
-    fault_of(rt, text.as_slice()).is_none()
-        && is_refused(rt, more.as_slice(), TextFaultKind::TooMany, place)
+    put_behind(rt, &mut text, limit.back);
+    let is_read = fault_of(rt, text.as_slice()).is_none();
+    text.truncate(place);
+    put_line(rt, &mut text, limit.line, end);
+    is_read && is_refused(rt, text.as_slice(), TextFaultKind::TooMany, place)
 }
+
+/// Tunables, rules, steps and class ids.
+const LIMITS: &[Limit] = &[
+    Limit {
+        front: b"",
+        line: b"tunable t@ @\n",
+        most: 64,
+        back: b"",
+    },
+    Limit {
+        front: b"",
+        line: b"rule r@ { id @ type x }\n",
+        most: 256,
+        back: b"",
+    },
+    Limit {
+        front: b"rule x { id 0 type replicated\n",
+        line: b"step set_x@ @\n",
+        most: 64,
+        back: b"}",
+    },
+    Limit {
+        front: b"type 1 host\nhost a { id -1\n",
+        line: b"id -@ class c@\n",
+        most: 16,
+        back: b"alg straw2 }",
+    },
+];
 
 #[test]
 fn tunables_rules_steps_and_class_ids(rt: HostRuntime) {
-    assert!(rt; is_limit(&rt, b"", ["tunable t", " ", "\n"], 64, b""));
-    assert!(rt; is_limit(&rt, b"", ["rule r", " { id ", " type x }\n"], 256, b""));
-    let rule: &[u8] = b"rule x { id 0 type replicated\n";
-    assert!(rt; is_limit(&rt, rule, ["step set_x", " ", "\n"], 64, b"}"));
-    let bucket: &[u8] = b"type 1 host\nhost a { id -1\n";
-    let parts = ["id -", " class c", "\n"];
-    assert!(rt; is_limit(&rt, bucket, parts, 16, b"alg straw2 }"));
+    for limit in LIMITS {
+        assert!(rt; is_limit(&rt, limit));
+    }
 }
 
 #[test]
 fn at_most_256_types(rt: HostRuntime) {
-    let most = with_types(&rt, 256);
-    let most = most.as_slice();
-    assert!(rt; with_map(&rt, most, |map| map.setting().kinds().len()) == 256);
-    assert!(rt; is_refused_behind(&rt, most, b"type 256 t256", TextFaultKind::TooMany));
+    let most = all_types(&rt);
+    assert!(rt; counts_in(&rt, most.as_slice()).types == 256);
+    let one_more = b"type 256 t256";
+    assert!(rt; is_refused_behind(&rt, most.as_slice(), one_more, TextFaultKind::TooMany));
 }
 
 #[test]
 fn a_chain_of_4096_buckets(rt: HostRuntime) {
     let text = chain(&rt);
     let expected = printed_chain(&rt);
-    assert!(rt; printed(&rt, text.as_slice()) == expected);
-    assert!(rt; printed(&rt, expected.as_slice()) == expected);
+    let expected = expected.as_slice();
+    assert!(rt; is_printed(&rt, text.as_slice(), expected) && is_printed(&rt, expected, expected));
 }
 
 /// What is refused behind 4,096 buckets, with what for: one more bucket, unless its first word names
@@ -183,10 +175,7 @@ const BEHIND_4096_BUCKETS: &[(&[u8], TextFaultKind)] = &[
 fn at_most_4096_buckets(rt: HostRuntime) {
     let most = chain(&rt);
     for (words, kind) in BEHIND_4096_BUCKETS {
-        assert!(rt;
-            is_refused_behind(&rt, most.as_slice(), *words, *kind),
-            "{kind:?}"
-        );
+        assert!(rt; is_refused_behind(&rt, most.as_slice(), *words, *kind));
     }
 }
 
@@ -199,9 +188,9 @@ fn is_too_late(rt: &(impl Abort + AllocGlobal), text: &[u8], line: &[u8]) -> boo
 /// Behind a rule no type and no tunable may stand, also where there would be one too many.
 #[test]
 fn what_comes_too_late_and_is_too_many(rt: HostRuntime) {
-    let types = with_types(&rt, 256);
+    let types = all_types(&rt);
     assert!(rt; is_too_late(&rt, types.as_slice(), b"type 256 t256"));
-    let tunables = with_lines(&rt, b"", ["tunable t", " ", "\n"], 2..66);
+    let tunables = with_lines(&rt, b"", b"tunable t@ @\n", 2..66);
     assert!(rt; is_too_late(&rt, tunables.as_slice(), b"tunable t 1"));
 }
 
@@ -213,44 +202,26 @@ const HEAVY_HOST: &[u8] =
 #[test]
 fn a_bucket_of_at_most_4294967295_units(rt: HostRuntime) {
     let most = joined(&rt, &[HEAVY_HOST, b"0.00002 }"]);
-    let weight = with_map(&rt, most.as_slice(), |map| map.weight_of("a"));
-    assert!(rt; weight == Some(Weight::from_units(4294967295)));
+    assert!(rt; units_in(&rt, most.as_slice(), "a") == Some(4294967295));
     assert!(rt; is_refused_behind(&rt, HEAVY_HOST, b"0.00003 }", TextFaultKind::SumTooLarge));
 }
 
-/// Puts a host with the devices 3 n, 3 n + 1 and 3 n + 2 behind a text, of 2147483647, 2147483647 and
-/// 1 units: as heavy as a bucket can be.
-fn put_heavy_host(rt: &(impl Abort + AllocGlobal), text: &mut Vec<u8>, number: u32) {
-    let first = number.saturating_mul(3);
-    put_number(rt, text, "host h", number);
-    put_number(rt, text, " { id -", number.saturating_add(1));
-    put_number(rt, text, " alg straw2 item d", first);
-    put_number(
-        rt,
-        text,
-        " weight 32767.99998 item d",
-        first.saturating_add(1),
-    );
-    put_number(
-        rt,
-        text,
-        " weight 32767.99998 item d",
-        first.saturating_add(2),
-    );
-    put_behind(rt, text, b" weight 0.00002 }\n");
-}
+/// The three devices of a host, whose ids begin with 1, 2 and 3.
+const THREE_DEVICES: &[u8] = b"device 1@ d@\ndevice 2@ e@\ndevice 3@ f@\n";
+
+/// A host with them, of 2147483647, 2147483647 and 1 units: as heavy as a bucket can be.
+const HOST_OF_THREE: &[u8] = b"\
+    host h@ { id -1@ alg straw2 item d@ weight 32767.99998 item e@ weight 32767.99998 \
+    item f@ weight 0.00002 }\n";
 
 /// A text with 2,048 hosts of 4294967295 units, and one that a device was put into but for its weight.
 fn heaviest(rt: &(impl Abort + AllocGlobal)) -> Vec<u8> {
-    let mut text = with_devices(rt, 6145);
-    put_behind(rt, &mut text, b"type 1 host\n");
-    for number in 0..2048 {
-        put_heavy_host(rt, &mut text, number);
-    }
+    let mut text = with_lines(rt, b"type 1 host\ndevice 0 d\n", THREE_DEVICES, 0..2048);
+    put_lines(rt, &mut text, HOST_OF_THREE, 0..2048);
     put_behind(
         rt,
         &mut text,
-        b"host last { id -2049 alg straw2 item d6144 weight ",
+        b"host last { id -1 alg straw2 item d weight ",
     );
     text
 }
@@ -258,8 +229,8 @@ fn heaviest(rt: &(impl Abort + AllocGlobal)) -> Vec<u8> {
 #[test]
 fn a_total_of_at_most_8796093022207_units(rt: HostRuntime) {
     let front = heaviest(&rt);
-    let front = front.as_slice();
-    let most = joined(&rt, &[front, b"0.03123 }"]);
-    assert!(rt; with_map(&rt, most.as_slice(), |map| map.total()) == 8796093022207);
-    assert!(rt; is_refused_behind(&rt, front, b"0.03125 }", TextFaultKind::SumTooLarge));
+    let most = joined(&rt, &[front.as_slice(), b"0.03123 }"]);
+    assert!(rt; counts_in(&rt, most.as_slice()).total == 8796093022207);
+    let one_more = b"0.03125 }";
+    assert!(rt; is_refused_behind(&rt, front.as_slice(), one_more, TextFaultKind::SumTooLarge));
 }

@@ -24,151 +24,238 @@
 //!   first words, of those of steps and of what follows an item, 13 of buckets that are taken, 14 of
 //!   first words, `id` and `step`, 15 of an item's last word.
 
-use crate::tests::{behind_a_device, fault_of, joined};
-use std::process::Abort;
-
-/// A word that is too long. As a number it would be 0.
-const LONG: &[u8] = &[b'0'; 256];
+use crate::tests::{Faults, are_refused, are_refused_behind};
+use crush_text::TextFaultKind;
 
 /// The text up to the weight of a host which with it makes a root too heavy, whatever is written.
 const HEAVY_HOST: &[u8] =
     b"device 1 e\ndevice 2 f\nhost a { id -1 alg straw2 item d weight 32767.99998 item e weight 32767.99998 }\nroot r { id -2 alg straw2 item f weight 1 item a weight ";
 
-/// Such words, but for those out of place: the numbers of two rows that hold, the text before the
-/// word, and the word with what follows it.
-const PAIRS: &[([u8; 2], &[u8], &[u8])] = &[
-    ([1, 3], b"host a ", LONG),
-    ([1, 3], b"rule x { id 0 type replicated ", LONG),
-    ([1, 4], b"type ", LONG),
-    ([1, 4], b"tunable t ", LONG),
-    ([1, 5], b"host a { id -1 alg straw2 item d weight ", LONG),
-    ([1, 6], b"device ", LONG),
-    ([1, 8], b"", LONG),
+/// Lines with such words, but for those out of place, each by the first of the two rows.
+const PAIRS: &[Faults] = &[
+    // 1 and 3.
     (
-        [1, 8],
-        b"rule x { id 0 type replicated step choose firstn 0 type ",
-        LONG,
+        TextFaultKind::BadWord,
+        b"\
+        host a ^@|\
+        rule x { id 0 type replicated ^@|",
     ),
-    ([1, 9], b"host a { id -1 alg straw2 item ", LONG),
-    ([1, 11], b"host a { id -1 alg ", LONG),
-    ([1, 13], b"rule x { id 0 type replicated step take ", LONG),
-    ([1, 15], HEAVY_HOST, LONG),
-    ([4, 6], b"type ", b"00000000001 rack"),
-    ([4, 6], b"device ", b"00000000000 e"),
-    ([4, 6], b"device ", b"-0 e"),
-    ([4, 6], b"host a { id -1 id ", b"-00000000001 class ssd"),
+    // 1 and 4.
     (
-        [4, 6],
-        b"host a { id -1 alg straw2 }\nhost b { id ",
-        b"-00000000001 alg straw2",
+        TextFaultKind::BadWord,
+        b"\
+        type ^@|\
+        tunable t ^@|",
     ),
+    // 1 and 5.
     (
-        [4, 6],
-        b"rule x { id 0 type replicated }\nrule y { id ",
-        b"00000000000 type replicated",
+        TextFaultKind::BadWord,
+        b"\
+        host a { id -1 alg straw2 item d weight ^@|",
     ),
+    // 1 and 6.
     (
-        [10, 15],
-        b"device 1 e\nhost a { id -1 alg straw2 item d weight 32767.99998 item e weight 32767.99998 item ",
-        b"d }",
+        TextFaultKind::BadWord,
+        b"\
+        device ^@|",
     ),
+    // 1 and 8.
     (
-        [10, 15],
-        b"device 1 e\nhost a { id -1 alg straw2 item d weight 32767.99998 item e weight 32767.99998 }\nroot r { id -2 alg straw2 item a item ",
-        b"a }",
+        TextFaultKind::BadWord,
+        b"\
+        ^@|\
+        rule x { id 0 type replicated step choose firstn 0 type ^@|",
+    ),
+    // 1 and 9.
+    (
+        TextFaultKind::BadWord,
+        b"\
+        host a { id -1 alg straw2 item ^@|",
+    ),
+    // 1 and 11.
+    (
+        TextFaultKind::BadWord,
+        b"\
+        host a { id -1 alg ^@|",
+    ),
+    // 1 and 13.
+    (
+        TextFaultKind::BadWord,
+        b"\
+        rule x { id 0 type replicated step take ^@|",
+    ),
+    // 4 and 6.
+    (
+        TextFaultKind::BadNumber,
+        b"\
+        type ^00000000001 rack|\
+        device ^00000000000 e|\
+        device ^-0 e|\
+        host a { id -1 id ^-00000000001 class ssd|\
+        host a { id -1 alg straw2 }\nhost b { id ^-00000000001 alg straw2|\
+        rule x { id 0 type replicated }\nrule y { id ^00000000000 type replicated|",
+    ),
+    // 10 and 15.
+    (
+        TextFaultKind::SecondParent,
+        b"\
+        device 1 e\nhost a { id -1 alg straw2 item d weight 32767.99998 item e weight 32767.99998 item ^d }|\
+        device 1 e\nhost a { id -1 alg straw2 item d weight 32767.99998 item e weight 32767.99998 }\nroot r { id -2 alg straw2 item a item ^a }|",
+    ),
+];
+
+/// Such a weight of that host.
+const HEAVY_PAIRS: &[Faults] = &[
+    // 1 and 15.
+    (
+        TextFaultKind::BadWord,
+        b"\
+        ^@|",
     ),
 ];
 
 /// Those out of place: braces, and names that only type 0 may have.
-const PAIRS_OF_WORDS_OUT_OF_PLACE: &[([u8; 2], &[u8], &[u8])] = &[
-    ([3, 4], b"tunable t ", b"{"),
-    ([3, 4], b"type ", b"} rack"),
-    ([3, 4], b"device ", b"{ e"),
-    ([3, 4], b"host a { id ", b"}"),
-    ([3, 4], b"host a { id -1 id ", b"} class ssd"),
-    ([3, 4], b"host a { id -1 alg straw2 hash ", b"}"),
-    ([3, 4], b"rule x { id ", b"} type replicated"),
-    ([3, 4], b"rule x { id 0 type replicated min_size ", b"{"),
-    ([3, 4], b"rule x { id 0 type replicated max_size ", b"}"),
-    ([3, 4], b"rule x { id 0 type replicated step set_x ", b"{"),
+const PAIRS_OF_WORDS_OUT_OF_PLACE: &[Faults] = &[
+    // 3 and 4.
     (
-        [3, 4],
-        b"rule x { id 0 type replicated step choose firstn ",
-        b"{ type host",
+        TextFaultKind::Unexpected,
+        b"\
+        tunable t ^{|\
+        type ^} rack|\
+        device ^{ e|\
+        host a { id ^}|\
+        host a { id -1 id ^} class ssd|\
+        host a { id -1 alg straw2 hash ^}|\
+        rule x { id ^} type replicated|\
+        rule x { id 0 type replicated min_size ^{|\
+        rule x { id 0 type replicated max_size ^}|\
+        rule x { id 0 type replicated step set_x ^{|\
+        rule x { id 0 type replicated step choose firstn ^{ type host|",
     ),
-    ([3, 5], b"host a { id -1 alg straw2 item d weight ", b"}"),
-    ([3, 7], b"type 0 device\ntype 2 ", b"device"),
-    ([3, 7], b"type 0 choose_args\ntype 2 ", b"choose_args"),
-    ([3, 8], b"", b"{ id -1"),
-    ([3, 8], b"host a { id -1 alg straw2 }\n", b"} host b {"),
+    // 3 and 5.
     (
-        [3, 8],
-        b"rule x { id 0 type replicated step choose firstn 0 type ",
-        b"{",
+        TextFaultKind::Unexpected,
+        b"\
+        host a { id -1 alg straw2 item d weight ^}|",
     ),
-    ([3, 9], b"host a { id -1 alg straw2 item ", b"}"),
-    ([3, 11], b"host a { id -1 alg ", b"{"),
-    ([3, 13], b"rule x { id 0 type replicated step take ", b"{"),
+    // 3 and 7.
+    (
+        TextFaultKind::Unexpected,
+        b"\
+        type 0 device\ntype 2 ^device|\
+        type 0 choose_args\ntype 2 ^choose_args|",
+    ),
+    // 3 and 8.
+    (
+        TextFaultKind::Unexpected,
+        b"\
+        ^{ id -1|\
+        host a { id -1 alg straw2 }\n^} host b {|\
+        rule x { id 0 type replicated step choose firstn 0 type ^{|",
+    ),
+    // 3 and 9.
+    (
+        TextFaultKind::Unexpected,
+        b"\
+        host a { id -1 alg straw2 item ^}|",
+    ),
+    // 3 and 11.
+    (
+        TextFaultKind::Unexpected,
+        b"\
+        host a { id -1 alg ^{|",
+    ),
+    // 3 and 13.
+    (
+        TextFaultKind::Unexpected,
+        b"\
+        rule x { id 0 type replicated step take ^{|",
+    ),
 ];
 
 /// Words at which only the first of the two rows holds, where the other may seem to hold as well.
-const NO_PAIRS: &[([u8; 2], &[u8], &[u8])] = &[
-    ([1, 15], HEAVY_HOST, b"$ }"),
-    ([2, 15], HEAVY_HOST, b""),
-    ([3, 8], b"type 0 class\n", b"class a {"),
+const NO_PAIRS: &[Faults] = &[
+    // 3 and 8.
     (
-        [3, 8],
-        b"type 0 type\nrule x { id 0 type replicated }\n",
-        b"type 2 rack",
+        TextFaultKind::Unexpected,
+        b"\
+        type 0 class\n^class a {|\
+        type 0 type\nrule x { id 0 type replicated }\n^type 2 rack|",
     ),
-    ([3, 15], HEAVY_HOST, b"}"),
+    // 5 and 12.
     (
-        [5, 12],
-        b"host a { id -1 alg straw2 item d weight ",
-        b"pos 0",
+        TextFaultKind::BadWeight,
+        b"\
+        host a { id -1 alg straw2 item d weight ^pos 0|",
     ),
-    ([5, 15], HEAVY_HOST, b"x }"),
-    ([5, 15], HEAVY_HOST, b"65536 }"),
+    // 5 and 15.
     (
-        [5, 15],
-        b"device 1 e\nhost a { id -1 alg straw2 item d weight 32767.99998 item e weight ",
-        b"65535 }",
+        TextFaultKind::BadWeight,
+        b"\
+        device 1 e\nhost a { id -1 alg straw2 item d weight 32767.99998 item e weight ^65535 }|",
     ),
-    ([9, 12], b"host a { id -1 alg straw2 item d item ", b"pos 0"),
+    // 9 and 12.
     (
-        [9, 15],
-        b"device 1 e\nhost a { id -1 alg straw2 item d weight 32767.99998 item e weight 32767.99998 item ",
-        b"nosuch }",
+        TextFaultKind::UnknownItem,
+        b"\
+        host a { id -1 alg straw2 item d item ^pos 0|",
     ),
-    ([12, 8], b"type 0 choose_args\n", b"choose_args 0"),
+    // 9 and 15.
+    (
+        TextFaultKind::UnknownItem,
+        b"\
+        device 1 e\nhost a { id -1 alg straw2 item d weight 32767.99998 item e weight 32767.99998 item ^nosuch }|",
+    ),
+    // 12 and 8.
+    (
+        TextFaultKind::LeftOut,
+        b"\
+        type 0 choose_args\n^choose_args 0|",
+    ),
 ];
 
-/// Each text is refused by the first of its two rows, at the place of the word.
-fn are_told_by_the_first(rt: &(impl Abort + AllocGlobal), rows: &[([u8; 2], &[u8], &[u8])]) {
-    for (numbers, before, word) in rows {
-        let [first, second] = *numbers;
-        let text = joined(rt, &[*before, *word]);
-        let text = behind_a_device(rt, text.as_slice());
-        let fault = fault_of(rt, text.as_slice()).expect(rt, "a text is read");
-        let place = before.len().saturating_add(36);
-        assert!(rt;
-            fault.kind.number() == first && fault.place == place,
-            "{first} and {second}: {fault}"
-        );
-    }
-}
+/// Such weights of that host.
+const HEAVY_NO_PAIRS: &[Faults] = &[
+    // 1 and 15.
+    (
+        TextFaultKind::BadWord,
+        b"\
+        ^$ }|",
+    ),
+    // 2 and 15.
+    (
+        TextFaultKind::Ended,
+        b"\
+        ^|",
+    ),
+    // 3 and 15.
+    (
+        TextFaultKind::Unexpected,
+        b"\
+        ^}|",
+    ),
+    // 5 and 15.
+    (
+        TextFaultKind::BadWeight,
+        b"\
+        ^x }|\
+        ^65536 }|",
+    ),
+];
 
 #[test]
 fn the_lesser_number_is_told(rt: HostRuntime) {
-    are_told_by_the_first(&rt, PAIRS);
+    are_refused(&rt, PAIRS);
+    are_refused_behind(&rt, HEAVY_HOST, HEAVY_PAIRS);
 }
 
 #[test]
 fn the_lesser_number_is_told_of_words_out_of_place(rt: HostRuntime) {
-    are_told_by_the_first(&rt, PAIRS_OF_WORDS_OUT_OF_PLACE);
+    are_refused(&rt, PAIRS_OF_WORDS_OUT_OF_PLACE);
 }
 
 #[test]
 fn a_row_that_does_not_hold_is_not_told(rt: HostRuntime) {
-    are_told_by_the_first(&rt, NO_PAIRS);
+    are_refused(&rt, NO_PAIRS);
+    are_refused_behind(&rt, HEAVY_HOST, HEAVY_NO_PAIRS);
 }

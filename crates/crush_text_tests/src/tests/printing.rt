@@ -1,5 +1,5 @@
 use crate::tests::writing::Slow;
-use crate::tests::{adjusted_in, example_map, joined, plain_example_map, printed, with_map};
+use crate::tests::{PLAIN_EXAMPLE_MAP, adjusted_in, example_map, is_printed, map_of};
 use crush_bytes::WriteFault;
 use crush_map::CrushMap;
 use crush_print::write_map;
@@ -16,57 +16,55 @@ const SCATTERED_MAP: &[u8] =
     b"type 11 root device 7 osd.7 device 0 osd.0 type 1 host device 3 osd.3\nroot far { id -9 alg list item osd.7 weight 0.25 }\nhost b { id -2 alg straw }\nhost a { id -3 alg straw2 item osd.0 weight 1 }\nroot near { id -1 alg straw2 item a weight 1 item b weight 0 }\n";
 
 /// What is printed of it.
-const SCATTERED_MAP_PRINTED: &[&[u8]] = &[
-    b"# begin crush map\n",
-    b"\n",
-    b"# devices\n",
-    b"device 0 osd.0\n",
-    b"device 3 osd.3\n",
-    b"device 7 osd.7\n",
-    b"\n",
-    b"# types\n",
-    b"type 1 host\n",
-    b"type 11 root\n",
-    b"\n",
-    b"# buckets\n",
-    b"host a {\n",
-    b"\tid -3\t\t# do not change unnecessarily\n",
-    b"\t# weight 1.00000\n",
-    b"\talg straw2\n",
-    b"\thash 0\t# rjenkins1\n",
-    b"\titem osd.0 weight 1.00000\n",
-    b"}\n",
-    b"host b {\n",
-    b"\tid -2\t\t# do not change unnecessarily\n",
-    b"\t# weight 0.00000\n",
-    b"\talg straw\n",
-    b"\thash 0\t# rjenkins1\n",
-    b"}\n",
-    b"root near {\n",
-    b"\tid -1\t\t# do not change unnecessarily\n",
-    b"\t# weight 1.00000\n",
-    b"\talg straw2\n",
-    b"\thash 0\t# rjenkins1\n",
-    b"\titem a weight 1.00000\n",
-    b"\titem b weight 0.00000\n",
-    b"}\n",
-    b"root far {\n",
-    b"\tid -9\t\t# do not change unnecessarily\n",
-    b"\t# weight 0.25000\n",
-    b"\talg list\n",
-    b"\thash 0\t# rjenkins1\n",
-    b"\titem osd.7 weight 0.25000\n",
-    b"}\n",
-    b"\n",
-    b"# rules\n",
-    b"\n",
-    b"# end crush map\n",
-];
+const SCATTERED_MAP_PRINTED: &[u8] = b"\
+    # begin crush map\n\
+    \n\
+    # devices\n\
+    device 0 osd.0\n\
+    device 3 osd.3\n\
+    device 7 osd.7\n\
+    \n\
+    # types\n\
+    type 1 host\n\
+    type 11 root\n\
+    \n\
+    # buckets\n\
+    host a {\n\
+    \tid -3\t\t# do not change unnecessarily\n\
+    \t# weight 1.00000\n\
+    \talg straw2\n\
+    \thash 0\t# rjenkins1\n\
+    \titem osd.0 weight 1.00000\n\
+    }\n\
+    host b {\n\
+    \tid -2\t\t# do not change unnecessarily\n\
+    \t# weight 0.00000\n\
+    \talg straw\n\
+    \thash 0\t# rjenkins1\n\
+    }\n\
+    root near {\n\
+    \tid -1\t\t# do not change unnecessarily\n\
+    \t# weight 1.00000\n\
+    \talg straw2\n\
+    \thash 0\t# rjenkins1\n\
+    \titem a weight 1.00000\n\
+    \titem b weight 0.00000\n\
+    }\n\
+    root far {\n\
+    \tid -9\t\t# do not change unnecessarily\n\
+    \t# weight 0.25000\n\
+    \talg list\n\
+    \thash 0\t# rjenkins1\n\
+    \titem osd.7 weight 0.25000\n\
+    }\n\
+    \n\
+    # rules\n\
+    \n\
+    # end crush map\n";
 
 #[test]
 fn the_plain_example_map_is_printed_as_it_stands(rt: HostRuntime) {
-    let text = plain_example_map(&rt);
-    assert!(rt; printed(&rt, text.as_slice()) == text);
+    assert!(rt; is_printed(&rt, PLAIN_EXAMPLE_MAP, PLAIN_EXAMPLE_MAP));
 }
 
 /// Ways to write the weight of h1, and how many weights are adjusted where it stands so.
@@ -78,71 +76,75 @@ const WEIGHTS: &[(&[u8], u32)] = &[
     (b"", 0),
 ];
 
+/// Whether so many weights are adjusted in the example map with such a weight of h1, of which the
+/// example map is printed.
+fn is_adjusted(rt: &(impl Abort + AllocGlobal), weight: &[u8], count: u32) -> bool {
+    let written = example_map(rt, weight);
+    let text = example_map(rt, b" weight 2.00000");
+    adjusted_in(rt, written.as_slice()) == count
+        && is_printed(rt, written.as_slice(), text.as_slice())
+}
+
 /// It has the weight of h1 that its sum is, also where another one is written or none.
 #[test]
 fn the_example_map_is_printed_as_it_stands(rt: HostRuntime) {
-    let text = example_map(&rt, b" weight 2.00000");
     for (weight, count) in WEIGHTS {
-        let written = example_map(&rt, *weight);
-        let adjusted = adjusted_in(&rt, written.as_slice());
-        assert!(rt; adjusted == *count && printed(&rt, written.as_slice()) == text);
+        assert!(rt; is_adjusted(&rt, *weight, *count));
     }
 }
 
 #[test]
 fn the_empty_map_has_eleven_lines(rt: HostRuntime) {
-    let out = printed(&rt, b"");
-    assert!(rt; out.len() == 75 && out.as_slice() == EMPTY_MAP);
+    assert!(rt; EMPTY_MAP.len() == 75 && is_printed(&rt, b"", EMPTY_MAP));
 }
 
 #[test]
 fn lines_are_printed_in_order(rt: HostRuntime) {
-    let text = joined(&rt, SCATTERED_MAP_PRINTED);
-    assert!(rt; printed(&rt, SCATTERED_MAP) == text);
+    assert!(rt; is_printed(&rt, SCATTERED_MAP, SCATTERED_MAP_PRINTED));
 }
 
-/// What is printed of devices with classes and of one without.
+/// Devices with classes, of which one is named like the word before it, and one without a class.
+const CLASSES: &[u8] = b"device 1 osd.1\nclass class\ndevice 0 osd.0 device 2 class class osd.0";
+
+/// What is printed of them.
 const CLASSES_PRINTED: &[u8] =
     b"# begin crush map\n\n# devices\ndevice 0 osd.0\ndevice 1 osd.1 class class\ndevice 2 class class osd.0\n\n# types\n\n# buckets\n\n# rules\n\n# end crush map\n";
 
-/// A device of a class that is named like the word before it, and one without a class.
 #[test]
 fn classes_of_devices_are_printed(rt: HostRuntime) {
-    let text = b"device 1 osd.1\nclass class\ndevice 0 osd.0 device 2 class class osd.0";
-    assert!(rt; printed(&rt, text).as_slice() == CLASSES_PRINTED);
-    assert!(rt; printed(&rt, CLASSES_PRINTED).as_slice() == CLASSES_PRINTED);
+    assert!(rt; is_printed(&rt, CLASSES, CLASSES_PRINTED));
+    assert!(rt; is_printed(&rt, CLASSES_PRINTED, CLASSES_PRINTED));
 }
 
-/// What is written of a map where there is room for so many bytes, with this answer.
-fn front_of_map(
+/// Whether with this answer so many bytes are written of a map, whose text begins with them, where
+/// there is room for no more.
+fn is_front(
     rt: &(impl Abort + AllocGlobal),
     map: &CrushMap<Global>,
     room: usize,
     fails: bool,
     answer: Result<(), WriteFault>,
-) -> Vec<u8> {
+) -> bool {
     let held = Vec::new(rt.alloc());
     let mut out = Slow { held, room, fails };
-    assert!(rt; write_map(rt.alloc(), map, &mut out) == answer);
-    out.held
+    write_map(rt.alloc(), map, &mut out) == answer
+        && out.held.len() == room
+        && PLAIN_EXAMPLE_MAP.starts_with(out.held.as_slice())
 }
 
-/// Of the text of the map its front is written for which there is room.
-fn fronts_stand(rt: &(impl Abort + AllocGlobal), map: &CrushMap<Global>, text: &[u8], fails: bool) {
-    for room in 0..text.len() {
-        let front = front_of_map(rt, map, room, fails, Err(WriteFault::Write));
-        assert!(rt; front.len() == room && text.starts_with(front.as_slice()));
+/// Of the text of the plain example map its front is written for which there is room.
+fn fronts_stand(rt: &(impl Abort + AllocGlobal), map: &CrushMap<Global>, fails: bool) {
+    let length = PLAIN_EXAMPLE_MAP.len();
+    for room in 0..length {
+        assert!(rt; is_front(rt, map, room, fails, Err(WriteFault::Write)));
     }
-    let whole = front_of_map(rt, map, text.len(), fails, Ok(()));
-    assert!(rt; whole.as_slice() == text);
+    assert!(rt; is_front(rt, map, length, fails, Ok(())));
 }
 
 #[test]
 fn a_front_of_the_map_stands_after_a_failure(rt: HostRuntime) {
-    let text = plain_example_map(&rt);
-    let text = text.as_slice();
-    with_map(&rt, text, |map| {
-        fronts_stand(&rt, map, text, true);
-        fronts_stand(&rt, map, text, false);
-    });
+    let map = map_of(&rt, PLAIN_EXAMPLE_MAP);
+    fronts_stand(&rt, &map, true);
+    fronts_stand(&rt, &map, false);
+    drop(map);
 }

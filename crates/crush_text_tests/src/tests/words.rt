@@ -1,5 +1,6 @@
-use crate::tests::joined;
+use crate::tests::{LONGEST, TOO_LONG, joined};
 use crush_bytes::{Reader, Token};
+use std::process::Abort;
 
 /// Reads a word, and tests its place and its bytes.
 fn is_word(reader: &mut Reader<'_>, at: usize, word: &[u8]) -> bool {
@@ -11,16 +12,29 @@ fn is_bad(reader: &mut Reader<'_>, at: usize) -> bool {
     matches!(reader.next(), Token::Bad { place } if place == at)
 }
 
+/// Reads words, and asserts their places and their bytes.
+fn are_words(rt: &impl Abort, reader: &mut Reader<'_>, words: &[(usize, &[u8])]) {
+    for (at, word) in words {
+        assert!(rt; is_word(reader, *at, *word));
+    }
+}
+
+/// The words before the key, and those behind it.
+const BEFORE_KEY: &[(usize, &[u8])] = &[(0, b"host"), (5, b"h1"), (7, b"{")];
+
+const BEHIND_KEY: &[(usize, &[u8])] = &[(16, b"-2"), (18, b"}")];
+
+/// Takes the key `id`, and tests that it is no other.
+fn takes_the_key(reader: &mut Reader<'_>) -> bool {
+    reader.is_next(b"id") && !reader.take_key(b"alg") && reader.take_key(b"id")
+}
+
 #[test]
 fn reads_words(rt: HostRuntime) {
     let mut reader = Reader::new(b"host h1{#id\n\tid -2}# end");
-    assert!(rt;
-        is_word(&mut reader, 0, b"host")
-            && is_word(&mut reader, 5, b"h1")
-            && is_word(&mut reader, 7, b"{")
-    );
-    assert!(rt; reader.is_next(b"id") && !reader.take_key(b"alg") && reader.take_key(b"id"));
-    assert!(rt; is_word(&mut reader, 16, b"-2") && is_word(&mut reader, 18, b"}"));
+    are_words(&rt, &mut reader, BEFORE_KEY);
+    assert!(rt; takes_the_key(&mut reader));
+    are_words(&rt, &mut reader, BEHIND_KEY);
     assert!(rt; matches!(reader.next(), Token::End { place: 24 }));
 }
 
@@ -31,13 +45,16 @@ fn stops_at_bad_bytes(rt: HostRuntime) {
     assert!(rt; is_bad(&mut reader, 4) && is_bad(&mut reader, 4));
 }
 
+/// Whether the text begins with a word that is too long.
+fn is_too_long(text: &[u8]) -> bool {
+    let mut reader = Reader::new(text);
+    is_bad(&mut reader, 0)
+}
+
 #[test]
 fn stops_at_long_words(rt: HostRuntime) {
-    let mut reader = Reader::new(&[b'a'; 255]);
-    assert!(rt; is_word(&mut reader, 0, &[b'a'; 255]));
-    let mut reader = Reader::new(&[b'a'; 256]);
-    assert!(rt; is_bad(&mut reader, 0));
-    let text = joined(&rt, &[&[b'a'; 256], b"$"]);
-    let mut reader = Reader::new(text.as_slice());
-    assert!(rt; is_bad(&mut reader, 0));
+    let mut reader = Reader::new(LONGEST);
+    assert!(rt; is_word(&mut reader, 0, LONGEST));
+    let text = joined(&rt, &[TOO_LONG, b"$"]);
+    assert!(rt; is_too_long(TOO_LONG) && is_too_long(text.as_slice()));
 }
