@@ -229,20 +229,10 @@ impl Setting {
     pub fn try_copy(&self, alloc: Global) -> Result<Setting, AllocError>
         ensures { IfOk result (λ copy. copy ≡ self.now) }
     {
-        let kinds = copied_kinds(&self.kinds, alloc)?;
-        let Ok(tunables) = copied_tunables(&self.tunables, alloc) else {
-            drop(kinds);
-            return Err(AllocError);
-        };
-        let Ok(rules) = copied_rules(&self.rules, alloc) else {
-            drop(kinds);
-            drop(tunables);
-            return Err(AllocError);
-        };
         Ok(Setting {
-            kinds,
-            tunables,
-            rules,
+            kinds: copied_kinds(&self.kinds, alloc)?,
+            tunables: copied_tunables(&self.tunables, alloc)?,
+            rules: copied_rules(&self.rules, alloc)?,
         })
     }
 
@@ -314,14 +304,8 @@ fn copied_kinds(
 {
     let mut copies = IndexMap::new(alloc);
     for (number, name) in kinds {
-        let Ok(name) = name.try_copy(alloc) else {
-            drop(copies);
-            return Err(AllocError);
-        };
-        let Ok(_) = copies.insert(*number, name) else {
-            drop(copies);
-            return Err(AllocError);
-        };
+        let name = name.try_copy(alloc)?;
+        copies.insert(*number, name)?;
     }
     Ok(copies)
 }
@@ -335,14 +319,8 @@ fn copied_tunables(
 {
     let mut copies = IndexMap::new(alloc);
     for (name, value) in tunables {
-        let Ok(name) = name.try_copy(alloc) else {
-            drop(copies);
-            return Err(AllocError);
-        };
-        let Ok(_) = copies.insert(name, *value) else {
-            drop(copies);
-            return Err(AllocError);
-        };
+        let name = name.try_copy(alloc)?;
+        copies.insert(name, *value)?;
     }
     Ok(copies)
 }

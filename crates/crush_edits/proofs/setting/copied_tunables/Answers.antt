@@ -10,7 +10,7 @@ loop-name-preserved c =
     entry_copied bytes_eq nat_list_eq_equiv c.loop-name.copies c.insert.new.self c.in-Some.name.now c.in-Some.value.now c.next.new.self c.args.tunables.now.entries
     c.into_iter-name-iterator.ensures.into_iter_gives.4
     (ap (λ es. c.loop-name.copies.entries ++ es) (sym c.in-Some.ensures.steps) ∙ c.loop-name.invariant)
-    (c.in-Ok-insert.ensures.entries ∙ ap (λ n. insert_entry bytes_eq c.loop-name.copies.entries n c.in-Some.value.now) c.in-Ok.ensures)
+    (c.in_ok-insert.ensures.entries ∙ ap (λ n. insert_entry bytes_eq c.loop-name.copies.entries n c.in-Some.value.now) c.in_ok-name.ensures)
 
 pub loop-name-smaller : goal.loop-name-smaller
 loop-name-smaller c = omega (arith, ap length c.in-Some.ensures.steps)
