@@ -4,7 +4,7 @@ use crush_units::Name;
 use std::alloc::Global;
 
 /// A rule, which tells how devices are chosen. The editor keeps and prints it and runs none.
-#[derive(Drop)]
+#[derive(Debug, Drop)]
 pub struct Rule {
     /// Its name.
     pub name: Name<Global>,
@@ -21,7 +21,7 @@ pub struct Rule {
 }
 
 /// A step of a rule.
-#[derive(Drop)]
+#[derive(Debug, Drop)]
 pub enum Step {
     /// Takes the bucket of this name, or of its devices those of a class.
     Take(Name<Global>, Option<Name<Global>>),

@@ -16,7 +16,7 @@ use std::marker::Model;
 
 /// A rule as a map keeps it: it names the buckets that it takes by their ids, so that a bucket's
 /// new name changes no rule.
-#[derive(Drop)]
+#[derive(Debug, Drop)]
 pub struct KeptRule {
     /// Its name.
     pub name: Name<Global>,
@@ -33,7 +33,7 @@ pub struct KeptRule {
 }
 
 /// A step of a rule as a map keeps it.
-#[derive(Drop)]
+#[derive(Debug, Drop)]
 pub enum KeptStep {
     /// Takes the bucket of this id, or of its devices those of a class.
     Take(BucketId, Option<Name<Global>>),
@@ -62,7 +62,7 @@ pub enum KeptStep {
 /// tunable of placement is a name and a value, as `tunable chooseleaf_stable 1` says. They are kept
 /// in maps, so that no two types have one number and no two tunables one name. Contracts see three
 /// lists.
-#[derive(Drop)]
+#[derive(Debug, Drop)]
 pub struct Setting {
     kinds: IndexMap<TypeId, Name<Global>>,
     tunables: IndexMap<Name<Global>, u32>,
