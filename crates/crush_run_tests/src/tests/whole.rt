@@ -1,9 +1,6 @@
-//! Maps with tunables and rules: their flaws, and the fronts of one.
+//! Flaws of maps with tunables and rules.
 
-use super::{EXAMPLE, MODE, are_refused};
-use crush_report::RunFault;
-use crush_run::run_job;
-use crush_script::JobFault;
+use super::are_refused;
 
 /// Two types and a device, in 36 bytes.
 const DEVICE: &[u8] = b"type 1 host\ntype 11 root\ndevice 0 d\n";
@@ -62,22 +59,4 @@ const FLAWED: &[(&[u8], &[u8])] = &[
 #[test]
 fn flaws_of_whole_texts_are_told(rt: HostRuntime) {
     are_refused(&rt, DEVICE, FLAWED);
-}
-
-/// Whether a text is read, or refused at a place within it.
-fn is_read_or_refused_within(rt: &impl AllocGlobal, text: &[u8]) -> bool {
-    let mut out = Vec::new(rt.alloc());
-    match run_job(rt, MODE, &mut &*text, &mut out) {
-        Ok(_) => true,
-        Err(RunFault::Job(JobFault::Text(fault))) => fault.place <= text.len() && out.is_empty(),
-        Err(_) => false,
-    }
-}
-
-#[test]
-fn each_front_of_the_example_map_is_read_or_refused_within(rt: HostRuntime) {
-    for len in 0..EXAMPLE.len() {
-        let (front, _) = EXAMPLE.split_at(len);
-        assert!(rt; is_read_or_refused_within(&rt, front), "at {len}");
-    }
 }
