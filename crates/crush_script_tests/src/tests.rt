@@ -45,20 +45,28 @@ fn script_count(rt: &(impl Abort + AllocGlobal), text: &[u8]) -> usize {
     with_job(rt, text, |job| job.scripts.len())
 }
 
-/// The only script of a job.
-fn only_script<'a>(rt: &impl Abort, job: &'a Job) -> &'a Script {
-    assert!(rt; job.scripts.len() == 1);
-    &job.scripts[0]
+/// The only script of a job, if there is just one.
+fn only_script(job: &Job) -> Option<&Script> {
+    match job.scripts.as_slice() {
+        [script] => Some(script),
+        _ => None,
+    }
 }
 
 /// The number of calls in the only script of a text's job.
-fn call_count(rt: &(impl Abort + AllocGlobal), text: &[u8]) -> usize {
-    with_job(rt, text, |job| only_script(rt, job).calls.len())
+fn call_count(rt: &(impl Abort + AllocGlobal), text: &[u8]) -> Option<usize> {
+    with_job(rt, text, |job| match only_script(job) {
+        Some(script) => Some(script.calls.len()),
+        None => None,
+    })
 }
 
 /// The first call of the only script.
-fn first_call<'a>(rt: &impl Abort, job: &'a Job) -> &'a Call {
-    only_script(rt, job).calls.first().expect(rt, "no call")
+fn first_call(job: &Job) -> Option<&Call> {
+    match only_script(job) {
+        Some(script) => script.calls.first(),
+        None => None,
+    }
 }
 
 /// Whether the call is `reweight NAME UNITS`.
@@ -71,21 +79,31 @@ fn is_reweight(call: &Call, name: &[u8], units: u32) -> bool {
     }
 }
 
-/// Why the text is no job, or `None` where it is one.
-fn fault_of(rt: &(impl Abort + AllocGlobal), text: &[u8]) -> Option<JobFault> {
+/// Whether the text is no job, for that reason.
+fn is_no_job(rt: &impl AllocGlobal, text: &[u8], fault: &JobFault) -> bool {
     match read_job(rt.alloc(), text) {
         Ok(job) => {
             drop(job);
-            None
+            false
         }
-        Err(fault) => Some(fault),
+        Err(other) => other == *fault,
     }
+}
+
+/// Whether the text is no job where it stands behind the front, for that reason.
+fn is_no_job_behind(
+    rt: &(impl Abort + AllocGlobal),
+    front: &[u8],
+    text: &[u8],
+    fault: &JobFault,
+) -> bool {
+    let text = joined(rt, front, text);
+    is_no_job(rt, text.as_slice(), fault)
 }
 
 /// Each text is no job where it stands behind the front, for the reason beside it.
 fn are_no_jobs(rt: &(impl Abort + AllocGlobal), front: &[u8], texts: &[(&[u8], JobFault)]) {
-    for (text, fault) in texts {
-        let text = joined(rt, front, *text);
-        assert_eq!(rt; fault_of(rt, text.as_slice()), Some(*fault));
+    for (place, (text, fault)) in texts.iter().enumerate() {
+        assert!(rt; is_no_job_behind(rt, front, *text, fault), "at {place}");
     }
 }

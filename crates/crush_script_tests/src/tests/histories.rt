@@ -32,23 +32,33 @@ const REPLIES: &[Reply] = &[
 const HISTORY: &[u8] =
     b"# 1 alice reweight osd.0 0.50000 = done changed 1 made 0\n# 2 alice reweight osd.0 0.50000 = done changed 0 made 0\n# 3 alice reweight osd.9 1.00000 = refused NotPlaced 2\n# 4 alice reweight osd.0 2.00000 = done changed 1 made 0\n";
 
-/// The calls of the scripts are answered so.
-fn are_answered(rt: &(impl Abort + AllocGlobal), map: &mut CrushMap<Global>, scripts: &[Script]) {
-    let entries = run_in_turn(rt.alloc(), map, scripts).expect(rt, "no memory");
-    assert!(rt; entries.len() == REPLIES.len());
+/// Whether the entries are answered so.
+fn have_replies(entries: &[Entry<'_>]) -> bool {
     for (entry, reply) in entries.iter().zip(REPLIES.iter()) {
-        assert!(rt; entry.operator == 0 && entry.reply == *reply);
+        if entry.operator != 0 || entry.reply != *reply {
+            return false;
+        }
     }
-    assert!(rt; count_changes(entries.as_slice()) == 2);
+    entries.len() == REPLIES.len()
+}
+
+/// Whether the calls of the scripts are answered so.
+fn are_answered(
+    rt: &(impl Abort + AllocGlobal),
+    map: &mut CrushMap<Global>,
+    scripts: &[Script],
+) -> bool {
+    let entries = run_in_turn(rt.alloc(), map, scripts).expect(rt, "no memory");
+    entries.len() == 4 && count_changes(entries.as_slice()) == 2 && have_replies(entries.as_slice())
 }
 
 #[test]
 fn calls_are_answered_in_turn(rt: HostRuntime) {
     let mut job = job_of(&rt, JOB);
-    are_answered(&rt, &mut job.map, job.scripts.as_slice());
+    let are_answered = are_answered(&rt, &mut job.map, job.scripts.as_slice());
     let total = job.map.total();
     drop(job);
-    assert!(rt; total == 131072);
+    assert!(rt; are_answered && total == 131072);
 }
 
 /// The history of the scripts, run in turn.
@@ -73,7 +83,7 @@ fn a_history_has_a_line_for_each_entry(rt: HostRuntime) {
 #[test]
 fn a_history_without_entries_is_empty(rt: HostRuntime) {
     let none: Vec<Entry<'_>> = Vec::new(rt.alloc());
-    assert!(rt; count_changes(none.as_slice()) == 0);
+    let changes = count_changes(none.as_slice());
     let text = history_text(rt.alloc(), &[], none.as_slice()).expect(&rt, "no memory");
-    assert!(rt; text.is_empty());
+    assert!(rt; changes == 0 && text.is_empty());
 }

@@ -1,12 +1,13 @@
 //! The lines of sections, read as those of whole jobs.
 
 use crate::tests::{
-    are_no_jobs, call_count, fault_of, is_reweight, joined, only_script, script_count, with_job,
-    with_lines,
+    are_no_jobs, call_count, is_no_job, is_no_job_behind, is_reweight, joined, only_script,
+    script_count, with_job, with_lines,
 };
 use crush_calls::Call;
-use crush_script::JobFault;
+use crush_script::{Job, JobFault};
 use crush_text::{TextFault, TextFaultKind};
+use std::process::Abort;
 
 /// Texts whose first line with a percent sign at its front is faulty, if it is no part of the map.
 const ENDS_OF_MAPS: &[(&[u8], JobFault)] = &[
@@ -29,20 +30,29 @@ fn the_map_ends_before_a_line_with_a_percent_sign(rt: HostRuntime) {
     are_no_jobs(&rt, b"", ENDS_OF_MAPS);
 }
 
+/// Whether the only script has the operator's name, and reweights osd.2 and osd.0.
+fn has_reweights(job: &Job) -> bool {
+    match only_script(job) {
+        Some(script) => match script.calls.as_slice() {
+            [first, second] => {
+                script.name.is(b"a.b-c_9")
+                    && is_reweight(first, b"osd.2", 65536)
+                    && is_reweight(second, b"osd.0", 21823)
+            }
+            _ => false,
+        },
+        None => false,
+    }
+}
+
 #[test]
 fn sections_are_read(rt: HostRuntime) {
     let text =
         b"%operator a.b-c_9 # one\r\n\n \treweight \tosd.2\t1.0#x\r\n\r\n# reweight\n\rx\nreweight osd.0 0.333\r";
-    assert!(rt; fault_of(&rt, text) == Some(JobFault::NoSuchCommand(6)));
+    assert!(rt; is_no_job(&rt, text, &JobFault::NoSuchCommand(6)));
     let text =
         b"%operator a.b-c_9 # one\r\n\n \treweight \tosd.2\t1.0#x\r\n\r\n# reweight\n\r\nreweight osd.0 0.333\r";
-    with_job(&rt, text, |job| {
-        let script = only_script(&rt, job);
-        assert!(rt; script.name.is(b"a.b-c_9") && script.calls.len() == 2);
-        assert!(rt; is_reweight(&script.calls[0], b"osd.2", 65536));
-        assert!(rt; is_reweight(&script.calls[1], b"osd.0", 21823));
-    });
-    assert!(rt; script_count(&rt, b"") == 0);
+    assert!(rt; with_job(&rt, text, |job| has_reweights(job)) && script_count(&rt, b"") == 0);
 }
 
 /// Texts behind an empty line, with the number of their first faulty line.
@@ -97,7 +107,7 @@ const BEHIND_ALL_CALLS: &[(&[u8], JobFault)] = &[
 #[test]
 fn a_job_has_few_calls(rt: HostRuntime) {
     let text = with_lines(&rt, b"%operator a\n", b"reweight x 1\n", 65536);
-    assert!(rt; call_count(&rt, text.as_slice()) == 65536);
+    assert!(rt; call_count(&rt, text.as_slice()) == Some(65536));
     are_no_jobs(&rt, text.as_slice(), BEHIND_ALL_CALLS);
 }
 
@@ -135,15 +145,26 @@ const BAD_LINES: &[&[u8]] = &[
     b"commit",
 ];
 
+/// Each line is refused behind the front, for the same reason.
+fn are_no_jobs_behind(
+    rt: &(impl Abort + AllocGlobal),
+    front: &[u8],
+    lines: &[&[u8]],
+    fault: &JobFault,
+) {
+    for (place, line) in lines.iter().enumerate() {
+        assert!(rt; is_no_job_behind(rt, front, *line, fault), "at {place}");
+    }
+}
+
 #[test]
 fn lines_of_another_form_are_bad(rt: HostRuntime) {
-    for line in BAD_LINES {
-        are_no_jobs(
-            &rt,
-            b"%operator a\nrm x\n",
-            &[(*line, JobFault::BadLine(3))],
-        );
-    }
+    are_no_jobs_behind(
+        &rt,
+        b"%operator a\nrm x\n",
+        BAD_LINES,
+        &JobFault::BadLine(3),
+    );
 }
 
 const NO_COMMANDS: &[&[u8]] = &[
@@ -159,13 +180,12 @@ const NO_COMMANDS: &[&[u8]] = &[
 
 #[test]
 fn words_that_are_no_commands(rt: HostRuntime) {
-    for word in NO_COMMANDS {
-        are_no_jobs(
-            &rt,
-            b"%operator a\nbegin\n",
-            &[(*word, JobFault::NoSuchCommand(3))],
-        );
-    }
+    are_no_jobs_behind(
+        &rt,
+        b"%operator a\nbegin\n",
+        NO_COMMANDS,
+        &JobFault::NoSuchCommand(3),
+    );
 }
 
 /// The number of edits of a batch, or `None` of a single edit.
@@ -176,21 +196,32 @@ fn batch_len(call: &Call) -> Option<usize> {
     }
 }
 
+/// Whether the call is a batch of so many edits.
+fn is_batch(call: &Call, len: usize) -> bool {
+    batch_len(call) == Some(len)
+}
+
+/// Whether the first script has an edit, a batch of two and one of none, and the second has nothing.
+fn has_batches(job: &Job) -> bool {
+    match job.scripts.as_slice() {
+        [first, second] => match first.calls.as_slice() {
+            [edit, two, none] => {
+                batch_len(edit).is_none()
+                    && is_batch(two, 2)
+                    && is_batch(none, 0)
+                    && second.calls.is_empty()
+            }
+            _ => false,
+        },
+        _ => false,
+    }
+}
+
 #[test]
 fn batches_are_read(rt: HostRuntime) {
     let text =
         b"%operator a\nrm x\nbegin # one\nrm x\n\n# rm z\nrm y\ncommit\nbegin\ncommit\n%operator b\n";
-    with_job(&rt, text, |job| {
-        assert!(rt; job.scripts.len() == 2 && job.scripts[1].calls.is_empty());
-        let calls = &job.scripts[0].calls;
-        assert!(rt; calls.len() == 3);
-        let lens = [
-            batch_len(&calls[0]),
-            batch_len(&calls[1]),
-            batch_len(&calls[2]),
-        ];
-        assert!(rt; lens == [None, Some(2), Some(0)]);
-    });
+    assert!(rt; with_job(&rt, text, |job| has_batches(job)));
 }
 
 const FAULTY_BATCHES: &[(&[u8], JobFault)] = &[
@@ -236,14 +267,20 @@ const BEHIND_ALL_EDITS: &[(&[u8], JobFault)] = &[
 fn a_batch_has_at_most_65536_edits(rt: HostRuntime) {
     let open = with_lines(&rt, b"%operator a\nbegin\n", b"rm x\n", 65536);
     let text = joined(&rt, open.as_slice(), b"\ncommit");
-    assert!(rt; call_count(&rt, text.as_slice()) == 1);
+    assert!(rt; call_count(&rt, text.as_slice()) == Some(1));
     are_no_jobs(&rt, open.as_slice(), BEHIND_ALL_EDITS);
+}
+
+/// Whether the fault is told so.
+fn is_told(rt: &(impl Abort + AllocGlobal), fault: JobFault, text: &str) -> bool {
+    let told = format!(in rt.alloc(); "{fault}").expect(rt, "no memory");
+    told.as_str() == text
 }
 
 #[test]
 fn faults_are_told(rt: HostRuntime) {
-    let told = format!(in rt.alloc(); "{}", JobFault::NoSuchCommand(3)).expect(&rt, "no memory");
-    assert!(rt; told.as_str() == "line 3: NoSuchCommand");
-    let told = format!(in rt.alloc(); "{}", JobFault::TooLong).expect(&rt, "no memory");
-    assert!(rt; told.as_str() == "TooLong");
+    assert!(rt;
+        is_told(&rt, JobFault::NoSuchCommand(3), "line 3: NoSuchCommand")
+            && is_told(&rt, JobFault::TooLong, "TooLong")
+    );
 }

@@ -5,8 +5,8 @@ use crate::tests::{
 };
 use crush_bytes::WriteFault;
 use crush_calls::{Call, Edits, Reply, write_entry};
-use crush_edits::{Done, Dones, Edit, Refusal};
-use crush_script::JobFault;
+use crush_edits::{Done, Dones, Edit, Location, Refusal};
+use crush_script::{Job, JobFault};
 use crush_units::{Name, Weight};
 use std::io::{self, Error, ErrorKind, Write};
 use std::process::Abort;
@@ -50,8 +50,8 @@ struct Answer<'a> {
     line: &'a [u8],
 }
 
-/// The call so answered makes the line.
-fn has_line(rt: &(impl Abort + AllocGlobal), call: &Call, answer: &Answer<'_>) {
+/// Whether the call so answered makes the line.
+fn has_line(rt: &impl AllocGlobal, call: &Call, answer: &Answer<'_>) -> bool {
     let mut line = Vec::new(rt.alloc());
     let written = write_entry(
         answer.number,
@@ -60,8 +60,15 @@ fn has_line(rt: &(impl Abort + AllocGlobal), call: &Call, answer: &Answer<'_>) {
         answer.reply,
         &mut line,
     );
-    assert!(rt; written.is_ok());
-    assert_eq!(rt; line.as_slice(), answer.line);
+    written.is_ok() && line.as_slice() == answer.line
+}
+
+/// Whether the first call of the job so answered makes the line.
+fn first_has_line(rt: &impl AllocGlobal, job: &Job, answer: &Answer<'_>) -> bool {
+    match first_call(job) {
+        Some(call) => has_line(rt, call, answer),
+        None => false,
+    }
 }
 
 /// Items and units of reweightings, and what they are answered.
@@ -118,8 +125,9 @@ const REWEIGHTINGS: &[(&[u8], u32, Answer<'_>)] = &[
 fn an_entry_is_a_line(rt: HostRuntime) {
     for (name, units, answer) in REWEIGHTINGS {
         let call = Call::One(reweight(&rt, *name, *units));
-        has_line(&rt, &call, answer);
+        let has_line = has_line(&rt, &call, answer);
         drop(call);
+        assert!(rt; has_line);
     }
 }
 
@@ -153,28 +161,37 @@ const COMMANDS: &[(&[u8], &[u8])] = &[
     (b"rm commit", b"rm commit"),
 ];
 
+/// Whether the command is printed like that behind an operator's name and before a reply.
+fn is_printed(rt: &(impl Abort + AllocGlobal), command: &[u8], printed: &[u8]) -> bool {
+    let text = joined(rt, b"%operator a\n", command);
+    let front = joined(rt, b"# 10 a ", printed);
+    let line = joined(rt, front.as_slice(), b" = refused SumTooLarge 34\n");
+    let answer = Answer {
+        number: 10,
+        operator: b"a",
+        reply: Reply::Refused(Refusal::SumTooLarge),
+        line: line.as_slice(),
+    };
+    with_job(rt, text.as_slice(), |job| first_has_line(rt, job, &answer))
+}
+
 #[test]
 fn commands_are_printed_as_they_are_read(rt: HostRuntime) {
     for (command, printed) in COMMANDS {
-        let text = joined(&rt, b"%operator a\n", *command);
-        let front = joined(&rt, b"# 10 a ", *printed);
-        let line = joined(&rt, front.as_slice(), b" = refused SumTooLarge 34\n");
-        let answer = Answer {
-            number: 10,
-            operator: b"a",
-            reply: Reply::Refused(Refusal::SumTooLarge),
-            line: line.as_slice(),
-        };
-        with_job(
-            &rt,
-            text.as_slice(),
-            |job| has_line(&rt, first_call(&rt, job), &answer),
-        );
+        assert!(rt; is_printed(&rt, *command, *printed));
     }
 }
 
-/// The call is `add osd.2147483647` with one unit of weight and these two pairs.
-fn is_add(rt: &impl Abort, call: &Call) {
+/// Whether the location has two pairs, the first of a host and the second of a bucket r.
+fn is_location(at: &Location) -> bool {
+    match at.pairs() {
+        [first, second] => first.kind.is(b"host") && second.name.is(b"r"),
+        _ => false,
+    }
+}
+
+/// Whether the call is `add osd.2147483647` with the weight 1 and these two pairs.
+fn is_add(call: &Call) -> bool {
     match call {
         Call::One(
             Edit::Insert {
@@ -184,18 +201,27 @@ fn is_add(rt: &impl Abort, call: &Call) {
                 at,
             },
         ) => {
-            assert!(rt; device.number() == 2147483647 && weight.units() == 65536);
-            assert!(rt; name.is(b"osd.2147483647") && at.pairs().len() == 2);
-            assert!(rt; at.pairs()[0].kind.is(b"host") && at.pairs()[1].name.is(b"r"));
+            device.number() == 2147483647
+                && weight.units() == 65536
+                && name.is(b"osd.2147483647")
+                && is_location(at)
         }
-        _ => assert!(rt; false, "another call"),
+        _ => false,
+    }
+}
+
+/// Whether that is the first call of the job.
+fn adds_first(job: &Job) -> bool {
+    match first_call(job) {
+        Some(call) => is_add(call),
+        None => false,
     }
 }
 
 #[test]
 fn devices_are_read_with_their_ids(rt: HostRuntime) {
     let text = b"%operator a\nadd osd.2147483647 1 host=h1 root=r\n";
-    with_job(&rt, text, |job| is_add(&rt, first_call(&rt, job)));
+    assert!(rt; with_job(&rt, text, |job| adds_first(job)));
 }
 
 #[test]
@@ -237,17 +263,26 @@ const MANY_DONE: Answer<'_> = Answer {
     line: b"# 65536 b begin ; commit = dones 65536 changed 12 made 4096\n",
 };
 
+/// Whether the two batches of the job so answered make these lines.
+fn batches_have_lines(rt: &impl AllocGlobal, job: &Job) -> bool {
+    match only_script(job) {
+        Some(script) => match script.calls.as_slice() {
+            [three, none] => {
+                has_line(rt, three, &REFUSED)
+                    && has_line(rt, none, &NONE_DONE)
+                    && has_line(rt, none, &MANY_DONE)
+            }
+            _ => false,
+        },
+        None => false,
+    }
+}
+
 #[test]
 fn batches_are_lines(rt: HostRuntime) {
     let text =
         b"%operator a\nbegin\nadd osd.3 1 host=h2\nrename-bucket h1 hq\nrm h2\ncommit\nbegin\ncommit\n";
-    with_job(&rt, text, |job| {
-        let calls = &only_script(&rt, job).calls;
-        assert!(rt; calls.len() == 2);
-        has_line(&rt, &calls[0], &REFUSED);
-        has_line(&rt, &calls[1], &NONE_DONE);
-        has_line(&rt, &calls[1], &MANY_DONE);
-    });
+    assert!(rt; with_job(&rt, text, |job| batches_have_lines(&rt, job)));
 }
 
 /// A batch with one edit.
@@ -275,27 +310,39 @@ fn a_copy_of_a_call_prints_alike(rt: HostRuntime) {
     let call = batch_of(&rt, reweight(&rt, b"osd.2", 65536));
     let copy = copy_of(&rt, &call);
     drop(call);
-    has_line(&rt, &copy, &LOOP);
+    let has_line = has_line(&rt, &copy, &LOOP);
     drop(copy);
+    assert!(rt; has_line);
 }
 
-/// What is written of a call where there is room for so many bytes, and for no more.
-fn front_of_line(rt: &(impl Abort + AllocGlobal), call: &Call, room: usize) -> Vec<u8> {
+/// Whether a front of the line is written of the call where there is room for so many bytes, and for
+/// no more.
+fn leaves_front(rt: &impl AllocGlobal, call: &Call, line: &[u8], room: usize) -> bool {
     let held = Vec::new(rt.alloc());
     let mut out = Short { held, room };
     let reply = Reply::Refused(Refusal::NotADevice);
     let written = write_entry(1, b"a", call, reply, &mut out);
-    assert!(rt; written == Err(WriteFault::Write), "room for {room}");
-    out.held
+    written == Err(WriteFault::Write)
+        && out.held.len() == room
+        && line.starts_with(out.held.as_slice())
+}
+
+/// Whether a front of the line is written of the job's first call, wherever its writer stops.
+fn leaves_fronts(rt: &impl AllocGlobal, job: &Job, line: &[u8]) -> bool {
+    let Some(call) = first_call(job) else {
+        return false;
+    };
+    for room in 0..line.len() {
+        if !leaves_front(rt, call, line, room) {
+            return false;
+        }
+    }
+    true
 }
 
 #[test]
 fn a_front_of_the_line_stands_after_a_failure(rt: HostRuntime) {
     let line = b"# 1 a reweight osd.2 1.00000 = refused NotADevice 22\n".as_slice();
-    with_job(&rt, b"%operator a\nreweight osd.2 1", |job| {
-        for room in 0..line.len() {
-            let front = front_of_line(&rt, first_call(&rt, job), room);
-            assert!(rt; front.as_slice() == &line[..room]);
-        }
-    });
+    let text = b"%operator a\nreweight osd.2 1";
+    assert!(rt; with_job(&rt, text, |job| leaves_fronts(&rt, job, line)));
 }
