@@ -10,12 +10,19 @@ use Rattle.crush_text.specs.declared.fault.TextFault.{TextFault}
 use Rattle.crush_text.specs.Role.{Role, El, key, any_word, number, tunable_name, type_number, type_name, device_id, new_name, bucket_id, id_class, algorithm}
 use Rattle.crush_text.specs.Form.{first, numbered, filling, at, Form, word, optional}
 use Rattle.crush_text.specs.Grammar.{tunable_line, type_line, device_line, device_class, class_id_line, alg_line}
-use Rattle.crush_text.specs.Flow.{◌>>=◌}
-use Rattle.crush_text.specs.Reads.{Fails, IsIdle, word_at, line_at}
+use Rattle.crush_text.specs.Tests.{word_for}
+use Rattle.crush_text.specs.Flow.{◌>>=◌, placed}
+use Rattle.crush_text.specs.Reads.{Fails, IsIdle, and_rest, next_at, word_at, line_at}
 
 -- what leaves the pending part alone leaves the builder between two statements
 pub still_idle : (old new : BuilderData) (d e : Draft) → old.pending ≡ nothing → IsDraft old d → IsDraft new e → e.pending ≡ d.pending → IsIdle new
 still_idle old new d e idle before after same = record { part = after.pending ∙ same ∙ sym before.pending ∙ idle; some = (e, after) }
+
+-- where there is no word, none is read for any role
+pub next_fails : (d : Draft) (r : Role) (t : Text) (f : TextFault) → Fails f (next_at t) → Fails f (word_at d r t)
+unfolding word_at
+next_fails d r t f (inl h) = inl h
+next_fails d r t f (inr h) = inr (ap (λ q. q >>= λ x. placed x.0.place (word_for d r x.0.text) >>= and_rest x.1) h)
 
 -- a line whose first word is at fault
 pub word_fails : (d : Draft) (r : Role) (more : El r → Form) (t : Text) (f : TextFault) → Fails f (word_at d r t) → Fails f (line_at d (word r more) t)

@@ -1,9 +1,11 @@
 -- A class id's line word by word, and what the builder refuses is want of memory.
-use Rattle.std.proofs.Common.{ap, inl}
+use Rattle.std.proofs.Common.{◌∙◌, ap, inl}
+use Rattle.std.proofs.lemmas.Result.{err_from_is_err_and}
 use Rattle.crush_map.specs.Built.{with_class_id}
 use Rattle.crush_map.specs.declared.fault.BuildFault.TheVariants.{DuplicateId, DuplicateName, TooMany}
 use Rattle.crush_text.specs.declared.fault.TextFault.{TextFault}
-use Rattle.crush_text.proofs.LineEnds.{class_id_reads}
+use Rattle.crush_text.proofs.LineByLine.{fails_so}
+use Rattle.crush_text.proofs.LineEnds.{word_fails, word_reads, class_id_reads}
 use Rattle.crush_text.proofs.Wants.{want_of_three}
 use Rattle.crush_text.proofs.reader.bucket.read_class_id.Goals as goal
 
@@ -18,3 +20,18 @@ returns-in-Ok-clause-reads g c = λ d h.
 
 pub returns-in-Err-clause-reads : goal.returns-in-Err-clause-reads
 returns-in-Err-clause-reads g c = λ d h. inl (ap (λ (f : TextFault). f.kind) c.want.ensures)
+
+pub returns-in_err-id-clause-reads : goal.returns-in_err-id-clause-reads
+returns-in_err-id-clause-reads g c = λ d h.
+    let p = err_from_is_err_and c.from_residual.result c.from_residual.ensures.1 in
+    rw (p.1, p.2) (word_fails d _ _ _ _ (c.in_err-id.ensures.gives d h))
+
+pub returns-in_err-read_key-clause-reads : goal.returns-in_err-read_key-clause-reads
+returns-in_err-read_key-clause-reads g c = λ d h.
+    let p = err_from_is_err_and c.from_residual-in_err-read_key.result c.from_residual-in_err-read_key.ensures.1 in
+    rw (p.1, p.2) (fails_so _ _ _ (word_reads d _ _ _ _ _ (c.in_ok-id.ensures.gives d h)) (word_fails d _ _ _ _ (c.in_err-read_key.ensures.gives d)))
+
+pub returns-in_err-class-clause-reads : goal.returns-in_err-class-clause-reads
+returns-in_err-class-clause-reads g c = λ d h.
+    let p = err_from_is_err_and c.from_residual-in_err-class.result c.from_residual-in_err-class.ensures.1 in
+    rw (p.1, p.2) (fails_so _ _ _ (word_reads d _ _ _ _ _ (c.in_ok-id.ensures.gives d h) ∙ word_reads d _ _ _ _ _ (c.in_ok-read_key.ensures.gives d)) (word_fails d _ _ _ _ (c.in_err-class.ensures.gives d h)))

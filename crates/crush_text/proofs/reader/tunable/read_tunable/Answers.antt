@@ -1,9 +1,11 @@
 -- A tunable's line word by word, and what the builder refuses is want of memory.
 use Rattle.std.proofs.Common.{refl, ap, inl}
+use Rattle.std.proofs.lemmas.Result.{err_from_is_err_and}
 use Rattle.crush_map.specs.Built.{with_tunable}
 use Rattle.crush_map.specs.declared.fault.BuildFault.TheVariants.{DuplicateName, TooMany}
 use Rattle.crush_text.specs.declared.fault.TextFault.{TextFault}
-use Rattle.crush_text.proofs.LineEnds.{still_idle, tunable_reads}
+use Rattle.crush_text.proofs.LineByLine.{fails_so}
+use Rattle.crush_text.proofs.LineEnds.{still_idle, word_fails, word_reads, tunable_reads}
 use Rattle.crush_text.proofs.Wants.{want_of_two}
 use Rattle.crush_text.proofs.reader.tunable.read_tunable.Goals as goal
 
@@ -23,3 +25,13 @@ returns-in-Ok-clause-reads g c = λ d h.
 
 pub returns-in-Err-clause-reads : goal.returns-in-Err-clause-reads
 returns-in-Err-clause-reads g c = λ d h. inl (ap (λ (f : TextFault). f.kind) c.want.ensures)
+
+pub returns-in_err-name-clause-reads : goal.returns-in_err-name-clause-reads
+returns-in_err-name-clause-reads g c = λ d h.
+    let p = err_from_is_err_and c.from_residual.result c.from_residual.ensures.1 in
+    rw (p.1, p.2) (word_fails d _ _ _ _ (c.in_err-name.ensures.gives d h))
+
+pub returns-in_err-value-clause-reads : goal.returns-in_err-value-clause-reads
+returns-in_err-value-clause-reads g c = λ d h.
+    let p = err_from_is_err_and c.from_residual-in_err-value.result c.from_residual-in_err-value.ensures.1 in
+    rw (p.1, p.2) (fails_so _ _ _ (word_reads d _ _ _ _ _ (c.in_ok-name.ensures.gives d h)) (word_fails d _ _ _ _ (c.in_err-value.ensures.gives d)))
