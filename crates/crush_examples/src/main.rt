@@ -1,33 +1,40 @@
 //! Runs jobs as the program `crushedit` does, one after the other, and prints of each what is written,
-//! what it is summed up as, what standard error is told and the status.
+//! what the run comes to, what standard error is told and the status.
 #![tactic(auto)]
 
 use crush_options::{Options, options};
 use crush_report::{RunFault, Summary, report};
 use crush_run::run_job;
 use std::fs::{self, File};
-use std::io::{self, ErrorKind};
+use std::io;
 
-/// Runs each line of the file `jobs`.
 fn main(rt: HostRuntime) -> io::Result<()> {
-    let jobs = fs::read_to_string(&rt, "jobs")?;
-    for line in jobs.as_str().lines() {
+    let lines = fs::read_to_string(&rt, "jobs")?;
+    let done = run_lines(&rt, lines.as_str());
+    drop(lines);
+    done
+}
+
+/// Runs each line, which has the words of a command line behind the program's name.
+fn run_lines(rt: &HostRuntime, lines: &str) -> io::Result<()> {
+    for line in lines.lines() {
         println!(rt; "> {line}")?;
-        run_line(&rt, line)?;
+        print_end(rt, &run_line(rt, line))?;
     }
     Ok(())
 }
 
-/// Runs the job that a command line names. What its output ends with is told by the line behind it.
-fn run_line(rt: &HostRuntime, line: &str) -> io::Result<()> {
+/// Runs the job of a command line. One that is refused is told as a fault of reading.
+fn run_line(rt: &HostRuntime, line: &str) -> Result<Summary, RunFault> {
     let words: Vec<&str> = line.split_whitespace().collect(rt.alloc())?;
-    let Ok(options) = options(rt.alloc(), words.as_slice()) else {
-        return Err(ErrorKind::InvalidInput.into());
+    let read = options(rt.alloc(), words.as_slice());
+    drop(words);
+    let outcome = match &read {
+        Ok(options) => run_options(rt, options),
+        Err(_) => Err(RunFault::Read),
     };
-    let outcome = run_options(rt, &options);
-    print_summary(rt, &outcome)?;
-    let status = report(&outcome, &mut rt.stdout());
-    println!(rt; "< status {status}")
+    drop(read);
+    outcome
 }
 
 /// Runs the job of the file that is named.
@@ -41,13 +48,15 @@ fn run_options(rt: &HostRuntime, options: &Options) -> Result<Summary, RunFault>
     run_job(rt, options.mode, &mut file, &mut rt.stdout())
 }
 
-/// Prints what a run comes to.
-fn print_summary(rt: &HostRuntime, outcome: &Result<Summary, RunFault>) -> io::Result<()> {
+/// Prints what a run comes to, what standard error is told of it, and the status.
+fn print_end(rt: &HostRuntime, outcome: &Result<Summary, RunFault>) -> io::Result<()> {
     match outcome {
         Ok(done) => println!(rt;
             "< adjusted {} calls {} changes {}",
             done.adjusted, done.calls, done.changes
-        ),
-        Err(_) => println!(rt; "< not done"),
+        )?,
+        Err(_) => println!(rt; "< not done")?,
     }
+    let status = report(outcome, &mut rt.stdout());
+    println!(rt; "< status {status}")
 }

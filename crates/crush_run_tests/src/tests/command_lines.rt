@@ -1,7 +1,7 @@
 //! Command lines: their words, and what they ask for.
 
 use crush_options::{Options, OptionsFault, options};
-use std::test::Fail;
+use std::process::Abort;
 
 /// Whether the options are these.
 fn asks(options: &Options, in_turn: bool, history: bool, file: Option<&str>) -> bool {
@@ -13,21 +13,45 @@ fn asks(options: &Options, in_turn: bool, history: bool, file: Option<&str>) -> 
     options.mode.in_turn == in_turn && options.mode.history == history && same_file
 }
 
+/// Whether the words are taken, and ask for these options.
+fn ask(
+    rt: &impl AllocGlobal,
+    words: &[&str],
+    in_turn: bool,
+    history: bool,
+    file: Option<&str>,
+) -> bool {
+    let read = options(rt.alloc(), words);
+    let asked = match &read {
+        Ok(options) => asks(options, in_turn, history, file),
+        Err(_) => false,
+    };
+    drop(read);
+    asked
+}
+
 #[test]
-fn flags_and_a_file_are_read(rt: HostRuntime) -> Result<(), Fail> {
-    let none: [&str; 0] = [];
-    let read = options(rt.alloc(), none.as_slice())?;
-    assert!(rt; asks(&read, false, true, None));
-    let read = options(
-        rt.alloc(),
-        ["--in-turn", "--no-history", "j.txt"].as_slice(),
-    )?;
-    assert!(rt; asks(&read, true, false, Some("j.txt")));
-    let read = options(rt.alloc(), ["j.txt", "--in-turn"].as_slice())?;
-    assert!(rt; asks(&read, true, true, Some("j.txt")));
-    let read = options(rt.alloc(), ["--no-history", "--", "--in-turn"].as_slice())?;
-    assert!(rt; asks(&read, false, false, Some("--in-turn")));
-    Ok(())
+fn flags_and_a_file_are_read(rt: HostRuntime) {
+    assert!(rt; ask(&rt, &[], false, true, None));
+    let words = ["--in-turn", "--no-history", "j.txt"];
+    assert!(rt; ask(&rt, words.as_slice(), true, false, Some("j.txt")));
+    let words = ["j.txt", "--in-turn"];
+    assert!(rt; ask(&rt, words.as_slice(), true, true, Some("j.txt")));
+    let words = ["--no-history", "--", "--in-turn"];
+    assert!(rt; ask(&rt, words.as_slice(), false, false, Some("--in-turn")));
+}
+
+/// Whether the words are refused, with a text that is a line of an error.
+fn are_refused(rt: &impl AllocGlobal, words: &[&str]) -> bool {
+    let read = options(rt.alloc(), words);
+    let refused = match &read {
+        Err(OptionsFault::Refused(text)) => {
+            text.as_str().starts_with("error: ") && text.as_str().ends_with("\n")
+        }
+        _ => false,
+    };
+    drop(read);
+    refused
 }
 
 #[test]
@@ -40,14 +64,7 @@ fn other_words_are_refused(rt: HostRuntime) {
         ["--in-turn", "--in-turn"].as_slice(),
     ];
     for words in lines {
-        let read = options(rt.alloc(), words);
-        match &read {
-            Err(OptionsFault::Refused(text)) => {
-                assert!(rt; text.as_str().starts_with("error: "));
-                assert!(rt; text.as_str().ends_with("\n"));
-            }
-            _ => assert!(rt; false),
-        }
+        assert!(rt; are_refused(&rt, words));
     }
 }
 
@@ -75,17 +92,21 @@ const HELP: &[&str] = &[
     "\n    4    there was no memory",
 ];
 
+/// The text has each of these parts.
+fn has_all(rt: &impl Abort, text: &str, parts: &[&str]) {
+    for part in parts {
+        assert!(rt; text.contains(part), "{part}");
+    }
+}
+
 #[test]
 fn help_says_what_a_job_is(rt: HostRuntime) {
     let read = options(rt.alloc(), ["--help"].as_slice());
     match &read {
-        Err(OptionsFault::Help(text)) => {
-            for part in HELP {
-                assert!(rt; text.as_str().contains(part), "{part}");
-            }
-        }
+        Err(OptionsFault::Help(text)) => has_all(&rt, text.as_str(), HELP),
         _ => assert!(rt; false),
     }
+    drop(read);
 }
 
 #[test]
@@ -95,4 +116,5 @@ fn the_version_is_told(rt: HostRuntime) {
         Err(OptionsFault::Help(text)) => assert!(rt; text.as_str() == "crushedit 0.1.0\n"),
         _ => assert!(rt; false),
     }
+    drop(read);
 }

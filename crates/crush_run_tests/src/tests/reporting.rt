@@ -8,7 +8,7 @@ use crush_script::JobFault;
 use crush_text::{TextFault, TextFaultKind};
 use std::alloc::AllocError;
 use std::io::{self, ErrorKind, Write};
-use std::test::Fail;
+use std::process::Abort;
 
 #[test]
 fn reports_each_outcome(rt: HostRuntime) {
@@ -109,34 +109,41 @@ const WRITE_FAULT: &[u8] = b"crushedit: write fault\n";
 
 const REFUSAL: &str = "error: unexpected argument '--fly' found\n";
 
-#[test]
-fn help_goes_whole_to_standard_output(rt: HostRuntime) -> Result<(), Fail> {
-    let help = OptionsFault::Help(String::from_str(rt.alloc(), HELP)?);
-    assert!(rt; is_ended(&rt, &help, HELP, "", 0));
-    Ok(())
+/// The text as a `String`.
+fn owned(rt: &(impl Abort + AllocGlobal), text: &str) -> String {
+    String::from_str(rt.alloc(), text).expect(rt, "no memory")
 }
 
 #[test]
-fn help_that_cannot_be_written_is_a_write_fault(rt: HostRuntime) -> Result<(), Fail> {
-    let help = OptionsFault::Help(String::from_str(rt.alloc(), HELP)?);
+fn help_goes_whole_to_standard_output(rt: HostRuntime) {
+    let help = OptionsFault::Help(owned(&rt, HELP));
+    assert!(rt; is_ended(&rt, &help, HELP, "", 0));
+    drop(help);
+}
+
+/// Whether it is a write fault that standard output can't take the text.
+fn is_write_fault<W: Write>(rt: &impl AllocGlobal, fault: &OptionsFault, out: &mut W) -> bool {
     let mut err = Vec::new(rt.alloc());
-    assert_eq!(rt; tell(&help, &mut Closed, &mut err), 3);
-    assert!(rt; err.as_slice() == WRITE_FAULT);
+    tell(fault, out, &mut err) == 3 && err.as_slice() == WRITE_FAULT
+}
+
+#[test]
+fn help_that_cannot_be_written_is_a_write_fault(rt: HostRuntime) {
+    let help = OptionsFault::Help(owned(&rt, HELP));
+    assert!(rt; is_write_fault(&rt, &help, &mut Closed));
     let mut held = [0u8; 14];
     let mut room = held.as_mut_slice();
-    let mut err = Vec::new(rt.alloc());
-    assert_eq!(rt; tell(&help, &mut room, &mut err), 3);
+    assert!(rt; is_write_fault(&rt, &help, &mut room));
     assert!(rt; held == *b"Usage: crushed");
-    assert!(rt; err.as_slice() == WRITE_FAULT);
-    Ok(())
+    drop(help);
 }
 
 #[test]
-fn a_refused_command_line_goes_whole_to_standard_error(rt: HostRuntime) -> Result<(), Fail> {
-    let refused = OptionsFault::Refused(String::from_str(rt.alloc(), REFUSAL)?);
+fn a_refused_command_line_goes_whole_to_standard_error(rt: HostRuntime) {
+    let refused = OptionsFault::Refused(owned(&rt, REFUSAL));
     assert!(rt; is_ended(&rt, &refused, "", REFUSAL, 2));
-    assert_eq!(rt; tell(&refused, &mut Closed, &mut Closed), 2);
-    Ok(())
+    assert!(rt; tell(&refused, &mut Closed, &mut Closed) == 2);
+    drop(refused);
 }
 
 #[test]
