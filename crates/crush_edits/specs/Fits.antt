@@ -5,18 +5,11 @@ use Rattle.crush_units.specs.declared.id.ItemId.TheVariants.{Bucket}
 use Rattle.crush_units.specs.Name.{IsName}
 use Rattle.crush_table.specs.Table.{Row, is_there}
 use Rattle.crush_edits.specs.Setting.{KindData, TunableData, StepData, take, choose, set, emit, RuleData, SettingData, kind_number, taken_buckets}
-use Rattle.crush_units.specs.declared.limits.TheConstants.{LAST_TYPE, MOST_RULES, MOST_STEPS, MOST_TUNABLES, MOST_TYPES}
+use Rattle.crush_units.specs.declared.limits.TheConstants.{LARGEST_COUNT, LARGEST_RULE_NUMBER, LARGEST_TUNABLE, LAST_TYPE, MOST_RULES, MOST_STEPS, MOST_TUNABLES, MOST_TYPES}
 
 -- the words of a map's text that begin a statement or a part of one: no type of buckets has such a name
 abbrev pub is_reserved : List ℕ → Bool
 is_reserved n = list_any (λ word. bytes_eq word n) (codes "tunable" ∷ (codes "device" ∷ (codes "type" ∷ (codes "rule" ∷ (codes "class" ∷ (codes "choose_args" ∷ []))))))
-
--- the greatest numbers of 32 bits, without and with a sign
-abbrev pub greatest_unsigned : ℕ
-greatest_unsigned = 4294967295
-
-abbrev pub greatest_signed : ℕ
-greatest_signed = 2147483647
 
 -- a type by itself
 pub record IsKind (k : KindData) : Type 0 where
@@ -27,12 +20,12 @@ pub record IsKind (k : KindData) : Type 0 where
 -- a tunable by itself
 pub record IsTunable (k : TunableData) : Type 0 where
   pub name : IsName k.name
-  pub value : k.value ≤ greatest_unsigned
+  pub value : k.value ≤ LARGEST_TUNABLE
 
 -- a number of 32 bits with a sign
 abbrev pub IsCount : ℤ → Type 0
-IsCount (pos n) = n ≤ greatest_signed
-IsCount (negsuc n) = n ≤ greatest_signed
+IsCount (pos n) = n ≤ LARGEST_COUNT
+IsCount (negsuc n) = n ≤ LARGEST_COUNT
 
 -- a step that chooses names a type of the setting, also type 0
 pub record IsChoice (s : SettingData) (count : ℤ) (kind : List ℕ) : Type 0 where
@@ -43,7 +36,7 @@ pub record IsChoice (s : SettingData) (count : ℤ) (kind : List ℕ) : Type 0 w
 pub record IsSet (word : List ℕ) (value : ℕ) : Type 0 where
   pub name : IsName word
   pub sets : starts_with nat_eq word (codes "set_") ≡ true
-  pub range : value ≤ greatest_signed
+  pub range : value ≤ LARGEST_RULE_NUMBER
 
 -- a step by itself
 abbrev pub IsStep : SettingData → StepData → Type 0
@@ -55,10 +48,10 @@ IsStep s emit = Unit {0}
 -- a rule by itself
 pub record IsRule (s : SettingData) (r : RuleData) : Type 0 where
   pub name : IsName r.name
-  pub id : r.id ≤ greatest_signed
+  pub id : r.id ≤ LARGEST_RULE_NUMBER
   pub kind : IsName r.kind
-  pub min_size : IfSome r.min_size (λ n. n ≤ greatest_signed)
-  pub max_size : IfSome r.max_size (λ n. n ≤ greatest_signed)
+  pub min_size : IfSome r.min_size (λ n. n ≤ LARGEST_RULE_NUMBER)
+  pub max_size : IfSome r.max_size (λ n. n ≤ LARGEST_RULE_NUMBER)
   pub few : length r.steps ≤ MOST_STEPS
   pub steps : All (IsStep s) r.steps
 

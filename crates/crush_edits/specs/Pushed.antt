@@ -1,28 +1,29 @@
 -- What a location keeps, which pairs can be added to it, and why another isn't.
 use Rattle.std.specs.Prelude.{◌≡◌, ℕ, ◌<◌, ◌≤◌, List, false, ◌&&◌, length, All}
 use Rattle.crush_units.specs.Name.{IsName, is_name}
+use Rattle.crush_units.specs.declared.limits.TheConstants.{MOST_PAIRS}
 use Rattle.crush_units.specs.declared.name.NameFault.{NameFault}
 use Rattle.crush_units.specs.declared.name.NameFault.TheVariants.{Empty, BadByte, TooLong, OutOfMemory as NoMemory}
 use Rattle.crush_edits.specs.declared.location.Pair.{Pair}
 use Rattle.crush_edits.specs.declared.location.LocationFault.{LocationFault}
 use Rattle.crush_edits.specs.declared.location.LocationFault.TheVariants.{TooMany, BadName, OutOfMemory}
 
--- what each location keeps: at most 16 pairs, and their names are names
+-- what each location keeps: at most so many pairs, and their names are names
 pub record IsLocation (l : List Pair) : Type 0 where
-  pub few : length l ≤ 16
+  pub few : length l ≤ MOST_PAIRS
   pub kinds : All (λ (p : Pair). IsName p.kind) l
   pub names : All (λ (p : Pair). IsName p.name) l
 
 -- there is room for the pair, and its two parts are names
 pub record CanPush (l : List Pair) (kind name : List ℕ) : Type 0 where
-  pub room : length l < 16
+  pub room : length l < MOST_PAIRS
   pub kind_form : IsName kind
   pub name_form : IsName name
 
 -- why a pair isn't added: exactly one of these holds
 abbrev pub IsLocationFault : List Pair → List ℕ → List ℕ → LocationFault → Type 0
-IsLocationFault l kind name TooMany = 16 ≤ length l
-IsLocationFault l kind name BadName = (length l < 16) × ((is_name kind && is_name name) ≡ false)
+IsLocationFault l kind name TooMany = MOST_PAIRS ≤ length l
+IsLocationFault l kind name BadName = (length l < MOST_PAIRS) × ((is_name kind && is_name name) ≡ false)
 IsLocationFault l kind name OutOfMemory = CanPush l kind name
 
 -- the number of a fault

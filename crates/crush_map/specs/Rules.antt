@@ -1,10 +1,10 @@
 -- A rule that a builder is given: its form, what speaks against it, and what is kept of it.
 use Rattle.std.specs.Prelude.{ℕ, ◌+◌, ◌≤◌, List, [], ◌∷◌, Option, Some, None, Bool, ◌==◌, if◌then◌else◌, IfSome, All, map, length, bytes_eq, is_some, nat_le, option_and_then}
 use Rattle.std.specs.List.{list_any}
-use Rattle.crush_units.specs.declared.limits.TheConstants.{MOST_RULES, MOST_STEPS}
+use Rattle.crush_units.specs.declared.limits.TheConstants.{LARGEST_RULE_NUMBER, MOST_RULES, MOST_STEPS}
 use Rattle.crush_units.specs.Name.{IsName}
 use Rattle.crush_edits.specs.Setting.{StepData, take, choose, set, emit, RuleData, SettingData, kind_number}
-use Rattle.crush_edits.specs.Fits.{greatest_signed, IsCount, IsSet}
+use Rattle.crush_edits.specs.Fits.{IsCount, IsSet}
 use Rattle.crush_edits.specs.Stops.{number_of}
 use Rattle.crush_edits.specs.declared.rule.Rule.{Rule}
 use Rattle.crush_edits.specs.declared.rule.Step.{Step}
@@ -27,10 +27,10 @@ IsStepForm Emit = Unit {0}
 
 pub record IsRuleForm (r : Rule) : Type 0 where
   pub name : IsName r.name
-  pub id : r.id ≤ greatest_signed
+  pub id : r.id ≤ LARGEST_RULE_NUMBER
   pub kind : IsName r.kind
-  pub min_size : IfSome r.min_size (λ n. n ≤ greatest_signed)
-  pub max_size : IfSome r.max_size (λ n. n ≤ greatest_signed)
+  pub min_size : IfSome r.min_size (λ n. n ≤ LARGEST_RULE_NUMBER)
+  pub max_size : IfSome r.max_size (λ n. n ≤ LARGEST_RULE_NUMBER)
   pub steps : All IsStepForm r.steps.items
 
 -- the bucket of a name, where a device or no complete bucket has it none

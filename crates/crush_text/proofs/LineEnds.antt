@@ -5,7 +5,7 @@ use Rattle.crush_units.specs.declared.alg.Alg.{Alg}
 use Rattle.crush_map.specs.Built.{Draft, nothing, with_kind, with_tunable, with_device, with_class_id, with_alg}
 use Rattle.crush_map.specs.Building.{BuilderData, IsDraft}
 use Rattle.crush_bytes.specs.Words.{Text, begins}
-use Rattle.crush_text.specs.declared.limits.TheConstants.{LARGEST_TUNABLE}
+use Rattle.crush_units.specs.declared.limits.TheConstants.{LARGEST_TUNABLE}
 use Rattle.crush_text.specs.declared.fault.TextFault.{TextFault}
 use Rattle.crush_text.specs.Role.{Role, El, key, any_word, number, tunable_name, type_number, type_name, device_id, new_name, bucket_id, id_class, algorithm}
 use Rattle.crush_text.specs.Form.{first, numbered, filling, at, Form, word, optional}

@@ -4,7 +4,7 @@ pub use Rattle.crush_bytes.specs.Numbers.{is_number}
 use Rattle.std.specs.Prelude.{ℕ, ℤ, pos, neg_ℤ, Bool, ◌&&◌, ◌==◌, nat_lt, List, drop, slice_index, if◌then◌else◌}
 use Rattle.std.specs.Str.Parse.{digits_value}
 use Rattle.crush_units.specs.declared.limits.TheConstants.{FARTHEST_BUCKET_ID}
-use Rattle.crush_text.specs.declared.limits.TheConstants.{FARTHEST_COUNT, LARGEST_COUNT}
+use Rattle.crush_units.specs.declared.limits.TheConstants.{FARTHEST_COUNT, LARGEST_COUNT}
 
 -- `-` and 1 to 10 digits, a value from -1 to -2147483648
 abbrev pub is_negative : List ℕ → Bool

@@ -3,7 +3,7 @@ use Rattle.std.specs.Prelude.{ℕ, Bool, List, [], ◌∷◌, ◌++◌, Option, 
 use Rattle.crush_units.specs.declared.id.ItemId.{ItemId}
 use Rattle.crush_edits.specs.Setting.{StepData, take, choose, set, emit, RuleData}
 use Rattle.crush_map.specs.Built.{Draft, with_tunable, with_kind, with_device, begun_bucket, with_id, with_class_id, with_alg, with_item, with_end, add_rule}
-use Rattle.crush_text.specs.declared.limits.TheConstants.{LARGEST_RULE_NUMBER, LARGEST_TUNABLE}
+use Rattle.crush_units.specs.declared.limits.TheConstants.{LARGEST_RULE_NUMBER, LARGEST_TUNABLE}
 use Rattle.crush_text.specs.declared.opening.Opening.{Opening}
 use Rattle.crush_text.specs.declared.opening.Opening.TheVariants as openings
 use Rattle.crush_text.specs.Role.{key, any_word, number, opening, tunable_name, type_number, type_name, device_id, new_name, bucket_id, id_or_alg, id_class, algorithm, item_or_end, item, lone_item, weight, rule_name, rule_id_key, rule_id, step_or_end, step_word, StepWord, takes, chooses, sets, emits, taken_bucket, step_order, step_count, step_type}

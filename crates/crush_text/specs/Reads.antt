@@ -16,7 +16,7 @@ use Rattle.crush_bytes.specs.Words.{Word, Stop, ended, bad, Text, begins, past}
 use Rattle.crush_text.specs.declared.reader.word.PlacedWord.{PlacedWord}
 use Rattle.crush_text.specs.declared.reader.step.FirstOfStep.{FirstOfStep}
 use Rattle.crush_text.specs.declared.reader.step.FirstOfStep.TheVariants as steps
-use Rattle.crush_text.specs.declared.limits.TheConstants.{LARGEST_RULE_NUMBER}
+use Rattle.crush_units.specs.declared.limits.TheConstants.{LARGEST_RULE_NUMBER}
 use Rattle.crush_text.specs.declared.opening.Opening.{Opening}
 use Rattle.crush_text.specs.declared.opening.Opening.TheVariants as openings
 use Rattle.crush_text.specs.Role.{Role, El, units, key, number, StepWord, takes, chooses, sets, emits}

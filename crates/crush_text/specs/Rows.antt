@@ -16,7 +16,7 @@ use Rattle.crush_map.specs.Building.{has_name, has_bucket_id, has_class, item_na
 use Rattle.crush_map.specs.Rules.{bucket_named, has_rule_name, has_rule_id, is_full_of_rules}
 use Rattle.crush_text.specs.declared.fault.TextFaultKind.{TextFaultKind}
 use Rattle.crush_text.specs.declared.fault.TextFaultKind.TheVariants.{Unexpected, BadNumber, BadWeight, DuplicateId, DuplicateName, UnknownType, UnknownItem, SecondParent, OtherAlgorithm, LeftOut, UnknownBucketInRule, TooMany, SumTooLarge}
-use Rattle.crush_text.specs.declared.limits.TheConstants.{LARGEST_RULE_NUMBER}
+use Rattle.crush_units.specs.declared.limits.TheConstants.{LARGEST_RULE_NUMBER}
 use Rattle.crush_text.specs.Fault.{fault_number}
 use Rattle.crush_bytes.specs.Numbers.{is_number}
 use Rattle.crush_text.specs.Forms.{is_negative, is_signed}

@@ -2,7 +2,6 @@
 #![tactic(auto)]
 
 mod fault;
-pub mod limits;
 mod opening;
 mod reader;
 

@@ -5,7 +5,7 @@ ghost use Rattle.crush_units.specs.Name.{IsName};
 ghost use Rattle.crush_map.specs.Built.{Draft};
 ghost use Rattle.crush_map.specs.Building.{IsDraft};
 ghost use Rattle.crush_map.specs.Rules.{IsRuleForm, kept_rule, has_rule_name, has_rule_id, is_full_of_rules};
-ghost use Rattle.crush_text.specs.declared.limits.TheConstants.{LARGEST_RULE_NUMBER};
+ghost use Rattle.crush_units.specs.declared.limits.TheConstants.{LARGEST_RULE_NUMBER};
 ghost use Rattle.crush_units.specs.declared.limits.TheConstants.{MOST_STEPS};
 ghost use Rattle.crush_text.specs.declared.fault.TextFaultKind.TheVariants.{OutOfMemory};
 ghost use Rattle.crush_text.specs.Room.{IsFreeRule, IsHead};
@@ -16,7 +16,7 @@ ghost use Rattle.crush_text.specs.Flow.{between, outcome};
 ghost use Rattle.crush_text.specs.Reads.{IsIdle, Gives, GivesOn, ReadsOn, ReadsSteps, ReadsStep, number_behind, is_step, then_on, word_at, line_at};
 
 use crate::fault::{TextFault, TextFaultKind};
-use crate::limits::LARGEST_RULE_NUMBER;
+use crush_units::limits::LARGEST_RULE_NUMBER;
 use crate::reader::roles::{read_key, read_number, read_word};
 use crate::reader::step::read_step;
 use crate::reader::word::{PlacedWord, next_word};

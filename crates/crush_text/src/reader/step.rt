@@ -15,7 +15,7 @@ ghost use Rattle.crush_text.specs.Grammar.{step_behind, take_step, choose_step, 
 ghost use Rattle.crush_text.specs.Reads.{Gives, behind_step, first_of_step, IsFirstOfStep, word_at, line_at};
 
 use crate::fault::{TextFault, TextFaultKind};
-use crate::limits::{FARTHEST_COUNT, LARGEST_COUNT, LARGEST_RULE_NUMBER};
+use crush_units::limits::{FARTHEST_COUNT, LARGEST_COUNT, LARGEST_RULE_NUMBER};
 use crate::reader::roles::{read_key, read_number, read_word};
 use crate::reader::word::{PlacedWord, next_word};
 use crush_bytes::Reader;

@@ -10,7 +10,7 @@ ghost use Rattle.crush_text.specs.Grammar.{tunable_line};
 ghost use Rattle.crush_text.specs.Reads.{IsIdle, Gives, Reads, word_at, line_at};
 
 use crate::fault::{TextFault, TextFaultKind};
-use crate::limits::LARGEST_TUNABLE;
+use crush_units::limits::LARGEST_TUNABLE;
 use crate::reader::roles::read_number;
 use crate::reader::word::{PlacedWord, next_word};
 use crush_bytes::Reader;
