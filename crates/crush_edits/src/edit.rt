@@ -131,7 +131,7 @@ impl Edit {
                 weight,
                 at,
             } => {
-                let Placed { name, at } = copied_placed(name, at, alloc)?;
+                let Placed { name, at } = copy_placed(name, at, alloc)?;
                 Ok(Edit::Insert {
                     device: *device,
                     name,
@@ -145,7 +145,7 @@ impl Edit {
                 weight,
                 at,
             } => {
-                let Placed { name, at } = copied_placed(name, at, alloc)?;
+                let Placed { name, at } = copy_placed(name, at, alloc)?;
                 Ok(Edit::CreateOrMove {
                     device: *device,
                     name,
@@ -159,7 +159,7 @@ impl Edit {
                 weight,
                 at,
             } => {
-                let Placed { name, at } = copied_placed(name, at, alloc)?;
+                let Placed { name, at } = copy_placed(name, at, alloc)?;
                 Ok(Edit::Update {
                     device: *device,
                     name,
@@ -168,11 +168,11 @@ impl Edit {
                 })
             }
             Edit::Move { name, at } => {
-                let Placed { name, at } = copied_placed(name, at, alloc)?;
+                let Placed { name, at } = copy_placed(name, at, alloc)?;
                 Ok(Edit::Move { name, at })
             }
             Edit::Swap { a, b } => {
-                let Names { first, second } = copied_names(a, b, alloc)?;
+                let Names { first, second } = copy_names(a, b, alloc)?;
                 Ok(Edit::Swap {
                     a: first,
                     b: second,
@@ -190,14 +190,14 @@ impl Edit {
                 name: name.try_copy(alloc)?,
             }),
             Edit::AddBucket { name, kind } => {
-                let Names { first, second } = copied_names(name, kind, alloc)?;
+                let Names { first, second } = copy_names(name, kind, alloc)?;
                 Ok(Edit::AddBucket {
                     name: first,
                     kind: second,
                 })
             }
             Edit::Rename { from, to } => {
-                let Names { first, second } = copied_names(from, to, alloc)?;
+                let Names { first, second } = copy_names(from, to, alloc)?;
                 Ok(Edit::Rename {
                     from: first,
                     to: second,
@@ -208,7 +208,7 @@ impl Edit {
 }
 
 /// Copies of a name and of where its item comes. An Err is want of memory.
-fn copied_placed(name: &Name<Global>, at: &Location, alloc: Global) -> Result<Placed, AllocError>
+fn copy_placed(name: &Name<Global>, at: &Location, alloc: Global) -> Result<Placed, AllocError>
     ensures { IfOk result (λ copy. copy ≡ record { name = name.now; at = at.now }) }
 {
     let name = name.try_copy(alloc)?;
@@ -217,7 +217,7 @@ fn copied_placed(name: &Name<Global>, at: &Location, alloc: Global) -> Result<Pl
 }
 
 /// Copies of two names, in their order. An Err is want of memory.
-fn copied_names(
+fn copy_names(
     first: &Name<Global>,
     second: &Name<Global>,
     alloc: Global,

@@ -123,7 +123,7 @@ impl KeptRule {
     {
         let name = self.name.try_copy(alloc)?;
         let kind = self.kind.try_copy(alloc)?;
-        let steps = copied_steps(&self.steps, alloc)?;
+        let steps = copy_steps(&self.steps, alloc)?;
         Ok(KeptRule {
             name,
             id: self.id,
@@ -230,9 +230,9 @@ impl Setting {
         ensures { IfOk result (λ copy. copy ≡ self.now) }
     {
         Ok(Setting {
-            kinds: copied_kinds(&self.kinds, alloc)?,
-            tunables: copied_tunables(&self.tunables, alloc)?,
-            rules: copied_rules(&self.rules, alloc)?,
+            kinds: copy_kinds(&self.kinds, alloc)?,
+            tunables: copy_tunables(&self.tunables, alloc)?,
+            rules: copy_rules(&self.rules, alloc)?,
         })
     }
 
@@ -296,7 +296,7 @@ fn step_takes(step: &KeptStep, bucket: BucketId) -> bool
 }
 
 /// Copies of the types, in their order.
-fn copied_kinds(
+fn copy_kinds(
     kinds: &IndexMap<TypeId, Name<Global>>,
     alloc: Global,
 ) -> Result<IndexMap<TypeId, Name<Global>>, AllocError>
@@ -311,7 +311,7 @@ fn copied_kinds(
 }
 
 /// Copies of the tunables, in their order.
-fn copied_tunables(
+fn copy_tunables(
     tunables: &IndexMap<Name<Global>, u32>,
     alloc: Global,
 ) -> Result<IndexMap<Name<Global>, u32>, AllocError>
@@ -326,7 +326,7 @@ fn copied_tunables(
 }
 
 /// Copies of the steps, in their order.
-fn copied_steps(steps: &[KeptStep], alloc: Global) -> Result<Vec<KeptStep>, AllocError>
+fn copy_steps(steps: &[KeptStep], alloc: Global) -> Result<Vec<KeptStep>, AllocError>
     ensures { IfOk result (λ copies. copies.items ≡ steps.now) }
 {
     let mut copies = Vec::new(alloc);
@@ -338,7 +338,7 @@ fn copied_steps(steps: &[KeptStep], alloc: Global) -> Result<Vec<KeptStep>, Allo
 }
 
 /// Copies of the rules, in their order.
-fn copied_rules(rules: &[KeptRule], alloc: Global) -> Result<Vec<KeptRule>, AllocError>
+fn copy_rules(rules: &[KeptRule], alloc: Global) -> Result<Vec<KeptRule>, AllocError>
     ensures { IfOk result (λ copies. map rule_data copies.items ≡ map rule_data rules.now) }
 {
     let mut copies = Vec::new(alloc);

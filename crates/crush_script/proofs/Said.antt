@@ -17,7 +17,7 @@ use Rattle.crush_script.specs.declared.command.Placement.{Placement}
 use Rattle.crush_script.specs.declared.command.Placement.TheVariants as place
 use Rattle.crush_script.specs.declared.command.Placing.{Placing}
 use Rattle.crush_script.specs.Words.{pair_of, can_add, device_named}
-use Rattle.crush_script.specs.Command.{name_at, read_weight, weight_at, end_at, with_pair, with_pairs, location_at, the_device, placing_at, located_at, one_name_at, two_names_at, weighed_at, keyword_of, placed, edit_of, edit_by, edit_at, command, operator}
+use Rattle.crush_script.specs.Command.{name_at, read_weight, weight_at, end_at, with_pair, with_pairs, location_at, the_device, placing_at, located_at, one_name_at, two_names_at, weighed_at, keyword_of, edit_to_place, edit_of, edit_by, edit_at, command, operator}
 use Rattle.crush_script.specs.Printed.{IsPlacing, IsSaid, ReadIsSaid}
 use Rattle.crush_script.proofs.Oks.{bind-if_ok_at, if_ok-either, if_ok-then, if_ok-passed, if_ok-at}
 
@@ -114,13 +114,13 @@ weighed_said words =
     end_said (name.value, weight.value) weight.rest (λ p. IsName p.0 × (p.1 < 2 ^ 32)) (is_name, is_weight)))
 
 -- COMMANDS
-placed_said : (how : Placement) (p : Placing) → IsPlacing p.device p.name p.weight p.at → IsSaid (placed how p)
-placed_said place.Add p is = is
-placed_said place.Set p is = is
-placed_said place.CreateOrMove p is = is
+edit_to_place_said : (how : Placement) (p : Placing) → IsPlacing p.device p.name p.weight p.at → IsSaid (edit_to_place how p)
+edit_to_place_said place.Add p is = is
+edit_to_place_said place.Set p is = is
+edit_to_place_said place.CreateOrMove p is = is
 
 edit_of_said : (keyword : Keyword) (rest : List (List ℕ)) → IfOk (edit_of keyword rest) IsSaid
-edit_of_said (word.Place how) rest = bind-if_ok_at (placing_at rest) _ IsSaid _ (placing_said rest) (placed_said how)
+edit_of_said (word.Place how) rest = bind-if_ok_at (placing_at rest) _ IsSaid _ (placing_said rest) (edit_to_place_said how)
 edit_of_said word.Move rest = bind-if_ok_at (located_at rest) _ IsSaid _ (located_said rest) (λ p is. is)
 edit_of_said word.SwapBucket rest = bind-if_ok_at (two_names_at rest) _ IsSaid _ (two_names_said rest) (λ p is. is)
 edit_of_said word.Reweight rest = bind-if_ok_at (weighed_at rest) _ IsSaid _ (weighed_said rest) (λ p is. is)

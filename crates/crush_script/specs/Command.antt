@@ -128,14 +128,14 @@ keyword_of first =
     else moving_keyword first
 
 -- the edit of a command that places a device
-abbrev pub placed : Placement → Placing → Edit
-placed place.Add p = Insert p.device p.name p.weight p.at
-placed place.Set p = Update p.device p.name p.weight p.at
-placed place.CreateOrMove p = CreateOrMove p.device p.name p.weight p.at
+abbrev pub edit_to_place : Placement → Placing → Edit
+edit_to_place place.Add p = Insert p.device p.name p.weight p.at
+edit_to_place place.Set p = Update p.device p.name p.weight p.at
+edit_to_place place.CreateOrMove p = CreateOrMove p.device p.name p.weight p.at
 
 -- the edit of a command, by the words behind its first
 abbrev pub edit_of : Keyword → List (List ℕ) → Result Edit LineFault
-edit_of (word.Place how) rest = placing_at rest >>= λ p. Ok (placed how p)
+edit_of (word.Place how) rest = placing_at rest >>= λ p. Ok (edit_to_place how p)
 edit_of word.Move rest = located_at rest >>= λ p. Ok (Move p.0 p.1)
 edit_of word.SwapBucket rest = two_names_at rest >>= λ p. Ok (Swap p.0 p.1)
 edit_of word.Reweight rest = weighed_at rest >>= λ p. Ok (Reweight p.0 p.1)

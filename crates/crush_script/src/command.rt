@@ -2,7 +2,7 @@
 
 ghost use Rattle.std.specs.Prelude.{◌≡◌};
 ghost use Rattle.crush_script.specs.AnswersAs.{AnswersAs, AnswersAndLeaves};
-ghost use Rattle.crush_script.specs.Command.{command, operator, name_at, weight_at, end_at, with_pair, location_at, placing_at, located_at, one_name_at, two_names_at, weighed_at, keyword_of, moving_keyword, naming_keyword, placed, edit_of, edit_at};
+ghost use Rattle.crush_script.specs.Command.{command, operator, name_at, weight_at, end_at, with_pair, location_at, placing_at, located_at, one_name_at, two_names_at, weighed_at, keyword_of, moving_keyword, naming_keyword, edit_to_place, edit_of, edit_at};
 
 use crate::line::{LineWords, place_of};
 use crate::word::device_named;
@@ -252,8 +252,8 @@ fn naming_keyword(first: &[u8]) -> Option<Keyword>
 }
 
 /// The edit of a command that places a device.
-fn placed(how: Placement, placing: Placing) -> Edit
-    ensures { result ≡ placed how placing }
+fn edit_to_place(how: Placement, placing: Placing) -> Edit
+    ensures { result ≡ edit_to_place how placing }
 {
     let Placing {
         device,
@@ -294,7 +294,7 @@ fn read_edit_of(
     match keyword {
         Keyword::Place(how) => {
             let placing = read_placing(alloc, words)?;
-            Ok(placed(how, placing))
+            Ok(edit_to_place(how, placing))
         }
         Keyword::Move => {
             let (name, at) = read_located(alloc, words)?;

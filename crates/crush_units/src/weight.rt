@@ -98,14 +98,14 @@ impl Weight {
         }
         let number = value_after(0, whole);
         if tail.is_empty() {
-            return rounded(number, 0);
+            return round(number, 0);
         }
         let (_, fraction) = tail.split_at(1);
         if !are_digits(18, fraction) {
             return Err(WeightFault::Syntax);
         }
         let number = value_after(number, fraction);
-        rounded(number, fraction.len())
+        round(number, fraction.len())
     }
 
     /// Writes the weight to the front of the given bytes and returns the length of the text, 7 to
@@ -203,7 +203,7 @@ fn ten_to(places: usize) -> u128
 }
 
 /// The units nearest to the number that has so many digits after the point.
-fn rounded(number: u128, places: usize) -> Result<Weight, WeightFault>
+fn round(number: u128, places: usize) -> Result<Weight, WeightFault>
     requires number { number < 10 ^ 28 }
     requires places { places ≤ 18 }
     ensures { result ≡ weight_of_units (units_of number places) }

@@ -16,14 +16,13 @@ ghost use Rattle.crush_text.specs.Flow.{between, outcome};
 ghost use Rattle.crush_text.specs.Reads.{IsIdle, Gives, GivesOn, ReadsOn, ReadsSteps, ReadsStep, number_behind, is_step, then_on, word_at, line_at};
 
 use crate::fault::{TextFault, TextFaultKind};
-use crush_units::limits::LARGEST_RULE_NUMBER;
 use crate::reader::roles::{read_key, read_number, read_word};
 use crate::reader::step::read_step;
 use crate::reader::word::{PlacedWord, next_word};
 use crush_bytes::Reader;
 use crush_bytes::number::number_up_to;
 use crush_map::{BuildFault, MapBuilder, Rule, RuleFault, Step};
-use crush_units::limits::MOST_STEPS;
+use crush_units::limits::{LARGEST_RULE_NUMBER, MOST_STEPS};
 use std::alloc::{Allocator, Global};
 
 /// A rule, behind the word `rule`. What was read of it so far is kept in the machine's memory.

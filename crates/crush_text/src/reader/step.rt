@@ -15,12 +15,12 @@ ghost use Rattle.crush_text.specs.Grammar.{step_behind, take_step, choose_step, 
 ghost use Rattle.crush_text.specs.Reads.{Gives, behind_step, first_of_step, IsFirstOfStep, word_at, line_at};
 
 use crate::fault::{TextFault, TextFaultKind};
-use crush_units::limits::{FARTHEST_COUNT, LARGEST_COUNT, LARGEST_RULE_NUMBER};
 use crate::reader::roles::{read_key, read_number, read_word};
 use crate::reader::word::{PlacedWord, next_word};
 use crush_bytes::Reader;
 use crush_bytes::number::number_up_to;
 use crush_map::{MapBuilder, Step};
+use crush_units::limits::{FARTHEST_COUNT, LARGEST_COUNT, LARGEST_RULE_NUMBER};
 use std::alloc::{Allocator, Global};
 
 /// What the first word of a step says.
@@ -223,14 +223,14 @@ fn read_count(reader: &mut Reader<'_>) -> Result<i32, TextFault>
     if word.is_brace() {
         return Err(word.fault(TextFaultKind::Unexpected));
     }
-    match signed(word.text) {
+    match signed_number(word.text) {
         Some(count) => Ok(count),
         None => Err(word.fault(TextFaultKind::BadNumber)),
     }
 }
 
 /// The number that an optional `-` and 1 to 10 digits write, where it has 32 bits.
-fn signed(text: &[u8]) -> Option<i32>
+fn signed_number(text: &[u8]) -> Option<i32>
     ensures { result ≡ (if is_signed text.now then Some (signed_value text.now) else None) }
 {
     match text {

@@ -10,11 +10,11 @@ ghost use Rattle.crush_text.specs.Grammar.{tunable_line};
 ghost use Rattle.crush_text.specs.Reads.{IsIdle, Gives, Reads, word_at, line_at};
 
 use crate::fault::{TextFault, TextFaultKind};
-use crush_units::limits::LARGEST_TUNABLE;
 use crate::reader::roles::read_number;
 use crate::reader::word::{PlacedWord, next_word};
 use crush_bytes::Reader;
 use crush_map::MapBuilder;
+use crush_units::limits::LARGEST_TUNABLE;
 use std::alloc::Allocator;
 
 /// A tunable, behind the word `tunable`.

@@ -1,5 +1,5 @@
 use Rattle.std.proofs.Common.{◌≡◌, take}
-use Rattle.crush_edits.proofs.setting.copied_steps.Given as goal
+use Rattle.crush_edits.proofs.setting.copy_steps.Given as goal
 
 -- those so far are copied
 abbrev pub invariant-loop-step : goal.invariant-loop-step

@@ -3,7 +3,7 @@ use Rattle.std.specs.Cmp.Lexicographic.{nat_list_eq_equiv}
 use Rattle.std.specs.Prelude.{bytes_eq}
 use Rattle.indexmap.specs.IndexMap.{insert_entry}
 use Rattle.crush_edits.proofs.SettingLaws.{entry_copied}
-use Rattle.crush_edits.proofs.setting.copied_tunables.Goals as goal
+use Rattle.crush_edits.proofs.setting.copy_tunables.Goals as goal
 
 pub loop-name-preserved : goal.loop-name-preserved
 loop-name-preserved c =

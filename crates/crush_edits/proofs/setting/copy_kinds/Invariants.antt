@@ -1,5 +1,5 @@
 use Rattle.std.proofs.Common.{◌≡◌, ◌++◌}
-use Rattle.crush_edits.proofs.setting.copied_kinds.Given as goal
+use Rattle.crush_edits.proofs.setting.copy_kinds.Given as goal
 
 -- those so far are copied
 abbrev pub invariant-loop-number : goal.invariant-loop-number

@@ -1,5 +1,5 @@
 use Rattle.std.proofs.Common.{◌≡◌, ◌++◌}
-use Rattle.crush_edits.proofs.setting.copied_tunables.Given as goal
+use Rattle.crush_edits.proofs.setting.copy_tunables.Given as goal
 
 -- those so far are copied
 abbrev pub invariant-loop-name : goal.invariant-loop-name

@@ -2,7 +2,7 @@ use Rattle.std.proofs.Common.{◌++◌, length, append-nil, arith, ap, sym, ◌�
 use Rattle.std.specs.Cmp.{nat_eq_equiv}
 use Rattle.indexmap.specs.IndexMap.{insert_entry}
 use Rattle.crush_edits.proofs.SettingLaws.{entry_copied}
-use Rattle.crush_edits.proofs.setting.copied_kinds.Goals as goal
+use Rattle.crush_edits.proofs.setting.copy_kinds.Goals as goal
 
 pub loop-number-preserved-in_ok-insert : goal.loop-number-preserved-in_ok-insert
 loop-number-preserved-in_ok-insert c =
