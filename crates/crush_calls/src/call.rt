@@ -49,18 +49,6 @@ pub enum Reply {
     BatchRefused(u32, Refusal),
 }
 
-/// Copies of the edits, in their order. An Err is want of memory.
-fn copies(alloc: Global, edits: &[Edit]) -> Result<Vec<Edit>, AllocError>
-    ensures { IfOk result (λ copies. copies.items ≡ edits.now) }
-{
-    let mut copies = Vec::new(alloc);
-    for edit in edits {
-        let copy = edit.try_copy(alloc)?;
-        copies.push(copy)?;
-    }
-    Ok(copies)
-}
-
 impl Edits {
     /// A batch of these edits, which are at most 65,536. Takes no memory.
     pub fn new(edits: Vec<Edit>) -> Edits
@@ -97,13 +85,14 @@ impl Edits {
     pub(crate) fn try_copy(&self, alloc: Global) -> Result<Edits, AllocError>
         ensures { IfOk result (λ copy. copy ≡ self.now) }
     {
-        let edits = copies(alloc, self.edits.as_slice())?;
+        let edits = copy_edits(alloc, self.edits.as_slice())?;
         Ok(Edits { edits })
     }
 }
 
 impl Call {
-    /// A copy of the call. An Err is want of memory.
+    /// A copy of the call, as a history keeps one of a call that an operator lends. An Err is want of
+    /// memory.
     pub fn try_copy(&self, alloc: Global) -> Result<Call, AllocError>
         ensures { IfOk result (λ copy. copy ≡ self.now) }
     {
@@ -112,4 +101,16 @@ impl Call {
             Call::Batch(edits) => Ok(Call::Batch(edits.try_copy(alloc)?)),
         }
     }
+}
+
+/// Copies of the edits, in their order. An Err is want of memory.
+fn copy_edits(alloc: Global, edits: &[Edit]) -> Result<Vec<Edit>, AllocError>
+    ensures { IfOk result (λ copies. copies.items ≡ edits.now) }
+{
+    let mut copies = Vec::new(alloc);
+    for edit in edits {
+        let copy = edit.try_copy(alloc)?;
+        copies.push(copy)?;
+    }
+    Ok(copies)
 }

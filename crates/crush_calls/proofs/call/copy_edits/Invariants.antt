@@ -1,5 +1,5 @@
 use Rattle.std.proofs.Common.{◌≡◌, take}
-use Rattle.crush_calls.proofs.call.copies.Given as goal
+use Rattle.crush_calls.proofs.call.copy_edits.Given as goal
 
 -- the edits so far are copied
 abbrev pub invariant-loop-edit : goal.invariant-loop-edit
