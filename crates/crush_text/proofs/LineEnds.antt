@@ -1,16 +1,17 @@
 -- Lines word by word, and what the builder's call at the end of a line leaves.
-use Rattle.std.proofs.Common.{◌≡◌, ℕ, Bool, true, false, List, Ok, Some, None, refl, sym, ap, ◌∙◌, inl, inr}
+use Rattle.std.proofs.Common.{◌≡◌, ℕ, Bool, true, false, List, [], ◌∷◌, Result, Ok, Err, Some, None, refl, sym, ap, ◌∙◌, inl, inr}
 use Rattle.std.specs.Prelude.{codes, if◌then◌else◌}
 use Rattle.crush_units.specs.declared.alg.Alg.{Alg}
 use Rattle.crush_map.specs.Built.{Draft, nothing, with_kind, with_tunable, with_device, with_class_id, with_alg}
 use Rattle.crush_map.specs.Building.{BuilderData, IsDraft}
-use Rattle.crush_bytes.specs.Words.{Text, begins}
+use Rattle.crush_bytes.specs.Words.{Word, Text, begins, is_brace_word}
 use Rattle.crush_units.specs.declared.limits.TheConstants.{LARGEST_TUNABLE}
+use Rattle.crush_text.specs.declared.fault.TextFaultKind.TheVariants.{Unexpected}
 use Rattle.crush_text.specs.declared.fault.TextFault.{TextFault}
-use Rattle.crush_text.specs.Role.{Role, El, key, any_word, number, tunable_name, type_number, type_name, device_id, new_name, bucket_id, id_class, algorithm}
+use Rattle.crush_text.specs.Role.{Role, El, value, key, any_word, number, tunable_name, type_number, type_name, device_id, new_name, bucket_id, id_class, algorithm}
 use Rattle.crush_text.specs.Form.{first, numbered, filling, at, Form, word, optional}
 use Rattle.crush_text.specs.Grammar.{tunable_line, type_line, device_line, device_class, class_id_line, alg_line}
-use Rattle.crush_text.specs.Tests.{word_for}
+use Rattle.crush_text.specs.Tests.{Test, ◌when◌, a_word, tests, unless, word_for}
 use Rattle.crush_text.specs.Flow.{◌>>=◌, placed}
 use Rattle.crush_text.specs.Reads.{Fails, IsIdle, and_rest, next_at, word_at, line_at}
 
@@ -23,6 +24,21 @@ pub next_fails : (d : Draft) (r : Role) (t : Text) (f : TextFault) → Fails f (
 unfolding word_at
 next_fails d r t f (inl h) = inl h
 next_fails d r t f (inr h) = inr (ap (λ q. q >>= λ x. placed x.0.place (word_for d r x.0.text) >>= and_rest x.1) h)
+
+-- where any word but a brace is at fault, so is the word of each role that judges such words further
+pub operand_fails : (d : Draft) (r : Role) (t : Text) (f : TextFault) → ((w : List ℕ) → (more : List Test) × (tests d r w ≡ a_word w more)) → Fails f (word_at d any_word t) → Fails f (word_at d r t)
+unfolding word_at
+operand_fails d r t f words (inl h) = inl h
+operand_fails d r t f words (inr h) = inr (by_word (next_at t) h)
+  where
+    by_brace : (b : Bool) (w : Word) (rest : Text) (more : List Test) → (placed w.place (unless ((Unexpected when b) ∷ []) w.text) >>= and_rest rest) ≡ Err f → (placed w.place (unless ((Unexpected when b) ∷ more) (value d r w.text)) >>= and_rest rest) ≡ Err f
+    by_brace true w rest more e = let k : record { kind = Unexpected; place = w.place } ≡ f = cc in ap (λ (x : TextFault). Err x) k
+    by_brace false w rest more e = absurd cc
+
+    by_word : (q : Result (Word × Text) TextFault) → (q >>= λ x. placed x.0.place (word_for d any_word x.0.text) >>= and_rest x.1) ≡ Err f → (q >>= λ x. placed x.0.place (word_for d r x.0.text) >>= and_rest x.1) ≡ Err f
+    by_word (Err g) e = let k : g ≡ f = cc in ap (λ (x : TextFault). Err x) k
+    by_word (Ok x) e = let j = words x.0.text in
+        ap (λ ts. placed x.0.place (unless ts (value d r x.0.text)) >>= and_rest x.1) j.1 ∙ by_brace (is_brace_word x.0.text) x.0 x.1 j.0 e
 
 -- a line whose first word is at fault
 pub word_fails : (d : Draft) (r : Role) (more : El r → Form) (t : Text) (f : TextFault) → Fails f (word_at d r t) → Fails f (line_at d (word r more) t)

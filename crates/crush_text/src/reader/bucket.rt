@@ -17,7 +17,7 @@ ghost use Rattle.crush_text.specs.Reads.{IsIdle, IsAmid, IsBehindId, behind_id, 
 
 use crate::fault::{TextFault, TextFaultKind};
 use crate::reader::items::read_items;
-use crate::reader::roles::{read_key, read_new_name, read_number};
+use crate::reader::roles::{read_key, read_new_name, read_number, read_word};
 use crate::reader::word::{PlacedWord, next_word};
 use crush_bytes::Reader;
 use crush_bytes::number::number_up_to;
@@ -194,10 +194,7 @@ fn read_bucket_id<A: Allocator>(
         → has_bucket_id d b ≡ false) }
     ensures shorter { OnOk result (length reader.new.words < length reader.old.words) }
 {
-    let word = next_word(reader)?;
-    if word.is_brace() {
-        return Err(word.fault(TextFaultKind::Unexpected));
-    }
+    let word = read_word(reader)?;
     let Some(id) = below_zero(word.text) else {
         return Err(word.fault(TextFaultKind::BadNumber));
     };
@@ -256,10 +253,7 @@ fn read_id_class<'a, A: Allocator>(
         → has_class d x.text.now ≡ false) }
     ensures shorter { OnOk result (length reader.new.words < length reader.old.words) }
 {
-    let word = next_word(reader)?;
-    if word.is_brace() {
-        return Err(word.fault(TextFaultKind::Unexpected));
-    }
+    let word = read_word(reader)?;
     if builder.has_class(word.text) {
         return Err(word.fault(TextFaultKind::DuplicateName));
     }
@@ -273,10 +267,7 @@ fn read_algorithm(reader: &mut Reader<'_>) -> Result<(Alg, usize), TextFault>
         → Gives (λ x. (x.0, reader.new)) result (word_at d algorithm reader.old) }
     ensures shorter { OnOk result (length reader.new.words < length reader.old.words) }
 {
-    let word = next_word(reader)?;
-    if word.is_brace() {
-        return Err(word.fault(TextFaultKind::Unexpected));
-    }
+    let word = read_word(reader)?;
     match Alg::read(word.text) {
         Some(alg) => Ok((alg, word.place)),
         None => Err(word.fault(TextFaultKind::OtherAlgorithm)),

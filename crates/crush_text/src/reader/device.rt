@@ -12,7 +12,6 @@ ghost use Rattle.crush_text.specs.Reads.{IsIdle, Gives, Reads, word_at, line_at}
 
 use crate::fault::{TextFault, TextFaultKind};
 use crate::reader::roles::{read_key, read_new_name, read_word};
-use crate::reader::word::next_word;
 use crush_bytes::Reader;
 use crush_bytes::number::number_up_to;
 use crush_map::MapBuilder;
@@ -61,10 +60,7 @@ fn read_device_id<A: Allocator>(
         → is_there d.table (Device n) ≡ false) }
     ensures shorter { OnOk result (length reader.new.words < length reader.old.words) }
 {
-    let word = next_word(reader)?;
-    if word.is_brace() {
-        return Err(word.fault(TextFaultKind::Unexpected));
-    }
+    let word = read_word(reader)?;
     let Some(id) = number_up_to(LAST_DEVICE_ID, word.text).and_then(DeviceId::from_number) else {
         return Err(word.fault(TextFaultKind::BadNumber));
     };

@@ -1,11 +1,12 @@
 //! Words that several statements have, each by what it is for.
 
-ghost use Rattle.std.specs.Prelude.{◌≡◌, ◌<◌, ◌≤◌, length, false, IfOk, OnOk};
+ghost use Rattle.std.specs.Prelude.{◌≡◌, ◌<◌, ◌≤◌, length, false, IfOk, OnOk, Ok};
 ghost use Rattle.crush_units.specs.Name.{IsName};
+ghost use Rattle.crush_bytes.specs.Words.{is_brace_word};
 ghost use Rattle.crush_map.specs.Built.{Draft};
 ghost use Rattle.crush_map.specs.Building.{IsDraft, has_name};
 ghost use Rattle.crush_text.specs.Role.{key, any_word, number, new_name};
-ghost use Rattle.crush_text.specs.Reads.{Gives, word_at};
+ghost use Rattle.crush_text.specs.Reads.{Gives, next_at, word_at, word_of};
 
 use crate::fault::{TextFault, TextFaultKind};
 use crate::reader::word::{PlacedWord, next_word};
@@ -34,6 +35,8 @@ pub(crate) fn read_key(reader: &mut Reader<'_>, expected: &[u8]) -> Result<(), T
 pub(crate) fn read_word<'a>(reader: &mut Reader<'a>) -> Result<PlacedWord<'a>, TextFault>
     ensures gives { (d : Draft)
         → Gives (λ x. (x.text.now, reader.new)) result (word_at d any_word reader.old) }
+    ensures next { IfOk result (λ x. next_at reader.old ≡ Ok (word_of x, reader.new)) }
+    ensures plain { IfOk result (λ x. is_brace_word x.text.now ≡ false) }
     ensures named { IfOk result (λ x. IsName x.text.now) }
     ensures shorter { OnOk result (length reader.new.words < length reader.old.words) }
 {
@@ -52,10 +55,7 @@ pub(crate) fn read_number(reader: &mut Reader<'_>, most: u32) -> Result<u32, Tex
     ensures most { IfOk result (λ x. x ≤ most) }
     ensures shorter { OnOk result (length reader.new.words < length reader.old.words) }
 {
-    let word = next_word(reader)?;
-    if word.is_brace() {
-        return Err(word.fault(TextFaultKind::Unexpected));
-    }
+    let word = read_word(reader)?;
     match number_up_to(most, word.text) {
         Some(number) => Ok(number),
         None => Err(word.fault(TextFaultKind::BadNumber)),
@@ -75,10 +75,7 @@ pub(crate) fn read_new_name<'a, A: Allocator>(
         → has_name d x.text.now ≡ false) }
     ensures shorter { OnOk result (length reader.new.words < length reader.old.words) }
 {
-    let word = next_word(reader)?;
-    if word.is_brace() {
-        return Err(word.fault(TextFaultKind::Unexpected));
-    }
+    let word = read_word(reader)?;
     if builder.has_name(word.text) {
         return Err(word.fault(TextFaultKind::DuplicateName));
     }

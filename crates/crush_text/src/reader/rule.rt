@@ -231,10 +231,7 @@ fn read_rule_name<'a, A: Allocator>(
         → has_rule_name d.setting x.text.now ≡ false) }
     ensures shorter { OnOk result (length reader.new.words < length reader.old.words) }
 {
-    let word = next_word(reader)?;
-    if word.is_brace() {
-        return Err(word.fault(TextFaultKind::Unexpected));
-    }
+    let word = read_word(reader)?;
     if builder.has_rule_name(word.text) {
         return Err(word.fault(TextFaultKind::DuplicateName));
     }
@@ -269,10 +266,7 @@ fn read_rule_id<A: Allocator>(
         → has_rule_id d.setting n ≡ false) }
     ensures shorter { OnOk result (length reader.new.words < length reader.old.words) }
 {
-    let word = next_word(reader)?;
-    if word.is_brace() {
-        return Err(word.fault(TextFaultKind::Unexpected));
-    }
+    let word = read_word(reader)?;
     let Some(id) = number_up_to(LARGEST_RULE_NUMBER, word.text) else {
         return Err(word.fault(TextFaultKind::BadNumber));
     };

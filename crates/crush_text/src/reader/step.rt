@@ -185,10 +185,7 @@ fn read_taken_bucket<'a, A: Allocator>(
         → is_some (bucket_named d x.text.now) ≡ true) }
     ensures shorter { OnOk result (length reader.new.words < length reader.old.words) }
 {
-    let word = next_word(reader)?;
-    if word.is_brace() {
-        return Err(word.fault(TextFaultKind::Unexpected));
-    }
+    let word = read_word(reader)?;
     match builder.bucket_named(word.text) {
         Some(_) => Ok(word),
         None => Err(word.fault(TextFaultKind::UnknownBucketInRule)),
@@ -219,10 +216,7 @@ fn read_count(reader: &mut Reader<'_>) -> Result<i32, TextFault>
         → Gives (λ x. (x, reader.new)) result (word_at d step_count reader.old) }
     ensures shorter { OnOk result (length reader.new.words < length reader.old.words) }
 {
-    let word = next_word(reader)?;
-    if word.is_brace() {
-        return Err(word.fault(TextFaultKind::Unexpected));
-    }
+    let word = read_word(reader)?;
     match signed_number(word.text) {
         Some(count) => Ok(count),
         None => Err(word.fault(TextFaultKind::BadNumber)),
@@ -258,10 +252,7 @@ fn read_type<'a, A: Allocator>(
         → is_some (kind_number d.setting x.text.now) ≡ true) }
     ensures shorter { OnOk result (length reader.new.words < length reader.old.words) }
 {
-    let word = next_word(reader)?;
-    if word.is_brace() {
-        return Err(word.fault(TextFaultKind::Unexpected));
-    }
+    let word = read_word(reader)?;
     match builder.kind_number(word.text) {
         Some(_) => Ok(word),
         None => Err(word.fault(TextFaultKind::UnknownType)),

@@ -10,8 +10,8 @@ ghost use Rattle.crush_text.specs.Grammar.{tunable_line};
 ghost use Rattle.crush_text.specs.Reads.{IsIdle, Gives, Reads, word_at, line_at};
 
 use crate::fault::{TextFault, TextFaultKind};
-use crate::reader::roles::read_number;
-use crate::reader::word::{PlacedWord, next_word};
+use crate::reader::roles::{read_number, read_word};
+use crate::reader::word::PlacedWord;
 use crush_bytes::Reader;
 use crush_map::MapBuilder;
 use crush_units::limits::LARGEST_TUNABLE;
@@ -51,10 +51,7 @@ fn read_name<'a, A: Allocator>(
         → has_tunable d.setting x.text.now ≡ false) }
     ensures shorter { OnOk result (length reader.new.words < length reader.old.words) }
 {
-    let word = next_word(reader)?;
-    if word.is_brace() {
-        return Err(word.fault(TextFaultKind::Unexpected));
-    }
+    let word = read_word(reader)?;
     if builder.has_tunable(word.text) {
         return Err(word.fault(TextFaultKind::DuplicateName));
     }

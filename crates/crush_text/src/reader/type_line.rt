@@ -11,6 +11,7 @@ ghost use Rattle.crush_text.specs.Grammar.{type_line};
 ghost use Rattle.crush_text.specs.Reads.{IsIdle, Gives, Reads, word_at, line_at};
 
 use crate::fault::{TextFault, TextFaultKind};
+use crate::reader::roles::read_word;
 use crate::reader::word::{PlacedWord, next_word};
 use crush_bytes::Reader;
 use crush_bytes::number::number_up_to;
@@ -52,10 +53,7 @@ fn read_type_number<A: Allocator>(
         → has_kind_number d.setting n ≡ false) }
     ensures shorter { OnOk result (length reader.new.words < length reader.old.words) }
 {
-    let word = next_word(reader)?;
-    if word.is_brace() {
-        return Err(word.fault(TextFaultKind::Unexpected));
-    }
+    let word = read_word(reader)?;
     let Some(number) = number_up_to(LAST_TYPE, word.text) else {
         return Err(word.fault(TextFaultKind::BadNumber));
     };

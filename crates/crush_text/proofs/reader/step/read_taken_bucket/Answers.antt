@@ -1,9 +1,10 @@
+use Rattle.std.proofs.Common.{refl}
 use Rattle.std.proofs.lemmas.Result.{err_from_is_err_and}
 use Rattle.crush_text.specs.Role.{taken_bucket}
-use Rattle.crush_text.proofs.LineEnds.{next_fails}
+use Rattle.crush_text.proofs.LineEnds.{operand_fails}
 use Rattle.crush_text.proofs.reader.step.read_taken_bucket.Goals as goal
 
 pub returns-in_err-word-clause-gives : goal.returns-in_err-word-clause-gives
 returns-in_err-word-clause-gives g c = λ d h.
     let p = err_from_is_err_and c.from_residual.result c.from_residual.ensures.1 in
-    rw (p.1, p.2) (next_fails d taken_bucket _ _ c.in_err-word.ensures.gives)
+    rw (p.1, p.2) (operand_fails d taken_bucket _ _ (λ w. (_, refl)) (c.in_err-word.ensures.gives d))
