@@ -25,7 +25,7 @@ pub fn copy_items<A: Allocator + Clone>(
                 let bucket: &Bucket<A> = bucket;
                 let header = copy_header(alloc, &bucket.header)?;
                 let below = copy_items(alloc, bucket.items.as_slice())?;
-                boxed(alloc, header, bucket.weight, below)?
+                bucket_of_parts(alloc, header, bucket.weight, below)?
             }
         };
         copies.push_reserved(copy);
@@ -34,7 +34,7 @@ pub fn copy_items<A: Allocator + Clone>(
 }
 
 /// A bucket of these parts.
-fn boxed<A: Allocator + Clone>(
+fn bucket_of_parts<A: Allocator + Clone>(
     alloc: &A,
     header: Header<A>,
     weight: Weight,
