@@ -1,12 +1,17 @@
 -- Copies, which are the same but for memory.
-use Rattle.std.proofs.Common.{◌≡◌, ℕ, ◌+◌, ◌<◌, List, [], ◌∷◌, ◌++◌, length, get_or, take, map, ap, sym, subst, ◌∙◌, refl}
+use Rattle.std.proofs.Common.{◌≡◌, ℕ, ◌+◌, ◌-◌, ◌<◌, Bool, true, false, List, [], ◌∷◌, ◌++◌, length, get_or, take, map, ap, sym, subst, ◌∙◌, refl, arith}
+use Rattle.std.specs.Prelude.{◌==◌, if◌then◌else◌}
 use Rattle.std.proofs.lemmas.List.{map-append, take_more}
-use Rattle.crush_table.specs.Items.{Items, none, device, bucket}
+use Rattle.crush_table.specs.Items.{HeaderData, Items, none, device, bucket}
 use Rattle.crush_table.specs.Forest.{ForestData, rows_of, IsSound, OnlyDevices, join}
 use Rattle.crush_table.specs.Stands.{Stands}
 use Rattle.crush_nodes.specs.Ops.{without_capacity}
+use Rattle.crush_nodes.specs.Room.{bucket_room, count, room}
 use Rattle.crush_nodes.specs.Seen.{items_of}
+use Rattle.crush_nodes.specs.declared.place.Place.{Place}
+use Rattle.crush_nodes.specs.declared.place.Place.TheVariants.{Bucket as AtBucket, Root, Unplaced}
 use Rattle.crush_nodes.specs.declared.node.Node.{Node}
+use Rattle.crush_nodes.proofs.LastLaws.{bucket_room-join}
 use Rattle.crush_nodes.proofs.Steps.{items_of-append, items_of-taken}
 use Rattle.crush_nodes.proofs.RoomLaws.{without_capacity-join}
 use Rattle.crush_nodes.proofs.RoomSteps.{rows_of-widened, sound-widened, stands-widened}
@@ -24,6 +29,25 @@ pub map-copied : {X Y : Type 0} (f : X → Y) (more ms ns : List X) (i : ℕ) (y
 map-copied f more ms ns i y x lt at written e same =
     ap (map f) written ∙ map-append f ms (y ∷ []) ∙ (λ k. e k ++ same k ∷ []) ∙ sym (map-append f (take i ns) (x ∷ []))
     ∙ sym (ap (map f) (take_more ns i x lt ∙ ap (λ z. take i ns ++ z ∷ []) (sym at)))
+
+-- a bucket has no room that has memory for its items alone, and nor have those below it
+full_room : (q : Bool) (m n : ℕ) → m ≡ n → (if q then m - n else 0) ≡ 0
+full_room true m n e = omega arith
+full_room false m n e = refl
+
+pub bucket_room-full : (b : ℕ) (h : HeaderData) (w m : ℕ) (k : Items) → m ≡ count k → bucket_room b k ≡ 0 → bucket_room b (bucket h w m k none) ≡ 0
+bucket_room-full b h w m k full below = omega (arith, full_room (h.id == b) m (count k) full, below)
+
+-- one item more, without room
+pub bucket_room-copied : {A : _} (b : ℕ) (more ms : List (Node A)) (y : Node A) → more ≡ ms ++ y ∷ [] → bucket_room b (items_of ms) ≡ 0 → bucket_room b (items_of (y ∷ [])) ≡ 0 → bucket_room b (items_of more) ≡ 0
+bucket_room-copied b more ms y written before one =
+    ap (λ z. bucket_room b (items_of z)) written ∙ ap (bucket_room b) (items_of-append ms (y ∷ [])) ∙ omega (arith, bucket_room-join b (items_of ms) (items_of (y ∷ [])), before, one)
+
+-- a forest has no room that has memory for its items alone
+pub room-full : (f : ForestData) → f.root_capacity ≡ count f.roots → f.unplaced_capacity ≡ count f.unplaced → ((b : ℕ) → bucket_room b f.roots ≡ 0) → ((b : ℕ) → bucket_room b f.unplaced ≡ 0) → (p : Place) → room f p ≡ 0
+room-full f roots unplaced below_roots below_unplaced (AtBucket b) = omega (arith, bucket_room-join b f.unplaced f.roots, below_roots b, below_unplaced b)
+room-full f roots unplaced below_roots below_unplaced Root = omega (arith, roots)
+room-full f roots unplaced below_roots below_unplaced Unplaced = omega (arith, unplaced)
 
 -- devices have no memory of their own
 without_capacity-devices : (t : Items) → OnlyDevices (without_capacity t) → without_capacity t ≡ t

@@ -1,21 +1,24 @@
 //! Copies of a forest.
 
-ghost use Rattle.std.specs.Prelude.{◌≡◌, ◌∷◌, [], map, IfOk, vec_capacity};
+ghost use Rattle.std.specs.Prelude.{◌≡◌, ℕ, ◌∷◌, [], map, IfOk, vec_capacity};
 ghost use Rattle.crush_table.specs.Items.{bucket, none};
 ghost use Rattle.crush_nodes.specs.Ops.{without_capacity};
+ghost use Rattle.crush_nodes.specs.Room.{bucket_room, count};
 ghost use Rattle.crush_nodes.specs.Seen.{shadow_data, header_data, items_of, leaf_data};
 
 use crate::node::{Bucket, Header, Leaf, Node, ShadowId};
 use crush_units::Weight;
 use std::alloc::{AllocError, Allocator};
 
-/// Copies items with all that is below them.
+/// Copies items with all that is below them, in memory for no more items than there are.
 pub fn copy_items<A: Allocator + Clone>(
     alloc: &A,
     items: &[Node<A>],
 ) -> Result<Vec<Node<A>, A>, AllocError>
-    ensures { IfOk result (λ copy. without_capacity (items_of copy.items)
+    ensures same { IfOk result (λ copy. without_capacity (items_of copy.items)
         ≡ without_capacity (items_of items.now)) }
+    ensures full { IfOk result (λ copy. vec_capacity copy ≡ count (items_of copy.items)) }
+    ensures rooms { IfOk result (λ copy. (b : ℕ) → bucket_room b (items_of copy.items) ≡ 0) }
 {
     let mut copies = Vec::with_capacity(alloc.clone()?, items.len())?;
     for node in items {
@@ -25,7 +28,7 @@ pub fn copy_items<A: Allocator + Clone>(
                 let bucket: &Bucket<A> = bucket;
                 let header = copy_header(alloc, &bucket.header)?;
                 let below = copy_items(alloc, bucket.items.as_slice())?;
-                boxed(alloc, header, bucket.weight, below)?
+                bucket_of_parts(alloc, header, bucket.weight, below)?
             }
         };
         copies.push_reserved(copy);
@@ -34,7 +37,7 @@ pub fn copy_items<A: Allocator + Clone>(
 }
 
 /// A bucket of these parts.
-fn boxed<A: Allocator + Clone>(
+fn bucket_of_parts<A: Allocator + Clone>(
     alloc: &A,
     header: Header<A>,
     weight: Weight,

@@ -48,12 +48,12 @@ fn is_formed_leaf<A: Allocator>(leaf: &Leaf<A>) -> bool
 {
     let _number = leaf.id.number();
     let _bytes = leaf.name.as_bytes();
-    is_class(&leaf.class);
+    recall_class(&leaf.class);
     leaf.weight.units() <= HEAVIEST_DEVICE
 }
 
-/// A class is a name.
-fn is_class<A: Allocator>(class: &Option<Name<A>>)
+/// A law of a class: it is a name.
+fn recall_class<A: Allocator>(class: &Option<Name<A>>)
     ensures { IfSome class.now IsName }
 {
     match class {
@@ -75,7 +75,7 @@ fn is_formed<A: Allocator>(header: &Header<A>) -> bool
         return false;
     }
     let class_ids = header.class_ids.as_slice();
-    shadow_ids_in_form(class_ids);
+    recall_shadow_ids(class_ids);
     if class_ids.len() > MOST_CLASS_IDS {
         return false;
     }
@@ -103,16 +103,16 @@ fn has_class_of<A: Allocator>(class_ids: &[ShadowId<A>], class_id: &ShadowId<A>)
 }
 
 /// A law of class ids: each has an id below 0 and a class that is a name.
-fn shadow_ids_in_form<A: Allocator>(class_ids: &[ShadowId<A>])
+fn recall_shadow_ids<A: Allocator>(class_ids: &[ShadowId<A>])
     ensures { All IsShadowId (map shadow_data class_ids.now) }
 {
     for class_id in class_ids {
-        shadow_id_in_form(class_id);
+        recall_shadow_id(class_id);
     }
 }
 
-/// The law of one.
-fn shadow_id_in_form<A: Allocator>(class_id: &ShadowId<A>)
+/// The law of one class id.
+fn recall_shadow_id<A: Allocator>(class_id: &ShadowId<A>)
     ensures { IsShadowId (shadow_data class_id.now) }
 {
     let _distance = class_id.id.distance();

@@ -1,5 +1,5 @@
 -- A bucket without items, taken out.
-use Rattle.std.proofs.Common.{◌≡◌, ℕ, zero, suc, Bool, true, false, List, [], ◌∷◌, length, ap, sym, subst, ◌∙◌, refl, arith, ⊎_elim}
+use Rattle.std.proofs.Common.{◌≡◌, ℕ, zero, suc, ◌≤◌, Bool, true, false, List, [], ◌∷◌, length, ap, sym, subst, ◌∙◌, refl, arith, ⊎_elim}
 use Rattle.std.specs.Prelude.{◌||◌, not, if◌then◌else◌, Option, Some, None, map, filter, is_some, option_and_then}
 use Rattle.std.specs.List.{sum_by}
 use Rattle.std.proofs.lemmas.List.Sums.{sum_by-cons}
@@ -10,8 +10,10 @@ use Rattle.crush_units.specs.Id.{same_id}
 use Rattle.crush_units.proofs.Ids.{same_id_tells}
 use Rattle.crush_table.specs.Table.{Row, is_device_id, row_of, parent_of, then_up, climb, above, member, is_below, is_parent, kids, sum_below, summed_weight, total}
 use Rattle.crush_table.specs.Lawful.{Lawful}
-use Rattle.crush_table.specs.Columns.{is_part, table_without, without_row}
+use Rattle.crush_table.specs.Columns.{is_part, table_without, as_root, part, without_row}
+use Rattle.crush_table.specs.Count.{one_if}
 use Rattle.crush_table.proofs.Climbs.{climb-above}
+use Rattle.crush_table.proofs.Found.{times, times-cons}
 use Rattle.crush_table.proofs.Removed.{parent_of-only, Lawful-without, length-filter_le}
 use Rattle.crush_table.proofs.Sums.{added_weight}
 
@@ -49,6 +51,38 @@ table_without-empty t b h = filter_agree (λ (r : Row). not (is_part t (Bucket b
 -- and a device's
 pub table_without-device : (t : List Row) (d : ℕ) → table_without (Device d) t ≡ without_row (Device d) t
 table_without-device t d = filter_agree (λ (r : Row). not (is_part t (Device d) r.id)) (λ (r : Row). not (same_id r.id (Device d))) (λ r. ap not (or_none (same_id r.id (Device d)) false refl)) t
+
+-- the rows of an id that is there once are its row
+no_rows : (t : List Row) (i : ItemId) → times i t ≡ 0 → filter (λ (x : Row). same_id x.id i) t ≡ []
+no_rows [] i h = refl
+no_rows (x ∷ t) i h = ⊎_elim
+    (λ p. absurd (let one : one_if (same_id x.id i) ≡ 1 = ap one_if p.0 in omega (arith, one, h, times-cons i x t)))
+    (λ p. ap (λ z. if z then x ∷ filter (λ (y : Row). same_id y.id i) t else filter (λ (y : Row). same_id y.id i) t) p.0 ∙ no_rows t i (omega (arith, h, times-cons i x t)))
+    (same_id_tells x.id i)
+
+own_row : (t : List Row) (i : ItemId) (r : Row) → times i t ≤ 1 → row_of t i ≡ Some r → map (as_root i) (filter (λ (x : Row). same_id x.id i) t) ≡ record r { parent = None } ∷ []
+own_row [] i r h e = absurd cc
+own_row (x ∷ t) i r h e = ⊎_elim
+    (λ p. let one : one_if (same_id x.id i) ≡ 1 = ap one_if p.0 in
+    let found : Some x ≡ Some r = sym (ap (λ z. if z then Some x else row_of t i) p.0) ∙ e in
+    let is : x ≡ r = cc in
+    ap (λ z. map (as_root i) (if z then x ∷ filter (λ (y : Row). same_id y.id i) t else filter (λ (y : Row). same_id y.id i) t)) p.0
+    ∙ ap (λ ys. as_root i x ∷ map (as_root i) ys) (no_rows t i (omega (arith, one, h, times-cons i x t)))
+    ∙ ap (λ z. (if z then record x { parent = None } else x) ∷ []) p.0 ∙ ap (λ (y : Row). record y { parent = None } ∷ []) is)
+    (λ p. ap (λ z. map (as_root i) (if z then x ∷ filter (λ (y : Row). same_id y.id i) t else filter (λ (y : Row). same_id y.id i) t)) p.0
+    ∙ own_row t i r (omega (arith, h, times-cons i x t)) (sym (ap (λ z. if z then Some x else row_of t i) p.0) ∙ e))
+    (same_id_tells x.id i)
+
+-- THE LAW: its row alone is what is taken out, and so is a device's
+pub part-empty : (t : List Row) (b : ℕ) (r : Row) → Lawful t → kids t b ≡ [] → row_of t (Bucket b) ≡ Some r → part (Bucket b) t ≡ record r { parent = None } ∷ []
+part-empty t b r l h e =
+    ap (map (as_root (Bucket b))) (filter_agree (λ (x : Row). is_part t (Bucket b) x.id) (λ (x : Row). same_id x.id (Bucket b)) (λ x. or_none (same_id x.id (Bucket b)) (is_below t b x.id) (nothing_below t b h x.id)) t)
+    ∙ own_row t (Bucket b) r (l.ids (Bucket b)) e
+
+pub part-device : (t : List Row) (d : ℕ) (r : Row) → Lawful t → row_of t (Device d) ≡ Some r → part (Device d) t ≡ record r { parent = None } ∷ []
+part-device t d r l e =
+    ap (map (as_root (Device d))) (filter_agree (λ (x : Row). is_part t (Device d) x.id) (λ (x : Row). same_id x.id (Device d)) (λ x. or_none (same_id x.id (Device d)) false refl) t)
+    ∙ own_row t (Device d) r (l.ids (Device d)) e
 
 -- a bucket's row adds nothing, so a sum over the others is the sum
 adds_nothing : (r : Row) (b : ℕ) → r.id ≡ Bucket b → summed_weight r ≡ 0

@@ -1,4 +1,4 @@
--- Tables of up to 4,096 full buckets, lawful but for their total: with one too many they break that condition alone.
+-- Tables of up to 4,096 buckets, lawful but for their total: with all of them it is one unit out of range, and they break that condition alone.
 use Rattle.std.proofs.Common.{◌≡◌, ℕ, zero, suc, ◌+◌, ◌*◌, ◌≤◌, ◌<◌, Bool, true, false, List, [], ◌∷◌, ◌++◌, ap, subst, ◌∙◌, refl, arith, ⊎_elim}
 use Rattle.std.specs.Prelude.{Some, None, replicate, nat_lt, nat_le, not, ◌==◌, ◌||◌, ◌&&◌, map, bytes_eq, is_some, if◌then◌else◌}
 use Rattle.std.specs.List.{list_any, list_all, sum_by}
@@ -7,7 +7,7 @@ use Rattle.std.proofs.lemmas.Bool.Decides.{eqb_tells}
 use Rattle.std.proofs.lemmas.List.Sums.{sum_by-cons}
 use Rattle.crush_units.specs.declared.alg.Alg.TheVariants.{Straw2}
 use Rattle.crush_units.specs.declared.id.ItemId.TheVariants.{Device, Bucket}
-use Rattle.crush_units.specs.declared.limits.TheConstants.{DEVICE_IDS, FARTHEST_BUCKET_ID, HEAVIEST_BUCKET, HEAVIEST_DEVICE, MOST_BUCKETS, MOST_DEVICES}
+use Rattle.crush_units.specs.declared.limits.TheConstants.{DEVICE_IDS, FARTHEST_BUCKET_ID, HEAVIEST_BUCKET, MOST_BUCKETS, MOST_DEVICES}
 use Rattle.crush_units.specs.Id.{same_id}
 use Rattle.crush_units.proofs.Ids.{same_id_equal, same_id_refl}
 use Rattle.crush_table.specs.Items.{LeafData, HeaderData, Items, none, device, bucket}
@@ -24,15 +24,15 @@ use Rattle.crush_table.proofs.Numbered.{numbered, are_apart-numbered, letters, i
 use Rattle.crush_table.proofs.TooMany.{numbers_differ, root_or_rest, nothing_above}
 use Rattle.crush_table.proofs.Unlawful.{all_but}
 
--- a root of two of the heaviest devices: its sum is in range
+-- a root of two devices of 1073741824 units: 4,096 such roots weigh one unit more than a map may
 abbrev root : ℕ → HeaderData
 root n = record { id = suc n; kind = 1; name = 97 ∷ letters n; alg = Straw2; class_ids = [] }
 
 abbrev left : ℕ → LeafData
-left n = record { id = n + n; name = 98 ∷ letters n; weight = HEAVIEST_DEVICE; class = None }
+left n = record { id = n + n; name = 98 ∷ letters n; weight = 1073741824; class = None }
 
 abbrev right : ℕ → LeafData
-right n = record { id = suc (n + n); name = 99 ∷ letters n; weight = HEAVIEST_DEVICE; class = None }
+right n = record { id = suc (n + n); name = 99 ∷ letters n; weight = 1073741824; class = None }
 
 -- n such roots, and their rows
 unfoldable pub roots : ℕ → Items
@@ -141,14 +141,14 @@ unfolding roots
 nothing_in_another zero b h = refl
 nothing_in_another (suc n) b h =
     let other : (suc n == b) ≡ false = ne_eqb (suc n) b (λ e. omega (arith, e)) in
-    λ i. (if other i then 4294967294 else 0) + nothing_in_another n b (omega arith) i
+    λ i. (if other i then 2147483648 else 0) + nothing_in_another n b (omega arith) i
 
-two_devices_at_most : (n b : ℕ) → below b (roots n) ≤ 4294967294
+two_devices_at_most : (n b : ℕ) → below b (roots n) ≤ 2147483648
 unfolding roots
 two_devices_at_most zero b = omega arith
 two_devices_at_most (suc n) b = ⊎_elim
-    (λ p. let both : ◌≡◌ {A = ℕ} (if suc n == b then 4294967294 else 0) 4294967294 = ap (λ z. if z then 4294967294 else 0) p.0 in omega (arith, both, nothing_in_another n b (omega (arith, p.1))))
-    (λ p. let neither : ◌≡◌ {A = ℕ} (if suc n == b then 4294967294 else 0) 0 = ap (λ z. if z then 4294967294 else 0) p.0 in omega (arith, neither, two_devices_at_most n b))
+    (λ p. let both : ◌≡◌ {A = ℕ} (if suc n == b then 2147483648 else 0) 2147483648 = ap (λ z. if z then 2147483648 else 0) p.0 in omega (arith, both, nothing_in_another n b (omega (arith, p.1))))
+    (λ p. let neither : ◌≡◌ {A = ℕ} (if suc n == b then 2147483648 else 0) 0 = ap (λ z. if z then 2147483648 else 0) p.0 in omega (arith, neither, two_devices_at_most n b))
     (eqb_tells (suc n) b)
 
 sums_in_range : (n b : ℕ) → sum_below (heavy_rows n) b ≤ HEAVIEST_BUCKET
@@ -166,10 +166,11 @@ rows_add f w v p q r (suc n) =
       one_more : (n x : ℕ) → x + n * x ≡ suc n * x
       one_more n x = omega arith
 
-total_is_over : (n : ℕ) → is_too_heavy (heavy_rows n) ≡ nat_lt 8796093022207 (n * 4294967294)
-total_is_over n =
-    let all : total (heavy_rows n) ≡ n * 4294967294 = rows_add (λ r. if is_some r.parent then summed_weight r else 0) 0 2147483647 (λ k. refl) (λ k. refl) (λ k. refl) n in
-    λ i. none_over (heavy_rows n) (sums_in_range n) (heavy_rows n) i || nat_lt 8796093022207 (all i)
+total_weighs : (n : ℕ) → total (heavy_rows n) ≡ n * 2147483648
+total_weighs = rows_add (λ r. if is_some r.parent then summed_weight r else 0) 0 1073741824 (λ k. refl) (λ k. refl) (λ k. refl)
+
+total_is_over : (n : ℕ) → is_too_heavy (heavy_rows n) ≡ nat_lt 8796093022207 (n * 2147483648)
+total_is_over n = λ i. none_over (heavy_rows n) (sums_in_range n) (heavy_rows n) i || nat_lt 8796093022207 (total_weighs n i)
 
 rows_have_room : (n : ℕ) → n ≤ 4096 → has_too_many (heavy_rows n) ≡ false
 rows_have_room n h =
@@ -178,18 +179,21 @@ rows_have_room n h =
     λ i. le-ltb MOST_DEVICES (device_count (heavy_rows n)) (omega (arith, devices)) i || le-ltb MOST_BUCKETS (bucket_count (heavy_rows n)) (omega (arith, buckets)) i
 
 -- each test but that of sums and total holds, and of these it is the total that fails
-many_roots : (n : ℕ) → n ≤ 4096 → table_tests (heavy_rows n) ≡ replicate 6 true ++ not (nat_lt 8796093022207 (n * 4294967294)) ∷ (true ∷ [])
+many_roots : (n : ℕ) → n ≤ 4096 → table_tests (heavy_rows n) ≡ replicate 6 true ++ not (nat_lt 8796093022207 (n * 2147483648)) ∷ (true ∷ [])
 many_roots n h =
     let used : are_apart (λ a b. a == b) (used_ids (heavy_rows n)) ≡ true =
     ap (are_apart (λ a b. a == b)) (roots_use_ids n) ∙ are_apart-numbered suc (λ a b. a == b) n (λ m k l e. numbers_differ (suc m) (suc k) (omega arith)) in
     λ i. ids_apart n i ∷ (names_apart n (omega arith) i ∷ (used i ∷ (all_are_rows n (omega arith) i ∷ (parents_are_there n n (omega arith) i ∷ (not (no_loops n n i) ∷ (not (total_is_over n i) ∷ (not (rows_have_room n h i) ∷ [])))))))
 
--- 2,048 such roots are no total out of range, one more are, and no sum is
-heavy_total : table_tests (heavy_rows 2048) ≡ replicate 8 true
-heavy_total = many_roots 2048 (omega arith)
+-- 4,095 such roots are no total out of range, one more are, by one unit, and no sum is
+heavy_total : table_tests (heavy_rows 4095) ≡ replicate 8 true
+heavy_total = many_roots 4095 (omega arith)
 
-total_too_heavy : table_tests (heavy_rows 2049) ≡ all_but 6 1
-total_too_heavy = many_roots 2049 (omega arith)
+total_too_heavy : table_tests (heavy_rows 4096) ≡ all_but 6 1
+total_too_heavy = many_roots 4096 (omega arith)
 
-no_sum_too_heavy : list_any (λ (r : Row). is_over (heavy_rows 2049) r.id) (heavy_rows 2049) ≡ false
-no_sum_too_heavy = none_over (heavy_rows 2049) (sums_in_range 2049) (heavy_rows 2049)
+one_unit_too_heavy : total (heavy_rows 4096) ≡ 8796093022208
+one_unit_too_heavy = total_weighs 4096
+
+no_sum_too_heavy : list_any (λ (r : Row). is_over (heavy_rows 4096) r.id) (heavy_rows 4096) ≡ false
+no_sum_too_heavy = none_over (heavy_rows 4096) (sums_in_range 4096) (heavy_rows 4096)

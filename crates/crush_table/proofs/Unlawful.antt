@@ -1,5 +1,4 @@
--- Tables and rows that break one condition of a lawful table alone, computed: for total see TooHeavy, for counts TooMany. That a parent is a device can't be
--- written: a row's parent is the number of a bucket.
+-- Tables and rows that break one condition of a lawful table alone, computed: for total see TooHeavy, for counts TooMany.
 use Rattle.std.proofs.Common.{◌≡◌, ℕ, zero, suc, Bool, true, false, List, [], ◌∷◌, ◌++◌, refl}
 use Rattle.std.specs.Prelude.{Option, Some, None, codes, replicate, nat_lt}
 use Rattle.crush_units.specs.declared.alg.Alg.TheVariants.{Straw2}
@@ -45,6 +44,13 @@ bad_name = refl
 
 absent_parent : table_tests (disk 0 (codes "a") (Some 9) 1 ∷ []) ≡ all_but 4 3
 absent_parent = refl
+
+-- a row's parent is the number of a bucket, so no device can be one, be it another or the row's own
+parent_is_a_device : table_tests (disk 1 (codes "a") None 0 ∷ (disk 2 (codes "b") (Some 1) 1 ∷ [])) ≡ all_but 4 3
+parent_is_a_device = refl
+
+parent_of_own_number : table_tests (disk 1 (codes "a") (Some 1) 1 ∷ []) ≡ all_but 4 3
+parent_of_own_number = refl
 
 below_itself : table_tests (box 1 (codes "r") (Some 2) [] ∷ (box 2 (codes "s") (Some 1) [] ∷ [])) ≡ all_but 5 2
 below_itself = refl
@@ -115,6 +121,9 @@ class_ids_of_a_device = refl
 bad_class : device_tests 0 (record (disk 0 (codes "a") (Some 1) 1) { class = Some [] }) ≡ all_but 6 0
 bad_class = refl
 
+spaced_class : device_tests 0 (record (disk 0 (codes "a") (Some 1) 1) { class = Some (codes "a b") }) ≡ all_but 6 0
+spaced_class = refl
+
 -- A BUCKET'S ROW: id from 1, to the last, type from 1, to the last, no weight, no class, an algorithm, class ids, not too many, of
 -- distinct classes
 
@@ -144,6 +153,15 @@ no_alg = refl
 
 class_id_zero : bucket_tests 1 (box 1 (codes "r") None (ssd 0 ∷ [])) ≡ all_but 7 2
 class_id_zero = refl
+
+last_class_id : bucket_tests 1 (box 1 (codes "r") None (ssd 2147483648 ∷ [])) ≡ replicate 10 true
+last_class_id = refl
+
+class_id_past_the_last : bucket_tests 1 (box 1 (codes "r") None (ssd 2147483649 ∷ [])) ≡ all_but 7 2
+class_id_past_the_last = refl
+
+class_of_a_class_id : bucket_tests 1 (box 1 (codes "r") None (record { id = 3; class = codes "a b" } ∷ [])) ≡ all_but 7 2
+class_of_a_class_id = refl
 
 class_twice : bucket_tests 1 (box 1 (codes "r") None (ssd 3 ∷ (ssd 4 ∷ []))) ≡ all_but 9 0
 class_twice = refl

@@ -35,8 +35,7 @@ RelocatesDevice t = (p : Option ℕ) (d : LeafData) (w : ℕ) (r : Row)
     → Same (table_without (Device d.id) t ++ rows p (device (record d { weight = w }) none))
     (without_row (Device d.id) t ++ record r { parent = p; weight = w } ∷ [])
 
--- a bucket without items is one row, as a device is, and without it each sum and the total are as
--- before
+-- a bucket without items is one row, as a device is: that row leaves where it is taken out
 abbrev pub EmptyIsRow : Type 0
 EmptyIsRow = (t : List Row) (b : ℕ) → kids t b ≡ []
     → table_without (Bucket b) t ≡ without_row (Bucket b) t
@@ -44,6 +43,16 @@ EmptyIsRow = (t : List Row) (b : ℕ) → kids t b ≡ []
 abbrev pub DeviceIsRow : Type 0
 DeviceIsRow = (t : List Row) (d : ℕ) → table_without (Device d) t ≡ without_row (Device d) t
 
+-- and is all that is taken out, as a root
+abbrev pub EmptyPartIsRow : Type 0
+EmptyPartIsRow = (t : List Row) (b : ℕ) (r : Row) → Lawful t → kids t b ≡ []
+    → row_of t (Bucket b) ≡ Some r → part (Bucket b) t ≡ record r { parent = None } ∷ []
+
+abbrev pub DevicePartIsRow : Type 0
+DevicePartIsRow = (t : List Row) (d : ℕ) (r : Row) → Lawful t → row_of t (Device d) ≡ Some r
+    → part (Device d) t ≡ record r { parent = None } ∷ []
+
+-- without it each sum and the total are as before
 abbrev pub EmptyKeepsSums : Type 0
 EmptyKeepsSums = (t : List Row) (b : ℕ) → Lawful t → kids t b ≡ []
     → ((c : ℕ) → sum_below (table_without (Bucket b) t) c ≡ sum_below t c)

@@ -5,7 +5,7 @@ ghost use Rattle.crush_units.specs.declared.id.ItemId.{ItemId};
 ghost use Rattle.crush_table.specs.Columns.{set_weight, set_subtree, set_name, table_without, part, without_row, exchange_parents, swap_buckets};
 ghost use Rattle.crush_table.specs.KeepsLaw.{KeepsLawful, WeightKeepsLawful, SubtreeKeepsLawful, NameKeepsLawful, MoveKeepsLawful, SwapKeepsLawful, DeviceKeepsLawful, BucketKeepsLawful, RowsKeepLawful, PartKeepsLawful, PlacedRowKeepsForm, PlacedDeviceKeepsForm};
 ghost use Rattle.crush_table.specs.Law.{SumsItems, ClimbEnds, SameIsAlike, KeepsSame, StandsForOne, FreeIdsAreFree, FewIdsAreUsed, HeavyIsAlike, RoomIsAlike, AddsRows};
-ghost use Rattle.crush_table.specs.MoveLaw.{Relocates, RelocatesDevice, EmptyIsRow, DeviceIsRow, EmptyKeepsSums};
+ghost use Rattle.crush_table.specs.MoveLaw.{Relocates, RelocatesDevice, EmptyIsRow, DeviceIsRow, EmptyPartIsRow, DevicePartIsRow, EmptyKeepsSums};
 ghost use Rattle.crush_table.specs.Lawful.{Lawful};
 ghost use Rattle.crush_table.specs.Forest.{ForestData};
 ghost use Rattle.crush_table.specs.Table.{Row};
@@ -91,10 +91,13 @@ pub fn tests_are_alike()
     ensures room { RoomIsAlike }
 {}
 
-/// A bucket without items is its one row, as a device is, and weighs nothing.
+/// A bucket without items is its one row, as a device is, and weighs nothing: that row leaves where
+/// it is taken out, and is what is taken out.
 pub fn empty_bucket_is_one_row()
     ensures bucket { EmptyIsRow }
     ensures device { DeviceIsRow }
+    ensures bucket_part { EmptyPartIsRow }
+    ensures device_part { DevicePartIsRow }
     ensures sums { EmptyKeepsSums }
 {}
 

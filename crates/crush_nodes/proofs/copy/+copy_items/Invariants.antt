@@ -1,7 +1,8 @@
-use Rattle.std.proofs.Common.{◌≡◌, length, take}
+use Rattle.std.proofs.Common.{◌≡◌, ℕ, length, take}
 use Rattle.std.specs.Prelude.{vec_len, vec_capacity}
 use Rattle.crush_table.specs.Items.{size_of}
 use Rattle.crush_nodes.specs.Ops.{without_capacity}
+use Rattle.crush_nodes.specs.Room.{bucket_room}
 use Rattle.crush_nodes.specs.Seen.{items_of}
 use Rattle.crush_nodes.proofs.copy.+copy_items.Given as goal
 
@@ -13,4 +14,5 @@ invariant-loop-node g l = record {
   room : vec_capacity l.copies ≡ length l.items;
   count : vec_len l.copies ≡ l.node-index;
   same : without_capacity (items_of l.copies.items) ≡ without_capacity (items_of (take l.node-index l.items));
+  rooms : (b : ℕ) → bucket_room b (items_of l.copies.items) ≡ 0;
 }

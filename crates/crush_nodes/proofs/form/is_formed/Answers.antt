@@ -58,5 +58,5 @@ returns-clause-typed g c = holds_anyway c.have_distinct_classes.result (record {
   most = omega (arith, c.distance-distance.ensures.range);
   kind = omega (arith, c.number.ensures.range);
   name = c.as_bytes-bytes.ensures.name;
-  class_ids = subst (λ zs. All IsShadowId (map shadow_data zs)) c.as_slice-class_ids.ensures.value c.shadow_ids_in_form.ensures;
+  class_ids = subst (λ zs. All IsShadowId (map shadow_data zs)) c.as_slice-class_ids.ensures.value c.recall_shadow_ids.ensures;
 })
