@@ -1,5 +1,7 @@
 -- The run of a job: what its contract says, on one page.
-use Rattle.std.specs.Prelude.{◌≡◌, ℕ, Option, IfSome, List, Bool, false, if◌then◌else◌, length}
+use Rattle.std.specs.Prelude.{◌≡◌, ◌≤◌, ◌+◌, ℕ, Option, IfSome, List, Bool, false, if◌then◌else◌, length}
+use Rattle.std.specs.Io.KnownBytes.{Consumes}
+use Rattle.crush_units.specs.declared.limits.TheConstants.{LONGEST_JOB}
 use Rattle.crush_print.specs.MapText.{map_text}
 use Rattle.crush_calls.specs.History.{EntryData, table_after, changes, turns}
 use Rattle.crush_script.specs.JobText.{job_text}
@@ -24,6 +26,10 @@ output history job =
 -- SUMMARY: the written weights that were replaced, the calls, and those that changed the map
 abbrev pub summary_of : JobData → Summary
 summary_of job = record { adjusted = job.adjusted; calls = length (history_of job); changes = changes (history_of job) }
+
+-- TAKEN: of the reader's bytes no more are taken than the longest job has and one more, its first
+abbrev pub TakesFew : Option (List ℕ) → Option (List ℕ) → Type 0
+TakesFew old new = (front : List ℕ) × (length front ≤ LONGEST_JOB + 1) × Consumes old new front
 
 -- a fault of the job is one of the bytes, and never want of memory, also not as a fault of its text
 abbrev pub IsRefusal : Option (List ℕ) → JobFault → Type 0
