@@ -1,5 +1,5 @@
 -- What the words of a command line ask for.
-use Rattle.std.specs.Prelude.{◌≡◌, ◌≢◌, ◌⊎◌, ℕ, Bool, true, false, not, List, [], Option, Some, codes, option_map}
+use Rattle.std.specs.Prelude.{◌≡◌, ◌≢◌, ◌⊎◌, ℕ, Bool, true, false, not, List, [], Option, Some, None, codes, option_map}
 use Rattle.clap.specs.declared.builder.action.ArgAction.TheVariants.{Set, SetTrue}
 use Rattle.clap.specs.declared.error.kind.ErrorKind.{ErrorKind}
 use Rattle.clap.specs.declared.error.kind.ErrorKind.TheVariants.{DisplayHelp, DisplayVersion, OutOfMemory}
@@ -24,10 +24,11 @@ named = record (new_app (codes "crushedit")) { top = record (new_app (codes "cru
 abbrev pub program : App
 program = with_rule (with_rule (with_rule named (flag (codes "in-turn"))) (flag (codes "no-history"))) file
 
--- a flag is set where the words have it, and else not
+-- a flag is set where the words have it, and else not, also where nothing tells of it
 pub record IsFlag (text : Option Text) (flag : Bool) : Type 0 where
   pub given : text ≡ Some (codes "true") → flag ≡ true
   pub absent : text ≡ Some (codes "false") → flag ≡ false
+  pub none : text ≡ None → flag ≡ false
 
 -- the options are those that the words ask for, and nothing is wrong with the words
 pub record IsAsked (words : List Text) (options : Options) : Type 0 where

@@ -1,5 +1,6 @@
 -- What is told of a command line that asks for no run, and the status.
-use Rattle.std.specs.Prelude.{◌≡◌, ◌⊎◌, ℕ, List, []}
+use Rattle.std.specs.Prelude.{◌≡◌, ◌⊎◌, ℕ, List, [], Option}
+use Rattle.std.specs.Io.KnownBytes.{Appends, Keeps}
 use Rattle.crush_options.specs.declared.asked.OptionsFault.{OptionsFault}
 use Rattle.crush_options.specs.declared.asked.OptionsFault.TheVariants.{Help, Refused, Memory}
 use Rattle.crush_report.specs.Report.{run_fault}
@@ -22,3 +23,8 @@ abbrev pub options_error : OptionsFault → List ℕ
 options_error (Help text) = run_fault run.Write
 options_error (Refused text) = text.bytes.items
 options_error Memory = run_fault run.Memory
+
+-- help that ends with status 0 stands on standard output as a whole, and nothing on standard error
+abbrev pub IsHelpWhole : OptionsFault → ℕ → Option (List ℕ) → Option (List ℕ) → Option (List ℕ) → Option (List ℕ) → Type 0
+IsHelpWhole (Help text) status out new_out err new_err = status ≡ 0 → Appends out new_out text.bytes.items × Keeps err new_err
+IsHelpWhole fault status out new_out err new_err = Unit {0}

@@ -4,6 +4,7 @@ use Rattle.crush_text.specs.declared.fault.TextFault.{TextFault}
 use Rattle.crush_text.specs.Fault.{fault_name}
 use Rattle.crush_script.specs.declared.fault.JobFault.{JobFault}
 use Rattle.crush_script.specs.declared.fault.JobFault.TheVariants.{BadLine, NoSuchCommand, OpenBatch, TooManyOperators, DuplicateOperator, Text, OutOfMemory, TooLong, TooManyCalls}
+use Rattle.crush_report.specs.Faults.{lacks_memory}
 use Rattle.crush_report.specs.declared.fault.RunFault.{RunFault}
 use Rattle.crush_report.specs.declared.fault.RunFault.TheVariants as run
 use Rattle.crush_report.specs.declared.summary.Summary.{Summary}
@@ -38,7 +39,7 @@ job_fault OutOfMemory = out_of_memory
 
 -- a run that was not done
 abbrev pub run_fault : RunFault → List ℕ
-run_fault (run.Job f) = job_fault f
+run_fault (run.Job f) = if lacks_memory f then out_of_memory else job_fault f
 run_fault run.Read = codes "crushedit: read fault\n"
 run_fault run.Write = codes "crushedit: write fault\n"
 run_fault run.Memory = out_of_memory
@@ -48,19 +49,8 @@ abbrev pub report_line : Result Summary RunFault → List ℕ
 report_line (Ok s) = if s.adjusted == 0 then [] else adjusted_line s.adjusted
 report_line (Err f) = run_fault f
 
-abbrev pub job_status : JobFault → ℕ
-job_status (BadLine number) = 1
-job_status (NoSuchCommand number) = 1
-job_status (OpenBatch number) = 1
-job_status (TooManyOperators number) = 1
-job_status (DuplicateOperator number) = 1
-job_status (TooManyCalls number) = 1
-job_status (Text f) = 1
-job_status TooLong = 1
-job_status OutOfMemory = 4
-
 abbrev pub fault_status : RunFault → ℕ
-fault_status (run.Job f) = job_status f
+fault_status (run.Job f) = if lacks_memory f then 4 else 1
 fault_status run.Read = 3
 fault_status run.Write = 3
 fault_status run.Memory = 4

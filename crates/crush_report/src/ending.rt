@@ -2,10 +2,10 @@
 
 ghost use Rattle.std.specs.Prelude.{◌≡◌};
 ghost use Rattle.crush_bytes.specs.Writes.{Writes, AppendsFront};
-ghost use Rattle.crush_report.specs.OptionsReport.{IsOptionsStatus, options_error, options_output};
+ghost use Rattle.crush_report.specs.OptionsReport.{IsHelpWhole, IsOptionsStatus, options_error, options_output};
 ghost use Rattle.crush_report.specs.Report.{adjusted_line, line_fault, text_fault, job_fault, run_fault, report_line, status};
 
-use crate::fault::RunFault;
+use crate::fault::{RunFault, lacks_memory};
 use crate::summary::Summary;
 use crush_bytes::{WriteFault, put, put_all};
 use crush_options::OptionsFault;
@@ -77,6 +77,7 @@ fn write_run_fault<E: Write>(fault: RunFault, err: &mut E) -> Result<(), WriteFa
     ensures { Writes result (E.contents err.old) (E.contents err.new) (run_fault fault) }
 {
     match fault {
+        RunFault::Job(fault) if lacks_memory(fault) => put(err, OUT_OF_MEMORY),
         RunFault::Job(fault) => write_job_fault(fault, err),
         RunFault::Read => put(err, b"crushedit: read fault\n"),
         RunFault::Write => put(err, b"crushedit: write fault\n"),
@@ -134,21 +135,24 @@ pub fn report<E: Write>(outcome: &Result<Summary, RunFault>, err: &mut E) -> u8
     let _ = write_report(outcome, err);
     match outcome {
         Ok(_) => 0,
-        Err(RunFault::Memory | RunFault::Job(JobFault::OutOfMemory)) => 4,
+        Err(RunFault::Memory) => 4,
+        Err(RunFault::Job(fault)) if lacks_memory(*fault) => 4,
         Err(RunFault::Job(_)) => 1,
         Err(RunFault::Read | RunFault::Write) => 3,
     }
 }
 
 /// Writes the text of a command line that asks for no run, and answers the status: of help, on
-/// standard output, 0 (or 3 where it can't be written), of a refusal, on standard error, 2, and
-/// 4 where there was no memory.
+/// standard output, 0 where all of it stands there and else 3; of a refusal, on standard error,
+/// 2; and 4 where there was no memory.
 pub fn tell<W: Write, E: Write>(fault: &OptionsFault, out: &mut W, err: &mut E) -> u8
     ensures status { IsOptionsStatus fault.now result }
     ensures out { AppendsFront (W.contents out.old) (W.contents out.new)
         (options_output fault.now) }
     ensures line { AppendsFront (E.contents err.old) (E.contents err.new)
         (options_error fault.now) }
+    ensures whole { IsHelpWhole fault.now result (W.contents out.old) (W.contents out.new)
+        (E.contents err.old) (E.contents err.new) }
 {
     match fault {
         OptionsFault::Help(text) => match put(out, text.as_bytes()) {

@@ -1,9 +1,11 @@
 //! Why a run was not done.
 
 ghost use Rattle.std.specs.Prelude.{◌≡◌};
+ghost use Rattle.crush_report.specs.Faults.{lacks_memory};
 
 use crush_bytes::WriteFault;
 use crush_script::JobFault;
+use crush_text::TextFaultKind;
 use std::alloc::{AllocError, AllocFailed};
 use thiserror::Error;
 
@@ -23,6 +25,17 @@ pub enum RunFault {
     /// A growth was refused. Nothing was written.
     #[error("out of memory")]
     Memory,
+}
+
+/// Whether the fault is want of memory, of the job or of its text.
+pub(crate) fn lacks_memory(fault: JobFault) -> bool
+    ensures { result ≡ lacks_memory fault }
+{
+    match fault {
+        JobFault::OutOfMemory => true,
+        JobFault::Text(fault) => matches!(fault.kind, TextFaultKind::OutOfMemory),
+        _ => false,
+    }
 }
 
 impl<T: Drop> From<AllocFailed<T>> for RunFault {
@@ -54,10 +67,10 @@ impl From<JobFault> for RunFault {
     ghost from_gives = { λ fault made. made ≡ of_job fault };
 
     fn from(fault: JobFault) -> RunFault {
-        match fault {
-            JobFault::OutOfMemory => RunFault::Memory,
-            other => RunFault::Job(other),
+        if lacks_memory(fault) {
+            return RunFault::Memory;
         }
+        RunFault::Job(fault)
     }
 }
 

@@ -1,5 +1,5 @@
 -- What is known of the bytes of a job is known of all that the reader gave.
-use Rattle.std.proofs.Common.{◌≡◌, ℕ, ◌≤◌, List, [], Option, Some, None, Result, Ok, Err, length, take, refl, sym, ap, subst, ◌∙◌, arith}
+use Rattle.std.proofs.Common.{◌≡◌, ℕ, ◌≤◌, Bool, true, false, cond, List, [], Option, Some, None, Result, Ok, Err, length, take, refl, sym, ap, subst, ◌∙◌, arith}
 use Rattle.std.specs.Prelude.{IfOk, IfErr, IfSome}
 use Rattle.crush_bytes.specs.Writes.{Writes}
 use Rattle.crush_bytes.proofs.Appending.{appends_nothing}
@@ -7,7 +7,7 @@ use Rattle.std.proofs.lemmas.List.{take_all, length-take}
 use Rattle.crush_script.specs.Job.{HasJob, IsJob, IsJobFault, JobData}
 use Rattle.crush_script.specs.declared.fault.JobFault.{JobFault}
 use Rattle.crush_script.specs.declared.fault.JobFault.TheVariants.{BadLine, NoSuchCommand, OpenBatch, TooManyOperators, DuplicateOperator, Text, OutOfMemory, TooLong, TooManyCalls}
-use Rattle.crush_report.specs.Faults.{of_job}
+use Rattle.crush_report.specs.Faults.{is_want, of_job}
 use Rattle.crush_report.specs.declared.fault.RunFault.TheVariants as run
 use Rattle.crush_report.specs.declared.fault.RunFault.{RunFault}
 use Rattle.crush_report.specs.declared.summary.Summary.{Summary}
@@ -64,14 +64,18 @@ too_long (Some xs) bytes e h = omega (arith, h, ap length e, length-take 1677721
 
 -- a fault of the bytes, as one of the run
 pub is_run_fault : (all : Option (List ℕ)) (bytes : List ℕ) (f : JobFault) → IfSome all (λ xs. bytes ≡ take 16777217 xs) → IsJobFault bytes f → IsRunFault all (of_job f)
-is_run_fault all bytes (BadLine n) e h = (λ x. absurd cc, fault_of_all all bytes (BadLine n) e h.short h)
-is_run_fault all bytes (NoSuchCommand n) e h = (λ x. absurd cc, fault_of_all all bytes (NoSuchCommand n) e h.short h)
-is_run_fault all bytes (OpenBatch n) e h = (λ x. absurd cc, fault_of_all all bytes (OpenBatch n) e h.short h)
-is_run_fault all bytes (TooManyOperators n) e h = (λ x. absurd cc, fault_of_all all bytes (TooManyOperators n) e h.short h)
-is_run_fault all bytes (DuplicateOperator n) e h = (λ x. absurd cc, fault_of_all all bytes (DuplicateOperator n) e h.short h)
-is_run_fault all bytes (TooManyCalls n) e h = (λ x. absurd cc, fault_of_all all bytes (TooManyCalls n) e h.short h)
-is_run_fault all bytes (Text f) e h = (λ x. absurd cc, fault_of_all all bytes (Text f) e h.short h)
-is_run_fault all bytes TooLong e h = (λ x. absurd cc, too_long all bytes e h)
+is_run_fault all bytes (BadLine n) e h = (refl, fault_of_all all bytes (BadLine n) e h.short h)
+is_run_fault all bytes (NoSuchCommand n) e h = (refl, fault_of_all all bytes (NoSuchCommand n) e h.short h)
+is_run_fault all bytes (OpenBatch n) e h = (refl, fault_of_all all bytes (OpenBatch n) e h.short h)
+is_run_fault all bytes (TooManyOperators n) e h = (refl, fault_of_all all bytes (TooManyOperators n) e h.short h)
+is_run_fault all bytes (DuplicateOperator n) e h = (refl, fault_of_all all bytes (DuplicateOperator n) e h.short h)
+is_run_fault all bytes (TooManyCalls n) e h = (refl, fault_of_all all bytes (TooManyCalls n) e h.short h)
+is_run_fault all bytes (Text f) e h = by_want (is_want f.kind) refl
+  where
+    by_want : (b : Bool) → is_want f.kind ≡ b → IsRunFault all (cond b run.Memory (run.Job (Text f)))
+    by_want true k = tt
+    by_want false k = (k, fault_of_all all bytes (Text f) e h.short h)
+is_run_fault all bytes TooLong e h = (refl, too_long all bytes e h)
 is_run_fault all bytes OutOfMemory e h = tt
 
 -- no fault of reading is one of the bytes

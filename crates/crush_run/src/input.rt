@@ -1,6 +1,8 @@
 //! The bytes of a job.
 
 ghost use Rattle.std.specs.Prelude.{◌≡◌, ◌≤◌, ◌<◌, IfOk, IfErr, IfSome, length, take};
+ghost use Rattle.std.specs.Io.KnownBytes.{Consumes};
+ghost use Rattle.crush_run.specs.Run.{TakesFew};
 ghost use Rattle.crush_run.specs.Stages.{IsInputFault};
 
 use crush_report::RunFault;
@@ -15,11 +17,15 @@ pub(crate) const MOST_BYTES: usize = 16_777_217;
 const PIECE: usize = 65_536;
 
 /// Reads to the end, or to the first byte that no job can have. The reader is asked at most
-/// [`MOST_BYTES`] times: each read but the last gives a byte. A read that answers an error is a
-/// fault, also where it could be tried again.
+/// [`MOST_BYTES`] times: each read but the last gives a byte. What is read is what is taken of it.
+/// A read that answers an error is a fault, also where it could be tried again.
 pub(crate) fn read_bytes<R: Read>(alloc: Global, reader: &mut R) -> Result<Vec<u8>, RunFault>
     ensures few { IfOk result (λ bytes. length bytes.items ≤ MOST_BYTES) }
     ensures fault { IfErr result IsInputFault }
+    ensures taken { IfOk result (λ bytes.
+        Consumes (R.remaining reader.old) (R.remaining reader.new) bytes.items) }
+    ensures front { IfErr result (λ _.
+        TakesFew (R.remaining reader.old) (R.remaining reader.new)) }
     ensures bytes { IfOk result (λ bytes. IfSome (R.remaining reader.old)
         (λ all. bytes.items ≡ take MOST_BYTES all)) }
 {

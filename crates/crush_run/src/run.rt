@@ -10,7 +10,7 @@ ghost use Rattle.crush_calls.specs.Entries.{AreOf, history_data};
 ghost use Rattle.crush_calls.specs.HistoryText.{names_of};
 ghost use Rattle.crush_script.specs.Job.{HasJob, IsJob, JobData, JobStands};
 ghost use Rattle.crush_calls.specs.Script.{scripts_data, call_count};
-ghost use Rattle.crush_run.specs.Run.{IsRunFault, output, summary_of};
+ghost use Rattle.crush_run.specs.Run.{IsRunFault, TakesFew, output, summary_of};
 ghost use Rattle.crush_run.specs.Stages.{IsOutcomeFault, lines_asked};
 ghost use Rattle.crush_units.specs.declared.limits.TheConstants.{MOST_CALLS, MOST_ENTRIES};
 
@@ -132,6 +132,9 @@ pub fn run_job<H: AllocGlobal, R: Read, W: Write>(
     // Only a failed write leaves anything.
     ensures nothing { IfErr result (λ fault. fault ≢ RunFault.Write
         → Keeps (W.contents writer.old) (W.contents writer.new)) }
+
+    // However it ends, little more than the longest job is taken of the reader.
+    ensures taken { TakesFew (R.remaining reader.old) (R.remaining reader.new) }
 
     // Bytes are refused for what is wrong with them, and only a job's are written of.
     ensures fault { IfErr result (IsRunFault (R.remaining reader.old)) }

@@ -1,5 +1,6 @@
-use Rattle.std.proofs.Common.{arith, rules}
-use Rattle.crush_run.proofs.Consuming.{Consumes-piece, Consumes-no_more, front_of_all, all_of_it}
+use Rattle.std.proofs.Common.{arith, rules, length, take, ◌+◌, ◌≤◌}
+use Rattle.std.proofs.lemmas.Result.{err_from_is_err_and}
+use Rattle.crush_run.proofs.Consuming.{Consumes-piece, Consumes-no_more, front_of_all, all_of_it, few_kept, few_then}
 use Rattle.crush_run.proofs.input.read_bytes.Goals as goal
 
 pub returns-in-Ok-eq0-clause-bytes : goal.returns-in-Ok-eq0-clause-bytes
@@ -24,3 +25,21 @@ loop-preserved g c = record {
 -- a fault says nothing of bytes
 pub returns-in-Err-clause-bytes : goal.returns-in-Err-clause-bytes
 returns-in-Err-clause-bytes g c = tt
+
+pub returns-in-Err-clause-front : goal.returns-in-Err-clause-front
+returns-in-Err-clause-front g c = few_kept _ _ _ c.loop.bytes.items c.loop.invariant.taken c.in-Err.ensures.bytes (omega (arith, c.loop.invariant.few))
+
+pub returns-in-Ok-eq0-clause-taken : goal.returns-in-Ok-eq0-clause-taken
+returns-in-Ok-eq0-clause-taken g c =
+    Consumes-no_more _ _ _ _ c.read.new.buf _ c.loop.invariant.taken c.in-Ok-eq0.ensures.bytes.0 c.in-Ok-eq0.field-0-test
+
+pub returns-then-len-eq-MOST_BYTES-clause-taken : goal.returns-then-len-eq-MOST_BYTES-clause-taken
+returns-then-len-eq-MOST_BYTES-clause-taken g c =
+    Consumes-piece _ _ _ _ _ _ c.loop.invariant.taken c.in-Ok.ensures.bytes.0 c.in_ok-extend_from_slice-in-Ok.ensures.items
+
+-- a piece for which there is no room was taken too
+pub returns-in_err-extend_from_slice-in-Ok-clause-front : goal.returns-in_err-extend_from_slice-in-Ok-clause-front
+returns-in_err-extend_from_slice-in-Ok-clause-front g c =
+    let p = err_from_is_err_and c.from_residual.result c.from_residual.ensures.1 in
+    let few : length c.loop.bytes.items + length (take c.in-Ok.count c.read.new.buf) ≤ 16777217 = search rules in
+    rw p.1 (few_then _ _ _ c.loop.bytes.items _ c.loop.invariant.taken c.in-Ok.ensures.bytes.0 few)

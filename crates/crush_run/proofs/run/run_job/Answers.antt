@@ -57,3 +57,13 @@ pub returns-in-Ok-clause-fault : goal.returns-in-Ok-clause-fault
 returns-in-Ok-clause-fault g c =
     let bytes = as_read _ _ _ c.as_slice.ensures.value c.in_ok-bytes.ensures.bytes in
     run_fault_of_job c.run_scripts.result _ (has_job _ _ _ bytes c.in-Ok.ensures.job.1) c.run_scripts.ensures.fault
+
+-- what was read is what was taken of the reader
+pub returns-in-Ok-clause-taken : goal.returns-in-Ok-clause-taken
+returns-in-Ok-clause-taken g c = (c.in_ok-bytes.bytes.items, c.in_ok-bytes.ensures.few, c.in_ok-bytes.ensures.taken)
+
+pub returns-clause-taken : goal.returns-clause-taken
+returns-clause-taken g c = (c.in_ok-bytes.bytes.items, c.in_ok-bytes.ensures.few, c.in_ok-bytes.ensures.taken)
+
+pub returns-in_err-bytes-clause-taken : goal.returns-in_err-bytes-clause-taken
+returns-in_err-bytes-clause-taken g c = c.in_err-bytes.ensures.front
