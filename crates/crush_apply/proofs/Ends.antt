@@ -1,16 +1,21 @@
 -- The stops of which a loop has passed some: the next one decides, or there is none.
-use Rattle.std.proofs.Common.{◌≡◌, ℕ, suc, ◌+◌, ◌<◌, ◌≤◌, Bool, true, false, List, ◌∷◌, Option, length, take, drop, get_or, ap, sym, ◌∙◌, refl, arith}
+use Rattle.std.proofs.Common.{◌≡◌, ℕ, suc, ◌+◌, ◌<◌, ◌≤◌, Bool, true, false, List, [], ◌∷◌, Option, length, take, drop, get_or, ap, sym, ◌∙◌, refl, arith}
 use Rattle.std.proofs.Math.Seq.{drop-cons}
 use Rattle.std.proofs.lemmas.List.{drop_all}
-use Rattle.std.specs.Prelude.{None, is_some}
+use Rattle.std.specs.Prelude.{Some, None, ◌==◌, is_some, not, option_and_then}
 use Rattle.std.specs.List.{prefix_len}
 use Rattle.crush_units.specs.declared.id.ItemId.{ItemId}
-use Rattle.crush_table.specs.Table.{Row, is_named, id_named}
+use Rattle.crush_units.specs.declared.id.ItemId.TheVariants.{Bucket}
+use Rattle.crush_table.specs.Table.{Row, is_named, id_named, kind_of}
 use Rattle.crush_edits.specs.declared.location.Pair.{Pair}
-use Rattle.crush_edits.specs.Located.{is_wrong_kind}
-use Rattle.crush_edits.specs.Stops.{is_fresh, fresh_stops, end_id}
+use Rattle.crush_edits.specs.declared.refusal.Refusal.{Refusal}
+use Rattle.crush_edits.specs.declared.refusal.Refusal.TheVariants.{NotABucket, WrongType}
+use Rattle.crush_edits.specs.Answer.{first_refusal, is_a_device, meets}
+use Rattle.crush_edits.specs.Located.{end_tests}
+use Rattle.crush_edits.specs.Stops.{StopData, is_fresh, fresh_stops, end_stop, number_of}
 use Rattle.crush_apply.specs.declared.route.Stop.{Stop}
 use Rattle.crush_apply.specs.Stopped.{pair_name, stop_data, stops_data}
+use Rattle.crush_apply.specs.Way.{item_tests, EndsAt}
 
 stops_at : (l : List Pair) (xs : List Stop) (k : ℕ) (x : Stop) → k < length xs → x ≡ get_or xs k x → stops_data l (drop k xs) ≡ stop_data l x ∷ stops_data l (drop (k + 1) xs)
 stops_at l xs k x h e =
@@ -37,19 +42,46 @@ fresh_later t l xs k x h e named = ap (λ ps. length (fresh_stops t ps)) (stops_
 pub fresh_end : (t : List Row) (l : List Pair) (xs : List Stop) (k : ℕ) → length xs ≤ k → length (fresh_stops t (stops_data l (drop k xs))) ≡ 0
 fresh_end t l xs k le = ap (λ zs. length (fresh_stops t (stops_data l zs))) (drop_all k xs le)
 
--- which ends the route
-pub end_here : (t : List Row) (l : List Pair) (xs : List Stop) (k : ℕ) (x : Stop) → k < length xs → x ≡ get_or xs k x → is_named t (pair_name l x.pair) ≡ true → end_id t (stops_data l (drop k xs)) ≡ id_named t (pair_name l x.pair)
-end_here t l xs k x h e named = ap (end_id t) (stops_at l xs k x h e) ∙ rw named refl
+-- THE STOPS THAT ARE LEFT: they decide which of them ends the route, and add what is missing of the fresh ones
+pub record Left (t : List Row) (l : List Pair) (xs : List Stop) (k : ℕ) : Type 0 where
+  pub fresh : length (fresh_stops t (stops_data l xs)) ≡ k + length (fresh_stops t (stops_data l (drop k xs)))
+  pub end : end_stop t (stops_data l xs) ≡ end_stop t (stops_data l (drop k xs))
 
-pub end_later : (t : List Row) (l : List Pair) (xs : List Stop) (k : ℕ) (x : Stop) → k < length xs → x ≡ get_or xs k x → is_named t (pair_name l x.pair) ≡ false → end_id t (stops_data l (drop k xs)) ≡ end_id t (stops_data l (drop (k + 1) xs))
-end_later t l xs k x h e named = ap (end_id t) (stops_at l xs k x h e) ∙ rw named refl
+pub left_later : (t : List Row) (l : List Pair) (xs : List Stop) (k : ℕ) (x : Stop) → k < length xs → x ≡ get_or xs k x → is_named t (pair_name l x.pair) ≡ false → Left t l xs k → Left t l xs (k + 1)
+left_later t l xs k x h e named left = record {
+  fresh = omega (arith, left.fresh, fresh_later t l xs k x h e named);
+  end = left.end ∙ ap (end_stop t) (stops_at l xs k x h e) ∙ rw named refl;
+}
 
-pub end_none : (t : List Row) (l : List Pair) (xs : List Stop) (k : ℕ) → length xs ≤ k → end_id t (stops_data l (drop k xs)) ≡ None
-end_none t l xs k le = ap (λ zs. end_id t (stops_data l zs)) (drop_all k xs le)
+-- its tests, by what ends the route
+abbrev tests_at : List Row → Option StopData → List (Refusal × Bool)
+tests_at t o = (NotABucket, is_a_device (option_and_then (λ (p : StopData). id_named t p.name) o)) ∷ ((WrongType, meets (λ (p : StopData). meets (λ i. meets (λ k. not (k == p.kind)) (kind_of t i)) (id_named t p.name)) o) ∷ [])
 
--- and whether that has another type than its pair
-pub kind_later : (t : List Row) (l : List Pair) (xs : List Stop) (k : ℕ) (x : Stop) → k < length xs → x ≡ get_or xs k x → is_named t (pair_name l x.pair) ≡ false → is_wrong_kind t (stops_data l (drop k xs)) ≡ is_wrong_kind t (stops_data l (drop (k + 1) xs))
-kind_later t l xs k x h e named = ap (is_wrong_kind t) (stops_at l xs k x h e) ∙ rw named refl
+-- an item of the next stop's name
+module _ (t : List Row) (l : List Pair) (xs : List Stop) (k : ℕ) (x : Stop) (i : ItemId) (h : k < length xs) (e : x ≡ get_or xs k x) (is : id_named t (pair_name l x.pair) ≡ Some i) (left : Left t l xs k) where
+  named : is_named t (pair_name l x.pair) ≡ true
+  named = ap is_some is
 
-pub kind_none : (t : List Row) (l : List Pair) (xs : List Stop) (k : ℕ) → length xs ≤ k → is_wrong_kind t (stops_data l (drop k xs)) ≡ false
-kind_none t l xs k le = ap (λ zs. is_wrong_kind t (stops_data l zs)) (drop_all k xs le)
+  ends : end_stop t (stops_data l xs) ≡ Some (stop_data l x)
+  ends = left.end ∙ ap (end_stop t) (stops_at l xs k x h e) ∙ rw named refl
+
+  pub tests_here : end_tests t (stops_data l xs) ≡ item_tests t x.kind i
+  tests_here = ap (tests_at t) ends ∙ rw is refl
+
+  pub ends_here : (b : ℕ) → i ≡ Bucket b → first_refusal (item_tests t x.kind (Bucket b)) ≡ None → EndsAt t (stops_data l xs) k (Some b)
+  ends_here b same passes = record {
+    fresh = omega (arith, left.fresh, fresh_here t l xs k x h e named);
+    receiver = sym (ap (λ o. option_and_then number_of (option_and_then (λ (p : StopData). id_named t p.name) o)) ends ∙ ap (option_and_then number_of) is ∙ ap number_of same);
+    passes = ap first_refusal tests_here ∙ ap (λ j. first_refusal (item_tests t x.kind j)) same ∙ passes;
+  }
+
+-- no stop is left
+pub ends_nowhere : (t : List Row) (l : List Pair) (xs : List Stop) (k : ℕ) → k ≡ length xs → Left t l xs k → EndsAt t (stops_data l xs) (length xs) None
+ends_nowhere t l xs k all left =
+    let le : length xs ≤ k = omega arith in
+    let none : end_stop t (stops_data l xs) ≡ None = left.end ∙ ap (λ zs. end_stop t (stops_data l zs)) (drop_all k xs le) in
+    record {
+      fresh = omega (arith, left.fresh, fresh_end t l xs k le);
+      receiver = sym (ap (λ o. option_and_then number_of (option_and_then (λ (p : StopData). id_named t p.name) o)) none);
+      passes = ap (λ o. first_refusal (tests_at t o)) none;
+    }

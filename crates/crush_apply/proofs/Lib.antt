@@ -5,6 +5,7 @@ pub mod Devices
 pub mod Done
 pub mod Ends
 pub mod Fitting
+pub mod Held
 pub mod Moves
 pub mod Passed
 pub mod Refused

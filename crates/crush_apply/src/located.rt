@@ -1,21 +1,20 @@
 //! What refuses an edit for its location, for the device that is to come, or for what ends the
 //! route.
 
-ghost use Rattle.std.specs.Prelude.{◌≡◌, List, None, Some, All, IfErr, OnOk, map, bytes_eq, not};
+ghost use Rattle.std.specs.Prelude.{◌≡◌, ◌==◌, List, None, Some, IfOk, IfErr, OnOk, map, bytes_eq, not};
 ghost use Rattle.std.specs.List.{list_any};
-ghost use Rattle.crush_units.specs.declared.id.ItemId.TheVariants.{Device};
+ghost use Rattle.crush_units.specs.declared.id.ItemId.TheVariants.{Device, Bucket};
 ghost use Rattle.crush_units.specs.Id.{same_id};
-ghost use Rattle.crush_table.specs.Table.{Row, id_named, name_of};
+ghost use Rattle.crush_table.specs.Table.{Row, id_named, kind_of, name_of};
 ghost use Rattle.crush_table.specs.Stands.{Stands};
 ghost use Rattle.crush_edits.specs.declared.location.Pair.{Pair};
 ghost use Rattle.crush_edits.specs.Answer.{first_refusal, meets};
-ghost use Rattle.crush_edits.specs.Located.{has_twice, is_type_zero, is_bad_location, has_no_kind, names_it, is_taken, is_wrong_kind, location_tests, device_tests, end_tests};
-ghost use Rattle.crush_apply.specs.Stopped.{IsPairOf, stops_data};
+ghost use Rattle.crush_edits.specs.Located.{has_twice, is_type_zero, is_bad_location, has_no_kind, names_it, is_taken, location_tests, device_tests};
+ghost use Rattle.crush_apply.specs.Way.{item_tests};
 
-use crate::route::{Stop, route_end, stop_name};
 use crush_edits::{Location, Pair, Refusal, Setting};
 use crush_tree::Forest;
-use crush_units::{DeviceId, ItemId, Name, Weight};
+use crush_units::{BucketId, DeviceId, ItemId, Name, TypeId, Weight};
 use std::alloc::{Allocator, Global};
 
 /// Whether the location can be that of an edit: its type names and its bucket names are distinct
@@ -67,28 +66,26 @@ pub(crate) fn check_device<A: Allocator>(
     Ok(())
 }
 
-/// Whether what ends the route can receive an item: it is a bucket, of the type that its pair says.
-/// A route that nothing ends makes its own root.
+/// The bucket that ends a route at a pair of this type, or why no item can come there: the pair's
+/// name is that of a device, or of a bucket of another type.
 pub(crate) fn check_end<A: Allocator>(
     forest: &Forest<A>,
-    at: &Location,
-    stops: &[Stop],
-) -> Result<(), Refusal>
-    requires { All (IsPairOf at.now) stops.now }
-    ensures passes { OnOk result ((t : List Row) → Stands forest.now t
-        → first_refusal (end_tests t (stops_data at.now stops.now)) ≡ None) }
+    kind: TypeId,
+    id: ItemId,
+) -> Result<BucketId, Refusal>
+    ensures passes { IfOk result (λ b. (t : List Row) → Stands forest.now t
+        → first_refusal (item_tests t kind (Bucket b)) ≡ None) }
+    ensures bucket { IfOk result (λ b. id ≡ Bucket b) }
     ensures refused { IfErr result (λ r. (t : List Row) → Stands forest.now t
-        → first_refusal (end_tests t (stops_data at.now stops.now)) ≡ Some r) }
+        → first_refusal (item_tests t kind id) ≡ Some r) }
 {
-    if let Some(end) = route_end(forest, at, stops) {
-        if end.is_device_id() {
-            return Err(Refusal::NotABucket);
-        }
-    }
-    if ends_at_wrong_type(forest, at, stops) {
+    let ItemId::Bucket(bucket) = id else {
+        return Err(Refusal::NotABucket);
+    };
+    if is_of_other_type(forest, id, kind) {
         return Err(Refusal::WrongType);
     }
-    Ok(())
+    Ok(bucket)
 }
 
 /// Whether a type name or a bucket name stands twice, or the name of type 0 stands there as a type
@@ -194,19 +191,13 @@ fn has_other_name<A: Allocator>(forest: &Forest<A>, device: DeviceId, name: &Nam
     }
 }
 
-/// Whether the item that ends the route has another type than its pair says.
-fn ends_at_wrong_type<A: Allocator>(forest: &Forest<A>, at: &Location, stops: &[Stop]) -> bool
-    requires { All (IsPairOf at.now) stops.now }
+/// Whether the item is there with another type.
+fn is_of_other_type<A: Allocator>(forest: &Forest<A>, id: ItemId, kind: TypeId) -> bool
     ensures { (t : List Row) → Stands forest.now t
-        → result ≡ is_wrong_kind t (stops_data at.now stops.now) }
+        → result ≡ meets (λ k. not (k == kind)) (kind_of t id) }
 {
-    for stop in stops {
-        if let Some(id) = forest.id_of(stop_name(at, stop).as_str()) {
-            return match forest.kind(id) {
-                Some(kind) => kind.number() != stop.kind.number(),
-                None => false,
-            };
-        }
+    match forest.kind(id) {
+        Some(own) => own.number() != kind.number(),
+        None => false,
     }
-    false
 }

@@ -1,20 +1,24 @@
 //! Where a location leads.
 
-ghost use Rattle.std.specs.Prelude.{◌≡◌, ◌+◌, ◌<◌, ◌≤◌, List, All, length};
+ghost use Rattle.std.specs.Prelude.{◌≡◌, ◌+◌, ◌<◌, ◌≤◌, List, Some, All, IfOk, IfErr, length};
 ghost use Rattle.arrayvec.specs.ArrayVec.{array_vec_len};
 ghost use Rattle.std.specs.Prelude.{nat_le};
 ghost use Rattle.std.specs.List.{position_or_len};
 ghost use Rattle.crush_table.specs.Table.{Row};
 ghost use Rattle.crush_table.specs.Stands.{Stands};
-ghost use Rattle.crush_edits.specs.Stops.{stops, fresh_stops, end_id, receiver};
+ghost use Rattle.crush_edits.specs.Answer.{first_refusal};
+ghost use Rattle.crush_edits.specs.Located.{end_tests};
+ghost use Rattle.crush_edits.specs.Stops.{stops};
 ghost use Rattle.crush_apply.specs.declared.route.Stop.{Stop};
 ghost use Rattle.crush_apply.specs.Stopped.{pair_name, stops_data, IsPairOf, put_stop};
+ghost use Rattle.crush_apply.specs.Way.{EndsAt};
 
+use crate::located::check_end;
 use arrayvec::ArrayVec;
-use crush_edits::{Location, Pair, Setting};
+use crush_edits::{Location, Pair, Refusal, Setting};
 use crush_tree::Forest;
 use crush_units::limits::MOST_PAIRS;
-use crush_units::{BucketId, ItemId, Name, TypeId};
+use crush_units::{BucketId, Name, TypeId};
 use std::alloc::{Allocator, Global};
 use std::marker::Model;
 
@@ -110,55 +114,26 @@ pub(crate) fn stop_name<'a>(at: &'a Location, stop: &Stop) -> &'a Name<Global>
     &pair.name
 }
 
-/// How many stops come before the first whose bucket is there.
-pub(crate) fn fresh_count<A: Allocator>(forest: &Forest<A>, at: &Location, stops: &[Stop]) -> usize
-    requires { All (IsPairOf at.now) stops.now }
-    ensures fresh { (t : List Row) → Stands forest.now t
-        → result ≡ length (fresh_stops t (stops_data at.now stops.now)) }
-    ensures within { result ≤ length stops.now }
-{
-    for (k, stop) in stops.iter().enumerate() {
-        if forest.id_of(stop_name(at, stop).as_str()).is_some() {
-            return k;
-        }
-    }
-    stops.len()
-}
-
-/// The item of the first stop whose name is there. It ends the route.
+/// Where a route ends: how many stops come before the first whose bucket is there, and that bucket.
+/// Where none is there, all of them come before it, and there is no bucket. An Err tells why no item
+/// can come there.
 pub(crate) fn route_end<A: Allocator>(
     forest: &Forest<A>,
     at: &Location,
     stops: &[Stop],
-) -> Option<ItemId>
+) -> Result<(usize, Option<BucketId>), Refusal>
     requires { All (IsPairOf at.now) stops.now }
-    ensures { (t : List Row) → Stands forest.now t
-        → result ≡ end_id t (stops_data at.now stops.now) }
+    ensures ends { IfOk result (λ end. (t : List Row) → Stands forest.now t
+        → EndsAt t (stops_data at.now stops.now) end.0 end.1) }
+    ensures within { IfOk result (λ end. end.0 ≤ length stops.now) }
+    ensures refused { IfErr result (λ r. (t : List Row) → Stands forest.now t
+        → first_refusal (end_tests t (stops_data at.now stops.now)) ≡ Some r) }
 {
-    for stop in stops {
-        let id = forest.id_of(stop_name(at, stop).as_str());
-        if id.is_some() {
-            return id;
+    for (k, stop) in stops.iter().enumerate() {
+        if let Some(id) = forest.id_of(stop_name(at, stop).as_str()) {
+            let bucket = check_end(forest, stop.kind, id)?;
+            return Ok((k, Some(bucket)));
         }
     }
-    None
-}
-
-/// The bucket that ends the route, where a bucket does.
-pub(crate) fn route_receiver<A: Allocator>(
-    forest: &Forest<A>,
-    at: &Location,
-    stops: &[Stop],
-) -> Option<BucketId>
-    requires { All (IsPairOf at.now) stops.now }
-    ensures { (t : List Row) → Stands forest.now t
-        → result ≡ receiver t (stops_data at.now stops.now) }
-{
-    match route_end(forest, at, stops) {
-        Some(id) => match id {
-            ItemId::Bucket(bucket) => Some(bucket),
-            ItemId::Device(_) => None,
-        },
-        None => None,
-    }
+    Ok((stops.len(), None))
 }

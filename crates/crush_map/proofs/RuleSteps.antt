@@ -19,7 +19,7 @@ use Rattle.crush_edits.specs.declared.rule.Step.{Step}
 use Rattle.crush_edits.specs.declared.rule.Step.TheVariants.{Take, Choose, Set, Emit}
 use Rattle.crush_edits.specs.Fits.{IsStep, IsRule, IsThere, Fits}
 use Rattle.crush_map.specs.declared.fault.BuildFault.{BuildFault}
-use Rattle.crush_map.specs.declared.fault.BuildFault.TheVariants.{UnknownType, UnknownBucketInRule, TooMany, DuplicateName, DuplicateId}
+use Rattle.crush_map.specs.declared.fault.BuildFault.TheVariants.{UnknownType, UnknownBucketInRule, TooMany, DuplicateName, DuplicateId, OutOfMemory}
 use Rattle.crush_map.specs.declared.fault.RuleFault.{RuleFault}
 use Rattle.crush_map.specs.declared.fault.RulePart.{RulePart}
 use Rattle.crush_map.specs.declared.fault.RulePart.TheVariants.{Statement as AtStatement, Name as AtName, Id as AtId, Step as AtStep}
@@ -227,6 +227,13 @@ rule_told_itself d r f e =
     (part_told (has_rule_name d.setting r.name) (record { part = AtName; fault = DuplicateName }) _ f refl
     (part_told (has_rule_id d.setting r.id) (record { part = AtId; fault = DuplicateId }) _ f refl (steps_told d 0 r.steps.items f))) e in
     e ∙ sym (ap (λ b. if b then Some f else None) t)
+
+-- and it is never want of memory
+pub never_lacking : (d : Draft) (r : Rule) (f : RuleFault) → rule_fault d r ≡ Some f → f.fault ≡ OutOfMemory → ⊥
+never_lacking d r f e lacks =
+    let none : rule_told f ≡ None = ap (λ x. if is_some (told x) then Some f else None) lacks in
+    let no : Some f ≡ None = sym e ∙ rule_told_itself d r f e ∙ none in
+    cc
 
 -- a step that takes a name is clear only where a bucket has it
 pub taken_named : (d : Draft) (name : List ℕ) (class : Option (List ℕ)) → bucket_named d name ≡ None → word_fault d (Take name class) ≡ None → ⊥

@@ -24,12 +24,15 @@ impl<A: Allocator> MapBuilder<A> {
     /// with 256 rules; of the name [`BuildFault::DuplicateName`] and of the id
     /// [`BuildFault::DuplicateId`] where a rule has it; of a step [`BuildFault::TooMany`] of the
     /// 65th, [`BuildFault::UnknownType`] where it chooses of a type that no type is, and
-    /// [`BuildFault::UnknownBucketInRule`] where it takes what is no complete bucket.
+    /// [`BuildFault::UnknownBucketInRule`] where it takes what is no complete bucket. Want of memory
+    /// is told of the statement.
     pub fn rule(&mut self, rule: &Rule) -> Result<(), RuleFault>
         requires idle { self.old.pending ≡ nothing }
         requires form { IsRuleForm rule.now }
         ensures refused { IfErr result (λ f. (d : Draft) → IsDraft self.old d
             → rule_fault d rule.now ≡ rule_told f) }
+        ensures memory { IfErr result (λ f. f.fault ≡ BuildFault.OutOfMemory
+            → f.part ≡ RulePart.Statement) }
         ensures ok { OnOk result ((d : Draft) → IsDraft self.old d
             → (rule_fault d rule.now ≡ None) × IsDraft self.new (with_rule d rule.now)) }
     {

@@ -46,7 +46,7 @@ returns-then-is_held g c =
     let l = c.args.at.now in
     when_still _ _ _
     (λ t st.
-    let there : held t (Device d) (stops s l) ≡ true = ap (held t (Device d)) (sym c.in_ok-way.ensures.stops) ∙ sym (c.is_held.ensures t st) ∙ c.if-is_held.true in
+    let there : held t (Device d) (stops s l) ≡ true = ap (held t (Device d)) (sym c.in_ok-way.ensures.stops) ∙ sym (c.is_held.ensures t st (c.in_ok-way.ensures.leads t st)) ∙ c.if-is_held.true in
     (t, held_answer s t d n w l (c.in_ok-check_device.ensures.passes t st) (c.in_ok-way.ensures.passes t st) there st.lawful, st))
 
 pub kept_weight-weight-requires : goal.kept_weight-weight-requires
@@ -61,7 +61,7 @@ place_device-requires-clause-can g c = λ t st.
     record { leads = can.leads; own = can.own; other = can.other; weight = c.kept_weight-weight.ensures.light }
 
 pub place_device-requires-clause-free : goal.place_device-requires-clause-free
-place_device-requires-clause-free g c = λ t st. sym (c.is_held.ensures t st) ∙ c.if-is_held.false
+place_device-requires-clause-free g c = λ t st. sym (c.is_held.ensures t st (c.in_ok-way.ensures.leads t st)) ∙ c.if-is_held.false
 
 pub returns : goal.returns
 returns g c =
@@ -72,7 +72,7 @@ returns g c =
     let l = c.args.at.now in
     when_same _ _ _ _ _
     (λ t st.
-    let free : held t (Device d) (stops s l) ≡ false = ap (held t (Device d)) (sym c.in_ok-way.ensures.stops) ∙ sym (c.is_held.ensures t st) ∙ c.if-is_held.false in
+    let free : held t (Device d) (stops s l) ≡ false = ap (held t (Device d)) (sym c.in_ok-way.ensures.stops) ∙ sym (c.is_held.ensures t st (c.in_ok-way.ensures.leads t st)) ∙ c.if-is_held.false in
     move_answer s t d n w l (c.in_ok-check_device.ensures.passes t st) (c.in_ok-way.ensures.passes t st) free
     ∙ ap (λ v. last_answer t (put_after t (edited_device t d n v) (stops s l))) (sym (c.kept_weight-weight.ensures.kept t st))
     ∙ ap (λ ps. last_answer t (put_after t (edited_device t d n c.kept_weight-weight.result) ps)) (sym c.in_ok-way.ensures.stops))

@@ -1,10 +1,9 @@
-use Rattle.std.proofs.Common.{◌≡◌, List, drop}
+use Rattle.std.proofs.Common.{List}
 use Rattle.crush_table.specs.Table.{Row}
 use Rattle.crush_table.specs.Stands.{Stands}
-use Rattle.crush_edits.specs.Stops.{end_id}
-use Rattle.crush_apply.specs.Stopped.{stops_data}
+use Rattle.crush_apply.proofs.Ends.{Left}
 use Rattle.crush_apply.proofs.route.route_end.Given as goal
 
 -- what is left decides
-abbrev pub invariant-loop-stop : goal.invariant-loop-stop
-invariant-loop-stop g l = (t : List Row) → Stands l.forest t → end_id t (stops_data l.at l.stops) ≡ end_id t (stops_data l.at (drop l.stop-index l.stops))
+abbrev pub invariant-loop-k : goal.invariant-loop-k
+invariant-loop-k g l = (t : List Row) → Stands l.forest t → Left t l.at l.stops l.k

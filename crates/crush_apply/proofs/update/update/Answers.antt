@@ -50,7 +50,7 @@ returns-in_err-reweight g c =
     when_refused _ _ _ _ _ c.from_residual-in_err-reweight.ensures.1 c.in_err-reweight.ensures.kept
     (λ t st.
     let can = can_come s t d n w l c.in_ok-way.way (c.in_ok-check_device.ensures.passes t st) c.in_ok-way.ensures.stops (c.in_ok-way.ensures.leads t st) in
-    let there : held t (Device d) (stops s l) ≡ true = ap (held t (Device d)) (sym c.in_ok-way.ensures.stops) ∙ sym (c.is_held.ensures t st) ∙ c.if-is_held.true in
+    let there : held t (Device d) (stops s l) ≡ true = ap (held t (Device d)) (sym c.in_ok-way.ensures.stops) ∙ sym (c.is_held.ensures t st (c.in_ok-way.ensures.leads t st)) ∙ c.if-is_held.true in
     let is_weight = held_update s t d n w l st.lawful (λ a. put_last s t d n w l a (c.in_ok-check_device.ensures.passes t st) (c.in_ok-way.ensures.passes t st)) can.own can.weight there in
     is_weight ∙ c.in_err-reweight.ensures.refused s t st)
 
@@ -64,7 +64,7 @@ returns-then-is_held g c =
     when_done _ _ _ _ c.in_ok-reweight.ensures.still
     (λ t st.
     let can = can_come s t d n w l c.in_ok-way.way (c.in_ok-check_device.ensures.passes t st) c.in_ok-way.ensures.stops (c.in_ok-way.ensures.leads t st) in
-    let there : held t (Device d) (stops s l) ≡ true = ap (held t (Device d)) (sym c.in_ok-way.ensures.stops) ∙ sym (c.is_held.ensures t st) ∙ c.if-is_held.true in
+    let there : held t (Device d) (stops s l) ≡ true = ap (held t (Device d)) (sym c.in_ok-way.ensures.stops) ∙ sym (c.is_held.ensures t st (c.in_ok-way.ensures.leads t st)) ∙ c.if-is_held.true in
     let is_weight = held_update s t d n w l st.lawful (λ a. put_last s t d n w l a (c.in_ok-check_device.ensures.passes t st) (c.in_ok-way.ensures.passes t st)) can.own can.weight there in
     subst (λ a. IsDone (Stands c.reweight.new.forest) a c.in_ok-reweight.field-0) (sym is_weight) (c.in_ok-reweight.ensures.done s t st))
 
@@ -73,7 +73,7 @@ place_device-requires-clause-can g c = λ t st.
     can_come c.args.setting.now t c.args.device c.args.name.now c.args.weight c.args.at.now c.in_ok-way.way (c.in_ok-check_device.ensures.passes t st) c.in_ok-way.ensures.stops (c.in_ok-way.ensures.leads t st)
 
 pub place_device-requires-clause-free : goal.place_device-requires-clause-free
-place_device-requires-clause-free g c = λ t st. sym (c.is_held.ensures t st) ∙ c.if-is_held.false
+place_device-requires-clause-free g c = λ t st. sym (c.is_held.ensures t st (c.in_ok-way.ensures.leads t st)) ∙ c.if-is_held.false
 
 pub returns : goal.returns
 returns g c =
@@ -84,7 +84,7 @@ returns g c =
     let l = c.args.at.now in
     when_same _ _ _ _ _
     (λ t st.
-    let free : held t (Device d) (stops s l) ≡ false = ap (held t (Device d)) (sym c.in_ok-way.ensures.stops) ∙ sym (c.is_held.ensures t st) ∙ c.if-is_held.false in
+    let free : held t (Device d) (stops s l) ≡ false = ap (held t (Device d)) (sym c.in_ok-way.ensures.stops) ∙ sym (c.is_held.ensures t st (c.in_ok-way.ensures.leads t st)) ∙ c.if-is_held.false in
     update_answer s t d n w l (c.in_ok-check_device.ensures.passes t st) (c.in_ok-way.ensures.passes t st) free
     ∙ ap (λ ps. last_answer t (put_after t (edited_device t d n w) ps)) (sym c.in_ok-way.ensures.stops))
     c.place_device.ensures

@@ -5,11 +5,18 @@ use Rattle.crush_map.specs.Pending.{pending_data}
 use Rattle.crush_map.specs.Built.{Draft}
 use Rattle.crush_map.specs.Building.{BuilderData, IsDraft, own_draft}
 use Rattle.crush_map.proofs.Drafts.{own_is_draft, draft_fits}
-use Rattle.crush_map.proofs.RuleSteps.{rule_step, rule_told_itself}
+use Rattle.crush_map.proofs.RuleSteps.{rule_step, rule_told_itself, never_lacking}
 use Rattle.crush_map.proofs.builder.MapBuilder.rule.Goals as goal
 
 pub returns-in-Some-clause-refused : goal.returns-in-Some-clause-refused
 returns-in-Some-clause-refused g c = λ d i. rule_told_itself d c.args.rule.now c.in-Some.fault (sym (c.rule_fault.ensures d i) ∙ c.in-Some.is)
+
+pub returns-in-Some-clause-memory : goal.returns-in-Some-clause-memory
+returns-in-Some-clause-memory g c = λ lacks.
+    let b : BuilderData = record { setting = c.self.inside.setting; forest = c.self.inside.forest; pending = pending_data c.self.inside.pending; adjusted = c.self.inside.adjusted } in
+    let d : Draft = own_draft b in
+    let at : IsDraft c.args.self.now d = subst (λ (x : BuilderData). IsDraft x d) c.self.view_is (own_is_draft b c.recall_invariant.ensures c.self.invariant) in
+    absurd (never_lacking d c.args.rule.now c.in-Some.fault (sym (c.rule_fault.ensures d at) ∙ c.in-Some.is) lacks)
 
 pub invariant_of-self-2 : goal.invariant_of-self-2
 invariant_of-self-2 g c =
