@@ -38,6 +38,8 @@ fn is_searched(rt: &impl Abort, forest: &Forest<Global>) -> bool {
     forest.total() == 65536
         && forest.contains(bucket(rt, 1), osd)
         && forest.parent(bucket_item(rt, 4096)) == Some(bucket(rt, 4095))
+        && forest.items(bucket(rt, 4096)).is_some()
+        && forest.is_used(bucket(rt, 4096))
 }
 
 /// Whether the chain is searched and copied as it should be.

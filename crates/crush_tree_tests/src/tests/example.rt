@@ -1,10 +1,8 @@
-//! The forest of the example map, in the machine's memory and in a small heap, and each call of a
+//! The forest of the example map, in the machine's memory and in small heaps, and each call of a
 //! forest once.
 
-use super::asks::{has_item, is_held};
-use super::items::{
-    Item, bucket, bucket_item, device, device_item, holding, inside, name, node, node_with,
-};
+use super::asks::{fits, fits_moved, has_item};
+use super::items::{Item, bucket, bucket_item, device, device_item, holding, inside, name, node};
 use super::puts::{Refused, add, add_in, exchange, give_name, put, weigh, weigh_all};
 use crush_tree::{Forest, Node, Place, View};
 use crush_units::{Alg, BucketId, ItemId, Weight};
@@ -76,19 +74,20 @@ pub(super) fn example(rt: &(impl Abort + AllocGlobal)) -> Forest<Global> {
 }
 
 /// A copy of a forest.
-fn copy_of<A: Allocator + Copy>(rt: &impl Abort, forest: &Forest<A>) -> Forest<A> {
+fn copy_of(rt: &impl Abort, forest: &Forest<Global>) -> Forest<Global> {
     forest.try_copy().expect(rt, "memory")
 }
 
 /// Whether the bucket weighs so many units.
-fn weighs<A: Allocator>(rt: &impl Abort, forest: &Forest<A>, distance: u32, units: u32) -> bool {
+fn weighs(rt: &impl Abort, forest: &Forest<Global>, distance: u32, units: u32) -> bool {
     forest.weight(bucket_item(rt, distance)) == Some(Weight::from_units(units))
 }
 
-/// Whether the forest counts and weighs what the example map does.
-fn sums_up<A: Allocator>(rt: &impl Abort, forest: &Forest<A>) -> bool {
+/// Whether the forest counts and weighs what the example map does with a device more that no bucket
+/// holds.
+fn sums_up(rt: &impl Abort, forest: &Forest<Global>) -> bool {
     let counts = forest.counts();
-    counts.devices == 3
+    counts.devices == 4
         && counts.buckets == 3
         && forest.total() == 163840
         && weighs(rt, forest, 2, 131072)
@@ -96,46 +95,143 @@ fn sums_up<A: Allocator>(rt: &impl Abort, forest: &Forest<A>) -> bool {
 }
 
 /// Whether osd.2 is found by its name, in h2.
-fn is_osd_2_in_h2<A: Allocator>(rt: &impl Abort, forest: &Forest<A>) -> bool {
+fn is_osd_2_in_h2(rt: &impl Abort, forest: &Forest<Global>) -> bool {
     forest.id_of("osd.2") == Some(device_item(rt, 2))
         && forest.parent(device_item(rt, 2)) == Some(bucket(rt, 3))
 }
 
 /// Whether a copy of the forest is the same.
-pub(super) fn is_copied<A: Allocator + Copy>(rt: &impl Abort, forest: &Forest<A>) -> bool {
+pub(super) fn is_copied(rt: &impl Abort, forest: &Forest<Global>) -> bool {
     let copy = copy_of(rt, forest);
     let is_copied = copy.is_same(forest);
     drop(copy);
     is_copied
 }
 
-/// Whether a copy of the forest counts and weighs what the example map does.
-fn sums_up_in_a_copy<A: Allocator + Copy>(rt: &impl Abort, forest: &Forest<A>) -> bool {
-    let copy = copy_of(rt, forest);
-    let is_summed = sums_up(rt, &copy);
-    drop(copy);
-    is_summed
+/// Whether the columns of the host h2 are told.
+fn tells_of_h2(rt: &impl Abort, forest: &Forest<Global>) -> bool {
+    let kind = forest.kind(bucket_item(rt, 3)).expect(rt, "h2");
+    kind.number() == 1
+        && forest.name(bucket_item(rt, 3)) == Some("h2")
+        && forest.alg(bucket_item(rt, 3)) == Some(Alg::Straw2)
 }
 
-/// Asserts what is told of the example map's forest and of a copy of it.
-fn is_built<A: Allocator + Copy>(rt: &impl Abort, forest: &Forest<A>) {
-    assert!(rt; sums_up(rt, forest) && is_osd_2_in_h2(rt, forest));
-    assert!(rt; is_copied(rt, forest) && sums_up_in_a_copy(rt, forest));
+/// Whether the columns of the device osd.2 are told.
+fn tells_of_osd_2(rt: &impl Abort, forest: &Forest<Global>) -> bool {
+    forest.name(device_item(rt, 2)) == Some("osd.2")
+        && forest.class(device_item(rt, 2)).is_none()
+        && forest.alg(device_item(rt, 2)).is_none()
 }
 
+/// Whether the columns of both are told, the class of osd.3, and no name of an item that isn't there.
+fn tells_of_columns(rt: &impl Abort, forest: &Forest<Global>) -> bool {
+    tells_of_h2(rt, forest)
+        && tells_of_osd_2(rt, forest)
+        && forest.class(device_item(rt, 3)) == Some("ssd")
+        && forest.name(device_item(rt, 4)).is_none()
+}
+
+/// Whether osd.2 alone weighs other than 1.0: below the root and h2, and not below h1 or a bucket
+/// that isn't there.
+fn has_one_other_weight(rt: &impl Abort, forest: &Forest<Global>) -> bool {
+    let one = Weight::from_units(65536);
+    forest.changes_subtree(bucket(rt, 1), one)
+        && !forest.changes_subtree(bucket(rt, 2), one)
+        && forest.changes_subtree(bucket(rt, 3), one)
+        && !forest.changes_subtree(bucket(rt, 4), one)
+}
+
+/// Whether an item that weighs 0.5 is seen with this type, this name and this bucket that holds it.
+fn is_seen(view: &View<'_>, kind: u16, name: &str, parent: BucketId) -> bool {
+    view.kind.number() == kind
+        && view.name == name
+        && view.weight.units() == 32768
+        && view.parent == Some(parent)
+}
+
+/// Whether the host h2 is found.
+fn finds_h2(rt: &impl Abort, forest: &Forest<Global>) -> bool {
+    match forest.find(bucket_item(rt, 3)) {
+        Some(view) => {
+            view.id.number() == -3
+                && view.alg == Some(Alg::Straw2)
+                && is_seen(&view, 1, "h2", bucket(rt, 1))
+        }
+        None => false,
+    }
+}
+
+/// Whether the device osd.2 is found, without a class.
+fn finds_osd_2(rt: &impl Abort, forest: &Forest<Global>) -> bool {
+    match forest.find(device_item(rt, 2)) {
+        Some(view) => { view.class.is_none() && is_seen(&view, 0, "osd.2", bucket(rt, 3)) }
+        None => false,
+    }
+}
+
+/// Whether both are found, and no item for an id that isn't there.
+fn finds_both_and_no_other(rt: &impl Abort, forest: &Forest<Global>) -> bool {
+    finds_h2(rt, forest) && finds_osd_2(rt, forest) && forest.find(bucket_item(rt, 4)).is_none()
+}
+
+/// Whether osd.2 is below the root and h1 is in itself, and neither osd.2 nor the root is below h1.
+fn tells_what_is_below(rt: &impl Abort, forest: &Forest<Global>) -> bool {
+    let (root, h1) = (bucket(rt, 1), bucket(rt, 2));
+    forest.contains(root, device_item(rt, 2))
+        && forest.contains(h1, ItemId::Bucket(h1))
+        && !forest.contains(h1, device_item(rt, 2))
+        && !forest.contains(h1, ItemId::Bucket(root))
+}
+
+/// Whether the items have these ids in order, as the numbers that a map shows.
+fn are_numbered(items: &[Node<Global>], numbers: &[i32]) -> bool {
+    items.len() == numbers.len()
+        && items
+            .iter()
+            .zip(numbers)
+            .all(|(item, number)| item.id().number() == *number)
+}
+
+/// Whether the bucket whose id is so far below 0 holds the items of these numbers, in order.
+fn holds(rt: &impl Abort, forest: &Forest<Global>, distance: u32, numbers: &[i32]) -> bool {
+    let items = forest.items(bucket(rt, distance)).expect(rt, "a bucket");
+    are_numbered(items, numbers)
+}
+
+/// Whether the forest has its items in order, osd.3 among the unplaced ones.
+fn is_in_order(rt: &impl Abort, forest: &Forest<Global>) -> bool {
+    are_numbered(forest.roots(), &[-1])
+        && are_numbered(forest.unplaced(), &[3])
+        && holds(rt, forest, 1, &[-2, -3])
+        && holds(rt, forest, 2, &[0, 1])
+        && forest.items(bucket(rt, 4)).is_none()
+}
+
+/// Whether a name is read into the forest's memory.
+fn has_memory_for_a_name(rt: &impl Abort, forest: &Forest<Global>) -> bool {
+    let name = name(rt, *forest.allocator(), "osd.3");
+    let is_read = name.as_str() == "osd.3";
+    drop(name);
+    is_read
+}
+
+/// Of the example map's forest with the device osd.3 of a class, which no bucket holds.
 #[test]
-fn in_the_machines_memory(rt: HostRuntime) {
-    let forest = example(&rt);
-    is_built(&rt, &forest);
+fn what_is_told(rt: HostRuntime) {
+    let mut forest = example(&rt);
+    let idle = Item::DeviceOfClass(3, "osd.3", 0);
+    add(&rt, &mut forest, Place::Unplaced, idle);
+    let is_told = sums_up(&rt, &forest)
+        && is_osd_2_in_h2(&rt, &forest)
+        && is_copied(&rt, &forest)
+        && tells_of_columns(&rt, &forest)
+        && has_one_other_weight(&rt, &forest)
+        && finds_both_and_no_other(&rt, &forest)
+        && tells_what_is_below(&rt, &forest)
+        && is_in_order(&rt, &forest)
+        && has_memory_for_a_name(&rt, &forest);
     drop(forest);
-}
-
-#[test]
-fn in_a_heap(rt: HostRuntime) {
-    let heap = LocalHeap::new(rt.alloc(), 65536).expect(&rt, "a heap");
-    let forest = example_in(&rt, &heap).expect(&rt, "memory");
-    is_built(&rt, &forest);
-    drop(forest);
+    assert!(rt; is_told);
 }
 
 /// Whether the forest has no memory for a copy.
@@ -185,250 +281,12 @@ fn in_heaps_of_each_size(rt: HostRuntime) {
     drop(whole);
 }
 
-/// Whether the forests are the same once osd.2 weighs so much in one.
-fn is_same_of_weight<A: Allocator>(
-    rt: &impl Abort,
-    forest: &Forest<Global>,
-    other: &mut Forest<A>,
-    units: u32,
-) -> bool {
-    weigh(other, device(rt, 2), Weight::from_units(units)).expect(rt, "a weight");
-    forest.is_same(other)
-}
-
-/// Whether forests that are the same differ while osd.2 weighs something else in one.
-fn differ_by_a_weight<A: Allocator>(
-    rt: &impl Abort,
-    forest: &Forest<Global>,
-    other: &mut Forest<A>,
-) -> bool {
-    forest.is_same(other)
-        && !is_same_of_weight(rt, forest, other, 32769)
-        && is_same_of_weight(rt, forest, other, 32768)
-}
-
-/// Whether an item had this name, if it gets another.
-fn renames<A: Allocator>(
-    rt: &impl Abort,
-    alloc: A,
-    forest: &mut Forest<A>,
-    id: &ItemId,
-    text: &str,
-    old: &str,
-) -> Option<bool> {
-    match give_name(forest, id, name(rt, alloc, text)) {
-        Ok(had) => {
-            let is_old = had.as_str() == old;
-            drop(had);
-            Some(is_old)
-        }
-        Err(_) => None,
-    }
-}
-
-/// Whether forests that are the same differ once osd.1 has another name in one.
-fn differ_by_a_name<A: Allocator>(
-    rt: &impl Abort,
-    forest: &Forest<Global>,
-    alloc: A,
-    other: &mut Forest<A>,
-) -> bool {
-    renames(rt, alloc, other, &device_item(rt, 1), "osd.9", "osd.1") == Some(true)
-        && !other.is_same(forest)
-}
-
-/// Whether a heap has the forest that the machine's memory has, and one that differs by a weight or a
-/// name is another.
-fn is_same_in_a_heap(rt: &impl Abort, heap: &LocalHeap, forest: &Forest<Global>) -> bool {
-    let mut other = example_in(rt, heap).expect(rt, "memory");
-    let is_told = differ_by_a_weight(rt, forest, &mut other)
-        && differ_by_a_name(rt, forest, heap, &mut other);
-    drop(other);
-    is_told
-}
-
-#[test]
-fn same_in_any_memory(rt: HostRuntime) {
-    let heap = LocalHeap::new(rt.alloc(), 65536).expect(&rt, "a heap");
-    let forest = example(&rt);
-    let is_told = is_same_in_a_heap(&rt, &heap, &forest);
-    drop(forest);
-    assert!(rt; is_told);
-}
-
-/// Whether a forest differs from the other once it has this idle device.
-fn differs_with(
-    rt: &(impl Abort + AllocGlobal),
-    forest: &mut Forest<Global>,
-    other: &Forest<Global>,
-    idle: Item,
-) -> bool {
-    add(rt, forest, Place::Unplaced, idle);
-    !forest.is_same(other)
-}
-
-/// Whether forests that are the same differ where one has an idle device and the other none, or one of
-/// another class.
-fn differ_by_a_class(
-    rt: &(impl Abort + AllocGlobal),
-    forest: &mut Forest<Global>,
-    other: &mut Forest<Global>,
-) -> bool {
-    differs_with(rt, forest, other, Item::DeviceOfClass(3, "osd.3", 0))
-        && differs_with(rt, other, forest, Item::Device(3, "osd.3", 0))
-        && is_copied(rt, forest)
-}
-
-#[test]
-fn class_matters(rt: HostRuntime) {
-    let mut forest = example(&rt);
-    let mut other = copy_of(&rt, &forest);
-    let is_told = differ_by_a_class(&rt, &mut forest, &mut other);
-    drop(other);
-    drop(forest);
-    assert!(rt; is_told);
-}
-
-/// Asserts the sums after new weights, of osd.2 and of all devices.
-fn sums_follow(rt: &impl Abort, forest: &mut Forest<Global>) {
-    weigh(forest, device(rt, 2), Weight::from_units(65536)).expect(rt, "a weight");
-    assert!(rt; forest.total() == 196608 && weighs(rt, forest, 3, 65536));
-    weigh_all(forest, bucket(rt, 1), Weight::from_units(1)).expect(rt, "a weight");
-    assert!(rt; forest.total() == 3 && weighs(rt, forest, 2, 2));
-}
-
-#[test]
-fn weights(rt: HostRuntime) {
-    let mut forest = example(&rt);
-    sums_follow(&rt, &mut forest);
-    let is_held = is_held(&forest, &device_item(&rt, 3));
-    drop(forest);
-    assert!(rt; !is_held);
-}
-
-/// Whether h1 gets a name that is free, and none that another has.
-fn gives_a_free_name(rt: &(impl Abort + AllocGlobal), forest: &mut Forest<Global>) -> bool {
-    let h1 = bucket_item(rt, 2);
-    renames(rt, rt.alloc(), forest, &h1, "h9", "h1") == Some(true)
-        && forest.id_of("h9") == Some(h1)
-        && forest.id_of("h1").is_none()
-        && renames(rt, rt.alloc(), forest, &h1, "h2", "h9").is_none()
-}
-
-#[test]
-fn names(rt: HostRuntime) {
-    let mut forest = example(&rt);
-    let is_told = gives_a_free_name(&rt, &mut forest);
-    drop(forest);
-    assert!(rt; is_told);
-}
-
-/// Whether the items have these ids in order, as the numbers that a map shows.
-fn are_numbered(items: &[Node<Global>], numbers: &[i32]) -> bool {
-    items.len() == numbers.len()
-        && items
-            .iter()
-            .zip(numbers)
-            .all(|(item, number)| item.id().number() == *number)
-}
-
-/// Whether the bucket whose id is so far below 0 holds the items of these numbers, in order.
-fn holds(rt: &impl Abort, forest: &Forest<Global>, distance: u32, numbers: &[i32]) -> bool {
-    let items = forest.items(bucket(rt, distance)).expect(rt, "a bucket");
-    are_numbered(items, numbers)
-}
-
-/// Whether the example map's forest has its items in order.
-fn is_in_order(rt: &impl Abort, forest: &Forest<Global>) -> bool {
-    are_numbered(forest.roots(), &[-1])
-        && forest.unplaced().is_empty()
-        && holds(rt, forest, 1, &[-2, -3])
-        && holds(rt, forest, 2, &[0, 1])
-        && forest.items(bucket(rt, 4)).is_none()
-}
-
-#[test]
-fn items_in_order(rt: HostRuntime) {
-    let forest = example(&rt);
-    let is_told = is_in_order(&rt, &forest);
-    drop(forest);
-    assert!(rt; is_told);
-}
-
-#[test]
-fn unplaced_devices(rt: HostRuntime) {
-    let mut forest = example(&rt);
-    let idle = Item::Device(3, "osd.3", 0);
-    add(&rt, &mut forest, Place::Unplaced, idle);
-    let is_told = forest.roots().len() == 1 && are_numbered(forest.unplaced(), &[3]);
-    drop(forest);
-    assert!(rt; is_told);
-}
-
-/// Whether an item that weighs 0.5 is seen with this type, this name and this bucket that holds it.
-fn is_seen(view: &View<'_>, kind: u16, name: &str, parent: BucketId) -> bool {
-    view.kind.number() == kind
-        && view.name == name
-        && view.weight.units() == 32768
-        && view.parent == Some(parent)
-}
-
-/// Whether the host h2 is found.
-fn finds_h2(rt: &impl Abort, forest: &Forest<Global>) -> bool {
-    match forest.find(bucket_item(rt, 3)) {
-        Some(view) => {
-            view.id.number() == -3
-                && view.alg == Some(Alg::Straw2)
-                && is_seen(&view, 1, "h2", bucket(rt, 1))
-        }
-        None => false,
-    }
-}
-
-/// Whether the device osd.2 is found, without a class.
-fn finds_osd_2(rt: &impl Abort, forest: &Forest<Global>) -> bool {
-    match forest.find(device_item(rt, 2)) {
-        Some(view) => { view.class.is_none() && is_seen(&view, 0, "osd.2", bucket(rt, 3)) }
-        None => false,
-    }
-}
-
-/// Whether both are found, and no item for an id that isn't there.
-fn finds_both_and_no_other(rt: &impl Abort, forest: &Forest<Global>) -> bool {
-    finds_h2(rt, forest) && finds_osd_2(rt, forest) && forest.find(bucket_item(rt, 4)).is_none()
-}
-
-#[test]
-fn one_item(rt: HostRuntime) {
-    let forest = example(&rt);
-    let is_told = finds_both_and_no_other(&rt, &forest);
-    drop(forest);
-    assert!(rt; is_told);
-}
-
-/// Whether osd.2 is below the root and h1 is in itself, and neither osd.2 nor the root is below h1.
-fn tells_what_is_below(rt: &impl Abort, forest: &Forest<Global>) -> bool {
-    let (root, h1) = (bucket(rt, 1), bucket(rt, 2));
-    forest.contains(root, device_item(rt, 2))
-        && forest.contains(h1, ItemId::Bucket(h1))
-        && !forest.contains(h1, device_item(rt, 2))
-        && !forest.contains(h1, ItemId::Bucket(root))
-}
-
-#[test]
-fn what_is_below(rt: HostRuntime) {
-    let forest = example(&rt);
-    let is_told = tells_what_is_below(&rt, &forest);
-    drop(forest);
-    assert!(rt; is_told);
-}
-
-/// Takes the host h2 out of the example map's forest, and asserts what it weighs.
-fn takes_h2_out(rt: &impl Abort, forest: &mut Forest<Global>) {
+/// Takes the host h2 out of the example map's forest, and answers what it weighs.
+fn take_h2_out(rt: &impl Abort, forest: &mut Forest<Global>) -> Weight {
     let h2 = forest.detach(bucket_item(rt, 3)).expect(rt, "h2");
     let weight = h2.weight();
     drop(h2);
-    assert!(rt; weight == Weight::from_units(32768));
+    weight
 }
 
 /// Whether no item is taken out for an id that isn't there.
@@ -442,24 +300,13 @@ fn detaches_nothing(forest: &mut Forest<Global>, id: ItemId) -> bool {
     }
 }
 
-/// Asserts what is told of the example map's forest without the host h2.
-fn is_without_h2(rt: &impl Abort, forest: &mut Forest<Global>) {
+/// Whether the example map's forest is without the host h2.
+fn is_without_h2(rt: &impl Abort, forest: &mut Forest<Global>) -> bool {
     let osd = device_item(rt, 2);
-    assert!(rt; forest.total() == 131072 && !has_item(forest, &osd));
-    assert!(rt; detaches_nothing(forest, osd) && forest.has_room(inside(rt, 1)));
-}
-
-#[test]
-fn out_and_in_again(rt: HostRuntime) {
-    let mut forest = example(&rt);
-    let whole = copy_of(&rt, &forest);
-    takes_h2_out(&rt, &mut forest);
-    is_without_h2(&rt, &mut forest);
-    put_h2(&rt, rt.alloc(), &mut forest).expect(&rt, "memory");
-    let is_whole = forest.is_same(&whole);
-    drop(whole);
-    drop(forest);
-    assert!(rt; is_whole);
+    forest.total() == 131072
+        && !has_item(forest, &osd)
+        && detaches_nothing(forest, osd)
+        && forest.has_room(inside(rt, 1))
 }
 
 /// Whether h1 has the id and the weight that h2 had.
@@ -469,32 +316,96 @@ fn is_h1_at_h2(rt: &impl Abort, forest: &Forest<Global>) -> bool {
         && forest.total() == 163840
 }
 
-/// Asserts that h1 and h2 are exchanged and exchanged back, and that h1 isn't exchanged with the
-/// root.
-fn exchanges_hosts(rt: &impl Abort, forest: &mut Forest<Global>) {
-    let (root, h1, h2) = (bucket(rt, 1), bucket(rt, 2), bucket(rt, 3));
-    exchange(forest, h1, h2).expect(rt, "an exchange");
-    assert!(rt; is_h1_at_h2(rt, forest));
-    assert!(rt; exchange(forest, root, h1) == Err(Refused::Unfit));
-    exchange(forest, h1, h2).expect(rt, "an exchange");
-}
-
+/// The host h2 goes out and comes in again, and changes places with h1.
 #[test]
-fn two_hosts_exchanged(rt: HostRuntime) {
+fn items_move(rt: HostRuntime) {
     let mut forest = example(&rt);
     let whole = copy_of(&rt, &forest);
-    exchanges_hosts(&rt, &mut forest);
+    let is_light = take_h2_out(&rt, &mut forest) == Weight::from_units(32768);
+    let is_out = is_without_h2(&rt, &mut forest);
+    put_h2(&rt, rt.alloc(), &mut forest).expect(&rt, "memory");
     let is_whole = forest.is_same(&whole);
     drop(whole);
+    exchange(&mut forest, bucket(&rt, 2), bucket(&rt, 3)).expect(&rt, "an exchange");
+    let is_exchanged = is_h1_at_h2(&rt, &forest);
     drop(forest);
-    assert!(rt; is_whole);
+    assert!(rt; is_light && is_out && is_whole && is_exchanged);
+}
+
+/// Whether the sums follow new weights, of osd.2 and of all devices.
+fn sums_follow(rt: &impl Abort, forest: &mut Forest<Global>) -> bool {
+    weigh(forest, device(rt, 2), Weight::from_units(65536)).expect(rt, "a weight");
+    let follows = forest.total() == 196608 && weighs(rt, forest, 3, 65536);
+    weigh_all(forest, bucket(rt, 1), Weight::from_units(1)).expect(rt, "a weight");
+    follows && forest.total() == 3 && weighs(rt, forest, 2, 2)
+}
+
+/// Whether h1 gets a name that is free.
+fn gets_a_free_name(rt: &(impl Abort + AllocGlobal), forest: &mut Forest<Global>) -> bool {
+    let h1 = bucket_item(rt, 2);
+    let old = give_name(forest, &h1, name(rt, rt.alloc(), "h9")).expect(rt, "a free name");
+    let is_old = old.as_str() == "h1";
+    drop(old);
+    is_old && forest.id_of("h9") == Some(h1)
 }
 
 #[test]
-fn held_by_hand(rt: HostRuntime) {
-    let device = node(&rt, Item::Device(0, "osd.0", 65536));
-    let host = node_with(&rt, Item::Host(2, "h1"), device);
-    let weight = host.weight();
+fn weights_and_names(rt: HostRuntime) {
+    let mut forest = example(&rt);
+    let is_weighed = sums_follow(&rt, &mut forest);
+    let is_named = gets_a_free_name(&rt, &mut forest);
+    drop(forest);
+    assert!(rt; is_weighed && is_named);
+}
+
+/// Whether h2 and the root above it can come to weigh so much more, and no unit more, unless a device
+/// of the root is moved.
+fn tells_what_fits(rt: &impl Abort, forest: &Forest<Global>) -> bool {
+    let (h2, osd_0) = (bucket(rt, 3), device(rt, 0));
+    let too_much = Weight::from_units(4294803456);
+    fits(forest, h2, Weight::from_units(4294803455)) == Some(true)
+        && fits(forest, h2, too_much) == Some(false)
+        && fits_moved(forest, osd_0, h2, too_much) == Some(true)
+}
+
+#[test]
+fn sums_that_fit(rt: HostRuntime) {
+    let forest = example(&rt);
+    let is_told = tells_what_fits(&rt, &forest);
+    drop(forest);
+    assert!(rt; is_told);
+}
+
+/// A host with new ids and a new name can be a root, and not be unplaced.
+#[test]
+fn keys_and_places(rt: HostRuntime) {
+    let forest = example(&rt);
+    let host = node(&rt, Item::HostOfClass(4, "h3", 5));
+    let is_root = forest.has_new_keys(&host)
+        && forest.can_attach(Place::Root, &host)
+        && !forest.can_attach(Place::Unplaced, &host);
     drop(host);
-    assert!(rt; weight == Weight::from_units(65536));
+    drop(forest);
+    assert!(rt; is_root);
+}
+
+/// Whether the first four ids that are free beside -1, -2, -3 and -5 are told, and which of two are
+/// used.
+fn frees_four_ids(rt: &impl Abort, forest: &Forest<Global>) -> bool {
+    let mut ids = [bucket(rt, 1); 4];
+    forest.free_ids(&mut ids);
+    ids.map(|id| id.number()) == [-4, -6, -7, -8]
+        && !forest.is_used(bucket(rt, 4))
+        && forest.is_used(bucket(rt, 5))
+}
+
+/// Of the buckets -1 and -3 with the class ids -2 and -5.
+#[test]
+fn free_ids(rt: HostRuntime) {
+    let mut forest = Forest::new(rt.alloc(), rt.alloc());
+    add(&rt, &mut forest, Place::Root, Item::HostOfClass(1, "h1", 2));
+    add(&rt, &mut forest, Place::Root, Item::HostOfClass(3, "h3", 5));
+    let is_told = frees_four_ids(&rt, &forest);
+    drop(forest);
+    assert!(rt; is_told);
 }

@@ -52,7 +52,7 @@ pub(super) fn name<A: Allocator>(rt: &impl Abort, alloc: A, text: &str) -> Name<
 }
 
 /// The header of a bucket without class ids.
-pub(super) fn header<A: Allocator + Copy>(
+fn header<A: Allocator + Copy>(
     rt: &impl Abort,
     alloc: A,
     distance: u32,
@@ -156,7 +156,7 @@ pub(super) fn made<A: Allocator + Copy>(
 }
 
 /// Puts a child into a bucket, if it has room and their weights stay in range.
-pub(super) fn hold<A: Allocator>(bucket: &mut Node<A>, child: Node<A>) -> Result<(), Refused> {
+fn hold<A: Allocator>(bucket: &mut Node<A>, child: Node<A>) -> Result<(), Refused> {
     if !bucket.has_room() || bucket.weight().units() > u32::MAX - child.weight().units() {
         drop(child);
         return Err(Refused::Unfit);
