@@ -21,7 +21,7 @@ MODES = {"each_mode": ["", "--in-turn ", "--in-turn --no-history "]}
 
 
 def read(path):
-    return path.read_bytes().decode("ascii") if path.exists() else ""
+    return path.read_bytes().decode("latin-1") if path.exists() else ""
 
 
 def lines_before(text, begin):
@@ -61,12 +61,39 @@ def runs(job):
         yield MODE[0], f"{name}.again.job", out, map_of(out), ""
 
 
+def spelled(text):
+    """The text that a table writes in ASCII: with escapes, `@` for a word that is too long, `~` for the longest."""
+    return text.encode("ascii").decode("unicode_escape").replace("@", "0" * 256).replace("~", "a" * 255)
+
+
+def refused(table):
+    """The runs of a table of refused/: each row is a job by itself behind the front above it, refused for the
+    fault above it, which is told where `^` stands, or, where the line names its place, as it stands."""
+    front, fault, number = "", "", 0
+    for line in read(table).split("\n"):
+        word, _, rest = line.partition(" ")
+        if line.startswith("  "):
+            number += 1
+            text = front + spelled(line[2:])
+            told = fault if " " in fault else f"byte {text.index('^')}: {fault}"
+            yield MODE[0], f"{table.stem}.{number:02}.job", text.replace("^", ""), "", f"crushedit: {told}\n"
+        elif word == "front":
+            front = spelled(rest)
+        elif word == "lines":
+            first, last, text = rest.split(" ", 2)
+            front += "".join(spelled(text).replace("%", str(n)) for n in range(int(first), int(last) + 1))
+        elif word != "#":
+            fault = line
+
+
 def wanted():
     """What each file of the crate beside src/ has to hold."""
     jobs = [job for folder in (HERE, HERE / "maps", HERE / "worked") for job in sorted(folder.glob("*.job"))]
     assert len({job.name for job in jobs}) == len(jobs), "two examples have one name"
     files, lines, stdout = {}, [], []
-    for words, name, text, out, err in (run for job in jobs for run in runs(job)):
+    tables = sorted((HERE / "refused").glob("*.txt"))
+    all_runs = [run for job in jobs for run in runs(job)] + [run for table in tables for run in refused(table)]
+    for words, name, text, out, err in all_runs:
         files[CRATE / "data" / name] = text
         lines.append(f"{words}{name}\n")
         stdout.append(printed(f"{words}{name}", out, err))
@@ -83,7 +110,7 @@ def main():
     for path in there - files.keys():
         path.unlink()
     for path, text in files.items():
-        path.write_bytes(text.encode("ascii"))
+        path.write_bytes(text.encode("latin-1"))
 
 
 main()
