@@ -6,7 +6,8 @@ standard error must get anything, a NAME.err. It becomes a file of crates/crush_
 there for each mode that it is run in, and a part of the crate's `stdout`. Of an example of this folder or of
 maps/ that is no refused one, what is written is run again and gives the same map (NAME.again.job), and the
 job's map alone is printed as it is, or, where there is a NAME.map, as that (NAME.alone.job). What a run is
-summed up as is counted here from the history. With --check nothing is written, and the status is 1 where the
+summed up as is counted here from the history. Each row of a table of refused/ is a job that is refused; these
+are one file, `refused`, in which a record separator stands between two. With --check nothing is written, and the status is 1 where the
 crate has other files or other bytes.
 """
 import pathlib
@@ -17,11 +18,13 @@ HERE = pathlib.Path(__file__).resolve().parent
 CRATE = HERE.parent / "crates/crush_examples"
 # The words before a job's name, for each run of it.
 MODE = ["--in-turn "]
+# What stands between two jobs that are refused: no text and no command has it.
+SEPARATOR = "\x1e"
 MODES = {"each_mode": ["", "--in-turn ", "--in-turn --no-history "]}
 
 
 def read(path):
-    return path.read_bytes().decode("ascii") if path.exists() else ""
+    return path.read_bytes().decode("latin-1") if path.exists() else ""
 
 
 def lines_before(text, begin):
@@ -61,15 +64,45 @@ def runs(job):
         yield MODE[0], f"{name}.again.job", out, map_of(out), ""
 
 
+def spelled(text):
+    """The text that a table writes in ASCII: with escapes, `@` for a word that is too long, `~` for the longest."""
+    return text.encode("ascii").decode("unicode_escape").replace("@", "0" * 256).replace("~", "a" * 255)
+
+
+def refused(table):
+    """The jobs of a table of refused/, each with what standard error is told: each row is a job by itself behind
+    the front above it, refused for the fault above it, which is told where `^` stands, or, where the line names
+    its place, as it stands."""
+    front, fault = "", ""
+    for line in read(table).split("\n"):
+        word, _, rest = line.partition(" ")
+        if line.startswith("  "):
+            text = front + spelled(line[2:])
+            told = fault if " " in fault else f"byte {text.index('^')}: {fault}"
+            yield text.replace("^", ""), f"crushedit: {told}\n"
+        elif word == "front":
+            front = spelled(rest)
+        elif word == "lines":
+            first, last, text = rest.split(" ", 2)
+            front += "".join(spelled(text).replace("%", str(n)) for n in range(int(first), int(last) + 1))
+        elif word != "#":
+            fault = line
+
+
 def wanted():
     """What each file of the crate beside src/ has to hold."""
     jobs = [job for folder in (HERE, HERE / "maps", HERE / "worked") for job in sorted(folder.glob("*.job"))]
     assert len({job.name for job in jobs}) == len(jobs), "two examples have one name"
     files, lines, stdout = {}, [], []
-    for words, name, text, out, err in (run for job in jobs for run in runs(job)):
-        files[CRATE / "data" / name] = text
-        lines.append(f"{words}{name}\n")
-        stdout.append(printed(f"{words}{name}", out, err))
+    for job in jobs:
+        for words, name, text, out, err in runs(job):
+            files[CRATE / "data" / name] = text
+            lines.append(f"{words}{name}\n")
+            stdout.append(printed(f"{words}{name}", out, err))
+    rows = [row for table in sorted((HERE / "refused").glob("*.txt")) for row in refused(table)]
+    assert not any(SEPARATOR in text for text, _ in rows), "a job has the byte that separates jobs"
+    stdout += [printed(f"refused {number}", "", err) for number, (_, err) in enumerate(rows)]
+    files[CRATE / "data/refused"] = SEPARATOR.join(text for text, _ in rows)
     return files | {CRATE / "data/jobs": "".join(lines), CRATE / "stdout": "".join(stdout)}
 
 
@@ -83,7 +116,7 @@ def main():
     for path in there - files.keys():
         path.unlink()
     for path, text in files.items():
-        path.write_bytes(text.encode("ascii"))
+        path.write_bytes(text.encode("latin-1"))
 
 
 main()

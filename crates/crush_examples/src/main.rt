@@ -1,8 +1,9 @@
 //! Runs jobs as the program `crushedit` does, one after the other, and prints of each what is written,
-//! what the run comes to, what standard error is told and the status.
+//! what the run comes to, what standard error is told and the status: first those that `jobs` names,
+//! then those of the file `refused`.
 #![tactic(auto)]
 
-use crush_options::{Options, options};
+use crush_options::{Mode, Options, options};
 use crush_report::{RunFault, Summary, report};
 use crush_run::run_job;
 use std::fs::{self, File};
@@ -12,7 +13,34 @@ fn main(rt: HostRuntime) -> io::Result<()> {
     let lines = fs::read_to_string(&rt, "jobs")?;
     let done = run_lines(&rt, lines.as_str());
     drop(lines);
+    done?;
+    let records = fs::read(&rt, "refused")?;
+    let done = run_records(&rt, records.as_slice());
+    drop(records);
     done
+}
+
+/// What stands between two jobs of one file.
+const RECORD_SEPARATOR: u8 = 0x1e;
+
+/// Runs each of the jobs between record separators.
+fn run_records(rt: &HostRuntime, records: &[u8]) -> io::Result<()> {
+    let jobs = records.split(|byte| *byte == RECORD_SEPARATOR);
+    for (number, job) in jobs.enumerate() {
+        println!(rt; "> refused {number}")?;
+        print_end(rt, &run_record(rt, job))?;
+    }
+    Ok(())
+}
+
+/// Runs a job that is in memory.
+fn run_record(rt: &HostRuntime, job: &[u8]) -> Result<Summary, RunFault> {
+    let mode = Mode {
+        in_turn: true,
+        history: true,
+    };
+    let mut reader = job;
+    run_job(rt, mode, &mut reader, &mut rt.stdout())
 }
 
 /// Runs each line, which has the words of a command line behind the program's name.
