@@ -116,48 +116,33 @@ pub on_ok : {X E P Q : Type 0} (x : Result X E) → (P → Q) → OnOk x P → O
 on_ok (Ok v) h p = h p
 on_ok (Err e) h p = tt
 
--- THE NEW STOPS of a way, told of what it has inside
-module _ (t : List Row) (l : List Pair) (xs ys : List Stop) (fresh : ℕ) (top : Option ℕ) (way : WayData) (same : xs ≡ ys) (seen : ◌≡◌ {A = WayData} (record { stops = stops_data l ys; fresh = fresh; receiver = top }) way) (leads : Leads t way) where
-  stops_are : stops_data l xs ≡ way.stops
-  stops_are = ap (stops_data l) same ∙ ap (λ (w : WayData). w.stops) seen
+-- THE NEW STOPS of a way
+module _ (t : List Row) (l : List Pair) (xs : List Stop) (way : WayData) (are : stops_data l xs ≡ take way.fresh way.stops) (leads : Leads t way) where
+  count_is : way.fresh ≡ prefix_len (is_fresh t) way.stops
+  count_is = leads.fresh ∙ length-take-le (prefix_len (is_fresh t) way.stops) way.stops (prefix_len-le-length (is_fresh t) way.stops)
 
-  many : fresh ≡ length (fresh_stops t way.stops)
-  many = ap (λ (w : WayData). w.fresh) seen ∙ leads.fresh
+  pub fresh_are : stops_data l xs ≡ fresh_stops t way.stops
+  fresh_are = are ∙ ap (λ k. take k way.stops) count_is
 
-  top_is : top ≡ receiver t way.stops
-  top_is = ap (λ (w : WayData). w.receiver) seen ∙ leads.receiver
+  pub fresh_forms : All IsStop (stops_data l xs)
+  fresh_forms = subst (All IsStop) (sym are) (All-take IsStop way.fresh way.stops leads.route.forms)
 
-  count_is : fresh ≡ prefix_len (is_fresh t) way.stops
-  count_is = many ∙ length-take-le (prefix_len (is_fresh t) way.stops) way.stops (prefix_len-le-length (is_fresh t) way.stops)
+  pub rows_are : rows way.receiver (new_boxes t (stops_data l xs)) ≡ rows_made t way.stops
+  rows_are = (λ j. rows (leads.receiver j) (new_boxes t (fresh_are j))) ∙ rows-empty 1 (new_buckets t way.stops) (receiver t way.stops)
 
-  first_are : stops_data l (take fresh xs) ≡ take fresh way.stops
-  first_are = stops-take l fresh xs ∙ ap (take fresh) stops_are
-
-  pub fresh_are : stops_data l (take fresh xs) ≡ fresh_stops t way.stops
-  fresh_are = first_are ∙ ap (λ k. take k way.stops) count_is
-
-  pub fresh_within : fresh ≤ length xs
-  fresh_within = let few = prefix_len-le-length (is_fresh t) way.stops in let as_many = sym (stops-length l xs) ∙ ap length stops_are in omega (arith, count_is)
-
-  pub fresh_forms : All IsStop (stops_data l (take fresh xs))
-  fresh_forms = subst (All IsStop) (sym first_are) (All-take IsStop fresh way.stops leads.route.forms)
-
-  pub rows_are : rows top (new_boxes t (stops_data l (take fresh xs))) ≡ rows_made t way.stops
-  rows_are = (λ j. rows (top_is j) (new_boxes t (fresh_are j))) ∙ rows-empty 1 (new_buckets t way.stops) (receiver t way.stops)
-
-  pub next_is : (b : ℕ) → next_up (numbered t (stops_data l (take fresh xs))) None ≡ Some b → next_place t way.stops ≡ Some b
+  pub next_is : (b : ℕ) → next_up (numbered t (stops_data l xs)) None ≡ Some b → next_place t way.stops ≡ Some b
   next_is b e = any_top (new_buckets t way.stops) (receiver t way.stops) b (ap (λ z. next_up (numbered t z) None) (sym fresh_are) ∙ e)
 
-  -- where none is new the item comes into what receives
-  module _ (none : fresh ≤ 0) where
-    empty : fresh_stops t way.stops ≡ []
-    empty = nothing (fresh_stops t way.stops) (omega (arith, many, none))
+-- where none is new the item comes into what receives
+module _ (t : List Row) (way : WayData) (leads : Leads t way) (none : way.fresh ≤ 0) where
+  empty : fresh_stops t way.stops ≡ []
+  empty = nothing (fresh_stops t way.stops) (omega (arith, leads.fresh, none))
 
-    pub next_receives : next_place t way.stops ≡ top
-    next_receives = (none_new t way.stops empty).1 ∙ sym top_is
+  pub next_receives : next_place t way.stops ≡ way.receiver
+  next_receives = (none_new t way.stops empty).1 ∙ sym leads.receiver
 
-    pub none_made : t ≡ t ++ rows_made t way.stops
-    none_made = sym (ap (λ z. t ++ z) (none_new t way.stops empty).0 ∙ append-nil t)
+  pub none_made : t ≡ t ++ rows_made t way.stops
+  none_made = sym (ap (λ z. t ++ z) (none_new t way.stops empty).0 ∙ append-nil t)
 
-    pub receives : top ≡ None → ⊥
-    receives e = let next = route_next t way.stops leads.route in let is : None ≡ Some next.0 = sym e ∙ sym next_receives ∙ next.1 in cc
+  pub receives : way.receiver ≡ None → ⊥
+  receives e = let next = route_next t way.stops leads.route in let is : None ≡ Some next.0 = sym e ∙ sym next_receives ∙ next.1 in cc

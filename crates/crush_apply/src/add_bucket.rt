@@ -18,7 +18,7 @@ use crush_units::{BucketId, Name, TypeId};
 use std::alloc::{Allocator, Global};
 
 /// The type of the bucket that is to be made, or why it isn't.
-fn added_kind<A: Allocator>(
+fn check_add<A: Allocator>(
     forest: &Forest<A>,
     setting: &Setting,
     name: &Name<Global>,
@@ -69,7 +69,7 @@ pub(crate) fn add_bucket<A: Allocator + Clone>(
 {
     forest.recall_invariant();
     let _form = name.as_bytes();
-    let number = added_kind(forest, setting, name, kind)?;
+    let number = check_add(forest, setting, name, kind)?;
     let id = first_free(forest);
     let node = empty_bucket(forest.allocator(), id, number, name)?;
     forest.reserve(Place::Root)?;

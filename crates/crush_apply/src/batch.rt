@@ -79,7 +79,7 @@ fn make_all<A: Allocator + Clone>(
 
 /// What was done with one edit more.
 fn with_done(dones: Dones, done: Done) -> Dones
-    requires edits { dones.edits < 65536 }
+    requires edits { dones.edits < MOST_EDITS }
     requires changed { dones.changed ≤ dones.edits }
     requires made { dones.made ≤ dones.edits * 65535 }
     ensures sum { result ≡ with_done dones done.changed done.made }

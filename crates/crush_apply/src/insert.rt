@@ -31,10 +31,10 @@ pub(crate) fn insert<A: Allocator + Clone>(
         forest.old forest.new result }
 {
     forest.recall_invariant();
-    check_device(setting, forest, device, name, weight, at)?;
+    check_device(forest, setting, device, name, weight, at)?;
     if forest.parent(ItemId::Device(device)).is_some() {
         return Err(EditFault::Refused(Refusal::AlreadyPlaced));
     }
-    let way = way_of(setting, forest, at)?;
+    let way = way_of(forest, setting, at)?;
     place_device(forest, device, name, weight, &way)
 }

@@ -17,8 +17,8 @@ use crush_tree::Forest;
 use crush_units::{BucketId, DeviceId, ItemId, Name, TypeId, Weight};
 use std::alloc::{Allocator, Global};
 
-/// Whether the location can be that of an edit: its type names and its bucket names are distinct
-/// and its types known, none is type 0, and there is a pair.
+/// Refuses a location that can't be an edit's: a type name or a bucket name stands twice in it, a
+/// type isn't known or is type 0, or there is no pair.
 pub(crate) fn check_location(setting: &Setting, at: &Location) -> Result<(), Refusal>
     ensures passes { OnOk result (first_refusal (location_tests setting.now at.now) ≡ None) }
     ensures refused { IfErr result
@@ -37,12 +37,12 @@ pub(crate) fn check_location(setting: &Setting, at: &Location) -> Result<(), Ref
     Ok(())
 }
 
-/// Whether a device can come to a location, before its route is looked at: no bucket of the
-/// location has its name, the location can be that of an edit, the weight is a device's, and id and
-/// name belong together or are new both.
+/// Refuses a device that can't come to a location, before its route is looked at: a bucket of the
+/// location has its name, the location can't be an edit's, no device has the weight, or the name is
+/// another item's or the id is there with another name.
 pub(crate) fn check_device<A: Allocator>(
-    setting: &Setting,
     forest: &Forest<A>,
+    setting: &Setting,
     device: DeviceId,
     name: &Name<Global>,
     weight: Weight,

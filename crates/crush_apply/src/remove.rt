@@ -26,7 +26,7 @@ fn holds_items<A: Allocator>(forest: &Forest<A>, bucket: BucketId) -> bool
 }
 
 /// The item that is to be taken out, or why it isn't.
-fn removed<A: Allocator>(
+fn check_remove<A: Allocator>(
     forest: &Forest<A>,
     setting: &Setting,
     name: &Name<Global>,
@@ -65,7 +65,7 @@ pub(crate) fn remove<A: Allocator>(
     ensures kept { OnErr result (forest.new ≡ forest.old) }
 {
     forest.recall_invariant();
-    let id = removed(forest, setting, name)?;
+    let id = check_remove(forest, setting, name)?;
     let Some(_) = forest.detach(id) else {
         unreachable!()
     };

@@ -15,7 +15,7 @@ use crush_units::{BucketId, ItemId, Name};
 use std::alloc::{Allocator, Global};
 
 /// The bucket that is to have another name, or why it doesn't get it.
-fn renamed<A: Allocator>(
+fn check_rename<A: Allocator>(
     forest: &Forest<A>,
     from: &Name<Global>,
     to: &Name<Global>,
@@ -51,7 +51,7 @@ pub(crate) fn rename<A: Allocator + Clone>(
         forest.old forest.new result }
 {
     forest.recall_invariant();
-    let bucket = renamed(forest, from, to)?;
+    let bucket = check_rename(forest, from, to)?;
     let name = to.try_copy(forest.allocator().clone()?)?;
     let _form = to.as_bytes();
     forest.rename(ItemId::Bucket(bucket), name);

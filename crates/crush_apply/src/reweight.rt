@@ -16,7 +16,7 @@ use crush_units::{DeviceId, ItemId, Name, Weight};
 use std::alloc::{Allocator, Global};
 
 /// The device whose weight is to be set, or why it isn't.
-fn reweighted<A: Allocator>(
+fn check_reweight<A: Allocator>(
     forest: &Forest<A>,
     name: &Name<Global>,
     weight: Weight,
@@ -59,7 +59,7 @@ pub(crate) fn reweight<A: Allocator>(
     ensures kept { OnErr result (forest.new ≡ forest.old) }
 {
     forest.recall_invariant();
-    let device = reweighted(forest, name, weight)?;
+    let device = check_reweight(forest, name, weight)?;
     if forest.weight(ItemId::Device(device)) == Some(weight) {
         return Ok(Done {
             changed: false,

@@ -16,7 +16,7 @@ use crush_units::{BucketId, ItemId, Name, Weight};
 use std::alloc::{Allocator, Global};
 
 /// The bucket below which weights are to be set, or why they aren't.
-fn reweighted_bucket<A: Allocator>(
+fn check_subtree<A: Allocator>(
     forest: &Forest<A>,
     name: &Name<Global>,
     weight: Weight,
@@ -56,7 +56,7 @@ pub(crate) fn reweight_subtree<A: Allocator>(
     ensures kept { OnErr result (forest.new ≡ forest.old) }
 {
     forest.recall_invariant();
-    let bucket = reweighted_bucket(forest, name, weight)?;
+    let bucket = check_subtree(forest, name, weight)?;
     if !forest.changes_subtree(bucket, weight) {
         return Ok(Done {
             changed: false,

@@ -16,7 +16,7 @@ use crush_units::{BucketId, ItemId, Name};
 use std::alloc::{Allocator, Global};
 
 /// The two buckets that are to be exchanged, or why they aren't.
-fn swapped<A: Allocator>(
+fn check_swap<A: Allocator>(
     forest: &Forest<A>,
     a: &Name<Global>,
     b: &Name<Global>,
@@ -65,7 +65,7 @@ pub(crate) fn swap<A: Allocator>(
     ensures kept { OnErr result (forest.new ≡ forest.old) }
 {
     forest.recall_invariant();
-    let (first, second) = swapped(forest, a, b)?;
+    let (first, second) = check_swap(forest, a, b)?;
     forest.swap(first, second);
     Ok(Done {
         changed: true,

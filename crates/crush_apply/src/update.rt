@@ -33,8 +33,8 @@ pub(crate) fn update<A: Allocator + Clone>(
         forest.old forest.new result }
 {
     forest.recall_invariant();
-    check_device(setting, forest, device, name, weight, at)?;
-    let way = way_of(setting, forest, at)?;
+    check_device(forest, setting, device, name, weight, at)?;
+    let way = way_of(forest, setting, at)?;
     if is_held(forest, ItemId::Device(device), &way) {
         return Ok(reweight(forest, name, weight)?);
     }

@@ -5,7 +5,7 @@ use Rattle.crush_table.specs.Forest.{rows_of}
 use Rattle.crush_table.proofs.Stands.{stands_for_rows}
 use Rattle.crush_apply.proofs.Found.{found_there}
 use Rattle.crush_apply.proofs.Names.{not_nested}
-use Rattle.crush_apply.proofs.swap.swapped.Goals as goal
+use Rattle.crush_apply.proofs.swap.check_swap.Goals as goal
 
 pub fits_swap-requires-clause-there_a : goal.fits_swap-requires-clause-there_a
 fits_swap-requires-clause-there_a g c = found_there c.args.forest.now c.as_str.result.now c.in-Some.one (Bucket c.in-Bucket.first) c.recall_invariant.ensures c.in-Some.ensures c.in-Bucket.is

@@ -4,7 +4,7 @@ use Rattle.crush_table.specs.Table.{is_named}
 use Rattle.crush_edits.specs.Setting.{kind_number}
 use Rattle.crush_edits.proofs.Others.{full_has_no_room}
 use Rattle.crush_apply.proofs.Singles.{not_zero}
-use Rattle.crush_apply.proofs.add_bucket.added_kind.Goals as goal
+use Rattle.crush_apply.proofs.add_bucket.check_add.Goals as goal
 
 pub returns-then-counts-ge-MOST_BUCKETS-clause-refused : goal.returns-then-counts-ge-MOST_BUCKETS-clause-refused
 returns-then-counts-ge-MOST_BUCKETS-clause-refused g c = λ t st.
