@@ -1,8 +1,6 @@
-//! Worked lines: an edit as it is asked, what it is answered, and what is then true of the map.
+//! Edits as they are asked for, and what may be true of a map.
 
-use crate::tests::building::{bucket, map_of};
-use crate::tests::statements::Statement;
-use crush_map::{BatchFault, CrushMap, Done, Dones, Edit, EditFault, Location, Refusal};
+use crush_map::{BatchFault, CrushMap, Dones, Edit, Location};
 use crush_tree::Node;
 use crush_units::limits::MOST_EDITS;
 use crush_units::{DeviceId, ItemId, Name, Weight};
@@ -40,34 +38,11 @@ pub(super) enum Fact {
     IsAbsent(&'static str),
     /// The item of this name weighs so much.
     Weighs(&'static str, u32),
-    /// The device of this name has this class.
-    HasClass(&'static str, &'static str),
     /// All placed devices weigh so much.
     Total(u64),
     /// There are so many devices and so many buckets.
     Counts(u32, u32),
-    /// A rule takes the bucket with the id of this number.
-    IsTaken(i32),
 }
-
-/// An edit, its answer, and what is then true of the map.
-pub(super) struct Line {
-    pub asked: Asked,
-    pub told: Result<Done, Refusal>,
-    pub then: &'static [Fact],
-}
-
-/// The edit is made, and the map is another; no bucket is made.
-pub(super) const CHANGED: Result<Done, Refusal> = Ok(Done {
-    changed: true,
-    made: 0,
-});
-
-/// The edit is made, and the map is as before.
-pub(super) const SAME: Result<Done, Refusal> = Ok(Done {
-    changed: false,
-    made: 0,
-});
 
 /// A name in the machine's memory.
 pub(super) fn name(rt: &impl Abort, alloc: Global, text: &str) -> Name<Global> {
@@ -196,23 +171,15 @@ fn has_id<A: Allocator>(map: &CrushMap<A>, item: &str, number: i32) -> bool {
 
 /// Whether the bucket of this name stands in no other.
 fn is_root<A: Allocator>(map: &CrushMap<A>, bucket: &str) -> bool {
-    map.forest()
-        .roots()
-        .iter()
-        .any(|node| name_of(node) == bucket)
+    match map.locate(bucket) {
+        Some(id) => map.forest().parent(id).is_none(),
+        None => false,
+    }
 }
 
 /// Whether the item of this name weighs so many units.
 fn weighs<A: Allocator>(map: &CrushMap<A>, item: &str, units: u32) -> bool {
     map.weight_of(item) == Some(Weight::from_units(units))
-}
-
-/// Whether the device of this name has this class.
-fn has_class<A: Allocator>(map: &CrushMap<A>, device: &str, class: &str) -> bool {
-    match map.locate(device) {
-        Some(id) => map.forest().class(id) == Some(class),
-        None => false,
-    }
 }
 
 /// Whether there are so many devices and so many buckets.
@@ -222,7 +189,7 @@ fn counts<A: Allocator>(map: &CrushMap<A>, devices: u32, buckets: u32) -> bool {
 }
 
 /// Whether it is true of the map.
-fn is_true_of<A: Allocator>(rt: &impl Abort, map: &CrushMap<A>, fact: Fact) -> bool {
+fn is_true_of<A: Allocator>(map: &CrushMap<A>, fact: Fact) -> bool {
     match fact {
         Fact::Holds(bucket, items, units) => {
             holds(map, bucket, items) && weighs(map, bucket, units)
@@ -231,10 +198,8 @@ fn is_true_of<A: Allocator>(rt: &impl Abort, map: &CrushMap<A>, fact: Fact) -> b
         Fact::IsRoot(bucket) => is_root(map, bucket),
         Fact::IsAbsent(item) => map.locate(item).is_none() && map.weight_of(item).is_none(),
         Fact::Weighs(item, units) => weighs(map, item, units),
-        Fact::HasClass(device, class) => has_class(map, device, class),
         Fact::Total(units) => map.total() == units && map.forest().total() == units,
         Fact::Counts(devices, buckets) => counts(map, devices, buckets),
-        Fact::IsTaken(number) => map.setting().takes(bucket(rt, number)),
     }
 }
 
@@ -246,90 +211,7 @@ pub(super) fn are_true_of<A: Allocator>(
     facts: &[Fact],
 ) {
     for fact in facts {
-        assert!(rt; is_true_of(rt, map, *fact), "line {place}");
-    }
-}
-
-/// The answer where memory doesn't lack.
-fn with_memory(rt: &impl Abort, told: Result<Done, EditFault>) -> Result<Done, Refusal> {
-    match told {
-        Ok(done) => Ok(done),
-        Err(EditFault::Refused(refusal)) => Err(refusal),
-        Err(EditFault::OutOfMemory) => panic!(rt; "out of memory"),
-    }
-}
-
-/// What a map answers to an edit for which memory doesn't lack.
-pub(super) fn told<A: Allocator + Clone>(
-    rt: &impl Abort,
-    alloc: Global,
-    map: &mut CrushMap<A>,
-    asked: Asked,
-) -> Result<Done, Refusal> {
-    let edit = edit(rt, alloc, asked);
-    let told = map.apply(&edit);
-    drop(edit);
-    with_memory(rt, told)
-}
-
-/// What a map answers to an edit, and whether its items are then as they were.
-fn told_and_same(
-    rt: &impl Abort,
-    alloc: Global,
-    map: &mut CrushMap<Global>,
-    asked: Asked,
-) -> (Result<Done, Refusal>, bool) {
-    let before = map.try_copy().expect(rt, "memory");
-    let told = told(rt, alloc, map, asked);
-    let same = map.forest().is_same(before.forest());
-    drop(before);
-    (told, same)
-}
-
-/// Whether the answer says that the map is another.
-fn is_change(told: Result<Done, Refusal>) -> bool {
-    match told {
-        Ok(done) => done.changed,
-        Err(_) => false,
-    }
-}
-
-/// Makes the edits of the lines, and asserts what each is answered and what is then true of the
-/// map. It is another map exactly where the answer says so.
-pub(super) fn makes(rt: &impl Abort, alloc: Global, map: &mut CrushMap<Global>, lines: &[Line]) {
-    for (place, line) in lines.iter().enumerate() {
-        let (told, same) = told_and_same(rt, alloc, map, line.asked);
-        assert!(rt;
-            told == line.told && same != is_change(told),
-            "line {place}: {told:?}"
-        );
-        are_true_of(rt, map, place, line.then);
-    }
-}
-
-/// Asserts what is true of a map of these statements.
-pub(super) fn are_true_on(rt: &impl Abort, alloc: Global, parts: &[&[Statement]], facts: &[Fact]) {
-    let map = map_of(rt, alloc, parts);
-    are_true_of(rt, &map, 0, facts);
-    drop(map);
-}
-
-/// Makes the edits of the lines on a map of these statements.
-pub(super) fn makes_on(rt: &impl Abort, alloc: Global, parts: &[&[Statement]], lines: &[Line]) {
-    let mut map = map_of(rt, alloc, parts);
-    makes(rt, alloc, &mut map, lines);
-    drop(map);
-}
-
-/// Makes the edits of each group of lines on a map of these statements.
-pub(super) fn makes_each(
-    rt: &impl Abort,
-    alloc: Global,
-    parts: &[&[Statement]],
-    groups: &[&[Line]],
-) {
-    for lines in groups {
-        makes_on(rt, alloc, parts, lines);
+        assert!(rt; is_true_of(map, *fact), "line {place}");
     }
 }
 
@@ -341,31 +223,4 @@ pub(super) fn make_batch<A: Allocator + Clone>(
 ) -> Result<Dones, BatchFault> {
     assert!(rt; edits.len() <= MOST_EDITS);
     map.apply_batch(edits)
-}
-
-/// What a map in the machine's memory answers to a batch.
-fn answer_to_batch(
-    rt: &impl Abort,
-    alloc: Global,
-    map: &mut CrushMap<Global>,
-    asked: &[Asked],
-) -> Result<Dones, BatchFault> {
-    let edits = edits(rt, alloc, asked);
-    let told = make_batch(rt, map, edits.as_slice());
-    drop(edits);
-    told
-}
-
-/// What a map answers to a batch, and whether its items are then as they were.
-pub(super) fn told_of_batch_and_same(
-    rt: &impl Abort,
-    alloc: Global,
-    map: &mut CrushMap<Global>,
-    asked: &[Asked],
-) -> (Result<Dones, BatchFault>, bool) {
-    let before = map.try_copy().expect(rt, "memory");
-    let told = answer_to_batch(rt, alloc, map, asked);
-    let same = map.forest().is_same(before.forest());
-    drop(before);
-    (told, same)
 }

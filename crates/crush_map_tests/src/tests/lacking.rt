@@ -1,8 +1,9 @@
-//! Edits and batches for which memory lacks at each of their growths: the map is then as before,
-//! and the same call, made again where there is memory, answers and does as ever.
+//! Each edit, and batches, for which memory lacks at each of their growths: the map is then as
+//! before, and the same call, made again where there is memory, answers and does as ever. And a
+//! batch of as many edits as there may be.
 
-use crate::tests::asking::{Asked, CHANGED, Fact, are_true_of, edits, make_batch, told};
-use crate::tests::whole::{has_the_setting, whole_example_map, whole_example_map_in};
+use crate::tests::asking::{Asked, Fact, are_true_of, edit, edits, make_batch};
+use crate::tests::whole::{whole_example_map, whole_example_map_in};
 use crush_map::{BatchFault, CrushMap, Done, Dones, Edit, EditFault, Refusal};
 use linked_list_allocator::LocalHeap;
 use std::alloc::Global;
@@ -76,12 +77,10 @@ fn is_want_of_memory(told: Told) -> bool {
 fn is_made(rt: &impl Abort, map: &CrushMap<&LocalHeap>, place: usize, call: &Call, told: Told) {
     assert!(rt; told == call.told, "call {place}");
     are_true_of(rt, map, place, call.then);
-    has_the_setting(rt, map.setting());
 }
 
 /// Asserts that the map is the example map.
 fn is_the_example_map(rt: &impl Abort, alloc: Global, map: &CrushMap<&LocalHeap>) {
-    has_the_setting(rt, map.setting());
     let whole = whole_example_map(rt, alloc);
     let same = map.forest().is_same(whole.forest());
     drop(whole);
@@ -139,122 +138,218 @@ fn lacks_often(rt: &impl Abort, alloc: Global, place: usize, call: &Call, edits:
     panic!(rt; "no heap has enough memory")
 }
 
-/// The calls, each made on maps of its own.
-const CALLS: &[Call] = &[NEW_BUCKETS, MOVE, BATCH, REFUSED];
-
-/// A device in new buckets.
-const NEW_BUCKETS: Call = Call {
-    asked: &[Asked::Add(
-        3,
-        21823,
-        &[("host", "h3"), ("rack", "r1"), ("root", "default")],
-    )],
-    told: Told::One(Ok(Done {
-        changed: true,
-        made: 2,
-    })),
-    then: &[
-        Fact::Holds("h3", &["osd.3"], 21823),
-        Fact::Holds("r1", &["h3"], 21823),
-        Fact::Holds("default", &["h1", "h2", "r1"], 185663),
-        Fact::HasId("h3", -4),
-        Fact::HasId("r1", -5),
-    ],
-    least: 2,
-};
-
-/// A device that moves.
-const MOVE: Call = Call {
-    asked: &[Asked::CreateOrMove(0, 327680, &[("host", "h2")])],
-    told: Told::One(Ok(Done {
-        changed: true,
-        made: 0,
-    })),
-    then: &[
-        Fact::Holds("h1", &["osd.1"], 65536),
-        Fact::Holds("h2", &["osd.2", "osd.0"], 98304),
-        Fact::Holds("default", &["h1", "h2"], 163840),
-    ],
-    least: 1,
-};
-
-/// A batch that is made.
-const BATCH: Call = Call {
-    asked: &[
-        Asked::AddBucket("h9", "host"),
-        Asked::Move("h9", &[("root", "default")]),
-    ],
-    told: Told::Batch(Ok(Dones {
-        edits: 2,
-        changed: 2,
-        made: 1,
-    })),
-    then: &[
-        Fact::Holds("default", &["h1", "h2", "h9"], 163840),
-        Fact::Holds("h9", &[], 0),
-        Fact::HasId("h9", -4),
-    ],
-    least: 2,
-};
-
-/// A batch that is refused.
-const REFUSED: Call = Call {
-    asked: &[
-        Asked::Add(3, 65536, &[("host", "h2")]),
-        Asked::Rename("h1", "hq"),
-        Asked::Remove("h2"),
-    ],
-    told: Told::Batch(Err(BatchFault::Refused(2, Refusal::NotEmpty))),
-    then: &[
-        Fact::Holds("h1", &["osd.0", "osd.1"], 131072),
-        Fact::Holds("h2", &["osd.2"], 32768),
-        Fact::Holds("default", &["h1", "h2"], 163840),
-        Fact::IsAbsent("osd.3"),
-        Fact::IsAbsent("hq"),
-    ],
-    least: 2,
-};
-
-#[test]
-fn memory_lacks_at_each_growth(rt: HostRuntime) {
-    for (place, call) in CALLS.iter().enumerate() {
-        let edits = edits(&rt, rt.alloc(), call.asked);
-        lacks_often(&rt, rt.alloc(), place, call, edits.as_slice());
+/// Asserts of each call, made on maps of its own, how often memory lacks for it at least.
+fn lack_at_each_growth(rt: &impl Abort, alloc: Global, calls: &[Call]) {
+    for (place, call) in calls.iter().enumerate() {
+        let edits = edits(rt, alloc, call.asked);
+        lacks_often(rt, alloc, place, call, edits.as_slice());
         drop(edits);
     }
 }
 
-/// An exchange, and a removal.
-const NO_GROWTH: &[Asked] = &[Asked::Swap("h1", "h2"), Asked::Remove("osd.0")];
+/// The edit is made, and the map is another; no bucket is made.
+const CHANGED: Told = Told::One(Ok(Done {
+    changed: true,
+    made: 0,
+}));
 
-/// What is true of the map after both.
-const EXCHANGED: &[Fact] = &[
-    Fact::Holds("h2", &["osd.2"], 32768),
-    Fact::Holds("h1", &["osd.1"], 65536),
-    Fact::Holds("default", &["h2", "h1"], 98304),
-    Fact::HasId("h2", -2),
-    Fact::HasId("h1", -3),
+/// The same with a bucket that is made.
+const ADDED: Told = Told::One(Ok(Done {
+    changed: true,
+    made: 1,
+}));
+
+/// Items are put where a location leads: a device in new buckets, one that moves, one that gets
+/// another weight in its place, and a host that moves into a new bucket.
+const PUTS: &[Call] = &[
+    Call {
+        asked: &[Asked::Add(
+            3,
+            21823,
+            &[("host", "h3"), ("rack", "r1"), ("root", "default")],
+        )],
+        told: Told::One(Ok(Done {
+            changed: true,
+            made: 2,
+        })),
+        then: &[
+            Fact::Holds("h3", &["osd.3"], 21823),
+            Fact::Holds("r1", &["h3"], 21823),
+            Fact::Holds("default", &["h1", "h2", "r1"], 185663),
+            Fact::HasId("h3", -4),
+            Fact::HasId("r1", -5),
+        ],
+        least: 2,
+    },
+    Call {
+        asked: &[Asked::CreateOrMove(0, 327680, &[("host", "h2")])],
+        told: CHANGED,
+        then: &[
+            Fact::Holds("h1", &["osd.1"], 65536),
+            Fact::Holds("h2", &["osd.2", "osd.0"], 98304),
+            Fact::Holds("default", &["h1", "h2"], 163840),
+        ],
+        least: 1,
+    },
+    Call {
+        asked: &[Asked::Set(1, 196608, &[("host", "h1")])],
+        told: CHANGED,
+        then: &[Fact::Holds("h1", &["osd.0", "osd.1"], 262144)],
+        least: 0,
+    },
+    Call {
+        asked: &[Asked::Move("h2", &[("rack", "r1"), ("root", "default")])],
+        told: ADDED,
+        then: &[
+            Fact::Holds("r1", &["h2"], 32768),
+            Fact::HasId("r1", -4),
+            Fact::Holds("default", &["h1", "r1"], 163840),
+        ],
+        least: 1,
+    },
 ];
 
-/// Asserts that each edit changes the map.
-fn are_changes(rt: &impl Abort, alloc: Global, map: &mut CrushMap<&LocalHeap>, all: &[Asked]) {
-    for asked in all {
-        assert!(rt; told(rt, alloc, map, *asked) == CHANGED);
-    }
+#[test]
+fn memory_lacks_for_what_is_put(rt: HostRuntime) {
+    lack_at_each_growth(&rt, rt.alloc(), PUTS);
 }
 
-/// Asserts that both are made where the heap has no large piece.
-fn lacks_none(rt: &impl Abort, alloc: Global, heap: &LocalHeap, map: &mut CrushMap<&LocalHeap>) {
-    let size = largest_piece(heap);
-    let _ballast: Vec<u8, &LocalHeap> = Vec::with_capacity(heap, size).expect(rt, "a piece");
-    are_changes(rt, alloc, map, NO_GROWTH);
-    are_true_of(rt, map, NO_GROWTH.len(), EXCHANGED);
-}
+/// The other edits. An exchange, new weights and a removal need no memory.
+const OTHERS: &[Call] = &[
+    Call {
+        asked: &[Asked::Swap("h1", "h2")],
+        told: CHANGED,
+        then: &[
+            Fact::Holds("h2", &["osd.2"], 32768),
+            Fact::Holds("h1", &["osd.0", "osd.1"], 131072),
+            Fact::Holds("default", &["h2", "h1"], 163840),
+            Fact::HasId("h2", -2),
+            Fact::HasId("h1", -3),
+        ],
+        least: 0,
+    },
+    Call {
+        asked: &[Asked::Reweight("osd.2", 65536)],
+        told: CHANGED,
+        then: &[
+            Fact::Holds("h2", &["osd.2"], 65536),
+            Fact::Holds("default", &["h1", "h2"], 196608),
+            Fact::Total(196608),
+        ],
+        least: 0,
+    },
+    Call {
+        asked: &[Asked::ReweightSubtree("h1", 16384)],
+        told: CHANGED,
+        then: &[
+            Fact::Holds("h1", &["osd.0", "osd.1"], 32768),
+            Fact::Holds("default", &["h1", "h2"], 65536),
+        ],
+        least: 0,
+    },
+    Call {
+        asked: &[Asked::Remove("osd.0")],
+        told: CHANGED,
+        then: &[
+            Fact::Holds("h1", &["osd.1"], 65536),
+            Fact::Holds("default", &["h1", "h2"], 98304),
+            Fact::IsAbsent("osd.0"),
+        ],
+        least: 0,
+    },
+    Call {
+        asked: &[Asked::AddBucket("h9", "host")],
+        told: ADDED,
+        then: &[
+            Fact::Holds("h9", &[], 0),
+            Fact::HasId("h9", -4),
+            Fact::IsRoot("h9"),
+        ],
+        least: 1,
+    },
+    Call {
+        asked: &[Asked::Rename("h1", "hq")],
+        told: CHANGED,
+        then: &[
+            Fact::Holds("hq", &["osd.0", "osd.1"], 131072),
+            Fact::Holds("default", &["hq", "h2"], 163840),
+        ],
+        least: 0,
+    },
+];
 
 #[test]
-fn exchanges_and_removals_lack_none(rt: HostRuntime) {
-    let heap = LocalHeap::new(rt.alloc(), HEAP).expect(&rt, "a heap");
-    let mut map = whole_example_map_in(&rt, rt.alloc(), &heap).expect(&rt, "a map");
-    lacks_none(&rt, rt.alloc(), &heap, &mut map);
+fn memory_lacks_for_other_edits(rt: HostRuntime) {
+    lack_at_each_growth(&rt, rt.alloc(), OTHERS);
+}
+
+/// A batch that is made, and one that is refused at its third edit.
+const BATCHES: &[Call] = &[
+    Call {
+        asked: &[
+            Asked::AddBucket("h9", "host"),
+            Asked::Move("h9", &[("root", "default")]),
+        ],
+        told: Told::Batch(Ok(Dones {
+            edits: 2,
+            changed: 2,
+            made: 1,
+        })),
+        then: &[
+            Fact::Holds("default", &["h1", "h2", "h9"], 163840),
+            Fact::Holds("h9", &[], 0),
+            Fact::HasId("h9", -4),
+        ],
+        least: 2,
+    },
+    Call {
+        asked: &[
+            Asked::Add(3, 65536, &[("host", "h2")]),
+            Asked::Rename("h1", "hq"),
+            Asked::Remove("h2"),
+        ],
+        told: Told::Batch(Err(BatchFault::Refused(2, Refusal::NotEmpty))),
+        then: &[
+            Fact::Holds("h1", &["osd.0", "osd.1"], 131072),
+            Fact::Holds("h2", &["osd.2"], 32768),
+            Fact::Holds("default", &["h1", "h2"], 163840),
+            Fact::IsAbsent("osd.3"),
+            Fact::IsAbsent("hq"),
+        ],
+        least: 2,
+    },
+];
+
+#[test]
+fn memory_lacks_for_batches(rt: HostRuntime) {
+    lack_at_each_growth(&rt, rt.alloc(), BATCHES);
+}
+
+/// As many new weights as a batch may have.
+fn new_weights(rt: &impl Abort, alloc: Global) -> Vec<Edit> {
+    let mut made = Vec::new(alloc);
+    for number in 0..65536 {
+        let edit = edit(rt, alloc, Asked::Reweight("osd.0", number));
+        made.push(edit).expect(rt, "memory");
+    }
+    made
+}
+
+/// What is true after the last of them.
+const LAST: &[Fact] = &[Fact::Holds("default", &["h1", "h2"], 163839)];
+
+#[test]
+fn as_many_edits_as_there_may_be(rt: HostRuntime) {
+    let edits = new_weights(&rt, rt.alloc());
+    let mut map = whole_example_map(&rt, rt.alloc());
+    let told = make_batch(&rt, &mut map, edits.as_slice());
+    drop(edits);
+    are_true_of(&rt, &map, 0, LAST);
     drop(map);
+    let all = Dones {
+        edits: 65536,
+        changed: 65536,
+        made: 0,
+    };
+    assert!(rt; told == Ok(all));
 }

@@ -38,16 +38,16 @@ pub(super) fn empty(rt: &impl Abort, alloc: Global) -> MapBuilder<Global> {
 }
 
 /// Makes the statement.
-pub(super) fn make<A: Allocator + Clone>(
+fn make<A: Allocator + Clone>(
     rt: &impl Abort,
     builder: &mut MapBuilder<A>,
     statement: Statement,
 ) -> Result<(), BuildFault> {
     match statement {
         Statement::Type(number, name) => add_type(rt, builder, number, name.as_bytes()),
-        Statement::Device(number, name) => add_device(rt, builder, number, name.as_bytes()),
+        Statement::Device(number, name) => add_device(rt, builder, number, name.as_bytes(), None),
         Statement::DeviceOfClass(number, name, class) => {
-            add_device_of_class(rt, builder, number, name.as_bytes(), class.as_bytes())
+            add_device(rt, builder, number, name.as_bytes(), Some(class.as_bytes()))
         }
         Statement::Tunable(name, value) => add_tunable(rt, builder, name.as_bytes(), value),
         Statement::Begin(kind, name) => {
@@ -84,52 +84,13 @@ pub(super) fn make_all<A: Allocator + Clone>(
     Ok(())
 }
 
-/// Asserts what is told of the statement.
-fn is_told(
-    rt: &impl Abort,
-    builder: &mut MapBuilder<Global>,
-    statement: Statement,
-    answer: Result<(), BuildFault>,
-) {
-    let told = make(rt, builder, statement);
-    assert!(rt; told == answer, "{told:?}");
-}
-
-/// Asserts that the statement is taken.
-pub(super) fn takes(rt: &impl Abort, builder: &mut MapBuilder<Global>, statement: Statement) {
-    is_told(rt, builder, statement, Ok(()));
-}
-
 /// Asserts that the statements are taken.
 pub(super) fn takes_all(
     rt: &impl Abort,
     builder: &mut MapBuilder<Global>,
     statements: &[Statement],
 ) {
-    for statement in statements {
-        takes(rt, builder, *statement);
-    }
-}
-
-/// Asserts that the statement isn't taken, and what is told of it.
-pub(super) fn refuses(
-    rt: &impl Abort,
-    builder: &mut MapBuilder<Global>,
-    statement: Statement,
-    fault: BuildFault,
-) {
-    is_told(rt, builder, statement, Err(fault));
-}
-
-/// Asserts that no statement is taken, and what is told of each.
-pub(super) fn refuses_all(
-    rt: &impl Abort,
-    builder: &mut MapBuilder<Global>,
-    statements: &[(Statement, BuildFault)],
-) {
-    for (statement, fault) in statements {
-        refuses(rt, builder, *statement, *fault);
-    }
+    make_all(rt, builder, statements).expect(rt, "a statement");
 }
 
 /// The end of the text.
@@ -153,22 +114,15 @@ fn add_device<A: Allocator + Clone>(
     builder: &mut MapBuilder<A>,
     number: i32,
     name: &[u8],
+    class: Option<&[u8]>,
 ) -> Result<(), BuildFault> {
     let id = DeviceId::new(number).expect(rt, "a device");
-    assert!(rt; builder.is_idle() && is_name(name));
-    builder.device(id, name, None)
-}
-
-fn add_device_of_class<A: Allocator + Clone>(
-    rt: &impl Abort,
-    builder: &mut MapBuilder<A>,
-    number: i32,
-    name: &[u8],
-    class: &[u8],
-) -> Result<(), BuildFault> {
-    let id = DeviceId::new(number).expect(rt, "a device");
-    assert!(rt; builder.is_idle() && is_name(name) && is_name(class));
-    builder.device(id, name, Some(class))
+    let has_form = match class {
+        Some(class) => is_name(class),
+        None => true,
+    };
+    assert!(rt; builder.is_idle() && is_name(name) && has_form);
+    builder.device(id, name, class)
 }
 
 fn begin_bucket<A: Allocator + Clone>(

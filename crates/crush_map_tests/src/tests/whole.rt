@@ -4,18 +4,17 @@ ghost use Rattle.std.specs.Prelude.{All};
 ghost use Rattle.crush_map.specs.Rules.{IsStepForm};
 
 use crate::tests::asking::name;
-use crate::tests::building::{FIRST_HOST, OTHER_BUCKETS, TYPES_AND_DEVICES, bucket, has_the_types};
+use crate::tests::building::bucket;
 use crate::tests::statements::{Statement, empty, finish, make_all};
-use crush_map::{
-    BuildFault, CrushMap, KeptRule, KeptStep, MapBuilder, Rule, RuleFault, Setting, Step,
-};
+use crush_map::{BuildFault, CrushMap, MapBuilder, Rule, RuleFault, Setting, Step};
+use crush_units::TypeId;
 use linked_list_allocator::LocalHeap;
 use std::alloc::{Allocator, Global};
 use std::process::Abort;
 
 /// A step as a rule's text has it.
 #[derive(Clone, Copy)]
-pub(super) enum Said {
+enum Said {
     Take(&'static str),
     ChooseLeaf(i32, &'static str),
     Emit,
@@ -57,7 +56,7 @@ fn steps(rt: &impl Abort, alloc: Global, all: &[Said]) -> Vec<Step>
 }
 
 /// `rule NAME { id ID type replicated min_size 1 max_size 10 STEPS }`
-pub(super) fn add_rule<A: Allocator>(
+fn add_rule<A: Allocator>(
     rt: &impl Abort,
     alloc: Global,
     builder: &mut MapBuilder<A>,
@@ -79,11 +78,34 @@ pub(super) fn add_rule<A: Allocator>(
     told
 }
 
-/// The tunable of the example map.
-const TUNABLE: &[Statement] = &[Statement::Tunable("choose_total_tries", 50)];
-
 /// The statements of the example map before its rule.
-const BEFORE_RULE: &[&[Statement]] = &[TYPES_AND_DEVICES, TUNABLE, FIRST_HOST, OTHER_BUCKETS];
+const BEFORE_RULE: &[Statement] = &[
+    Statement::Tunable("choose_total_tries", 50),
+    Statement::Device(0, "osd.0"),
+    Statement::Device(1, "osd.1"),
+    Statement::Device(2, "osd.2"),
+    Statement::Type(0, "osd"),
+    Statement::Type(1, "host"),
+    Statement::Type(3, "rack"),
+    Statement::Type(11, "root"),
+    Statement::Begin("host", "h1"),
+    Statement::Id(-2),
+    Statement::Alg,
+    Statement::Item("osd.0", 65536),
+    Statement::Item("osd.1", 65536),
+    Statement::End,
+    Statement::Begin("host", "h2"),
+    Statement::Id(-3),
+    Statement::Alg,
+    Statement::Item("osd.2", 32768),
+    Statement::End,
+    Statement::Begin("root", "default"),
+    Statement::Id(-1),
+    Statement::Alg,
+    Statement::Item("h1", 131072),
+    Statement::Item("h2", 32768),
+    Statement::End,
+];
 
 /// Makes the example map's statements up to the first that isn't taken. A rule is in the machine's
 /// memory, which doesn't lack.
@@ -92,19 +114,15 @@ fn make_whole<A: Allocator + Clone>(
     alloc: Global,
     builder: &mut MapBuilder<A>,
 ) -> Result<(), BuildFault> {
-    for statements in BEFORE_RULE {
-        make_all(rt, builder, statements)?;
-    }
-    let told = add_rule(rt, alloc, builder, "replicated_rule", 0, REPLICATED);
-    assert!(rt; told.is_ok());
+    make_all(rt, builder, BEFORE_RULE)?;
+    add_rule(rt, alloc, builder, "replicated_rule", 0, REPLICATED).expect(rt, "a rule");
     Ok(())
 }
 
 /// The example map in the making, after its rule.
 pub(super) fn map_in_the_making(rt: &impl Abort, alloc: Global) -> MapBuilder<Global> {
     let mut builder = empty(rt, alloc);
-    let told = make_whole(rt, alloc, &mut builder);
-    assert!(rt; told.is_ok(), "{told:?}");
+    make_whole(rt, alloc, &mut builder).expect(rt, "a statement");
     builder
 }
 
@@ -138,69 +156,13 @@ pub(super) fn whole_example_map_in<'h>(
     made_whole(rt, alloc, MapBuilder::new(alloc, heap)?)
 }
 
-/// Whether the setting has as many tunables and rules as that of the example map, and a rule
-/// takes the bucket that it takes there.
-fn is_counted(rt: &impl Abort, setting: &Setting) -> bool {
-    setting.tunables().len() == 1
+/// Whether the setting has as many types, tunables and rules as that of the example map, the type
+/// `rack`, and a rule that takes the bucket which is taken there.
+pub(super) fn has_the_setting(rt: &impl Abort, setting: &Setting) -> bool {
+    setting.kinds().len() == 4
+        && setting.kind_number(b"rack") == Some(TypeId::new(3))
+        && setting.tunables().len() == 1
         && setting.rules().len() == 1
         && setting.takes(bucket(rt, -1))
         && !setting.takes(bucket(rt, -2))
-}
-
-/// Asserts that each tunable is that of the example map.
-fn has_the_tunable(rt: &impl Abort, setting: &Setting) {
-    for (name, value) in setting.tunables() {
-        assert!(rt; name.is(b"choose_total_tries") && *value == 50);
-    }
-}
-
-/// Whether the step is this one, kept with the id -1 where it takes a bucket.
-fn is_kept(step: &KeptStep, said: Said) -> bool {
-    match (step, said) {
-        (KeptStep::Take(bucket, class), Said::Take(_)) => bucket.number() == -1 && class.is_none(),
-        (
-            KeptStep::Choose {
-                leaf,
-                firstn,
-                count,
-                kind,
-            },
-            Said::ChooseLeaf(number, text),
-        ) => *leaf && *firstn && *count == number && kind.is(text.as_bytes()),
-        (KeptStep::Emit, Said::Emit) => true,
-        _ => false,
-    }
-}
-
-/// Asserts that the steps are those of the example map's rule, as far as there are any.
-fn has_the_steps(rt: &impl Abort, steps: &[KeptStep]) {
-    for (step, said) in steps.iter().zip(REPLICATED) {
-        assert!(rt; is_kept(step, *said));
-    }
-}
-
-/// Whether all but the steps is that of the example map's rule.
-fn is_replicated_rule(rule: &KeptRule) -> bool {
-    rule.name.is(b"replicated_rule")
-        && rule.kind.is(b"replicated")
-        && rule.id == 0
-        && rule.min_size == Some(1)
-        && rule.max_size == Some(10)
-        && rule.steps.len() == REPLICATED.len()
-}
-
-/// Asserts that each rule is that of the example map.
-fn has_the_rule(rt: &impl Abort, setting: &Setting) {
-    for rule in setting.rules() {
-        assert!(rt; is_replicated_rule(rule));
-        has_the_steps(rt, rule.steps.as_slice());
-    }
-}
-
-/// Asserts that types, tunables and rules are those of the example map.
-pub(super) fn has_the_setting(rt: &impl Abort, setting: &Setting) {
-    assert!(rt; is_counted(rt, setting));
-    has_the_types(rt, setting);
-    has_the_tunable(rt, setting);
-    has_the_rule(rt, setting);
 }

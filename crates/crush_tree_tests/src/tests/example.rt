@@ -10,23 +10,17 @@ use linked_list_allocator::LocalHeap;
 use std::alloc::{Allocator, Global};
 use std::process::Abort;
 
-/// The host h1 with osd.0 and osd.1, each with how far the id of its bucket is below 0.
-const H1: &[(u32, Item)] = &[
-    (1, Item::Host(2, "h1")),
-    (2, Item::Device(0, "osd.0", 65536)),
-    (2, Item::Device(1, "osd.1", 65536)),
-];
-
-/// Puts the host h1 into a forest, item by item.
+/// Puts the host h1 into a forest, and then osd.0 and osd.1 into it.
 fn put_h1<A: Allocator + Copy>(
     rt: &impl Abort,
     alloc: A,
     forest: &mut Forest<A>,
 ) -> Result<(), Refused> {
-    for (distance, item) in H1 {
-        add_in(rt, alloc, forest, inside(rt, *distance), *item)?;
-    }
-    Ok(())
+    add_in(rt, alloc, forest, inside(rt, 1), Item::Host(2, "h1"))?;
+    let osd_0 = Item::Device(0, "osd.0", 65536);
+    add_in(rt, alloc, forest, inside(rt, 2), osd_0)?;
+    let osd_1 = Item::Device(1, "osd.1", 65536);
+    add_in(rt, alloc, forest, inside(rt, 2), osd_1)
 }
 
 /// Puts the root `default` and both hosts into a forest.
@@ -108,25 +102,13 @@ pub(super) fn is_copied(rt: &impl Abort, forest: &Forest<Global>) -> bool {
     is_copied
 }
 
-/// Whether the columns of the host h2 are told.
-fn tells_of_h2(rt: &impl Abort, forest: &Forest<Global>) -> bool {
+/// Whether the columns of the host h2 are told, the class of osd.3, and no name of an item that isn't
+/// there.
+fn tells_of_columns(rt: &impl Abort, forest: &Forest<Global>) -> bool {
     let kind = forest.kind(bucket_item(rt, 3)).expect(rt, "h2");
     kind.number() == 1
         && forest.name(bucket_item(rt, 3)) == Some("h2")
         && forest.alg(bucket_item(rt, 3)) == Some(Alg::Straw2)
-}
-
-/// Whether the columns of the device osd.2 are told.
-fn tells_of_osd_2(rt: &impl Abort, forest: &Forest<Global>) -> bool {
-    forest.name(device_item(rt, 2)) == Some("osd.2")
-        && forest.class(device_item(rt, 2)).is_none()
-        && forest.alg(device_item(rt, 2)).is_none()
-}
-
-/// Whether the columns of both are told, the class of osd.3, and no name of an item that isn't there.
-fn tells_of_columns(rt: &impl Abort, forest: &Forest<Global>) -> bool {
-    tells_of_h2(rt, forest)
-        && tells_of_osd_2(rt, forest)
         && forest.class(device_item(rt, 3)) == Some("ssd")
         && forest.name(device_item(rt, 4)).is_none()
 }
@@ -141,37 +123,23 @@ fn has_one_other_weight(rt: &impl Abort, forest: &Forest<Global>) -> bool {
         && !forest.changes_subtree(bucket(rt, 4), one)
 }
 
-/// Whether an item that weighs 0.5 is seen with this type, this name and this bucket that holds it.
-fn is_seen(view: &View<'_>, kind: u16, name: &str, parent: BucketId) -> bool {
-    view.kind.number() == kind
-        && view.name == name
+/// Whether the host h2 is seen in this bucket.
+fn is_h2(view: &View<'_>, parent: BucketId) -> bool {
+    view.id.number() == -3
+        && view.kind.number() == 1
+        && view.name == "h2"
+        && view.alg == Some(Alg::Straw2)
+        && view.class.is_none()
         && view.weight.units() == 32768
         && view.parent == Some(parent)
 }
 
-/// Whether the host h2 is found.
+/// Whether the host h2 is found in the root.
 fn finds_h2(rt: &impl Abort, forest: &Forest<Global>) -> bool {
     match forest.find(bucket_item(rt, 3)) {
-        Some(view) => {
-            view.id.number() == -3
-                && view.alg == Some(Alg::Straw2)
-                && is_seen(&view, 1, "h2", bucket(rt, 1))
-        }
+        Some(view) => is_h2(&view, bucket(rt, 1)),
         None => false,
     }
-}
-
-/// Whether the device osd.2 is found, without a class.
-fn finds_osd_2(rt: &impl Abort, forest: &Forest<Global>) -> bool {
-    match forest.find(device_item(rt, 2)) {
-        Some(view) => { view.class.is_none() && is_seen(&view, 0, "osd.2", bucket(rt, 3)) }
-        None => false,
-    }
-}
-
-/// Whether both are found, and no item for an id that isn't there.
-fn finds_both_and_no_other(rt: &impl Abort, forest: &Forest<Global>) -> bool {
-    finds_h2(rt, forest) && finds_osd_2(rt, forest) && forest.find(bucket_item(rt, 4)).is_none()
 }
 
 /// Whether osd.2 is below the root and h1 is in itself, and neither osd.2 nor the root is below h1.
@@ -215,21 +183,26 @@ fn has_memory_for_a_name(rt: &impl Abort, forest: &Forest<Global>) -> bool {
     is_read
 }
 
+/// Whether all is told of the example map's forest with osd.3.
+fn tells_all(rt: &impl Abort, forest: &Forest<Global>) -> bool {
+    sums_up(rt, forest)
+        && is_osd_2_in_h2(rt, forest)
+        && is_copied(rt, forest)
+        && tells_of_columns(rt, forest)
+        && has_one_other_weight(rt, forest)
+        && finds_h2(rt, forest)
+        && tells_what_is_below(rt, forest)
+        && is_in_order(rt, forest)
+        && has_memory_for_a_name(rt, forest)
+}
+
 /// Of the example map's forest with the device osd.3 of a class, which no bucket holds.
 #[test]
 fn what_is_told(rt: HostRuntime) {
     let mut forest = example(&rt);
     let idle = Item::DeviceOfClass(3, "osd.3", 0);
     add(&rt, &mut forest, Place::Unplaced, idle);
-    let is_told = sums_up(&rt, &forest)
-        && is_osd_2_in_h2(&rt, &forest)
-        && is_copied(&rt, &forest)
-        && tells_of_columns(&rt, &forest)
-        && has_one_other_weight(&rt, &forest)
-        && finds_both_and_no_other(&rt, &forest)
-        && tells_what_is_below(&rt, &forest)
-        && is_in_order(&rt, &forest)
-        && has_memory_for_a_name(&rt, &forest);
+    let is_told = tells_all(&rt, &forest);
     drop(forest);
     assert!(rt; is_told);
 }
@@ -245,14 +218,14 @@ fn lacks_a_copy(forest: &Forest<&LocalHeap>) -> bool {
     }
 }
 
-/// Whether a heap of this size has the forest that the machine's memory has, and no memory for a copy.
-/// One that is too small has no memory for it.
-fn holds_the_forest(rt: &(impl Abort + AllocGlobal), size: usize, whole: &Forest<Global>) -> bool {
-    let heap = LocalHeap::new(rt.alloc(), size).expect(rt, "a heap");
-    match example_in(rt, &heap) {
+/// Whether the heap has the forest that the machine's memory has, and no memory for a copy. One that is
+/// too small has no memory for it.
+fn holds_the_forest(rt: &impl Abort, heap: &LocalHeap, whole: &Forest<Global>) -> bool {
+    match example_in(rt, heap) {
         Ok(forest) => {
-            assert!(rt; forest.is_same(whole) && lacks_a_copy(&forest));
+            let is_whole = forest.is_same(whole) && lacks_a_copy(&forest);
             drop(forest);
+            assert!(rt; is_whole);
             true
         }
         Err(refused) => {
@@ -265,7 +238,8 @@ fn holds_the_forest(rt: &(impl Abort + AllocGlobal), size: usize, whole: &Forest
 /// Asserts that a heap holds the forest, after those that are too small.
 fn is_held_by_a_heap(rt: &(impl Abort + AllocGlobal), whole: &Forest<Global>) {
     for i in 1..1024 {
-        if holds_the_forest(rt, 64 * i, whole) {
+        let heap = LocalHeap::new(rt.alloc(), 64 * i).expect(rt, "a heap");
+        if holds_the_forest(rt, &heap, whole) {
             return;
         }
     }
@@ -289,28 +263,27 @@ fn take_h2_out(rt: &impl Abort, forest: &mut Forest<Global>) -> Weight {
     weight
 }
 
-/// Whether no item is taken out for an id that isn't there.
-fn detaches_nothing(forest: &mut Forest<Global>, id: ItemId) -> bool {
-    match forest.detach(id) {
-        Some(node) => {
-            drop(node);
-            false
-        }
-        None => true,
-    }
-}
-
 /// Whether the example map's forest is without the host h2.
-fn is_without_h2(rt: &impl Abort, forest: &mut Forest<Global>) -> bool {
-    let osd = device_item(rt, 2);
+fn is_without_h2(rt: &impl Abort, forest: &Forest<Global>) -> bool {
     forest.total() == 131072
-        && !has_item(forest, &osd)
-        && detaches_nothing(forest, osd)
+        && !has_item(forest, &device_item(rt, 2))
         && forest.has_room(inside(rt, 1))
 }
 
-/// Whether h1 has the id and the weight that h2 had.
-fn is_h1_at_h2(rt: &impl Abort, forest: &Forest<Global>) -> bool {
+/// Whether the host h2 goes out and comes in again, and the forest is then as before.
+fn comes_again(rt: &(impl Abort + AllocGlobal), forest: &mut Forest<Global>) -> bool {
+    let whole = copy_of(rt, forest);
+    let weight = take_h2_out(rt, forest);
+    let is_out = is_without_h2(rt, forest);
+    put_h2(rt, rt.alloc(), forest).expect(rt, "memory");
+    let is_whole = forest.is_same(&whole);
+    drop(whole);
+    is_out && is_whole && weight == Weight::from_units(32768)
+}
+
+/// Whether h1 has the id and the weight that h2 had, once they are exchanged.
+fn is_h1_at_h2(rt: &impl Abort, forest: &mut Forest<Global>) -> bool {
+    exchange(forest, bucket(rt, 2), bucket(rt, 3)).expect(rt, "an exchange");
     forest.id_of("h1") == Some(bucket_item(rt, 3))
         && weighs(rt, forest, 3, 131072)
         && forest.total() == 163840
@@ -320,16 +293,9 @@ fn is_h1_at_h2(rt: &impl Abort, forest: &Forest<Global>) -> bool {
 #[test]
 fn items_move(rt: HostRuntime) {
     let mut forest = example(&rt);
-    let whole = copy_of(&rt, &forest);
-    let is_light = take_h2_out(&rt, &mut forest) == Weight::from_units(32768);
-    let is_out = is_without_h2(&rt, &mut forest);
-    put_h2(&rt, rt.alloc(), &mut forest).expect(&rt, "memory");
-    let is_whole = forest.is_same(&whole);
-    drop(whole);
-    exchange(&mut forest, bucket(&rt, 2), bucket(&rt, 3)).expect(&rt, "an exchange");
-    let is_exchanged = is_h1_at_h2(&rt, &forest);
+    let is_moved = comes_again(&rt, &mut forest) && is_h1_at_h2(&rt, &mut forest);
     drop(forest);
-    assert!(rt; is_light && is_out && is_whole && is_exchanged);
+    assert!(rt; is_moved);
 }
 
 /// Whether the sums follow new weights, of osd.2 and of all devices.
@@ -376,15 +342,20 @@ fn sums_that_fit(rt: HostRuntime) {
     assert!(rt; is_told);
 }
 
-/// A host with new ids and a new name can be a root, and not be unplaced.
-#[test]
-fn keys_and_places(rt: HostRuntime) {
-    let forest = example(&rt);
-    let host = node(&rt, Item::HostOfClass(4, "h3", 5));
+/// Whether a host with new ids and a new name can be a root, and not be unplaced.
+fn can_be_a_root(rt: &(impl Abort + AllocGlobal), forest: &Forest<Global>) -> bool {
+    let host = node(rt, Item::HostOfClass(4, "h3", 5));
     let is_root = forest.has_new_keys(&host)
         && forest.can_attach(Place::Root, &host)
         && !forest.can_attach(Place::Unplaced, &host);
     drop(host);
+    is_root
+}
+
+#[test]
+fn keys_and_places(rt: HostRuntime) {
+    let forest = example(&rt);
+    let is_root = can_be_a_root(&rt, &forest);
     drop(forest);
     assert!(rt; is_root);
 }
@@ -394,7 +365,10 @@ fn keys_and_places(rt: HostRuntime) {
 fn frees_four_ids(rt: &impl Abort, forest: &Forest<Global>) -> bool {
     let mut ids = [bucket(rt, 1); 4];
     forest.free_ids(&mut ids);
-    ids.map(|id| id.number()) == [-4, -6, -7, -8]
+    ids[0].number() == -4
+        && ids[1].number() == -6
+        && ids[2].number() == -7
+        && ids[3].number() == -8
         && !forest.is_used(bucket(rt, 4))
         && forest.is_used(bucket(rt, 5))
 }

@@ -44,16 +44,17 @@ pub(super) fn put<A: Allocator>(
     node: Node<A>,
 ) -> Result<(), Refused> {
     let place = &place; // a place that was passed on by value can't be passed on again
-    if !forest.can_attach(*place, &node) {
-        drop(node);
-        return Err(Refused::Unfit);
+    let can_come = forest.can_attach(*place, &node);
+    if can_come && forest.reserve(*place).is_ok() {
+        forest.attach(*place, node);
+        return Ok(());
     }
-    if forest.reserve(*place).is_err() {
-        drop(node);
-        return Err(Refused::NoMemory);
-    }
-    forest.attach(*place, node);
-    Ok(())
+    drop(node);
+    Err(if can_come {
+        Refused::NoMemory
+    } else {
+        Refused::Unfit
+    })
 }
 
 /// Puts a new item last at a place, if it can come there.
