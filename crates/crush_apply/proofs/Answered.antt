@@ -23,7 +23,7 @@ use Rattle.crush_edits.specs.Put.{put}
 use Rattle.crush_edits.specs.Stops.{fresh_stops}
 use Rattle.crush_edits.proofs.Changes.{table_refl}
 use Rattle.crush_apply.specs.Answered.{AnswersAs, told, last_answer}
-use Rattle.crush_apply.specs.Way.{WayData, Leads}
+use Rattle.crush_apply.specs.Destination.{DestinationData, Leads}
 use Rattle.crush_apply.proofs.Refused.{same_refusal, no_want, no_refusal}
 
 -- THE WAYS to end: done, refused, or for want of memory
@@ -106,19 +106,19 @@ pub last_made : (t : List Row) (a : After) → has_too_many a.table ≡ false �
 last_made t a few light b same = rw (few, light) (ap (λ z. done (not z) a.made a.table) same)
 
 -- where the row r is put, and another table comes of it
-pub record IsPut (t : List Row) (a : Answer) (r : Row) (way : WayData) : Type 0 where
-  pub leads : Leads t way
-  pub told : a ≡ last_answer t (put_after t r way.stops)
-  pub other : same_table t (put t r way.stops) ≡ false
+pub record IsPut (t : List Row) (a : Answer) (r : Row) (to : DestinationData) : Type 0 where
+  pub leads : Leads t to
+  pub told : a ≡ last_answer t (put_after t r to.stops)
+  pub other : same_table t (put t r to.stops) ≡ false
 
-pub put_no_room : {t : List Row} {a : Answer} {r : Row} {way : WayData} → IsPut t a r way → has_too_many (put t r way.stops) ≡ true → a ≡ refused NoRoom
-put_no_room {t = t} {r = r} {way = way} p many = p.told ∙ last_no_room t (put_after t r way.stops) many
+pub put_no_room : {t : List Row} {a : Answer} {r : Row} {to : DestinationData} → IsPut t a r to → has_too_many (put t r to.stops) ≡ true → a ≡ refused NoRoom
+put_no_room {t = t} {r = r} {to = to} p many = p.told ∙ last_no_room t (put_after t r to.stops) many
 
-pub put_too_heavy : {t : List Row} {a : Answer} {r : Row} {way : WayData} → IsPut t a r way → has_too_many (put t r way.stops) ≡ false → is_too_heavy (put t r way.stops) ≡ true → a ≡ refused SumTooLarge
-put_too_heavy {t = t} {r = r} {way = way} p few heavy = p.told ∙ last_too_heavy t (put_after t r way.stops) few heavy
+pub put_too_heavy : {t : List Row} {a : Answer} {r : Row} {to : DestinationData} → IsPut t a r to → has_too_many (put t r to.stops) ≡ false → is_too_heavy (put t r to.stops) ≡ true → a ≡ refused SumTooLarge
+put_too_heavy {t = t} {r = r} {to = to} p few heavy = p.told ∙ last_too_heavy t (put_after t r to.stops) few heavy
 
-pub put_made : {t : List Row} {a : Answer} {r : Row} {way : WayData} → IsPut t a r way → has_too_many (put t r way.stops) ≡ false → is_too_heavy (put t r way.stops) ≡ false → a ≡ done true way.fresh (put t r way.stops)
-put_made {t = t} {r = r} {way = way} p few light = p.told ∙ last_made t (put_after t r way.stops) few light false p.other ∙ ap (λ k. done true k (put t r way.stops)) (sym p.leads.fresh)
+pub put_made : {t : List Row} {a : Answer} {r : Row} {to : DestinationData} → IsPut t a r to → has_too_many (put t r to.stops) ≡ false → is_too_heavy (put t r to.stops) ≡ false → a ≡ done true to.fresh (put t r to.stops)
+put_made {t = t} {r = r} {to = to} p few light = p.told ∙ last_made t (put_after t r to.stops) few light false p.other ∙ ap (λ k. done true k (put t r to.stops)) (sym p.leads.fresh)
 
 -- the same by what the two tests of a call answer: whether room lacks, and whether the sums fit
 pub from_not : (b c : Bool) → b ≡ not c → b ≡ false → c ≡ true
@@ -129,19 +129,19 @@ pub from_yes : (b c : Bool) → b ≡ not c → b ≡ true → c ≡ false
 from_yes b true e f = absurd cc
 from_yes b false e f = refl
 
-pub sums_fail : {t : List Row} {a : Answer} {r : Row} {way : WayData} {lacks fits : Bool} → IsPut t a r way → lacks ≡ has_too_many (put t r way.stops) → lacks ≡ false
-    → (has_too_many (put t r way.stops) ≡ false → fits ≡ not (is_too_heavy (put t r way.stops))) → fits ≡ false → a ≡ refused SumTooLarge
-sums_fail {t = t} {r = r} {way = way} {fits = fits} p is few test over = let room = sym is ∙ few in put_too_heavy p room (from_not fits (is_too_heavy (put t r way.stops)) (test room) over)
+pub sums_fail : {t : List Row} {a : Answer} {r : Row} {to : DestinationData} {lacks fits : Bool} → IsPut t a r to → lacks ≡ has_too_many (put t r to.stops) → lacks ≡ false
+    → (has_too_many (put t r to.stops) ≡ false → fits ≡ not (is_too_heavy (put t r to.stops))) → fits ≡ false → a ≡ refused SumTooLarge
+sums_fail {t = t} {r = r} {to = to} {fits = fits} p is few test over = let room = sym is ∙ few in put_too_heavy p room (from_not fits (is_too_heavy (put t r to.stops)) (test room) over)
 
-pub both_pass : {t : List Row} {a : Answer} {r : Row} {way : WayData} {lacks fits : Bool} → IsPut t a r way → lacks ≡ has_too_many (put t r way.stops) → lacks ≡ false
-    → (has_too_many (put t r way.stops) ≡ false → fits ≡ not (is_too_heavy (put t r way.stops))) → fits ≡ true → a ≡ done true way.fresh (put t r way.stops)
-both_pass {t = t} {r = r} {way = way} {fits = fits} p is few test fit = let room = sym is ∙ few in put_made p room (from_yes fits (is_too_heavy (put t r way.stops)) (test room) fit)
+pub both_pass : {t : List Row} {a : Answer} {r : Row} {to : DestinationData} {lacks fits : Bool} → IsPut t a r to → lacks ≡ has_too_many (put t r to.stops) → lacks ≡ false
+    → (has_too_many (put t r to.stops) ≡ false → fits ≡ not (is_too_heavy (put t r to.stops))) → fits ≡ true → a ≡ done true to.fresh (put t r to.stops)
+both_pass {t = t} {r = r} {to = to} {fits = fits} p is few test fit = let room = sym is ∙ few in put_made p room (from_yes fits (is_too_heavy (put t r to.stops)) (test room) fit)
 
 -- which row is put, told by what comes of it
-pub put_same : (t : List Row) (x y : Row) (way : WayData) → Leads t way → put t x way.stops ≡ put t y way.stops → same_table t (put t x way.stops) ≡ false → IsPut t (last_answer t (put_after t x way.stops)) y way
-put_same t x y way leads same other = record {
+pub put_same : (t : List Row) (x y : Row) (to : DestinationData) → Leads t to → put t x to.stops ≡ put t y to.stops → same_table t (put t x to.stops) ≡ false → IsPut t (last_answer t (put_after t x to.stops)) y to
+put_same t x y to leads same other = record {
   leads = leads;
-  told = ap (λ (u : List Row). last_answer t (record { table = u; made = length (fresh_stops t way.stops) })) same;
+  told = ap (λ (u : List Row). last_answer t (record { table = u; made = length (fresh_stops t to.stops) })) same;
   other = ap (same_table t) (sym same) ∙ other;
 }
 

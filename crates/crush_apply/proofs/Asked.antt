@@ -21,7 +21,7 @@ use Rattle.crush_edits.proofs.Order.{group_passes, group_refuses}
 use Rattle.crush_edits.proofs.Stops.{no_stop_named}
 use Rattle.crush_apply.specs.Answered.{last_refusal, last_answer}
 use Rattle.crush_apply.specs.Coming.{CanCome}
-use Rattle.crush_apply.specs.Way.{WayData, Leads}
+use Rattle.crush_apply.specs.Destination.{DestinationData, Leads}
 use Rattle.crush_apply.proofs.Answered.{last_kept}
 use Rattle.crush_apply.proofs.Passed.{device_passes, location_nothing}
 use Rattle.crush_edits.proofs.Edits.{not_heavy}
@@ -87,8 +87,8 @@ module _ (s : SettingData) (t : List Row) (d : ℕ) (n : List ℕ) (w : ℕ) (l 
   pub located : first_refusal (device_tests s t d n w l) ≡ None → first_refusal (location_tests s l) ≡ None
   located e = location_nothing s l (device_passes s t d n w l e).location
 
-  pub can_come : (way : WayData) → first_refusal (device_tests s t d n w l) ≡ None → way.stops ≡ stops s l → Leads t way → CanCome t d n w way
-  can_come way e are leads =
+  pub can_come : (to : DestinationData) → first_refusal (device_tests s t d n w l) ≡ None → to.stops ≡ stops s l → Leads t to → CanCome t d n w to
+  can_come to e are leads =
       let passes = device_passes s t d n w l e in
       record {
         leads = leads;

@@ -32,7 +32,7 @@ use Rattle.crush_edits.proofs.Edits.{some_row, device_apart}
 use Rattle.crush_apply.specs.Answered.{last_answer}
 use Rattle.crush_apply.specs.Coming.{CanMove, CanCome}
 use Rattle.crush_apply.specs.Placed.{CanPut, CanPutNew}
-use Rattle.crush_apply.specs.Way.{WayData}
+use Rattle.crush_apply.specs.Destination.{DestinationData}
 use Rattle.crush_apply.proofs.Answered.{IsPut, put_same}
 
 -- a device that is there has the name
@@ -82,36 +82,36 @@ put_changes t d n w ps lawful route free = by_there (is_there t (Device d)) refl
   by_there false gone = ap (same_table t) (new_put t d n w ps gone) ∙ changes_new t ps (new_leaf d n w) lawful route gone
 
 -- A DEVICE THAT IS THERE can move, and it is put with its own row and the weight
-pub device_moves : (t : List Row) (d : ℕ) (n : List ℕ) (w : ℕ) (way : WayData) → CanCome t d n w way → is_there t (Device d) ≡ true → CanMove t (Device d) way
-device_moves t d n w way can there = record { leads = can.leads; there = there; apart = no_loop t d (Device d) way.stops refl }
+pub device_moves : (t : List Row) (d : ℕ) (n : List ℕ) (w : ℕ) (to : DestinationData) → CanCome t d n w to → is_there t (Device d) ≡ true → CanMove t (Device d) to
+device_moves t d n w to can there = record { leads = can.leads; there = there; apart = no_loop t d (Device d) to.stops refl }
 
 -- its row
-pub record OwnRow (t : List Row) (d : ℕ) (n : List ℕ) (w : ℕ) (way : WayData) : Type 0 where
+pub record OwnRow (t : List Row) (d : ℕ) (n : List ℕ) (w : ℕ) (to : DestinationData) : Type 0 where
   pub row : Row
   pub found : row_of t (Device d) ≡ Some row
   pub own : row_of t row.id ≡ Some row
-  pub same : put t (edited_device t d n w) way.stops ≡ put t (record row { weight = w }) way.stops
-  pub put : IsPut t (last_answer t (put_after t (edited_device t d n w) way.stops)) (record row { weight = w }) way
+  pub same : put t (edited_device t d n w) to.stops ≡ put t (record row { weight = w }) to.stops
+  pub put : IsPut t (last_answer t (put_after t (edited_device t d n w) to.stops)) (record row { weight = w }) to
 
-pub own_row : (t : List Row) (d : ℕ) (n : List ℕ) (w : ℕ) (way : WayData) → Lawful t → CanCome t d n w way → held t (Device d) way.stops ≡ false → is_there t (Device d) ≡ true → OwnRow t d n w way
-own_row t d n w way lawful can free there =
+pub own_row : (t : List Row) (d : ℕ) (n : List ℕ) (w : ℕ) (to : DestinationData) → Lawful t → CanCome t d n w to → held t (Device d) to.stops ≡ false → is_there t (Device d) ≡ true → OwnRow t d n w to
+own_row t d n w to lawful can free there =
     let found = some_row t (Device d) there in
-    let same = own_put t d n w way.stops found.0 lawful can.own found.1 in
+    let same = own_put t d n w to.stops found.0 lawful can.own found.1 in
     record {
       row = found.0;
       found = found.1;
       own = ap (row_of t) (row_id (Device d) t found.0 found.1) ∙ found.1;
       same = same;
-      put = put_same t (edited_device t d n w) (record found.0 { weight = w }) way can.leads same (put_changes t d n w way.stops lawful can.leads.route free);
+      put = put_same t (edited_device t d n w) (record found.0 { weight = w }) to can.leads same (put_changes t d n w to.stops lawful can.leads.route free);
     }
 
-pub put_own : (t : List Row) (d : ℕ) (w : ℕ) (way : WayData) (r : Row) → row_of t (Device d) ≡ Some r → has_too_many (put t (record r { weight = w }) way.stops) ≡ false → is_too_heavy (put t (record r { weight = w }) way.stops) ≡ false → CanPut t r w way.stops
-put_own t d w way r found room light = record { apart = no_loop t d r.id way.stops (row_id (Device d) t r found); room = room; light = light }
+pub put_own : (t : List Row) (d : ℕ) (w : ℕ) (to : DestinationData) (r : Row) → row_of t (Device d) ≡ Some r → has_too_many (put t (record r { weight = w }) to.stops) ≡ false → is_too_heavy (put t (record r { weight = w }) to.stops) ≡ false → CanPut t r w to.stops
+put_own t d w to r found room light = record { apart = no_loop t d r.id to.stops (row_id (Device d) t r found); room = room; light = light }
 
 -- A DEVICE THAT ISN'T THERE can be put
-pub device_put_new : (t : List Row) (d : ℕ) (n : List ℕ) (w : ℕ) (way : WayData) → CanCome t d n w way → is_there t (Device d) ≡ false → d < DEVICE_IDS → IsName n
-    → has_too_many (put t (device_row None (new_leaf d n w)) way.stops) ≡ false → is_too_heavy (put t (device_row None (new_leaf d n w)) way.stops) ≡ false → CanPutNew t (new_leaf d n w) way.stops
-device_put_new t d n w way can gone id name room light = record {
+pub device_put_new : (t : List Row) (d : ℕ) (n : List ℕ) (w : ℕ) (to : DestinationData) → CanCome t d n w to → is_there t (Device d) ≡ false → d < DEVICE_IDS → IsName n
+    → has_too_many (put t (device_row None (new_leaf d n w)) to.stops) ≡ false → is_too_heavy (put t (device_row None (new_leaf d n w)) to.stops) ≡ false → CanPutNew t (new_leaf d n w) to.stops
+device_put_new t d n w to can gone id name room light = record {
   gone = gone;
   unnamed = new_name t (Device d) n can.own gone;
   other = can.other;
@@ -121,5 +121,5 @@ device_put_new t d n w way can gone id name room light = record {
 }
 
 -- THE NEW DEVICE is put
-pub new_is_put : (t : List Row) (d : ℕ) (n : List ℕ) (w : ℕ) (way : WayData) → Lawful t → CanCome t d n w way → held t (Device d) way.stops ≡ false → is_there t (Device d) ≡ false → IsPut t (last_answer t (put_after t (edited_device t d n w) way.stops)) (device_row None (new_leaf d n w)) way
-new_is_put t d n w way lawful can free gone = put_same t (edited_device t d n w) (device_row None (new_leaf d n w)) way can.leads (new_put t d n w way.stops gone) (put_changes t d n w way.stops lawful can.leads.route free)
+pub new_is_put : (t : List Row) (d : ℕ) (n : List ℕ) (w : ℕ) (to : DestinationData) → Lawful t → CanCome t d n w to → held t (Device d) to.stops ≡ false → is_there t (Device d) ≡ false → IsPut t (last_answer t (put_after t (edited_device t d n w) to.stops)) (device_row None (new_leaf d n w)) to
+new_is_put t d n w to lawful can free gone = put_same t (edited_device t d n w) (device_row None (new_leaf d n w)) to can.leads (new_put t d n w to.stops gone) (put_changes t d n w to.stops lawful can.leads.route free)

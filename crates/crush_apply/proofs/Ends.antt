@@ -15,7 +15,7 @@ use Rattle.crush_edits.specs.Located.{end_tests}
 use Rattle.crush_edits.specs.Stops.{StopData, is_fresh, fresh_stops, end_stop, number_of}
 use Rattle.crush_apply.specs.declared.route.Stop.{Stop}
 use Rattle.crush_apply.specs.Stopped.{pair_name, stop_data, stops_data}
-use Rattle.crush_apply.specs.Way.{item_tests, EndsAt}
+use Rattle.crush_apply.specs.Destination.{item_tests, EndsAt}
 
 stops_at : (l : List Pair) (xs : List Stop) (k : ℕ) (x : Stop) → k < length xs → x ≡ get_or xs k x → stops_data l (drop k xs) ≡ stop_data l x ∷ stops_data l (drop (k + 1) xs)
 stops_at l xs k x h e =

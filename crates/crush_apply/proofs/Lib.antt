@@ -13,7 +13,7 @@ pub mod Steps
 pub mod Stopped
 pub mod Twice
 pub mod Updates
-pub mod Ways
+pub mod Destinations
 pub mod Weights
 pub mod StillFits
 pub mod Found

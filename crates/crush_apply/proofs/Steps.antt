@@ -24,7 +24,7 @@ use Rattle.crush_edits.specs.Put.{next_place, put}
 use Rattle.crush_edits.proofs.PutLaws.{room_new, room_new_device, moves, moves_device, new_puts, lawful_put, lawful_new}
 use Rattle.crush_edits.proofs.Tails.{next_stays, form_stays, row_form}
 use Rattle.crush_apply.specs.Placed.{CanPut, CanPutNew}
-use Rattle.crush_apply.specs.Way.{WayData, Leads}
+use Rattle.crush_apply.specs.Destination.{DestinationData, Leads}
 
 -- items come to a forest where the table that they make is lawful
 pub attach_lawful : (g : ForestData) (u v n : List Row) → Stands g u → Same (u ++ n) v → Lawful v → Lawful (rows_of g ++ n)
@@ -33,60 +33,60 @@ attach_lawful g u v n st same lawful =
     Lawful-same v (rows_of g ++ n) (Same-sym (rows_of g ++ n) v whole) lawful
 
 -- AN ITEM THAT IS THERE, with the weight that it has afterwards
-module _ (t : List Row) (l : Lawful t) (i : ItemId) (way : WayData) (leads : Leads t way) (r : Row) (w : ℕ) (found : row_of t i ≡ Some r) (can : CanPut t r w way.stops) where
+module _ (t : List Row) (l : Lawful t) (i : ItemId) (to : DestinationData) (leads : Leads t to) (r : Row) (w : ℕ) (found : row_of t i ≡ Some r) (can : CanPut t r w to.stops) where
   own : r.id ≡ i
   own = row_id i t r found
 
   found_own : row_of t r.id ≡ Some r
   found_own = ap (row_of t) own ∙ found
 
-  pub few_new : has_too_many (t ++ rows_made t way.stops) ≡ false
-  few_new = room_new t way.stops l leads.route r w found_own can.room
+  pub few_new : has_too_many (t ++ rows_made t to.stops) ≡ false
+  few_new = room_new t to.stops l leads.route r w found_own can.room
 
-  pub still_there : is_there (t ++ rows_made t way.stops) i ≡ true
-  still_there = is_there-append t (rows_made t way.stops) i (ap is_some found)
+  pub still_there : is_there (t ++ rows_made t to.stops) i ≡ true
+  still_there = is_there-append t (rows_made t to.stops) i (ap is_some found)
 
-  pub next_there : (b : ℕ) → next_place t way.stops ≡ Some b → is_there (table_without i (t ++ rows_made t way.stops)) (Bucket b) ≡ true
+  pub next_there : (b : ℕ) → next_place t to.stops ≡ Some b → is_there (table_without i (t ++ rows_made t to.stops)) (Bucket b) ≡ true
   next_there b next =
-      let stays : IfSome (next_place t way.stops) (λ k. is_there (table_without r.id (t ++ rows_made t way.stops)) (Bucket k) ≡ true) = next_stays t way.stops r l leads.route found_own can.apart few_new in
-      subst (λ j. is_there (table_without j (t ++ rows_made t way.stops)) (Bucket b) ≡ true) own
-      (subst (λ q. IfSome q (λ k. is_there (table_without r.id (t ++ rows_made t way.stops)) (Bucket k) ≡ true)) next stays)
+      let stays : IfSome (next_place t to.stops) (λ k. is_there (table_without r.id (t ++ rows_made t to.stops)) (Bucket k) ≡ true) = next_stays t to.stops r l leads.route found_own can.apart few_new in
+      subst (λ j. is_there (table_without j (t ++ rows_made t to.stops)) (Bucket b) ≡ true) own
+      (subst (λ q. IfSome q (λ k. is_there (table_without r.id (t ++ rows_made t to.stops)) (Bucket k) ≡ true)) next stays)
 
-  pub put_lawful : ((b : ℕ) → IsRow (record r { parent = Some b; weight = w })) → Lawful (put t (record r { weight = w }) way.stops)
-  put_lawful form = lawful_put t way.stops l leads.route r w found_own can.apart form can.light can.room
+  pub put_lawful : ((b : ℕ) → IsRow (record r { parent = Some b; weight = w })) → Lawful (put t (record r { weight = w }) to.stops)
+  put_lawful form = lawful_put t to.stops l leads.route r w found_own can.apart form can.light can.room
 
   pub device_form : (d : ℕ) → i ≡ Device d → w ≤ 2147483647 → (b : ℕ) → IsRow (record r { parent = Some b; weight = w })
   device_form d e light b = (form_stays r (row_form t l r.id r found_own)).1 d b w (own ∙ e) light
 
-  pub device_same : (d : LeafData) (b : ℕ) → next_place t way.stops ≡ Some b → Same (rows None (device d none)) (part i (t ++ rows_made t way.stops))
-      → Same (table_without i (t ++ rows_made t way.stops) ++ rows (Some b) (device (record d { weight = w }) none)) (put t (record r { weight = w }) way.stops)
+  pub device_same : (d : LeafData) (b : ℕ) → next_place t to.stops ≡ Some b → Same (rows None (device d none)) (part i (t ++ rows_made t to.stops))
+      → Same (table_without i (t ++ rows_made t to.stops) ++ rows (Some b) (device (record d { weight = w }) none)) (put t (record r { weight = w }) to.stops)
   device_same d b next whole =
-      subst (λ j. Same (table_without j (t ++ rows_made t way.stops) ++ rows (Some b) (device (record d { weight = w }) none)) (put t (record r { weight = w }) way.stops)) own
-      (subst (λ q. Same (table_without r.id (t ++ rows_made t way.stops) ++ rows q (device (record d { weight = w }) none)) (put t (record r { weight = w }) way.stops)) next
-      (moves_device t way.stops l leads.route r w found_own can.apart can.room d (subst (λ j. Same (rows None (device d none)) (part j (t ++ rows_made t way.stops))) (sym own) whole)))
+      subst (λ j. Same (table_without j (t ++ rows_made t to.stops) ++ rows (Some b) (device (record d { weight = w }) none)) (put t (record r { weight = w }) to.stops)) own
+      (subst (λ q. Same (table_without r.id (t ++ rows_made t to.stops) ++ rows q (device (record d { weight = w }) none)) (put t (record r { weight = w }) to.stops)) next
+      (moves_device t to.stops l leads.route r w found_own can.apart can.room d (subst (λ j. Same (rows None (device d none)) (part j (t ++ rows_made t to.stops))) (sym own) whole)))
 
 -- as it is
-module _ (t : List Row) (l : Lawful t) (i : ItemId) (way : WayData) (leads : Leads t way) (r : Row) (found : row_of t i ≡ Some r) (can : CanPut t r r.weight way.stops) where
+module _ (t : List Row) (l : Lawful t) (i : ItemId) (to : DestinationData) (leads : Leads t to) (r : Row) (found : row_of t i ≡ Some r) (can : CanPut t r r.weight to.stops) where
   pub item_form : (b : ℕ) → IsRow (record r { parent = Some b })
   item_form = (form_stays r (row_form t l i r found)).0
 
-  pub item_same : (n : Items) (b : ℕ) → next_place t way.stops ≡ Some b → IsOne n → Same (rows None n) (part i (t ++ rows_made t way.stops)) → Same (table_without i (t ++ rows_made t way.stops) ++ rows (Some b) n) (put t r way.stops)
+  pub item_same : (n : Items) (b : ℕ) → next_place t to.stops ≡ Some b → IsOne n → Same (rows None n) (part i (t ++ rows_made t to.stops)) → Same (table_without i (t ++ rows_made t to.stops) ++ rows (Some b) n) (put t r to.stops)
   item_same n b next one whole =
       let own_id = row_id i t r found in
-      subst (λ j. Same (table_without j (t ++ rows_made t way.stops) ++ rows (Some b) n) (put t r way.stops)) own_id
-      (subst (λ q. Same (table_without r.id (t ++ rows_made t way.stops) ++ rows q n) (put t r way.stops)) next
-      (moves t way.stops l leads.route r n (ap (row_of t) own_id ∙ found) can.apart can.room one (subst (λ j. Same (rows None n) (part j (t ++ rows_made t way.stops))) (sym own_id) whole)))
+      subst (λ j. Same (table_without j (t ++ rows_made t to.stops) ++ rows (Some b) n) (put t r to.stops)) own_id
+      (subst (λ q. Same (table_without r.id (t ++ rows_made t to.stops) ++ rows q n) (put t r to.stops)) next
+      (moves t to.stops l leads.route r n (ap (row_of t) own_id ∙ found) can.apart can.room one (subst (λ j. Same (rows None n) (part j (t ++ rows_made t to.stops))) (sym own_id) whole)))
 
 -- A DEVICE THAT ISN'T THERE
-module _ (t : List Row) (l : Lawful t) (way : WayData) (leads : Leads t way) (d : LeafData) (can : CanPutNew t d way.stops) where
-  pub few_new_device : has_too_many (t ++ rows_made t way.stops) ≡ false
-  few_new_device = room_new_device t way.stops l leads.route d can.gone can.room
+module _ (t : List Row) (l : Lawful t) (to : DestinationData) (leads : Leads t to) (d : LeafData) (can : CanPutNew t d to.stops) where
+  pub few_new_device : has_too_many (t ++ rows_made t to.stops) ≡ false
+  few_new_device = room_new_device t to.stops l leads.route d can.gone can.room
 
-  pub new_same : (b : ℕ) → next_place t way.stops ≡ Some b → Same ((t ++ rows_made t way.stops) ++ rows (Some b) (device d none)) (put t (device_row None d) way.stops)
-  new_same b next = subst (λ q. Same ((t ++ rows_made t way.stops) ++ rows q (device d none)) (put t (device_row None d) way.stops)) next (new_puts t way.stops l leads.route d can.gone)
+  pub new_same : (b : ℕ) → next_place t to.stops ≡ Some b → Same ((t ++ rows_made t to.stops) ++ rows (Some b) (device d none)) (put t (device_row None d) to.stops)
+  new_same b next = subst (λ q. Same ((t ++ rows_made t to.stops) ++ rows q (device d none)) (put t (device_row None d) to.stops)) next (new_puts t to.stops l leads.route d can.gone)
 
-  pub new_lawful_put : Lawful (put t (device_row None d) way.stops)
-  new_lawful_put = lawful_new t way.stops l leads.route d can.gone can.unnamed can.other can.form can.light can.room
+  pub new_lawful_put : Lawful (put t (device_row None d) to.stops)
+  new_lawful_put = lawful_new t to.stops l leads.route d can.gone can.unnamed can.other can.form can.light can.room
 
 -- THE PART of a device is a device
 devices_if : (c : Bool) (d : LeafData) (s : Items) → OnlyDevices s → OnlyDevices (if c then device d s else s)

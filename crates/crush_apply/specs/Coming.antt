@@ -1,4 +1,4 @@
--- What is known of an item that is to come a way.
+-- What is known of an item that is to come to a destination.
 use Rattle.std.specs.Prelude.{◌≡◌, ℕ, ◌≤◌, List, true, false, bytes_eq}
 use Rattle.std.specs.List.{count_by}
 use Rattle.crush_units.specs.declared.id.ItemId.{ItemId}
@@ -8,17 +8,17 @@ use Rattle.crush_table.specs.Table.{Row, is_there}
 use Rattle.crush_edits.specs.LawPut.{IsApart}
 use Rattle.crush_edits.specs.Located.{is_taken}
 use Rattle.crush_edits.specs.Stops.{StopData}
-use Rattle.crush_apply.specs.Way.{WayData, Leads}
+use Rattle.crush_apply.specs.Destination.{DestinationData, Leads}
 
 -- the item i is there, and what receives is neither the item nor below it
-pub record CanMove (t : List Row) (i : ItemId) (way : WayData) : Type 0 where
-  pub leads : Leads t way
+pub record CanMove (t : List Row) (i : ItemId) (to : DestinationData) : Type 0 where
+  pub leads : Leads t to
   pub there : is_there t i ≡ true
-  pub apart : IsApart t i way.stops
+  pub apart : IsApart t i to.stops
 
 -- the device d of the name n and the weight w, there or not: id and name belong together or are new, and no stop has the name
-pub record CanCome (t : List Row) (d : ℕ) (n : List ℕ) (w : ℕ) (way : WayData) : Type 0 where
-  pub leads : Leads t way
+pub record CanCome (t : List Row) (d : ℕ) (n : List ℕ) (w : ℕ) (to : DestinationData) : Type 0 where
+  pub leads : Leads t to
   pub own : is_taken t (Device d) n ≡ false
-  pub other : count_by (λ (p : StopData). bytes_eq p.name n) way.stops ≡ 0
+  pub other : count_by (λ (p : StopData). bytes_eq p.name n) to.stops ≡ 0
   pub weight : w ≤ HEAVIEST_DEVICE

@@ -1,4 +1,4 @@
-pub mod Way
+pub mod Destination
 pub mod Placed
 pub mod Coming
 pub mod Answered

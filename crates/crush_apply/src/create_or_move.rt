@@ -11,9 +11,9 @@ ghost use Rattle.crush_edits.specs.Fits.{Fits};
 ghost use Rattle.crush_edits.specs.Placing.{kept_weight};
 ghost use Rattle.crush_apply.specs.Answered.{AnswersAs};
 
+use crate::destination::{destination_of, is_held};
 use crate::located::check_device;
 use crate::place::place_device;
-use crate::way::{is_held, way_of};
 use crush_edits::{Done, EditFault, Location, Setting};
 use crush_tree::Forest;
 use crush_units::{DeviceId, ItemId, Name, Weight};
@@ -55,13 +55,13 @@ pub(crate) fn create_or_move<A: Allocator + Clone>(
 {
     forest.recall_invariant();
     check_device(forest, setting, device, name, weight, at)?;
-    let way = way_of(forest, setting, at)?;
-    if is_held(forest, ItemId::Device(device), &way) {
+    let to = destination_of(forest, setting, at)?;
+    if is_held(forest, ItemId::Device(device), &to) {
         return Ok(Done {
             changed: false,
             made: 0,
         });
     }
     let weight = kept_weight(forest, device, weight);
-    place_device(forest, device, name, weight, &way)
+    place_device(forest, device, name, weight, &to)
 }

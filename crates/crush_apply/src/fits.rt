@@ -1,5 +1,5 @@
-//! Whether an item can come a way: whether there is room for it and for the new buckets, and
-//! whether all sums stay in range.
+//! Whether an item can come to a destination: whether there is room for it and for the new buckets,
+//! and whether all sums stay in range.
 
 ghost use Rattle.std.specs.Prelude.{◌≡◌, ℕ, ◌≤◌, List, Some, None, false, not};
 ghost use Rattle.crush_units.specs.declared.id.ItemId.TheVariants.{Device};
@@ -11,44 +11,45 @@ ghost use Rattle.crush_table.specs.Stands.{Stands};
 ghost use Rattle.crush_table.specs.Table.{Row, row_of, is_there};
 ghost use Rattle.crush_edits.specs.Put.{put};
 ghost use Rattle.crush_apply.specs.Coming.{CanMove};
-ghost use Rattle.crush_apply.specs.Way.{Leads};
+ghost use Rattle.crush_apply.specs.Destination.{Leads};
 
-use crate::way::Way;
+use crate::destination::Destination;
 use crush_tree::Forest;
 use crush_units::limits::{MOST_BUCKETS, MOST_DEVICES};
 use crush_units::{DeviceId, ItemId, Weight};
 use std::alloc::Allocator;
 
-/// Whether there would be too many buckets where an item that is there comes the way.
-pub(crate) fn lacks_room<A: Allocator>(forest: &Forest<A>, way: &Way) -> bool
-    ensures { (t : List Row) (r : Row) → Stands forest.now t → Leads t way.now
+/// Whether there would be too many buckets where an item that is there comes to the
+/// destination.
+pub(crate) fn lacks_room<A: Allocator>(forest: &Forest<A>, to: &Destination) -> bool
+    ensures { (t : List Row) (r : Row) → Stands forest.now t → Leads t to.now
         → row_of t r.id ≡ Some r → (w : ℕ)
-        → result ≡ has_too_many (put t (record r { weight = w }) way.now.stops) }
+        → result ≡ has_too_many (put t (record r { weight = w }) to.now.stops) }
 {
     forest.recall_invariant();
-    forest.counts().buckets as usize + way.fresh() > MOST_BUCKETS as usize
+    forest.counts().buckets as usize + to.fresh() > MOST_BUCKETS as usize
 }
 
-/// Whether there would be too many buckets or devices where a device that isn't there comes the
-/// way.
-pub(crate) fn lacks_room_for_new<A: Allocator>(forest: &Forest<A>, way: &Way) -> bool
-    ensures { (t : List Row) (d : LeafData) → Stands forest.now t → Leads t way.now
+/// Whether there would be too many buckets or devices where a device that isn't there comes to
+/// the destination.
+pub(crate) fn lacks_room_for_new<A: Allocator>(forest: &Forest<A>, to: &Destination) -> bool
+    ensures { (t : List Row) (d : LeafData) → Stands forest.now t → Leads t to.now
         → is_there t (Device d.id) ≡ false
-        → result ≡ has_too_many (put t (device_row None d) way.now.stops) }
+        → result ≡ has_too_many (put t (device_row None d) to.now.stops) }
 {
     forest.recall_invariant();
     let counts = forest.counts();
-    let fresh = way.fresh();
+    let fresh = to.fresh();
     counts.devices >= MOST_DEVICES || counts.buckets as usize + fresh > MOST_BUCKETS as usize
 }
 
-/// Whether all sums stay in range where an item that is there, with all that is below it, comes the
-/// way, as it is.
-pub(crate) fn fits_put_item<A: Allocator>(forest: &Forest<A>, id: ItemId, way: &Way) -> bool
-    requires { (t : List Row) → Stands forest.now t → CanMove t id way.now }
+/// Whether all sums stay in range where an item that is there, with all that is below it, comes to
+/// the destination, as it is.
+pub(crate) fn fits_put_item<A: Allocator>(forest: &Forest<A>, id: ItemId, to: &Destination) -> bool
+    requires { (t : List Row) → Stands forest.now t → CanMove t id to.now }
     ensures { (t : List Row) (r : Row) → Stands forest.now t → row_of t id ≡ Some r
-        → has_too_many (put t r way.now.stops) ≡ false
-        → result ≡ not (is_too_heavy (put t r way.now.stops)) }
+        → has_too_many (put t r to.now.stops) ≡ false
+        → result ≡ not (is_too_heavy (put t r to.now.stops)) }
 {
     forest.recall_invariant();
     let id = &id;
@@ -56,37 +57,41 @@ pub(crate) fn fits_put_item<A: Allocator>(forest: &Forest<A>, id: ItemId, way: &
     let Some(weight) = forest.weight(*id) else {
         unreachable!()
     };
-    forest.fits_move(*id, way.place(), weight)
+    forest.fits_move(*id, to.place(), weight)
 }
 
-/// Whether all sums stay in range where a device that is there comes the way with this weight, of
-/// up to 2147483647 units.
+/// Whether all sums stay in range where a device that is there comes to the destination with this
+/// weight, of up to 2147483647 units.
 pub(crate) fn fits_put_device<A: Allocator>(
     forest: &Forest<A>,
     device: DeviceId,
     weight: Weight,
-    way: &Way,
+    to: &Destination,
 ) -> bool
-    requires can { (t : List Row) → Stands forest.now t → CanMove t (Device device) way.now }
+    requires can { (t : List Row) → Stands forest.now t → CanMove t (Device device) to.now }
     requires weight { weight ≤ HEAVIEST_DEVICE }
     ensures { (t : List Row) (r : Row) → Stands forest.now t → row_of t (Device device) ≡ Some r
-        → has_too_many (put t (record r { weight = weight }) way.now.stops) ≡ false
-        → result ≡ not (is_too_heavy (put t (record r { weight = weight }) way.now.stops)) }
+        → has_too_many (put t (record r { weight = weight }) to.now.stops) ≡ false
+        → result ≡ not (is_too_heavy (put t (record r { weight = weight }) to.now.stops)) }
 {
     forest.recall_invariant();
     forest.recall_part(ItemId::Device(device));
-    forest.fits_move(ItemId::Device(device), way.place(), weight)
+    forest.fits_move(ItemId::Device(device), to.place(), weight)
 }
 
-/// Whether all sums stay in range where a device that isn't there comes the way with this weight,
-/// of up to 2147483647 units.
-pub(crate) fn fits_put_new<A: Allocator>(forest: &Forest<A>, weight: Weight, way: &Way) -> bool
-    requires leads { (t : List Row) → Stands forest.now t → Leads t way.now }
+/// Whether all sums stay in range where a device that isn't there comes to the destination with
+/// this weight, of up to 2147483647 units.
+pub(crate) fn fits_put_new<A: Allocator>(
+    forest: &Forest<A>,
+    weight: Weight,
+    to: &Destination,
+) -> bool
+    requires leads { (t : List Row) → Stands forest.now t → Leads t to.now }
     requires weight { weight ≤ HEAVIEST_DEVICE }
     ensures { (t : List Row) (d : LeafData) → Stands forest.now t
         → is_there t (Device d.id) ≡ false → d.weight ≡ weight
-        → result ≡ not (is_too_heavy (put t (device_row None d) way.now.stops)) }
+        → result ≡ not (is_too_heavy (put t (device_row None d) to.now.stops)) }
 {
     forest.recall_invariant();
-    forest.fits_attach(way.place(), weight)
+    forest.fits_attach(to.place(), weight)
 }

@@ -6,9 +6,9 @@ ghost use Rattle.crush_edits.specs.Edit.{edit};
 ghost use Rattle.crush_edits.specs.Fits.{Fits};
 ghost use Rattle.crush_apply.specs.Answered.{AnswersAs};
 
+use crate::destination::destination_of;
 use crate::located::check_device;
 use crate::place::place_device;
-use crate::way::way_of;
 use crush_edits::{Done, EditFault, Location, Refusal, Setting};
 use crush_tree::Forest;
 use crush_units::{DeviceId, ItemId, Name, Weight};
@@ -35,6 +35,6 @@ pub(crate) fn insert<A: Allocator + Clone>(
     if forest.parent(ItemId::Device(device)).is_some() {
         return Err(EditFault::Refused(Refusal::AlreadyPlaced));
     }
-    let way = way_of(forest, setting, at)?;
-    place_device(forest, device, name, weight, &way)
+    let to = destination_of(forest, setting, at)?;
+    place_device(forest, device, name, weight, &to)
 }

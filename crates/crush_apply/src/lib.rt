@@ -7,6 +7,7 @@ mod apply;
 mod batch;
 mod chain;
 mod create_or_move;
+mod destination;
 mod fits;
 mod insert;
 mod located;
@@ -20,7 +21,6 @@ mod route;
 mod subtree;
 mod swap;
 mod update;
-mod way;
 
 pub use apply::apply_edit;
 pub use batch::apply_batch;

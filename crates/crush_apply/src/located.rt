@@ -10,7 +10,7 @@ ghost use Rattle.crush_table.specs.Stands.{Stands};
 ghost use Rattle.crush_edits.specs.declared.location.Pair.{Pair};
 ghost use Rattle.crush_edits.specs.Answer.{first_refusal, meets};
 ghost use Rattle.crush_edits.specs.Located.{has_twice, is_type_zero, is_bad_location, has_no_kind, names_it, is_taken, location_tests, device_tests};
-ghost use Rattle.crush_apply.specs.Way.{item_tests};
+ghost use Rattle.crush_apply.specs.Destination.{item_tests};
 
 use crush_edits::{Location, Pair, Refusal, Setting};
 use crush_tree::Forest;

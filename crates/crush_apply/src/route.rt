@@ -11,7 +11,7 @@ ghost use Rattle.crush_edits.specs.Located.{end_tests};
 ghost use Rattle.crush_edits.specs.Stops.{stops};
 ghost use Rattle.crush_apply.specs.declared.route.Stop.{Stop};
 ghost use Rattle.crush_apply.specs.Stopped.{pair_name, stops_data, IsPairOf, put_stop};
-ghost use Rattle.crush_apply.specs.Way.{EndsAt};
+ghost use Rattle.crush_apply.specs.Destination.{EndsAt};
 
 use crate::located::check_end;
 use arrayvec::ArrayVec;

@@ -22,20 +22,20 @@ returns-in_err-check_device g c =
     when_refused _ _ _ _ _ c.from_residual.ensures.1 refl
     (λ t st. refused_edit s t (CreateOrMove d n w l) _ (put_device s t d n w l _ (after_create_or_move s t d n w l) (c.in_err-check_device.ensures.refused t st)))
 
-pub way_of-requires-clause-located : goal.way_of-requires-clause-located
-way_of-requires-clause-located g c =
+pub destination_of-requires-clause-located : goal.destination_of-requires-clause-located
+destination_of-requires-clause-located g c =
     let f = c.args.forest.now in
     located c.args.setting.now (rows_of f) c.args.device c.args.name.now c.args.weight c.args.at.now (c.in_ok-check_device.ensures.passes (rows_of f) (stands_for_rows f c.recall_invariant.ensures))
 
-pub returns-in_err-way : goal.returns-in_err-way
-returns-in_err-way g c =
+pub returns-in_err-to : goal.returns-in_err-to
+returns-in_err-to g c =
     let s = c.args.setting.now in
     let d = c.args.device in
     let n = c.args.name.now in
     let w = c.args.weight in
     let l = c.args.at.now in
-    when_refused _ _ _ _ _ c.from_residual-in_err-way.ensures.1 refl
-    (λ t st. refused_edit s t (CreateOrMove d n w l) _ (put_end s t d n w l _ (after_create_or_move s t d n w l) (c.in_ok-check_device.ensures.passes t st) (c.in_err-way.ensures.refused t st)))
+    when_refused _ _ _ _ _ c.from_residual-in_err-to.ensures.1 refl
+    (λ t st. refused_edit s t (CreateOrMove d n w l) _ (put_end s t d n w l _ (after_create_or_move s t d n w l) (c.in_ok-check_device.ensures.passes t st) (c.in_err-to.ensures.refused t st)))
 
 pub returns-then-is_held : goal.returns-then-is_held
 returns-then-is_held g c =
@@ -46,22 +46,22 @@ returns-then-is_held g c =
     let l = c.args.at.now in
     when_still _ _ _
     (λ t st.
-    let there : held t (Device d) (stops s l) ≡ true = ap (held t (Device d)) (sym c.in_ok-way.ensures.stops) ∙ sym (c.is_held.ensures t st (c.in_ok-way.ensures.leads t st)) ∙ c.if-is_held.true in
-    (t, held_answer s t d n w l (c.in_ok-check_device.ensures.passes t st) (c.in_ok-way.ensures.passes t st) there st.lawful, st))
+    let there : held t (Device d) (stops s l) ≡ true = ap (held t (Device d)) (sym c.in_ok-to.ensures.stops) ∙ sym (c.is_held.ensures t st (c.in_ok-to.ensures.leads t st)) ∙ c.if-is_held.true in
+    (t, held_answer s t d n w l (c.in_ok-check_device.ensures.passes t st) (c.in_ok-to.ensures.passes t st) there st.lawful, st))
 
 pub kept_weight-weight-requires : goal.kept_weight-weight-requires
 kept_weight-weight-requires g c =
     let f = c.args.forest.now in
     let st = stands_for_rows f c.recall_invariant.ensures in
-    (can_come c.args.setting.now (rows_of f) c.args.device c.args.name.now c.args.weight c.args.at.now c.in_ok-way.way (c.in_ok-check_device.ensures.passes (rows_of f) st) c.in_ok-way.ensures.stops (c.in_ok-way.ensures.leads (rows_of f) st)).weight
+    (can_come c.args.setting.now (rows_of f) c.args.device c.args.name.now c.args.weight c.args.at.now c.in_ok-to.to (c.in_ok-check_device.ensures.passes (rows_of f) st) c.in_ok-to.ensures.stops (c.in_ok-to.ensures.leads (rows_of f) st)).weight
 
 pub place_device-requires-clause-can : goal.place_device-requires-clause-can
 place_device-requires-clause-can g c = λ t st.
-    let can = can_come c.args.setting.now t c.args.device c.args.name.now c.args.weight c.args.at.now c.in_ok-way.way (c.in_ok-check_device.ensures.passes t st) c.in_ok-way.ensures.stops (c.in_ok-way.ensures.leads t st) in
+    let can = can_come c.args.setting.now t c.args.device c.args.name.now c.args.weight c.args.at.now c.in_ok-to.to (c.in_ok-check_device.ensures.passes t st) c.in_ok-to.ensures.stops (c.in_ok-to.ensures.leads t st) in
     record { leads = can.leads; own = can.own; other = can.other; weight = c.kept_weight-weight.ensures.light }
 
 pub place_device-requires-clause-free : goal.place_device-requires-clause-free
-place_device-requires-clause-free g c = λ t st. sym (c.is_held.ensures t st (c.in_ok-way.ensures.leads t st)) ∙ c.if-is_held.false
+place_device-requires-clause-free g c = λ t st. sym (c.is_held.ensures t st (c.in_ok-to.ensures.leads t st)) ∙ c.if-is_held.false
 
 pub returns : goal.returns
 returns g c =
@@ -72,8 +72,8 @@ returns g c =
     let l = c.args.at.now in
     when_same _ _ _ _ _
     (λ t st.
-    let free : held t (Device d) (stops s l) ≡ false = ap (held t (Device d)) (sym c.in_ok-way.ensures.stops) ∙ sym (c.is_held.ensures t st (c.in_ok-way.ensures.leads t st)) ∙ c.if-is_held.false in
-    move_answer s t d n w l (c.in_ok-check_device.ensures.passes t st) (c.in_ok-way.ensures.passes t st) free
+    let free : held t (Device d) (stops s l) ≡ false = ap (held t (Device d)) (sym c.in_ok-to.ensures.stops) ∙ sym (c.is_held.ensures t st (c.in_ok-to.ensures.leads t st)) ∙ c.if-is_held.false in
+    move_answer s t d n w l (c.in_ok-check_device.ensures.passes t st) (c.in_ok-to.ensures.passes t st) free
     ∙ ap (λ v. last_answer t (put_after t (edited_device t d n v) (stops s l))) (sym (c.kept_weight-weight.ensures.kept t st))
-    ∙ ap (λ ps. last_answer t (put_after t (edited_device t d n c.kept_weight-weight.result) ps)) (sym c.in_ok-way.ensures.stops))
+    ∙ ap (λ ps. last_answer t (put_after t (edited_device t d n c.kept_weight-weight.result) ps)) (sym c.in_ok-to.ensures.stops))
     c.place_device.ensures

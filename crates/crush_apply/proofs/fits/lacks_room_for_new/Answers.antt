@@ -8,11 +8,11 @@ returns-then-counts-ge-MOST_DEVICES g c = λ t d st leads gone.
     let counts = c.counts-counts.result in
     let fresh = c.fresh-fresh.result in
     full_of_devices counts.devices (nat_lt 4096 (counts.buckets + fresh)) c.if-counts-ge-MOST_DEVICES.true
-    ∙ lacks_room_new t c.args.way.now d fresh counts.devices counts.buckets st.lawful leads c.fresh-fresh.ensures.value gone (c.counts-counts.ensures.devices t st) (c.counts-counts.ensures.buckets t st)
+    ∙ lacks_room_new t c.args.to.now d fresh counts.devices counts.buckets st.lawful leads c.fresh-fresh.ensures.value gone (c.counts-counts.ensures.devices t st) (c.counts-counts.ensures.buckets t st)
 
 pub returns-else-counts-ge-MOST_DEVICES : goal.returns-else-counts-ge-MOST_DEVICES
 returns-else-counts-ge-MOST_DEVICES g c = λ t d st leads gone.
     let counts = c.counts-counts.result in
     let fresh = c.fresh-fresh.result in
     room_for_devices counts.devices (nat_lt 4096 (counts.buckets + fresh)) c.if-counts-ge-MOST_DEVICES.false
-    ∙ lacks_room_new t c.args.way.now d fresh counts.devices counts.buckets st.lawful leads c.fresh-fresh.ensures.value gone (c.counts-counts.ensures.devices t st) (c.counts-counts.ensures.buckets t st)
+    ∙ lacks_room_new t c.args.to.now d fresh counts.devices counts.buckets st.lawful leads c.fresh-fresh.ensures.value gone (c.counts-counts.ensures.devices t st) (c.counts-counts.ensures.buckets t st)

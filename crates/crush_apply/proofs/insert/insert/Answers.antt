@@ -36,30 +36,30 @@ returns-then-is_some g c =
     let placed : is_placed t (Device d) ≡ true = sym (c.is_some.ensures ∙ ap is_some (c.parent.ensures t st)) ∙ c.if-is_some.true in
     refused_edit s t (Insert d n w l) _ (insert_placed s t d n w l (after_insert s t d n w l) (c.in_ok-check_device.ensures.passes t st) placed))
 
-pub way_of-requires-clause-located : goal.way_of-requires-clause-located
-way_of-requires-clause-located g c =
+pub destination_of-requires-clause-located : goal.destination_of-requires-clause-located
+destination_of-requires-clause-located g c =
     let f = c.args.forest.now in
     located c.args.setting.now (rows_of f) c.args.device c.args.name.now c.args.weight c.args.at.now (c.in_ok-check_device.ensures.passes (rows_of f) (stands_for_rows f c.recall_invariant.ensures))
 
-pub returns-in_err-way : goal.returns-in_err-way
-returns-in_err-way g c =
+pub returns-in_err-to : goal.returns-in_err-to
+returns-in_err-to g c =
     let s = c.args.setting.now in
     let d = c.args.device in
     let n = c.args.name.now in
     let w = c.args.weight in
     let l = c.args.at.now in
-    when_refused _ _ _ _ _ c.from_residual-in_err-way.ensures.1 refl
+    when_refused _ _ _ _ _ c.from_residual-in_err-to.ensures.1 refl
     (λ t st.
     let free : is_placed t (Device d) ≡ false = sym (c.is_some.ensures ∙ ap is_some (c.parent.ensures t st)) ∙ c.if-is_some.false in
-    refused_edit s t (Insert d n w l) _ (insert_end s t d n w l _ (after_insert s t d n w l) (c.in_ok-check_device.ensures.passes t st) free (c.in_err-way.ensures.refused t st)))
+    refused_edit s t (Insert d n w l) _ (insert_end s t d n w l _ (after_insert s t d n w l) (c.in_ok-check_device.ensures.passes t st) free (c.in_err-to.ensures.refused t st)))
 
 pub place_device-requires-clause-can : goal.place_device-requires-clause-can
 place_device-requires-clause-can g c = λ t st.
-    can_come c.args.setting.now t c.args.device c.args.name.now c.args.weight c.args.at.now c.in_ok-way.way (c.in_ok-check_device.ensures.passes t st) c.in_ok-way.ensures.stops (c.in_ok-way.ensures.leads t st)
+    can_come c.args.setting.now t c.args.device c.args.name.now c.args.weight c.args.at.now c.in_ok-to.to (c.in_ok-check_device.ensures.passes t st) c.in_ok-to.ensures.stops (c.in_ok-to.ensures.leads t st)
 
 pub place_device-requires-clause-free : goal.place_device-requires-clause-free
 place_device-requires-clause-free g c = λ t st.
-    unplaced_free t (Device c.args.device) c.in_ok-way.way.stops (sym (c.is_some.ensures ∙ ap is_some (c.parent.ensures t st)) ∙ c.if-is_some.false)
+    unplaced_free t (Device c.args.device) c.in_ok-to.to.stops (sym (c.is_some.ensures ∙ ap is_some (c.parent.ensures t st)) ∙ c.if-is_some.false)
 
 pub returns : goal.returns
 returns g c =
@@ -71,6 +71,6 @@ returns g c =
     when_same _ _ _ _ _
     (λ t st.
     let free : is_placed t (Device d) ≡ false = sym (c.is_some.ensures ∙ ap is_some (c.parent.ensures t st)) ∙ c.if-is_some.false in
-    insert_answer s t d n w l (c.in_ok-check_device.ensures.passes t st) free (c.in_ok-way.ensures.passes t st)
-    ∙ ap (λ ps. last_answer t (put_after t (edited_device t d n w) ps)) (sym c.in_ok-way.ensures.stops))
+    insert_answer s t d n w l (c.in_ok-check_device.ensures.passes t st) free (c.in_ok-to.ensures.passes t st)
+    ∙ ap (λ ps. last_answer t (put_after t (edited_device t d n w) ps)) (sym c.in_ok-to.ensures.stops))
     c.place_device.ensures

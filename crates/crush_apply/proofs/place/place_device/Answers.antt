@@ -21,12 +21,12 @@ returns-then-lacks_room g c =
     (λ t st.
     let w = c.args.weight in
     let can = c.requires.can t st in
-    let own = own_row t c.args.device c.args.name.now w c.args.way.now st.lawful can (c.requires.free t st) (kind_tells t (Device c.args.device) c.kind.result true (c.kind.ensures t st) (c.is_none.ensures ∙ ap not c.if-is_none.false)) in
+    let own = own_row t c.args.device c.args.name.now w c.args.to.now st.lawful can (c.requires.free t st) (kind_tells t (Device c.args.device) c.kind.result true (c.kind.ensures t st) (c.is_none.ensures ∙ ap not c.if-is_none.false)) in
     put_no_room own.put (sym (c.lacks_room.ensures t own.row st can.leads own.own w) ∙ c.if-lacks_room.true))
 
 pub fits_put_device-requires-clause-can : goal.fits_put_device-requires-clause-can
 fits_put_device-requires-clause-can g c = λ t st.
-    device_moves t c.args.device c.args.name.now c.args.weight c.args.way.now (c.requires.can t st) (kind_tells t (Device c.args.device) c.kind.result true (c.kind.ensures t st) (c.is_none.ensures ∙ ap not c.if-is_none.false))
+    device_moves t c.args.device c.args.name.now c.args.weight c.args.to.now (c.requires.can t st) (kind_tells t (Device c.args.device) c.kind.result true (c.kind.ensures t st) (c.is_none.ensures ∙ ap not c.if-is_none.false))
 
 pub fits_put_device-requires-clause-weight : goal.fits_put_device-requires-clause-weight
 fits_put_device-requires-clause-weight g c =
@@ -39,7 +39,7 @@ returns-then-not-fits_put_device g c =
     (λ t st.
     let w = c.args.weight in
     let can = c.requires.can t st in
-    let own = own_row t c.args.device c.args.name.now w c.args.way.now st.lawful can (c.requires.free t st) (kind_tells t (Device c.args.device) c.kind.result true (c.kind.ensures t st) (c.is_none.ensures ∙ ap not c.if-is_none.false)) in
+    let own = own_row t c.args.device c.args.name.now w c.args.to.now st.lawful can (c.requires.free t st) (kind_tells t (Device c.args.device) c.kind.result true (c.kind.ensures t st) (c.is_none.ensures ∙ ap not c.if-is_none.false)) in
     sums_fail own.put (c.lacks_room.ensures t own.row st can.leads own.own w) c.if-lacks_room.false (c.fits_put_device.ensures t own.row st own.found) c.if-not-fits_put_device.true)
 
 pub put_device-requires-clause-weight : goal.put_device-requires-clause-weight
@@ -49,13 +49,13 @@ put_device-requires-clause-weight g c =
 
 pub put_device-requires-clause-moves : goal.put_device-requires-clause-moves
 put_device-requires-clause-moves g c = λ t st.
-    device_moves t c.args.device c.args.name.now c.args.weight c.args.way.now (c.requires.can t st) (kind_tells t (Device c.args.device) c.kind.result true (c.kind.ensures t st) (c.is_none.ensures ∙ ap not c.if-is_none.false))
+    device_moves t c.args.device c.args.name.now c.args.weight c.args.to.now (c.requires.can t st) (kind_tells t (Device c.args.device) c.kind.result true (c.kind.ensures t st) (c.is_none.ensures ∙ ap not c.if-is_none.false))
 
 pub put_device-requires-clause-can : goal.put_device-requires-clause-can
 put_device-requires-clause-can g c = λ t r st found.
     let w = c.args.weight in
     let room = sym (c.lacks_room.ensures t r st (c.requires.can t st).leads (ap (row_of t) (row_id (Device c.args.device) t r found) ∙ found) w) ∙ c.if-lacks_room.false in
-    put_own t c.args.device w c.args.way.now r found room (from_yes c.fits_put_device.result _ (c.fits_put_device.ensures t r st found room) c.if-not-fits_put_device.false)
+    put_own t c.args.device w c.args.to.now r found room (from_yes c.fits_put_device.result _ (c.fits_put_device.ensures t r st found room) c.if-not-fits_put_device.false)
 
 pub returns-in_err-put_device : goal.returns-in_err-put_device
 returns-in_err-put_device g c =
@@ -63,9 +63,9 @@ returns-in_err-put_device g c =
     (λ t st.
     let w = c.args.weight in
     let can = c.requires.can t st in
-    let own = own_row t c.args.device c.args.name.now w c.args.way.now st.lawful can (c.requires.free t st) (kind_tells t (Device c.args.device) c.kind.result true (c.kind.ensures t st) (c.is_none.ensures ∙ ap not c.if-is_none.false)) in
+    let own = own_row t c.args.device c.args.name.now w c.args.to.now st.lawful can (c.requires.free t st) (kind_tells t (Device c.args.device) c.kind.result true (c.kind.ensures t st) (c.is_none.ensures ∙ ap not c.if-is_none.false)) in
     let made = both_pass own.put (c.lacks_room.ensures t own.row st can.leads own.own w) c.if-lacks_room.false (c.fits_put_device.ensures t own.row st own.found) c.if-not-fits_put_device.false in
-    (c.args.way.now.fresh, put t (record own.row { weight = w }) c.args.way.now.stops, made))
+    (c.args.to.now.fresh, put t (record own.row { weight = w }) c.args.to.now.stops, made))
 
 pub returns : goal.returns
 returns g c =
@@ -73,7 +73,7 @@ returns g c =
     (λ t st.
     let w = c.args.weight in
     let can = c.requires.can t st in
-    let own = own_row t c.args.device c.args.name.now w c.args.way.now st.lawful can (c.requires.free t st) (kind_tells t (Device c.args.device) c.kind.result true (c.kind.ensures t st) (c.is_none.ensures ∙ ap not c.if-is_none.false)) in
-    let after = put t (record own.row { weight = w }) c.args.way.now.stops in
+    let own = own_row t c.args.device c.args.name.now w c.args.to.now st.lawful can (c.requires.free t st) (kind_tells t (Device c.args.device) c.kind.result true (c.kind.ensures t st) (c.is_none.ensures ∙ ap not c.if-is_none.false)) in
+    let after = put t (record own.row { weight = w }) c.args.to.now.stops in
     let made = both_pass own.put (c.lacks_room.ensures t own.row st can.leads own.own w) c.if-lacks_room.false (c.fits_put_device.ensures t own.row st own.found) c.if-not-fits_put_device.false in
     (after, made ∙ ap (λ k. done true k after) (sym c.fresh.ensures.value), c.in_ok-put_device.ensures.stands t own.row st own.found))

@@ -18,7 +18,7 @@ use Rattle.crush_edits.specs.Put.{with_ids, next_up}
 use Rattle.crush_edits.proofs.Boxes.{StoresSums-boxes}
 use Rattle.crush_apply.specs.Placed.{place_at, new_boxes}
 use Rattle.crush_apply.specs.Stopped.{stops_data}
-use Rattle.crush_apply.proofs.Ways.{parent_of_place, stops-length, placed_boxes, lowest_is, lowest_room, room_kept}
+use Rattle.crush_apply.proofs.Destinations.{parent_of_place, stops-length, placed_boxes, lowest_is, lowest_room, room_kept}
 use Rattle.crush_apply.proofs.put.attach_new.Goals as goal
 
 pub attach-requires-clause-sums : goal.attach-requires-clause-sums

@@ -1,4 +1,4 @@
--- New buckets that are attached, and the way into the lowest of them.
+-- New buckets that are attached, and what comes into the lowest of them.
 use Rattle.std.proofs.Common.{◌≡◌, ℕ, zero, suc, ◌+◌, ◌<◌, ◌≤◌, true, List, [], ◌∷◌, ◌++◌, length, take, get_or, ap, sym, subst, ◌∙◌, refl, arith, eq-eqb, append-nil, ⊎_elim}
 use Rattle.std.specs.Prelude.{Option, Some, None, IfSome, All, Result, Ok, Err, IfOk, OnOk, ◌==◌, if◌then◌else◌}
 use Rattle.std.specs.List.{prefix_len}
@@ -29,7 +29,7 @@ use Rattle.crush_edits.proofs.Routes.{receiver_there, route_next}
 use Rattle.crush_edits.proofs.Tails.{none_new}
 use Rattle.crush_apply.specs.declared.route.Stop.{Stop}
 use Rattle.crush_apply.specs.Placed.{place_at, numbered, new_boxes}
-use Rattle.crush_apply.specs.Way.{WayData, Leads}
+use Rattle.crush_apply.specs.Destination.{DestinationData, Leads}
 use Rattle.crush_apply.specs.Stopped.{stop_data, stops_data}
 
 pub parent_of_place : (o : Option ℕ) → parent_at (place_at o) ≡ o
@@ -93,8 +93,8 @@ room_kept f g n p q e some own = ⊎_elim
     (true_or_false (same_place p q))
 
 -- what receives is there
-pub place_there : (t : List Row) (way : WayData) → Leads t way → is_place t (place_at way.receiver) ≡ true
-place_there t way leads = by_top way.receiver (subst (λ o. IfSome o (λ b. is_there t (Bucket b) ≡ true)) (sym leads.receiver) (receiver_there t way.stops)) where
+pub place_there : (t : List Row) (to : DestinationData) → Leads t to → is_place t (place_at to.receiver) ≡ true
+place_there t to leads = by_top to.receiver (subst (λ o. IfSome o (λ b. is_there t (Bucket b) ≡ true)) (sym leads.receiver) (receiver_there t to.stops)) where
   by_top : (o : Option ℕ) → IfSome o (λ b. is_there t (Bucket b) ≡ true) → is_place t (place_at o) ≡ true
   by_top None h = refl
   by_top (Some b) h = h
@@ -116,33 +116,33 @@ pub on_ok : {X E P Q : Type 0} (x : Result X E) → (P → Q) → OnOk x P → O
 on_ok (Ok v) h p = h p
 on_ok (Err e) h p = tt
 
--- THE NEW STOPS of a way
-module _ (t : List Row) (l : List Pair) (xs : List Stop) (way : WayData) (are : stops_data l xs ≡ take way.fresh way.stops) (leads : Leads t way) where
-  count_is : way.fresh ≡ prefix_len (is_fresh t) way.stops
-  count_is = leads.fresh ∙ length-take-le (prefix_len (is_fresh t) way.stops) way.stops (prefix_len-le-length (is_fresh t) way.stops)
+-- THE NEW STOPS of a destination
+module _ (t : List Row) (l : List Pair) (xs : List Stop) (to : DestinationData) (are : stops_data l xs ≡ take to.fresh to.stops) (leads : Leads t to) where
+  count_is : to.fresh ≡ prefix_len (is_fresh t) to.stops
+  count_is = leads.fresh ∙ length-take-le (prefix_len (is_fresh t) to.stops) to.stops (prefix_len-le-length (is_fresh t) to.stops)
 
-  pub fresh_are : stops_data l xs ≡ fresh_stops t way.stops
-  fresh_are = are ∙ ap (λ k. take k way.stops) count_is
+  pub fresh_are : stops_data l xs ≡ fresh_stops t to.stops
+  fresh_are = are ∙ ap (λ k. take k to.stops) count_is
 
   pub fresh_forms : All IsStop (stops_data l xs)
-  fresh_forms = subst (All IsStop) (sym are) (All-take IsStop way.fresh way.stops leads.route.forms)
+  fresh_forms = subst (All IsStop) (sym are) (All-take IsStop to.fresh to.stops leads.route.forms)
 
-  pub rows_are : rows way.receiver (new_boxes t (stops_data l xs)) ≡ rows_made t way.stops
-  rows_are = (λ j. rows (leads.receiver j) (new_boxes t (fresh_are j))) ∙ rows-empty 1 (new_buckets t way.stops) (receiver t way.stops)
+  pub rows_are : rows to.receiver (new_boxes t (stops_data l xs)) ≡ rows_made t to.stops
+  rows_are = (λ j. rows (leads.receiver j) (new_boxes t (fresh_are j))) ∙ rows-empty 1 (new_buckets t to.stops) (receiver t to.stops)
 
-  pub next_is : (b : ℕ) → next_up (numbered t (stops_data l xs)) None ≡ Some b → next_place t way.stops ≡ Some b
-  next_is b e = any_top (new_buckets t way.stops) (receiver t way.stops) b (ap (λ z. next_up (numbered t z) None) (sym fresh_are) ∙ e)
+  pub next_is : (b : ℕ) → next_up (numbered t (stops_data l xs)) None ≡ Some b → next_place t to.stops ≡ Some b
+  next_is b e = any_top (new_buckets t to.stops) (receiver t to.stops) b (ap (λ z. next_up (numbered t z) None) (sym fresh_are) ∙ e)
 
 -- where none is new the item comes into what receives
-module _ (t : List Row) (way : WayData) (leads : Leads t way) (none : way.fresh ≤ 0) where
-  empty : fresh_stops t way.stops ≡ []
-  empty = nothing (fresh_stops t way.stops) (omega (arith, leads.fresh, none))
+module _ (t : List Row) (to : DestinationData) (leads : Leads t to) (none : to.fresh ≤ 0) where
+  empty : fresh_stops t to.stops ≡ []
+  empty = nothing (fresh_stops t to.stops) (omega (arith, leads.fresh, none))
 
-  pub next_receives : next_place t way.stops ≡ way.receiver
-  next_receives = (none_new t way.stops empty).1 ∙ sym leads.receiver
+  pub next_receives : next_place t to.stops ≡ to.receiver
+  next_receives = (none_new t to.stops empty).1 ∙ sym leads.receiver
 
-  pub none_made : t ≡ t ++ rows_made t way.stops
-  none_made = sym (ap (λ z. t ++ z) (none_new t way.stops empty).0 ∙ append-nil t)
+  pub none_made : t ≡ t ++ rows_made t to.stops
+  none_made = sym (ap (λ z. t ++ z) (none_new t to.stops empty).0 ∙ append-nil t)
 
-  pub receives : way.receiver ≡ None → ⊥
-  receives e = let next = route_next t way.stops leads.route in let is : None ≡ Some next.0 = sym e ∙ sym next_receives ∙ next.1 in cc
+  pub receives : to.receiver ≡ None → ⊥
+  receives e = let next = route_next t to.stops leads.route in let is : None ≡ Some next.0 = sym e ∙ sym next_receives ∙ next.1 in cc

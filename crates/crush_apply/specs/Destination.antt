@@ -1,4 +1,4 @@
--- The way to the end of a route, as contracts see it.
+-- The destination at the end of a route, as contracts see it.
 use Rattle.std.specs.Prelude.{◌≡◌, ◌==◌, ℕ, List, [], ◌∷◌, Option, None, Bool, not, length}
 use Rattle.crush_units.specs.declared.id.ItemId.{ItemId}
 use Rattle.crush_units.specs.Id.{is_device_id}
@@ -11,7 +11,7 @@ use Rattle.crush_edits.specs.New.{IsRoute}
 use Rattle.crush_edits.specs.Stops.{StopData, fresh_stops, receiver}
 
 -- the stops of a route, how many of them are buckets to be made, and what receives these, or the item where none is made
-pub record WayData : Type 0 where
+pub record DestinationData : Type 0 where
   pub stops : List StopData
   pub fresh : ℕ
   pub receiver : Option ℕ
@@ -26,8 +26,8 @@ pub record EndsAt (t : List Row) (ps : List StopData) (k : ℕ) (b : Option ℕ)
   pub receiver : b ≡ receiver t ps
   pub passes : first_refusal (end_tests t ps) ≡ None
 
--- the way is that of a route
-pub record Leads (t : List Row) (way : WayData) : Type 0 where
-  pub route : IsRoute t way.stops
-  pub fresh : way.fresh ≡ length (fresh_stops t way.stops)
-  pub receiver : way.receiver ≡ receiver t way.stops
+-- a route leads to the destination
+pub record Leads (t : List Row) (to : DestinationData) : Type 0 where
+  pub route : IsRoute t to.stops
+  pub fresh : to.fresh ≡ length (fresh_stops t to.stops)
+  pub receiver : to.receiver ≡ receiver t to.stops
