@@ -12,9 +12,26 @@ fn leads_to_a_host(at: &Location) -> bool {
     pairs.len() == 2 && pairs[0].kind.is(b"host") && pairs[1].name.is(b"default")
 }
 
-/// Fills the location up, and answers whether it then takes no pair.
+/// Puts two pairs into the location, and answers whether it then has them and takes no bad name.
+fn takes_two(rt: &impl Abort, at: &mut Location) -> bool {
+    at.push(b"host", b"h1").expect(rt, "a pair");
+    at.push(b"root", b"default").expect(rt, "a pair");
+    at.push(b"", b"h1") == Err(LocationFault::BadName)
+        && at.push(b"host", b"h 1") == Err(LocationFault::BadName)
+        && leads_to_a_host(at)
+}
+
+/// Whether a copy of the location has the same two pairs.
+fn has_copy(rt: &(impl Abort + AllocGlobal), at: &Location) -> bool {
+    let copy = at.try_copy(rt.alloc()).expect(rt, "memory");
+    let leads = leads_to_a_host(&copy);
+    drop(copy);
+    leads
+}
+
+/// Fills the location of two pairs up, and answers whether it then takes no further one.
 fn is_full(rt: &impl Abort, at: &mut Location) -> bool {
-    for _ in at.pairs().len()..MOST_PAIRS {
+    for _ in 2..MOST_PAIRS {
         at.push(b"host", b"h1").expect(rt, "a pair");
     }
     at.pairs().len() == 16
@@ -25,16 +42,9 @@ fn is_full(rt: &impl Abort, at: &mut Location) -> bool {
 #[test]
 fn locations(rt: HostRuntime) {
     let mut at = Location::new(rt.alloc());
-    at.push(b"host", b"h1").expect(&rt, "a pair");
-    at.push(b"root", b"default").expect(&rt, "a pair");
-    let are_names = at.push(b"", b"h1") != Err(LocationFault::BadName)
-        || at.push(b"host", b"h 1") != Err(LocationFault::BadName);
-    let copy = at.try_copy(rt.alloc()).expect(&rt, "memory");
-    let lead = leads_to_a_host(&at) && leads_to_a_host(&copy);
-    let is_full = is_full(&rt, &mut at);
-    drop(copy);
+    let is_right = takes_two(&rt, &mut at) && has_copy(&rt, &at) && is_full(&rt, &mut at);
     drop(at);
-    assert!(rt; !are_names && lead && is_full);
+    assert!(rt; is_right);
 }
 
 /// A name in the machine's memory.
