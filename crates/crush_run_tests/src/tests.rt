@@ -8,13 +8,7 @@ use std::process::Abort;
 mod command_lines;
 mod failing;
 mod limits;
-mod refusals;
 mod reporting;
-mod whole;
-
-/// The example map.
-const EXAMPLE: &[u8] =
-    b"# begin crush map\ntunable choose_total_tries 50\n\n# devices\ndevice 0 osd.0\ndevice 1 osd.1\ndevice 2 osd.2\n\n# types\ntype 0 osd\ntype 1 host\ntype 3 rack\ntype 11 root\n\n# buckets\nhost h1 {\n\tid -2\t\t# do not change unnecessarily\n\t# weight 2.00000\n\talg straw2\n\thash 0\t# rjenkins1\n\titem osd.0 weight 1.00000\n\titem osd.1 weight 1.00000\n}\nhost h2 {\n\tid -3\t\t# do not change unnecessarily\n\t# weight 0.50000\n\talg straw2\n\thash 0\t# rjenkins1\n\titem osd.2 weight 0.50000\n}\nroot default {\n\tid -1\t\t# do not change unnecessarily\n\t# weight 2.50000\n\talg straw2\n\thash 0\t# rjenkins1\n\titem h1 weight 2.00000\n\titem h2 weight 0.50000\n}\n\n# rules\nrule replicated_rule {\n\tid 0\n\ttype replicated\n\tstep take default\n\tstep chooseleaf firstn 0 type host\n\tstep emit\n}\n\n# end crush map\n";
 
 /// The plain example map, with nothing behind it.
 const PLAIN: &[u8] =
@@ -64,23 +58,6 @@ fn summary(adjusted: u32, calls: u32, changes: u32) -> Summary {
         adjusted,
         calls,
         changes,
-    }
-}
-
-/// Whether the bytes are refused: nothing is written, standard error is told this line, and the
-/// status is 1.
-fn is_refused(rt: &impl AllocGlobal, bytes: &[u8], line: &[u8]) -> bool {
-    let mut out = Vec::new(rt.alloc());
-    let outcome = run_job(rt, MODE, &mut &*bytes, &mut out);
-    out.is_empty() && is_told(rt, &outcome, line, 1)
-}
-
-/// The text is refused with each of these lines behind it, and with the line of standard error beside
-/// them.
-fn are_refused(rt: &(impl Abort + AllocGlobal), text: &[u8], rows: &[(&[u8], &[u8])]) {
-    for (place, (rest, line)) in rows.iter().enumerate() {
-        let bytes = joined(rt, text, rest);
-        assert!(rt; is_refused(rt, bytes.as_slice(), line), "at {place}");
     }
 }
 

@@ -32,13 +32,24 @@ fn ask(
 
 #[test]
 fn flags_and_a_file_are_read(rt: HostRuntime) {
-    assert!(rt; ask(&rt, &[], false, true, None));
-    let words = ["--in-turn", "--no-history", "j.txt"];
-    assert!(rt; ask(&rt, words.as_slice(), true, false, Some("j.txt")));
-    let words = ["j.txt", "--in-turn"];
-    assert!(rt; ask(&rt, words.as_slice(), true, true, Some("j.txt")));
-    let words = ["--no-history", "--", "--in-turn"];
-    assert!(rt; ask(&rt, words.as_slice(), false, false, Some("--in-turn")));
+    assert!(rt;
+        ask(&rt, &[], false, true, None)
+            && ask(
+                &rt,
+                &["--in-turn", "--no-history", "j.txt"],
+                true,
+                false,
+                Some("j.txt")
+            )
+            && ask(&rt, &["j.txt", "--in-turn"], true, true, Some("j.txt"))
+            && ask(
+                &rt,
+                &["--no-history", "--", "--in-turn"],
+                false,
+                false,
+                Some("--in-turn")
+            )
+    );
 }
 
 /// Whether the words are refused, with a text that is a line of an error.
@@ -54,17 +65,19 @@ fn are_refused(rt: &impl AllocGlobal, words: &[&str]) -> bool {
     refused
 }
 
+/// Words that ask for nothing.
+const OTHER_WORDS: &[&[&str]] = &[
+    &["a", "b"],
+    &["--fly"],
+    &["-x"],
+    &["--in-turn=yes"],
+    &["--in-turn", "--in-turn"],
+];
+
 #[test]
 fn other_words_are_refused(rt: HostRuntime) {
-    let lines: [&[&str]; 5] = [
-        ["a", "b"].as_slice(),
-        ["--fly"].as_slice(),
-        ["-x"].as_slice(),
-        ["--in-turn=yes"].as_slice(),
-        ["--in-turn", "--in-turn"].as_slice(),
-    ];
-    for words in lines {
-        assert!(rt; are_refused(&rt, words));
+    for words in OTHER_WORDS {
+        assert!(rt; are_refused(&rt, *words));
     }
 }
 
@@ -92,29 +105,27 @@ const HELP: &[&str] = &[
     "\n    4    there was no memory",
 ];
 
-/// The text has each of these parts.
-fn has_all(rt: &impl Abort, text: &str, parts: &[&str]) {
+/// What is told where the word asks for no run.
+fn told(rt: &(impl Abort + AllocGlobal), word: &str) -> String {
+    let Err(OptionsFault::Help(text)) = options(rt.alloc(), &[word]) else {
+        panic!(rt; "nothing is told")
+    };
+    text
+}
+
+/// Whether the text has each of these parts.
+fn has_all(text: &str, parts: &[&str]) -> bool {
     for part in parts {
-        assert!(rt; text.contains(part), "{part}");
+        if !text.contains(part) {
+            return false;
+        }
     }
+    true
 }
 
 #[test]
-fn help_says_what_a_job_is(rt: HostRuntime) {
-    let read = options(rt.alloc(), ["--help"].as_slice());
-    match &read {
-        Err(OptionsFault::Help(text)) => has_all(&rt, text.as_str(), HELP),
-        _ => assert!(rt; false),
-    }
-    drop(read);
-}
-
-#[test]
-fn the_version_is_told(rt: HostRuntime) {
-    let read = options(rt.alloc(), ["--version"].as_slice());
-    match &read {
-        Err(OptionsFault::Help(text)) => assert!(rt; text.as_str() == "crushedit 0.1.0\n"),
-        _ => assert!(rt; false),
-    }
-    drop(read);
+fn help_and_the_version_are_told(rt: HostRuntime) {
+    let help = told(&rt, "--help");
+    let version = told(&rt, "--version");
+    assert!(rt; has_all(help.as_str(), HELP) && version.as_str() == "crushedit 0.1.0\n");
 }

@@ -121,8 +121,10 @@ fn leaves_a_front_at_a_failed_write(rt: HostRuntime) {
     let whole = joined(&rt, REWEIGHED, line);
     let (job, whole) = (job.as_slice(), whole.as_slice());
     for room in 0..whole.len() {
-        assert!(rt; leaves_a_front(&rt, job, whole, room, true));
-        assert!(rt; leaves_a_front(&rt, job, whole, room, false));
+        assert!(rt;
+            leaves_a_front(&rt, job, whole, room, true)
+                && leaves_a_front(&rt, job, whole, room, false)
+        );
     }
 }
 
@@ -131,7 +133,10 @@ fn asks_an_endless_reader_for_one_byte_too_many(rt: HostRuntime) {
     let mut reader = EndlessReader { asked: 0 };
     let mut out = Vec::new(rt.alloc());
     let outcome = run_job(&rt, MODE, &mut reader, &mut out);
-    assert!(rt; outcome == Err(RunFault::Job(JobFault::TooLong)));
-    assert!(rt; reader.asked == 16_777_217 && out.is_empty());
-    assert!(rt; is_told(&rt, &outcome, b"crushedit: TooLong\n", 1));
+    assert!(rt;
+        outcome == Err(RunFault::Job(JobFault::TooLong))
+            && reader.asked == 16_777_217
+            && out.is_empty()
+            && is_told(&rt, &outcome, b"crushedit: TooLong\n", 1)
+    );
 }

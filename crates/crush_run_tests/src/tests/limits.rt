@@ -1,7 +1,6 @@
 //! As much as a map and a job may have: buckets below one another, and calls.
 
 use super::{MODE, PLAIN, joined, put_behind, summary, writes};
-use crush_report::Summary;
 use crush_run::run_job;
 use std::process::Abort;
 
@@ -40,34 +39,21 @@ fn chain(rt: &(impl Abort + AllocGlobal), weight: &str) -> Vec<u8> {
     text
 }
 
-/// Whether the script makes, of the chain where all weigh 1.0, that where all weigh this, and leaves
-/// these lines behind it.
-fn makes(
-    rt: &(impl Abort + AllocGlobal),
-    script: &[u8],
-    weight: &str,
-    lines: &[u8],
-    summary: Summary,
-) -> bool {
-    let before = chain(rt, "1.00000");
-    let job = joined(rt, before.as_slice(), script);
-    let after = chain(rt, weight);
-    writes(rt, MODE, job.as_slice(), after.as_slice(), lines, summary)
-}
+/// What is called in the chain, and the lines of it. That a name is taken is told before want of room,
+/// and a bucket that is there takes a further device.
+const SCRIPT: &[u8] =
+    b"%operator a\nadd-bucket b1 host\nadd-bucket z host\nadd osd.1 1 host=z\nadd osd.1 1 host=b1\nrm osd.1\nreweight osd.0 2.0\n";
+
+const LINES: &[u8] =
+    b"# 1 a add-bucket b1 host = refused NameTaken 17\n# 2 a add-bucket z host = refused NoRoom 28\n# 3 a add osd.1 1.00000 host=z = refused NoRoom 28\n# 4 a add osd.1 1.00000 host=b1 = done changed 1 made 0\n# 5 a rm osd.1 = done changed 1 made 0\n# 6 a reweight osd.0 2.00000 = done changed 1 made 0\n";
 
 #[test]
-fn reweighs_below_the_most_buckets(rt: HostRuntime) {
-    let script = b"%operator a\nreweight osd.0 2.0\n";
-    let line = b"# 1 a reweight osd.0 2.00000 = done changed 1 made 0\n";
-    assert!(rt; makes(&rt, script, "2.00000", line, summary(0, 1, 1)));
-}
-
-#[test]
-fn refuses_one_bucket_too_many(rt: HostRuntime) {
-    let script = b"%operator a\nadd-bucket z host\nadd osd.1 1 host=z\n";
-    let lines =
-        b"# 1 a add-bucket z host = refused NoRoom 28\n# 2 a add osd.1 1.00000 host=z = refused NoRoom 28\n";
-    assert!(rt; makes(&rt, script, "1.00000", lines, summary(0, 2, 0)));
+fn edits_the_most_buckets(rt: HostRuntime) {
+    let before = chain(&rt, "1.00000");
+    let job = joined(&rt, before.as_slice(), SCRIPT);
+    let after = chain(&rt, "2.00000");
+    let summary = summary(0, 6, 3);
+    assert!(rt; writes(&rt, MODE, job.as_slice(), after.as_slice(), LINES, summary));
 }
 
 /// Puts as many calls behind a text as a job may have.
@@ -83,10 +69,11 @@ fn runs_the_most_calls(rt: HostRuntime) {
     put_most_calls(&rt, &mut job);
     let mut out = Vec::new(rt.alloc());
     let outcome = run_job(&rt, MODE, &mut job.as_slice(), &mut out);
-    assert!(rt; outcome == Ok(summary(0, 65_536, 65_536)) && out.starts_with(PLAIN));
     assert!(rt;
-        out.ends_with(
-            b"\n# 65535 a reweight osd.0 2.00000 = done changed 1 made 0\n# 65536 a reweight osd.0 1.00000 = done changed 1 made 0\n"
-        )
+        outcome == Ok(summary(0, 65_536, 65_536))
+            && out.starts_with(PLAIN)
+            && out.ends_with(
+                b"\n# 65535 a reweight osd.0 2.00000 = done changed 1 made 0\n# 65536 a reweight osd.0 1.00000 = done changed 1 made 0\n"
+            )
     );
 }
