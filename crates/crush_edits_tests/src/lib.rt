@@ -1,4 +1,4 @@
-//! What no contract of the edits says: that calls with memory answer, each once.
+//! Tests of the crates `crush_units` and `crush_edits`: ids, weights and names, locations and edits.
 #![tactic(auto)]
 
 #[cfg(test)]

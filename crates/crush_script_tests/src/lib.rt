@@ -1,4 +1,5 @@
-//! Tests of `crush_script`, through its public calls.
+//! Tests of `crush_text`, `crush_print`, `crush_calls` and `crush_script`, with the words and writers of
+//! `crush_bytes`, through their public calls.
 #![tactic(auto)]
 
 #[cfg(test)]

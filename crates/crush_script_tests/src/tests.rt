@@ -1,82 +1,84 @@
-//! The worked examples of jobs, of runs and of history lines.
+//! Maps and jobs from their texts, and what is written of them.
 //!
-//! What owns a job or a call lets it go by `drop`: its parts are then taken apart in one place, and not
-//! in the proof of each function that owns one.
+//! Expected values are written from the forms in docs/FORMATS.md. Texts that are refused, and jobs with
+//! what is written of them, are data of `crush_examples`: here stands what no data shows, and what
+//! would be a long file. What owns a map, a job or a call lets it go by `drop`: its parts are then
+//! taken apart in one place, and not in the proof of each function that owns one.
 
-mod histories;
+mod heaps;
 mod jobs;
+mod limits;
 mod lines;
-mod numbers;
+mod reading;
+mod words;
 mod writing;
 
-use crush_calls::{Call, Script};
-use crush_edits::Edit;
+use crush_map::CrushMap;
+use crush_print::write_map;
 use crush_script::{Job, JobFault, read_job};
+use crush_text::{TextFault, TextFaultKind, read_map};
+use std::alloc::{Allocator, Global};
 use std::process::Abort;
 
-/// The bytes of both, one behind the other.
-fn joined(rt: &(impl Abort + AllocGlobal), first: &[u8], second: &[u8]) -> Vec<u8> {
-    [first, second].concat(rt.alloc()).expect(rt, "no memory")
+/// The bytes of all parts, one behind the other.
+fn joined(rt: &(impl Abort + AllocGlobal), parts: &[&[u8]]) -> Vec<u8> {
+    parts.concat(rt.alloc()).expect(rt, "no memory")
 }
 
-/// The text behind which so many of the lines stand.
-fn with_lines(rt: &(impl Abort + AllocGlobal), text: &[u8], line: &[u8], count: usize) -> Vec<u8> {
-    let lines = line.repeat(rt.alloc(), count).expect(rt, "no memory");
-    joined(rt, text, lines.as_slice())
+/// Puts the bytes behind a text.
+fn put_behind(rt: &impl Abort, text: &mut Vec<u8>, bytes: &[u8]) {
+    text.extend_from_slice(bytes).expect(rt, "no memory");
 }
+
+/// The map of a text that spells one.
+fn map_of(rt: &(impl Abort + AllocGlobal), text: &[u8]) -> CrushMap<Global> {
+    let (map, _) = read_map(rt.alloc(), text).expect(rt, "no map");
+    map
+}
+
+/// The text of a map.
+fn text_of<A: Allocator>(rt: &(impl Abort + AllocGlobal), map: &CrushMap<A>) -> Vec<u8> {
+    let mut text = Vec::new(rt.alloc());
+    write_map(rt.alloc(), map, &mut text).expect(rt, "no text");
+    text
+}
+
+/// What is wrong with the text, or `None` where nothing is.
+fn fault_of(rt: &impl AllocGlobal, text: &[u8]) -> Option<TextFault> {
+    match read_map(rt.alloc(), text) {
+        Ok((map, _)) => {
+            drop(map);
+            None
+        }
+        Err(fault) => Some(fault),
+    }
+}
+
+/// Whether the text is refused for this at this place.
+fn is_refused(rt: &impl AllocGlobal, text: &[u8], kind: TextFaultKind, place: usize) -> bool {
+    fault_of(rt, text) == Some(TextFault { kind, place })
+}
+
+/// Whether the words are refused for this at their first behind the front.
+fn is_refused_behind(
+    rt: &(impl Abort + AllocGlobal),
+    front: &[u8],
+    words: &[u8],
+    kind: TextFaultKind,
+) -> bool {
+    let text = joined(rt, &[front, words]);
+    is_refused(rt, text.as_slice(), kind, front.len())
+}
+
+/// A word of as many bytes as a word may have.
+const LONGEST: &[u8] = &[b'a'; 255];
+
+/// A word that is too long.
+const TOO_LONG: &[u8] = &[b'a'; 256];
 
 /// The job of a text that is one.
 fn job_of(rt: &(impl Abort + AllocGlobal), text: &[u8]) -> Job {
     read_job(rt.alloc(), text).expect(rt, "no job")
-}
-
-/// What is seen of the job of a text that is one.
-fn with_job<T, F: FnOnce(&Job) -> T>(rt: &(impl Abort + AllocGlobal), text: &[u8], look: F) -> T
-    requires { F.IsAlwaysCallable look }
-{
-    let job = job_of(rt, text);
-    let seen = look(&job);
-    drop(job);
-    seen
-}
-
-/// The number of scripts in the job of a text that is one.
-fn script_count(rt: &(impl Abort + AllocGlobal), text: &[u8]) -> usize {
-    with_job(rt, text, |job| job.scripts.len())
-}
-
-/// The only script of a job, if there is just one.
-fn only_script(job: &Job) -> Option<&Script> {
-    match job.scripts.as_slice() {
-        [script] => Some(script),
-        _ => None,
-    }
-}
-
-/// The number of calls in the only script of a text's job.
-fn call_count(rt: &(impl Abort + AllocGlobal), text: &[u8]) -> Option<usize> {
-    with_job(rt, text, |job| match only_script(job) {
-        Some(script) => Some(script.calls.len()),
-        None => None,
-    })
-}
-
-/// The first call of the only script.
-fn first_call(job: &Job) -> Option<&Call> {
-    match only_script(job) {
-        Some(script) => script.calls.first(),
-        None => None,
-    }
-}
-
-/// Whether the call is `reweight NAME UNITS`.
-fn is_reweight(call: &Call, name: &[u8], units: u32) -> bool {
-    match call {
-        Call::One(Edit::Reweight { name: item, weight }) => {
-            item.is(name) && weight.units() == units
-        }
-        _ => false,
-    }
 }
 
 /// Whether the text is no job, for that reason.
@@ -90,20 +92,46 @@ fn is_no_job(rt: &impl AllocGlobal, text: &[u8], fault: &JobFault) -> bool {
     }
 }
 
-/// Whether the text is no job where it stands behind the front, for that reason.
-fn is_no_job_behind(
-    rt: &(impl Abort + AllocGlobal),
-    front: &[u8],
-    text: &[u8],
-    fault: &JobFault,
-) -> bool {
-    let text = joined(rt, front, text);
-    is_no_job(rt, text.as_slice(), fault)
-}
-
-/// Each text is no job where it stands behind the front, for the reason beside it.
-fn are_no_jobs(rt: &(impl Abort + AllocGlobal), front: &[u8], texts: &[(&[u8], JobFault)]) {
-    for (place, (text, fault)) in texts.iter().enumerate() {
-        assert!(rt; is_no_job_behind(rt, front, *text, fault), "at {place}");
-    }
-}
+/// The plain example map: two hosts below a root, without tunables and rules.
+const PLAIN_EXAMPLE_MAP: &[u8] = b"\
+    # begin crush map\n\
+    \n\
+    # devices\n\
+    device 0 osd.0\n\
+    device 1 osd.1\n\
+    device 2 osd.2\n\
+    \n\
+    # types\n\
+    type 0 osd\n\
+    type 1 host\n\
+    type 3 rack\n\
+    type 11 root\n\
+    \n\
+    # buckets\n\
+    host h1 {\n\
+    \tid -2\t\t# do not change unnecessarily\n\
+    \t# weight 2.00000\n\
+    \talg straw2\n\
+    \thash 0\t# rjenkins1\n\
+    \titem osd.0 weight 1.00000\n\
+    \titem osd.1 weight 1.00000\n\
+    }\n\
+    host h2 {\n\
+    \tid -3\t\t# do not change unnecessarily\n\
+    \t# weight 0.50000\n\
+    \talg straw2\n\
+    \thash 0\t# rjenkins1\n\
+    \titem osd.2 weight 0.50000\n\
+    }\n\
+    root default {\n\
+    \tid -1\t\t# do not change unnecessarily\n\
+    \t# weight 2.50000\n\
+    \talg straw2\n\
+    \thash 0\t# rjenkins1\n\
+    \titem h1 weight 2.00000\n\
+    \titem h2 weight 0.50000\n\
+    }\n\
+    \n\
+    # rules\n\
+    \n\
+    # end crush map\n";

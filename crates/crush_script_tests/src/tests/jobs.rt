@@ -1,77 +1,137 @@
-//! Jobs, from their bytes.
+//! Jobs, and runs of their scripts in turn.
 
-use crate::tests::{
-    are_no_jobs, first_call, is_no_job, is_reweight, joined, only_script, script_count, with_job,
-};
+use crate::tests::{PLAIN_EXAMPLE_MAP, is_no_job, job_of, joined};
+use crush_calls::{Call, Script, count_changes, history_text, run_in_turn};
+use crush_edits::Edit;
+use crush_map::CrushMap;
 use crush_script::{Job, JobFault};
-use crush_text::{TextFault, TextFaultKind};
+use std::alloc::Global;
+use std::process::Abort;
 
-/// The plain example map: two hosts with three devices below a root.
-const MAP: &[u8] =
-    b"device 0 osd.0\ndevice 1 osd.1\ndevice 2 osd.2\ntype 0 osd\ntype 1 host\ntype 11 root\nhost h1 { id -2 alg straw2 hash 0 item osd.0 weight 1.00000 item osd.1 weight 1.00000 }\nhost h2 { id -3 alg straw2 hash 0 item osd.2 weight 0.50000 }\nroot default { id -1 alg straw2 hash 0 item h1 weight 2.00000 item h2 weight 0.50000 }\n";
-
-/// Whether the only script is that of the operator a, who reweights osd.2.
-fn has_reweight(job: &Job) -> bool {
-    match (only_script(job), first_call(job)) {
-        (Some(script), Some(call)) => {
-            script.name.is(b"a") && script.calls.len() == 1 && is_reweight(call, b"osd.2", 65536)
-        }
+/// Whether the call is `reweight osd.2 1.00000`.
+fn is_reweight(call: &Call) -> bool {
+    match call {
+        Call::One(Edit::Reweight { name, weight }) => name.is(b"osd.2") && weight.units() == 65536,
         _ => false,
     }
 }
 
-/// Whether the map of the job is the plain example map.
-fn has_map(job: &Job) -> bool {
-    job.map.total() == 163840 && job.map.counts().devices == 3 && job.adjusted == 0
+/// Whether the only script is that of the operator a, who reweights osd.2.
+fn has_reweight(scripts: &[Script]) -> bool {
+    match scripts {
+        [script] => match script.calls.as_slice() {
+            [call] => script.name.is(b"a") && is_reweight(call),
+            _ => false,
+        },
+        _ => false,
+    }
+}
+
+/// Whether the job has the plain example map and such a script.
+fn is_read(job: &Job) -> bool {
+    job.map.total() == 163840
+        && job.map.counts().devices == 3
+        && job.adjusted == 0
+        && has_reweight(job.scripts.as_slice())
 }
 
 #[test]
 fn a_job_is_read(rt: HostRuntime) {
-    let text = joined(&rt, MAP, b"%operator a\nreweight osd.2 1.0\n");
-    let is_read = with_job(
-        &rt,
-        text.as_slice(),
-        |job| has_map(job) && has_reweight(job),
-    );
+    let script = b"%operator a\nreweight osd.2 1.0\n";
+    let text = joined(&rt, &[PLAIN_EXAMPLE_MAP, script]);
+    let job = job_of(&rt, text.as_slice());
+    let is_read = is_read(&job);
+    drop(job);
     assert!(rt; is_read);
 }
 
-#[test]
-fn an_empty_job_is_read(rt: HostRuntime) {
-    let is_empty = with_job(
-        &rt,
-        b"",
-        |job| job.map.counts().buckets == 0 && job.scripts.is_empty(),
-    );
-    assert!(rt; is_empty);
+/// A host with one device below a root, a device that no bucket holds, and four calls.
+const CALLS: &[u8] =
+    b"device 0 osd.0\ndevice 9 osd.9\ntype 0 osd\ntype 1 host\nhost h1 { id -1 alg straw2 hash 0 item osd.0 weight 1.00000 }\n%operator alice\nreweight osd.0 0.5\nreweight osd.0 0.50000\nreweight osd.9 1\nreweight osd.0 2\n";
+
+/// The history of them.
+const HISTORY: &[u8] =
+    b"# 1 alice reweight osd.0 0.50000 = done changed 1 made 0\n# 2 alice reweight osd.0 0.50000 = done changed 0 made 0\n# 3 alice reweight osd.9 1.00000 = refused NotPlaced 2\n# 4 alice reweight osd.0 2.00000 = done changed 1 made 0\n";
+
+/// Whether the calls of the scripts are answered so, and two of them change the map.
+fn are_answered(
+    rt: &(impl Abort + AllocGlobal),
+    map: &mut CrushMap<Global>,
+    scripts: &[Script],
+) -> bool {
+    let entries = run_in_turn(rt.alloc(), map, scripts).expect(rt, "no memory");
+    assert!(rt; entries.len() == 4);
+    let text = history_text(rt.alloc(), scripts, entries.as_slice()).expect(rt, "no memory");
+    count_changes(entries.as_slice()) == 2 && text.as_slice() == HISTORY
 }
 
-/// Texts with a fault behind the map or in it.
-const FAULTY: &[(&[u8], JobFault)] = &[
-    (
-        b"type 1 host\n%operator a\nfly x",
-        JobFault::NoSuchCommand(3),
-    ),
-    (b"type 1 host\n%operator a\nbegin", JobFault::OpenBatch(3)),
-    (b"# %\r\n\n%operator\n", JobFault::BadLine(3)),
-    (
-        b"type 1 host\nhost a {\n%operator a\nfly x",
-        JobFault::Text(TextFault {
-            kind: TextFaultKind::Ended,
-            place: 21,
-        }),
-    ),
-];
+#[test]
+fn calls_are_answered_in_turn(rt: HostRuntime) {
+    let mut job = job_of(&rt, CALLS);
+    let are_answered = are_answered(&rt, &mut job.map, job.scripts.as_slice());
+    let total = job.map.total();
+    drop(job);
+    assert!(rt; are_answered && total == 131072);
+}
+
+/// The text behind which 65,536 of the lines stand.
+fn with_lines(rt: &(impl Abort + AllocGlobal), text: &[u8], line: &[u8]) -> Vec<u8> {
+    let lines = line.repeat(rt.alloc(), 65536).expect(rt, "no memory");
+    joined(rt, &[text, lines.as_slice()])
+}
+
+/// The number of calls in the only script of a text's job.
+fn call_count(rt: &(impl Abort + AllocGlobal), text: &[u8]) -> Option<usize> {
+    let job = job_of(rt, text);
+    let count = match job.scripts.as_slice() {
+        [script] => Some(script.calls.len()),
+        _ => None,
+    };
+    drop(job);
+    count
+}
+
+/// Whether the text is no job where the line stands behind it, for that reason.
+fn is_no_job_with(
+    rt: &(impl Abort + AllocGlobal),
+    text: &[u8],
+    line: &[u8],
+    fault: &JobFault,
+) -> bool {
+    let text = joined(rt, &[text, line]);
+    is_no_job(rt, text.as_slice(), fault)
+}
 
 #[test]
-fn faults_of_jobs(rt: HostRuntime) {
-    are_no_jobs(&rt, b"", FAULTY);
+fn a_job_has_at_most_65536_calls(rt: HostRuntime) {
+    let text = with_lines(&rt, b"%operator a\n", b"reweight x 1\n");
+    let text = text.as_slice();
+    assert!(rt;
+        call_count(&rt, text) == Some(65536)
+            && is_no_job_with(&rt, text, b"\nreweight x\n", &JobFault::BadLine(65539))
+            && is_no_job_with(&rt, text, b"\nreweight x 1", &JobFault::TooManyCalls(65539))
+            && is_no_job_with(&rt, text, b"\nbegin\nfly", &JobFault::TooManyCalls(65539))
+    );
+}
+
+#[test]
+fn a_batch_has_at_most_65536_edits(rt: HostRuntime) {
+    let open = with_lines(&rt, b"%operator a\nbegin\n", b"rm x\n");
+    let open = open.as_slice();
+    let text = joined(&rt, &[open, b"\ncommit"]);
+    assert!(rt;
+        call_count(&rt, text.as_slice()) == Some(1)
+            && is_no_job_with(&rt, open, b"\nrm x", &JobFault::BadLine(65540))
+            && is_no_job_with(&rt, open, b"\nfly", &JobFault::NoSuchCommand(65540))
+    );
 }
 
 #[test]
 fn a_job_has_at_most_sixteen_mebibytes(rt: HostRuntime) {
     let text = vec![in rt.alloc(); b'\n'; 16_777_216].expect(&rt, "no memory");
-    let count = script_count(&rt, text.as_slice());
-    let text = joined(&rt, text.as_slice(), b"%");
-    assert!(rt; count == 0 && is_no_job(&rt, text.as_slice(), &JobFault::TooLong));
+    let text = text.as_slice();
+    let job = job_of(&rt, text);
+    let count = job.scripts.len();
+    drop(job);
+    assert!(rt; count == 0 && is_no_job_with(&rt, text, b"%", &JobFault::TooLong));
 }

@@ -1,4 +1,7 @@
+//! Words of a text, and numbers as such.
+
 use crate::tests::{LONGEST, TOO_LONG, joined};
+use crush_bytes::number::number_up_to;
 use crush_bytes::{Reader, Token};
 use std::process::Abort;
 
@@ -38,13 +41,6 @@ fn reads_words(rt: HostRuntime) {
     assert!(rt; matches!(reader.next(), Token::End { place: 24 }));
 }
 
-#[test]
-fn stops_at_bad_bytes(rt: HostRuntime) {
-    let mut reader = Reader::new(b"host$ h1");
-    assert!(rt; is_word(&mut reader, 0, b"host"));
-    assert!(rt; is_bad(&mut reader, 4) && is_bad(&mut reader, 4));
-}
-
 /// Whether the text begins with a word that is too long.
 fn is_too_long(text: &[u8]) -> bool {
     let mut reader = Reader::new(text);
@@ -52,9 +48,21 @@ fn is_too_long(text: &[u8]) -> bool {
 }
 
 #[test]
-fn stops_at_long_words(rt: HostRuntime) {
-    let mut reader = Reader::new(LONGEST);
-    assert!(rt; is_word(&mut reader, 0, LONGEST));
+fn stops_at_bad_bytes_and_long_words(rt: HostRuntime) {
+    let mut reader = Reader::new(b"host$ h1");
+    let mut longest = Reader::new(LONGEST);
     let text = joined(&rt, &[TOO_LONG, b"$"]);
-    assert!(rt; is_too_long(TOO_LONG) && is_too_long(text.as_slice()));
+    assert!(rt;
+        is_word(&mut reader, 0, b"host")
+            && is_bad(&mut reader, 4)
+            && is_bad(&mut reader, 4)
+            && is_word(&mut longest, 0, LONGEST)
+            && is_too_long(TOO_LONG)
+            && is_too_long(text.as_slice())
+    );
+}
+
+#[test]
+fn numbers_are_read_up_to_the_greatest(rt: HostRuntime) {
+    assert!(rt; number_up_to(65535, b"65535") == Some(65535) && number_up_to(0, b"").is_none());
 }

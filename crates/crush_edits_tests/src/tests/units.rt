@@ -3,7 +3,6 @@
 use crush_units::limits::*;
 use crush_units::*;
 use std::alloc::{AllocGlobal, Allocator};
-use std::process::Abort;
 
 const _: () = prove!(UNITS_OF_ONE == 1 << 16);
 
@@ -59,11 +58,15 @@ fn device_number(number: i32) -> Option<u32> {
 
 #[test]
 fn device_ids(rt: HostRuntime) {
-    assert!(rt; device_number(2147483647) == Some(2147483647));
-    assert!(rt; device_number(0) == Some(0) && device_number(-1).is_none());
     let last = DeviceId::from_number(2147483647);
-    assert!(rt; last == DeviceId::new(2147483647) && last.is_some());
-    assert!(rt; DeviceId::from_number(2147483648).is_none());
+    assert!(rt;
+        device_number(2147483647) == Some(2147483647)
+            && device_number(0) == Some(0)
+            && device_number(-1).is_none()
+            && last == DeviceId::new(2147483647)
+            && last.is_some()
+            && DeviceId::from_number(2147483648).is_none()
+    );
 }
 
 /// What a bucket's id of the number tells, and its distance below 0, where it is one.
@@ -74,12 +77,17 @@ fn bucket_number(number: i32) -> Option<(i32, u32)> {
 
 #[test]
 fn bucket_ids(rt: HostRuntime) {
-    assert!(rt; bucket_number(-2147483648) == Some((-2147483648, 2147483648)));
-    assert!(rt; bucket_number(-3) == Some((-3, 3)) && bucket_number(0).is_none());
     let last = BucketId::below_zero(2147483648);
-    assert!(rt; last == BucketId::new(-2147483648) && last.is_some());
-    assert!(rt; BucketId::below_zero(3) == BucketId::new(-3));
-    assert!(rt; BucketId::below_zero(0).is_none() && BucketId::below_zero(2147483649).is_none());
+    assert!(rt;
+        bucket_number(-2147483648) == Some((-2147483648, 2147483648))
+            && bucket_number(-3) == Some((-3, 3))
+            && bucket_number(0).is_none()
+            && last == BucketId::new(-2147483648)
+            && last.is_some()
+            && BucketId::below_zero(3) == BucketId::new(-3)
+            && BucketId::below_zero(0).is_none()
+            && BucketId::below_zero(2147483649).is_none()
+    );
 }
 
 /// Whether the items tell their numbers and which of them is a device, and are two.
@@ -96,8 +104,10 @@ fn are_two_items(device: &ItemId, bucket: &ItemId) -> bool {
 fn item_ids(rt: HostRuntime) {
     let device = DeviceId::new(1).expect(&rt, "a device");
     let bucket = BucketId::new(-1).expect(&rt, "a bucket");
-    assert!(rt; are_two_items(&ItemId::Device(device), &ItemId::Bucket(bucket)));
-    assert!(rt; TypeId::new(65535).number() == 65535);
+    assert!(rt;
+        are_two_items(&ItemId::Device(device), &ItemId::Bucket(bucket))
+            && TypeId::new(65535).number() == 65535
+    );
 }
 
 /// Whether an algorithm is read as itself by the name that it has.
@@ -107,9 +117,13 @@ fn is_named(alg: Alg, name: &str) -> bool {
 
 #[test]
 fn algorithms(rt: HostRuntime) {
-    assert!(rt; is_named(Alg::Straw, "straw") && is_named(Alg::List, "list"));
-    assert!(rt; is_named(Alg::Straw2, "straw2"));
-    assert!(rt; Alg::read(b"uniform").is_none() && Alg::read(b"straw22").is_none());
+    assert!(rt;
+        is_named(Alg::Straw, "straw")
+            && is_named(Alg::List, "list")
+            && is_named(Alg::Straw2, "straw2")
+            && Alg::read(b"uniform").is_none()
+            && Alg::read(b"straw22").is_none()
+    );
 }
 
 /// Whether the name tells its text, and is told from another.
@@ -123,38 +137,47 @@ fn is_osd_0<A: Allocator>(name: &Name<A>) -> bool {
 #[test]
 fn names(rt: HostRuntime) {
     let name = Name::read(rt.alloc(), b"osd.0").expect(&rt, "a name");
-    assert!(rt; is_osd_0(&name));
     let copy = name.try_copy(rt.alloc()).expect(&rt, "memory");
-    assert!(rt; is_osd_0(&copy) && copy == name);
+    let are_names = is_osd_0(&name) && is_osd_0(&copy) && copy == name;
     drop(copy);
     drop(name);
-    let is_read = Name::read(rt.alloc(), &[b'Z'; 255]).is_ok();
-    assert!(rt; is_read);
+    assert!(rt; are_names && Name::read(rt.alloc(), &[b'Z'; 255]).is_ok());
 }
 
-/// Asserts that the bytes are no name, by this fault with its number.
-fn assert_refused(rt: &(impl Abort + AllocGlobal), bytes: &[u8], fault: NameFault, number: u8) {
+/// Whether the bytes are no name, by this fault with its number.
+fn is_refused(rt: &impl AllocGlobal, bytes: &[u8], fault: NameFault, number: u8) -> bool {
     let told = Name::read(rt.alloc(), bytes).err();
-    assert!(rt; !is_name(bytes) && told == Some(fault) && fault.number() == number);
+    !is_name(bytes) && told == Some(fault) && fault.number() == number
 }
 
 #[test]
 fn names_refused(rt: HostRuntime) {
-    assert_refused(&rt, b"", NameFault::Empty, 1);
-    assert_refused(&rt, b"a b", NameFault::BadByte(1), 2);
-    assert_refused(&rt, &[b'{'; 256], NameFault::BadByte(0), 2);
-    assert_refused(&rt, &[b'a'; 256], NameFault::TooLong, 3);
-    assert!(rt; NameFault::OutOfMemory.number() == 4);
-    for byte in b"azAZ09-_." {
-        assert!(rt; is_name_byte(*byte));
+    assert!(rt;
+        is_refused(&rt, b"", NameFault::Empty, 1)
+            && is_refused(&rt, b"a b", NameFault::BadByte(1), 2)
+            && is_refused(&rt, &[b'{'; 256], NameFault::BadByte(0), 2)
+            && is_refused(&rt, &[b'a'; 256], NameFault::TooLong, 3)
+            && NameFault::OutOfMemory.number() == 4
+    );
+}
+
+/// Whether of the bytes each may stand in a name, or, where `may` is false, none.
+fn may_stand(bytes: &[u8], may: bool) -> bool {
+    for byte in bytes {
+        if is_name_byte(*byte) != may {
+            return false;
+        }
     }
-    for byte in b"@[`{/:,+ " {
-        assert!(rt; !is_name_byte(*byte));
-    }
+    true
+}
+
+#[test]
+fn bytes_of_names(rt: HostRuntime) {
+    assert!(rt; may_stand(b"azAZ09-_.", true) && may_stand(b"@[`{/:,+ ", false));
 }
 
 /// Texts of weights with their units and what these print as.
-const WEIGHTS: [(&str, u32, &str); 13] = [
+const WEIGHTS: &[(&str, u32, &str)] = &[
     ("0", 0, "0.00000"),
     ("1", 65536, "1.00000"),
     ("1.0", 65536, "1.00000"),
@@ -189,34 +212,45 @@ fn is_printed(weight: Weight, printed: &[u8]) -> bool {
 #[test]
 fn weights(rt: HostRuntime) {
     for (text, units, printed) in WEIGHTS {
-        assert!(rt; is_weight(text, units, printed), "at {text}");
+        assert!(rt; is_weight(*text, *units, *printed));
     }
     printed_is_read_back();
 }
 
+/// Texts that are no weights by their form.
+const NO_WEIGHTS: &[&str] = &[
+    "",
+    ".",
+    ".5",
+    "1.",
+    "1.2.3",
+    "+1",
+    "-1",
+    "1e3",
+    " 1",
+    "00000000001",
+    "0.0000000000000000001",
+];
+
+/// Texts of weights that are too large.
+const TOO_LARGE: &[&str] = &["65536", "65535.999999", "9999999999"];
+
+/// Whether the texts are no weights, by this fault.
+fn are_no_weights(texts: &[&str], fault: WeightFault) -> bool {
+    for text in texts {
+        if Weight::read(*text) != Err(fault) {
+            return false;
+        }
+    }
+    true
+}
+
 #[test]
 fn weights_refused(rt: HostRuntime) {
-    let syntax = [
-        "",
-        ".",
-        ".5",
-        "1.",
-        "1.2.3",
-        "+1",
-        "-1",
-        "1e3",
-        " 1",
-        "00000000001",
-        "0.0000000000000000001",
-    ];
-    for text in syntax {
-        assert!(rt; Weight::read(text) == Err(WeightFault::Syntax), "at {text}");
-    }
-    for text in ["65536", "65535.999999", "9999999999"] {
-        assert!(rt;
-            Weight::read(text) == Err(WeightFault::TooLarge),
-            "at {text}"
-        );
-    }
-    assert!(rt; WeightFault::Syntax.number() == 1 && WeightFault::TooLarge.number() == 2);
+    assert!(rt;
+        are_no_weights(NO_WEIGHTS, WeightFault::Syntax)
+            && are_no_weights(TOO_LARGE, WeightFault::TooLarge)
+            && WeightFault::Syntax.number() == 1
+            && WeightFault::TooLarge.number() == 2
+    );
 }

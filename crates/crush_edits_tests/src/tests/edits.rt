@@ -1,0 +1,154 @@
+//! Locations up to their limit, and copies of each edit, in the machine's memory.
+
+use crush_edits::*;
+use crush_units::limits::MOST_PAIRS;
+use crush_units::{DeviceId, Name, Weight};
+use std::alloc::Global;
+use std::process::Abort;
+
+/// Whether the location has two pairs, a host's and that of the bucket default.
+fn leads_to_a_host(at: &Location) -> bool {
+    let pairs = at.pairs();
+    pairs.len() == 2 && pairs[0].kind.is(b"host") && pairs[1].name.is(b"default")
+}
+
+/// Puts two pairs into the location, and answers whether it then has them and takes no bad name.
+fn takes_two(rt: &impl Abort, at: &mut Location) -> bool {
+    at.push(b"host", b"h1").expect(rt, "a pair");
+    at.push(b"root", b"default").expect(rt, "a pair");
+    at.push(b"", b"h1") == Err(LocationFault::BadName)
+        && at.push(b"host", b"h 1") == Err(LocationFault::BadName)
+        && leads_to_a_host(at)
+}
+
+/// Whether a copy of the location has the same two pairs.
+fn has_copy(rt: &(impl Abort + AllocGlobal), at: &Location) -> bool {
+    let copy = at.try_copy(rt.alloc()).expect(rt, "memory");
+    let leads = leads_to_a_host(&copy);
+    drop(copy);
+    leads
+}
+
+/// Fills the location of two pairs up, and answers whether it then takes no further one.
+fn is_full(rt: &impl Abort, at: &mut Location) -> bool {
+    for _ in 2..MOST_PAIRS {
+        at.push(b"host", b"h1").expect(rt, "a pair");
+    }
+    at.pairs().len() == 16
+        && at.push(b"host", b"h1") == Err(LocationFault::TooMany)
+        && at.push(b"", b"") == Err(LocationFault::TooMany)
+}
+
+#[test]
+fn locations(rt: HostRuntime) {
+    let mut at = Location::new(rt.alloc());
+    let is_right = takes_two(&rt, &mut at) && has_copy(&rt, &at) && is_full(&rt, &mut at);
+    drop(at);
+    assert!(rt; is_right);
+}
+
+/// A name in the machine's memory.
+fn name(rt: &impl Abort, alloc: Global, text: &str) -> Name<Global> {
+    Name::read(alloc, text.as_bytes()).expect(rt, text)
+}
+
+/// The location of the host h1.
+fn at_h1(rt: &impl Abort, alloc: Global) -> Location {
+    let mut at = Location::new(alloc);
+    at.push(b"host", b"h1").expect(rt, "a pair");
+    at
+}
+
+/// The edits that put device 3 at the host h1.
+fn placing_edits(rt: &impl Abort, alloc: Global) -> [Edit; 3] {
+    let device = DeviceId::new(3).expect(rt, "a device");
+    let weight = Weight::from_units(65536);
+    [
+        Edit::Insert {
+            device,
+            name: name(rt, alloc, "osd.3"),
+            weight,
+            at: at_h1(rt, alloc),
+        },
+        Edit::CreateOrMove {
+            device,
+            name: name(rt, alloc, "osd.3"),
+            weight,
+            at: at_h1(rt, alloc),
+        },
+        Edit::Update {
+            device,
+            name: name(rt, alloc, "osd.3"),
+            weight,
+            at: at_h1(rt, alloc),
+        },
+    ]
+}
+
+/// An edit of each other kind.
+fn other_edits(rt: &impl Abort, alloc: Global) -> [Edit; 7] {
+    let weight = Weight::from_units(65536);
+    [
+        Edit::Move {
+            name: name(rt, alloc, "h2"),
+            at: at_h1(rt, alloc),
+        },
+        Edit::Swap {
+            a: name(rt, alloc, "h1"),
+            b: name(rt, alloc, "h2"),
+        },
+        Edit::Reweight {
+            name: name(rt, alloc, "osd.3"),
+            weight,
+        },
+        Edit::ReweightSubtree {
+            name: name(rt, alloc, "h1"),
+            weight,
+        },
+        Edit::Remove {
+            name: name(rt, alloc, "h1"),
+        },
+        Edit::AddBucket {
+            name: name(rt, alloc, "h9"),
+            kind: name(rt, alloc, "host"),
+        },
+        Edit::Rename {
+            from: name(rt, alloc, "h1"),
+            to: name(rt, alloc, "hq"),
+        },
+    ]
+}
+
+/// Asserts that each of the edits can be copied.
+fn assert_copied(rt: &impl Abort, alloc: Global, edits: &[Edit]) {
+    for edit in edits {
+        let copy = edit.try_copy(alloc).expect(rt, "memory");
+        drop(copy);
+    }
+}
+
+#[test]
+fn copies(rt: HostRuntime) {
+    let placing = placing_edits(&rt, rt.alloc());
+    assert_copied(&rt, rt.alloc(), &placing);
+    drop(placing);
+    let others = other_edits(&rt, rt.alloc());
+    assert_copied(&rt, rt.alloc(), &others);
+    drop(others);
+}
+
+#[test]
+fn refusals(rt: HostRuntime) {
+    assert!(rt;
+        Refusal::Loop.name() == "Loop"
+            && Refusal::Loop.number() == 13
+            && Refusal::Loop.error() == 40
+            && EditFault::from(Refusal::Loop) == EditFault::Refused(Refusal::Loop)
+            && LocationFault::OutOfMemory.number() == 3
+    );
+}
+
+#[test]
+fn reserved_names(rt: HostRuntime) {
+    assert!(rt; is_reserved(b"tunable") && !is_reserved(b"host"));
+}
