@@ -6,7 +6,7 @@ use Rattle.std.proofs.lemmas.List.Elements.{All-nil, All-push}
 use Rattle.crush_calls.specs.History.{EntryData, changes, is_change}
 use Rattle.crush_calls.specs.HistoryText.{line_text, entry_text, entries_text, names_of}
 use Rattle.crush_calls.specs.declared.entry.Entry.{Entry}
-use Rattle.crush_calls.specs.Entries.{AreOf, entry_data, history_data}
+use Rattle.crush_calls.specs.Entries.{AreOf}
 use Rattle.crush_calls.specs.declared.script.Script.{Script}
 use Rattle.crush_calls.specs.Script.{ScriptData, script_data, scripts_data}
 
@@ -34,12 +34,11 @@ operator_name-at scripts i x h is =
     ∙ sym (get_or-map (λ (z : ScriptData). z.name) (scripts_data scripts) i (script_data x) [] long)
 
 -- the changes among one entry more
-pub changes-take : (entries : List Entry) (i : ℕ) (e : Entry) → i < length entries → e ≡ get_or entries i e → changes (history_data (take (i + 1) entries)) ≡ changes (history_data (take i entries)) + (if is_change e.reply then 1 else 0)
+pub changes-take : (entries : List Entry) (i : ℕ) (e : Entry) → i < length entries → e ≡ get_or entries i e → changes (take (i + 1) entries) ≡ changes (take i entries) + (if is_change e.reply then 1 else 0)
 changes-take entries i e h is =
-    ap (λ xs. changes (history_data xs)) (take_more entries i e h)
-    ∙ ap changes (map_push entry_data (take i entries) (get_or entries i e))
-    ∙ changes-push (history_data (take i entries)) (entry_data (get_or entries i e))
-    ∙ ap (λ (z : Entry). changes (history_data (take i entries)) + (if is_change z.reply then 1 else 0)) (sym is)
+    ap (λ xs. changes xs) (take_more entries i e h)
+    ∙ changes-push (take i entries) (get_or entries i e)
+    ∙ ap (λ (z : Entry). changes (take i entries) + (if is_change z.reply then 1 else 0)) (sym is)
 
 -- no entry, no change
 pub no_changes : ◌≡◌ {A = ℕ} 0 (changes [])
@@ -48,15 +47,14 @@ no_changes = refl
 
 -- the lines up to one place and the line there
 pub lines-take : (names : List (List ℕ)) (entries : List Entry) (i : ℕ) (e : Entry) → i < length entries → e ≡ get_or entries i e
-    → entries_text names 1 (history_data (take (i + 1) entries)) ≡ entries_text names 1 (history_data (take i entries)) ++ line_text (i + 1) (slice_index_or names e.operator []) e.call.now e.reply
+    → entries_text names 1 (take (i + 1) entries) ≡ entries_text names 1 (take i entries) ++ line_text (i + 1) (slice_index_or names e.operator []) e.call e.reply
 lines-take names entries i e h is =
-    let so_far : List EntryData = history_data (take i entries) in
-    let long : length so_far ≡ i = length-map (take i entries) entry_data ∙ length-take-le i entries (omega arith) in
-    ap (λ xs. entries_text names 1 (history_data xs)) (take_more entries i e h)
-    ∙ ap (entries_text names 1) (map_push entry_data (take i entries) (get_or entries i e))
-    ∙ entries_text-push names 1 so_far (entry_data (get_or entries i e))
-    ∙ ap (λ (z : Entry). entries_text names 1 so_far ++ entry_text (1 + length so_far) (slice_index_or names z.operator []) (entry_data z)) (sym is)
-    ∙ ap (λ n. entries_text names 1 so_far ++ line_text n (slice_index_or names e.operator []) e.call.now e.reply) (omega (arith, long))
+    let so_far : List EntryData = take i entries in
+    let long : length so_far ≡ i = length-take-le i entries (omega arith) in
+    ap (λ xs. entries_text names 1 xs) (take_more entries i e h)
+    ∙ entries_text-push names 1 so_far (get_or entries i e)
+    ∙ ap (λ (z : Entry). entries_text names 1 so_far ++ entry_text (1 + length so_far) (slice_index_or names z.operator []) z) (sym is)
+    ∙ ap (λ n. entries_text names 1 so_far ++ line_text n (slice_index_or names e.operator []) e.call e.reply) (omega (arith, long))
 
 -- no entry, no line
 pub no_lines : (names : List (List ℕ)) → ◌≡◌ {A = List ℕ} [] (entries_text names 1 [])

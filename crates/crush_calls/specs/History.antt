@@ -8,6 +8,8 @@ use Rattle.crush_edits.specs.Batch.{BatchAnswer, batch_refused, batch_done, batc
 use Rattle.crush_calls.specs.declared.call.Call.{Call}
 use Rattle.crush_calls.specs.declared.call.Call.TheVariants.{One, Batch}
 use Rattle.crush_calls.specs.declared.call.Reply.{Reply}
+use Rattle.crush_calls.specs.declared.entry.Entry.{Entry}
+use Rattle.crush_calls.specs.declared.entry.Slip.{Slip}
 use Rattle.crush_calls.specs.declared.call.Reply.TheVariants.{Done, Dones, Refused, BatchRefused}
 use Rattle.crush_calls.specs.Script.{ScriptData}
 
@@ -32,10 +34,8 @@ call_outcome s t (One e) = edit_outcome t (edit s t e)
 call_outcome s t (Batch es) = batch_outcome t (batch s t es)
 
 -- an entry of a history: the operator's number from 0, its call and the reply
-pub record EntryData : Type 0 where
-  pub operator : ℕ
-  pub call : Call
-  pub reply : Reply
+abbrev pub EntryData : Type 0
+EntryData = Entry
 
 -- the table after the calls of a history
 unfoldable pub table_after : SettingData → List Row → List EntryData → List Row
@@ -60,9 +60,8 @@ changes [] = 0
 changes (e ∷ h) = (if is_change e.reply then 1 else 0) + changes h
 
 -- an answered call
-pub record AnsweredData : Type 0 where
-  pub call : Call
-  pub reply : Reply
+abbrev pub AnsweredData : Type 0
+AnsweredData = Slip
 
 -- the answered calls of one operator, in order
 abbrev pub of_operator : ℕ → List EntryData → List AnsweredData

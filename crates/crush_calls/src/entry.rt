@@ -1,24 +1,34 @@
 //! The entries of a history.
 
 ghost use Rattle.std.specs.Prelude.{◌≡◌, ◌<◌, ◌^◌, length};
-ghost use Rattle.crush_calls.specs.Entries.{history_data};
 ghost use Rattle.crush_calls.specs.History.{changes, is_change};
 
 use crate::call::{Call, Reply};
 
-/// A call that was answered.
-#[derive(Drop)]
-pub struct Entry<'a> {
+/// One entry of a history: a call that was answered, and by whom it was made. It owns its call.
+#[derive(Debug, Drop)]
+pub struct Entry {
     /// The number of the operator that made it, counted from 0 in the order of the sections.
     pub operator: usize,
     /// What was asked.
-    pub call: &'a Call,
+    pub call: Call,
     /// What the map answered at that point.
     pub reply: Reply,
 }
 
-/// Whether a reply tells of a change of the map.
-fn is_change(reply: Reply) -> bool
+/// A call that was answered, as the operator who made it keeps it: an entry without the number of
+/// its operator.
+#[derive(Debug, Drop)]
+pub struct Slip {
+    /// What was asked.
+    pub call: Call,
+    /// What the map answered.
+    pub reply: Reply,
+}
+
+/// Whether a reply tells of a change of the map: an edit that changed it, or a batch with at least
+/// one such edit. A refusal never is.
+pub fn is_change(reply: Reply) -> bool
     ensures { result ≡ is_change reply }
 {
     match reply {
@@ -31,9 +41,9 @@ fn is_change(reply: Reply) -> bool
 
 /// How many entries are a change of the map. There are fewer than 2^32 of them, so that the count
 /// has room.
-pub fn count_changes(entries: &[Entry<'_>]) -> u32
+pub fn count_changes(entries: &[Entry]) -> u32
     requires { length entries.now < 2 ^ 32 }
-    ensures { result ≡ changes (history_data entries.now) }
+    ensures { result ≡ changes entries.now }
 {
     let mut count: u32 = 0;
     for entry in entries {

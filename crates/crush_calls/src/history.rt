@@ -2,7 +2,7 @@
 
 ghost use Rattle.std.specs.Prelude.{◌≡◌, ◌<◌, ◌^◌, [], length, slice_index_or, IfErr, IfOk};
 ghost use Rattle.crush_bytes.specs.Writes.{Writes};
-ghost use Rattle.crush_calls.specs.Entries.{AreOf, history_data};
+ghost use Rattle.crush_calls.specs.Entries.{AreOf};
 ghost use Rattle.crush_calls.specs.HistoryText.{digit_of, line_front, refusal_text, refused_at_text, line_end, line_text, entries_text, names_of};
 ghost use Rattle.crush_calls.specs.Script.{scripts_data};
 
@@ -199,18 +199,18 @@ fn operator_name(scripts: &[Script], operator: usize) -> &[u8]
 pub fn history_text(
     alloc: Global,
     scripts: &[Script],
-    entries: &[Entry<'_>],
+    entries: &[Entry],
 ) -> Result<Vec<u8>, AllocError>
     requires few { length entries.now < 2 ^ 32 }
     requires operators { AreOf (length scripts.now) entries.now }
     ensures { IfOk result (λ text. text.items
-        ≡ entries_text (names_of (scripts_data scripts.now)) 1 (history_data entries.now)) }
+        ≡ entries_text (names_of (scripts_data scripts.now)) 1 entries.now) }
 {
     let mut text = Vec::new(alloc);
     for (place, entry) in entries.iter().enumerate() {
         let number = place as u32 + 1;
         let name = operator_name(scripts, entry.operator);
-        let Ok(()) = write_entry(number, name, entry.call, entry.reply, &mut text) else {
+        let Ok(()) = write_entry(number, name, &entry.call, entry.reply, &mut text) else {
             return Err(AllocError);
         };
     }

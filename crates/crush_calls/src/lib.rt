@@ -6,13 +6,15 @@ mod call;
 mod entry;
 mod history;
 mod law;
+mod making;
 mod printed;
 mod script;
 mod turns;
 
 pub use call::{Call, Edits, Reply};
-pub use entry::{Entry, count_changes};
+pub use entry::{Entry, Slip, count_changes, is_change};
 pub use history::{history_text, write_entry};
 pub use law::{runs_keep_lawful, turns_are_history};
+pub use making::make_call;
 pub use script::Script;
 pub use turns::run_in_turn;

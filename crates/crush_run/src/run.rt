@@ -6,7 +6,7 @@ ghost use Rattle.crush_table.specs.Stands.{Stands};
 ghost use Rattle.crush_table.specs.Table.{Row};
 ghost use Rattle.crush_print.specs.MapText.{map_text};
 ghost use Rattle.crush_bytes.specs.Writes.{Writes};
-ghost use Rattle.crush_calls.specs.Entries.{AreOf, history_data};
+ghost use Rattle.crush_calls.specs.Entries.{AreOf};
 ghost use Rattle.crush_calls.specs.HistoryText.{names_of};
 ghost use Rattle.crush_script.specs.Job.{HasJob, IsJob, JobData, JobStands};
 ghost use Rattle.crush_calls.specs.Script.{scripts_data, call_count};
@@ -30,12 +30,12 @@ fn lines_asked(
     alloc: Global,
     history: bool,
     scripts: &[Script],
-    entries: &[Entry<'_>],
+    entries: &[Entry],
 ) -> Result<Vec<u8>, AllocError>
     requires few { length entries.now ≤ MOST_ENTRIES }
     requires operators { AreOf (length scripts.now) entries.now }
     ensures { IfOk result (λ lines. lines.items
-        ≡ lines_asked history (names_of (scripts_data scripts.now)) (history_data entries.now)) }
+        ≡ lines_asked history (names_of (scripts_data scripts.now)) entries.now) }
 {
     if history {
         return history_text(alloc, scripts, entries);
@@ -50,7 +50,7 @@ fn write_outcome<W: Write>(
     history: bool,
     map: &CrushMap<Global>,
     scripts: &[Script],
-    entries: &[Entry<'_>],
+    entries: &[Entry],
     writer: &mut W,
 ) -> Result<(), RunFault>
     requires few { length entries.now ≤ MOST_ENTRIES }
@@ -58,7 +58,7 @@ fn write_outcome<W: Write>(
     ensures writes { (t : List Row) → Stands map.now.forest t
         → Writes result (W.contents writer.old) (W.contents writer.new)
         (map_text map.now.setting t
-        ++ lines_asked history (names_of (scripts_data scripts.now)) (history_data entries.now)) }
+        ++ lines_asked history (names_of (scripts_data scripts.now)) entries.now) }
     ensures nothing { IfErr result (λ fault. fault ≢ RunFault.Write
         → Keeps (W.contents writer.old) (W.contents writer.new)) }
     ensures fault { IfErr result IsOutcomeFault }

@@ -1,7 +1,6 @@
 use Rattle.std.proofs.Common.{ap, sym, ◌∙◌, arith}
 use Rattle.std.proofs.lemmas.List.{take_all}
 use Rattle.crush_calls.specs.History.{changes}
-use Rattle.crush_calls.specs.Entries.{history_data}
 use Rattle.crush_calls.proofs.EntryLines.{changes-take, no_changes}
 use Rattle.crush_calls.proofs.entry.count_changes.Goals as goal
 use Rattle.crush_calls.proofs.entry.count_changes.Goals.{then-is_change, else-is_change}
@@ -19,4 +18,4 @@ loop-entry-preserved c =
     ]
 
 pub returns : goal.returns
-returns c = c.loop-entry.invariant.count ∙ ap (λ xs. changes (history_data xs)) (take_all c.loop-entry.entry-index c.args.entries.now (omega arith))
+returns c = c.loop-entry.invariant.count ∙ ap (λ xs. changes xs) (take_all c.loop-entry.entry-index c.args.entries.now (omega arith))

@@ -5,14 +5,13 @@ use Rattle.crush_edits.specs.Setting.{SettingData}
 use Rattle.crush_map.specs.MapData.{MapStands}
 use Rattle.crush_calls.specs.Script.{scripts_data, call_count}
 use Rattle.crush_calls.specs.History.{EntryData, table_after, turn, turns}
-use Rattle.crush_calls.specs.Entries.{history_data}
 use Rattle.crush_calls.proofs.Histories.{table_after-append}
 use Rattle.crush_calls.proofs.InTurn.{script_run, table_run, count-take, no_script, no_script_table, turns_front, on_err}
 use Rattle.crush_calls.proofs.EntryLines.{none_yet}
 use Rattle.crush_calls.proofs.turns.run_in_turn.Goals as goal
 
 pub loop-operator-init : goal.loop-operator-init
-loop-operator-init c = record { count = ap length c.new-entries.ensures.items; operators = none_yet (length c.args.scripts.now) c.new-entries.result.items c.new-entries.ensures.items; entries = λ s t stands. (ap history_data c.new-entries.ensures.items ∙ no_script s t, subst (MapStands c.args.map.now s) (no_script_table s t) stands) }
+loop-operator-init c = record { count = ap length c.new-entries.ensures.items; operators = none_yet (length c.args.scripts.now) c.new-entries.result.items c.new-entries.ensures.items; entries = λ s t stands. (c.new-entries.ensures.items ∙ no_script s t, subst (MapStands c.args.map.now s) (no_script_table s t) stands) }
 
 pub loop-operator-preserved : goal.loop-operator-preserved
 loop-operator-preserved c =
@@ -26,7 +25,7 @@ loop-operator-preserved c =
           let u = table_after s t (turns s t (scripts_data (take i c.args.scripts.now))) in
           let ran = c.in_ok-run_script.ensures.entries s u so_far.1 in
           let own = ap (λ cs. turn s u i cs) c.as_slice.ensures.value in (
-            script_run s t c.args.scripts.now i x (history_data c.loop-operator.entries.items) (history_data c.run_script.new.entries.items) c.loop-operator-test.true c.index-scripts-operator.is so_far.0 (ran.0 ∙ ap (λ z. history_data c.loop-operator.entries.items ++ z) own),
+            script_run s t c.args.scripts.now i x c.loop-operator.entries.items c.run_script.new.entries.items c.loop-operator-test.true c.index-scripts-operator.is so_far.0 (ran.0 ∙ ap (λ z. c.loop-operator.entries.items ++ z) own),
             subst (MapStands c.run_script.new.map s) (ap (table_after s u) own ∙ table_run s t c.args.scripts.now i x c.loop-operator-test.true c.index-scripts-operator.is) ran.1,
           );
     }

@@ -4,7 +4,7 @@ use Rattle.crush_edits.specs.Setting.{SettingData}
 use Rattle.crush_map.specs.MapData.{MapStands}
 use Rattle.crush_calls.specs.Script.{scripts_data, call_count}
 use Rattle.crush_calls.specs.History.{table_after, turns}
-use Rattle.crush_calls.specs.Entries.{AreOf, history_data}
+use Rattle.crush_calls.specs.Entries.{AreOf}
 use Rattle.crush_calls.proofs.turns.run_in_turn.Given as goal
 
 abbrev pub invariant-loop-operator : goal.invariant-loop-operator
@@ -12,5 +12,5 @@ invariant-loop-operator l = record {
   count : length l.entries.items ≡ call_count (scripts_data (take l.operator l.scripts));
   operators : AreOf (length l.scripts) l.entries.items;
   entries : (s : SettingData) (t : List Row) → MapStands l.fn.map s t →
-      (history_data l.entries.items ≡ turns s t (scripts_data (take l.operator l.scripts))) × MapStands l.map s (table_after s t (turns s t (scripts_data (take l.operator l.scripts))));
+      (l.entries.items ≡ turns s t (scripts_data (take l.operator l.scripts))) × MapStands l.map s (table_after s t (turns s t (scripts_data (take l.operator l.scripts))));
 }

@@ -1,7 +1,6 @@
 use Rattle.std.proofs.Common.{◌≡◌, ap, sym, subst, ◌∙◌, length}
-use Rattle.std.proofs.lemmas.List.{length-map}
 use Rattle.std.proofs.lemmas.Result.{err_from_is_err_and}
-use Rattle.crush_calls.specs.Entries.{AreOf, entry_data, history_data}
+use Rattle.crush_calls.specs.Entries.{AreOf}
 use Rattle.crush_calls.specs.History.{changes, turns}
 use Rattle.crush_calls.specs.Script.{scripts_data}
 use Rattle.crush_run.specs.Run.{history_of}
@@ -19,10 +18,10 @@ returns-in_err-entries-clause-writes g c = λ read stands.
 
 pub returns-clause-summary : goal.returns-clause-summary
 returns-clause-summary g c = λ read stands.
-    let told : history_data c.in_ok-entries.entries.items ≡ history_of read =
+    let told : c.in_ok-entries.entries.items ≡ history_of read =
     c.in_ok-entries.ensures.entries read.setting read.table stands.map
     ∙ ap (λ scripts. turns read.setting read.table (scripts_data scripts)) c.as_slice-scripts.ensures.value
     ∙ ap (turns read.setting read.table) stands.scripts in
-    let calls = c.len.ensures ∙ sym c.as_slice-2.ensures.len ∙ ap length c.as_slice-2.ensures.value ∙ sym (length-map c.in_ok-entries.entries.items entry_data) ∙ ap length told in
-    let changed = c.count_changes.ensures ∙ ap (λ entries. changes (history_data entries)) c.as_slice-2.ensures.value ∙ ap changes told in
+    let calls = c.len.ensures ∙ sym c.as_slice-2.ensures.len ∙ ap length c.as_slice-2.ensures.value ∙ ap length told in
+    let changed = c.count_changes.ensures ∙ ap changes c.as_slice-2.ensures.value ∙ ap changes told in
     λ j. record { adjusted = stands.adjusted j; calls = calls j; changes = changed j }

@@ -5,10 +5,10 @@ use Rattle.crush_edits.specs.Edit.{edit}
 use Rattle.crush_map.specs.MapData.{MapData, MapStands}
 use Rattle.crush_calls.specs.History.{edit_outcome}
 use Rattle.crush_calls.proofs.SameForests.{stands_same_forest}
-use Rattle.crush_calls.proofs.turns.make_edit.Goals as goal
+use Rattle.crush_calls.proofs.making.make_edit.Goals as goal
 
 pub returns-in-Err-Refused-clause-made : goal.returns-in-Err-Refused-clause-made
-returns-in-Err-Refused-clause-made c s t st =
+returns-in-Err-Refused-clause-made g c s t st =
     let arm = c.in-Err-Refused in
     let e = c.args.asked.now in
     let told = arm.ensures.refused arm.refusal (ap Err arm.field-0-is) t st.forest in
@@ -18,7 +18,7 @@ returns-in-Err-Refused-clause-made c s t st =
     )
 
 pub returns-in-Err-OutOfMemory-clause-kept : goal.returns-in-Err-OutOfMemory-clause-kept
-returns-in-Err-OutOfMemory-clause-kept c s t st =
+returns-in-Err-OutOfMemory-clause-kept g c s t st =
     let arm = c.in-Err-OutOfMemory in
     record {
       setting = arm.ensures.setting ∙ st.setting;
