@@ -1,0 +1,210 @@
+//! The gauge: one shared word, which holds the pair of a history.
+
+ghost use Rattle.std.specs.Prelude.{◌≡◌, ℕ, ◌<◌, ◌≤◌, ◌++◌, ◌∷◌, [], IfOk, vec_len, length};
+ghost use Rattle.std.specs.List.{All};
+ghost use Rattle.crush_gauge.specs.declared.view.View.TheVariants.{Book, Reader};
+ghost use Rattle.crush_gauge.specs.Rule.{known, opened, IsLawful, Opens, Follows, Reads, Learns, grown};
+ghost use Rattle.crush_gauge.specs.Held.{held, copy_of};
+
+use crate::limits::CHANGE;
+use crate::plays::{Begin, Compare, Divide, Look, Merge, Picks, Publish, Rule};
+use crate::seat::{BookSeat, Note, ReadSeat};
+use crate::view::{Law, View};
+use crate::watcher::Watcher;
+use atomic_table::{Seat, Table};
+use std::alloc::{AllocError, Global};
+use std::marker::Brand;
+
+/// One word, which holds the pair of the history so far: `changes * 2^43 + weight`.
+///
+/// `O` is an opening, `E` an entry, and `P` says which histories are legal from an opening and which
+/// pair each has. The steps of all threads on the word stand in one order (sequential consistency).
+#[derive(Drop)]
+pub struct Gauge<O, E, P: Law<O, E>> {
+    pub table: Table<(), View<O, E>, u64, Rule<P>, Global>,
+    pub ghost one_word: { (table.shared.table_id.words ≡ 1) × (table.shared.table_id.slots ≡ 0) },
+}
+
+/// The pair of one history: how many of its entries are changes, and the weight after it. The two
+/// numbers are always of the same history.
+#[derive(Clone, Copy, Debug, PartialEq, Eq)]
+pub struct Reading {
+    /// How many entries are changes, at most [`MOST_CHANGES`](crate::limits::MOST_CHANGES).
+    pub changes: u64,
+    /// The weight after the history, below 2^43, in the units of the law.
+    pub weight: u64,
+}
+
+impl<O, E, P: Law<O, E>> Gauge<O, E, P> {
+    /// The gauge of an opening of this weight, the one seat that publishes, and as many seats that
+    /// read as are asked for. All have seen the history without an entry.
+    ///
+    /// The opening is picked by the proof of the call and no argument: it has no change and this
+    /// weight, below 2^43. An `Err` is want of memory.
+    pub fn new(
+        alloc: Global,
+        weight: u64,
+        readers: usize,
+    ) -> Result<(Gauge<O, E, P>, BookSeat<O, E>, Vec<ReadSeat<O, E>>), AllocError>
+        ghost opening: { O }
+        requires lawful { IsLawful P.legal P.changes P.weight opening [] }
+        requires changes { P.changes opening [] ≡ 0 }
+        requires weight { P.weight opening [] ≡ weight }
+        ensures book { IfOk result (λ r.
+            r.1 ≡ held r.0.table.shared.table_id (Book (known opening []))) }
+        ensures count { IfOk result (λ r. vec_len r.2 ≡ readers) }
+        ensures readers { IfOk result (λ r.
+            All (λ s. s ≡ held r.0.table.shared.table_id (Reader (known opening []))) r.2.items) }
+    {
+        let (table, first) = Table::of_words(alloc, &[weight], &weight)?;
+        let gauge = Gauge { table };
+        let mut book = gauge.begin::<Brand>(first, weight);
+        let seats = gauge.readers(alloc, &mut book, readers)?;
+        Ok((gauge, book, seats))
+    }
+
+    /// The first seat gets the opening, by one load.
+    fn begin<M: Picks<O>>(&self, first: Seat<(), View<O, E>>, weight: u64) -> BookSeat<O, E>
+        requires gauge { first.table_id ≡ self.now.table.shared.table_id }
+        requires key { self.now.table.shared.key ≡ weight }
+        requires fresh { first.me ≡ (View.Fresh, []) }
+        requires opens { Opens P.legal P.changes P.weight M.picked weight }
+        ensures { result ≡ held first.table_id (opened M.picked) }
+    {
+        let mut seat = first;
+        self.table.shared.load::<Begin<M>>(&mut seat, 0);
+        BookSeat { seat }
+    }
+
+    /// So many seats that read, each with what the book's seat has seen.
+    fn readers(
+        &self,
+        alloc: Global,
+        book: &mut BookSeat<O, E>,
+        readers: usize,
+    ) -> Result<Vec<ReadSeat<O, E>>, AllocError>
+        requires { book.old.table ≡ self.now.table.shared.table_id }
+        ensures book { book.new ≡ book.old }
+        ensures count { IfOk result (λ seats. vec_len seats ≡ readers) }
+        ensures seats { IfOk result (λ seats. All (λ s. s ≡ copy_of book.old) seats.items) }
+    {
+        let mut seats = Vec::new(alloc);
+        for _reader in 0..readers {
+            let Note { seat } = self.note_of_book(book);
+            seats.push(ReadSeat { seat })?;
+        }
+        Ok(seats)
+    }
+
+    /// What the book's seat has seen.
+    pub(crate) fn note_of_book(&self, book: &mut BookSeat<O, E>) -> Note<O, E>
+        requires { book.old.table ≡ self.now.table.shared.table_id }
+        ensures seat { book.new ≡ book.old }
+        ensures note { result ≡ copy_of book.old }
+    {
+        Note {
+            seat: self.table.shared.split_seat::<Divide>(&mut book.seat),
+        }
+    }
+
+    /// What a seat that reads has seen.
+    pub(crate) fn note_of_reader(&self, seat: &mut ReadSeat<O, E>) -> Note<O, E>
+        requires { seat.old.table ≡ self.now.table.shared.table_id }
+        ensures seat { seat.new ≡ seat.old }
+        ensures note { result ≡ copy_of seat.old }
+    {
+        Note {
+            seat: self.table.shared.split_seat::<Divide>(&mut seat.seat),
+        }
+    }
+
+    /// An entry joins the history, by one store: from then on each reading gives the pair of a
+    /// history that has it.
+    ///
+    /// The entry is picked by the proof of the call and no argument. The condition: the history of
+    /// the book's seat with this entry is legal and has this pair, of at most
+    /// [`MOST_CHANGES`](crate::limits::MOST_CHANGES) changes and a weight below 2^43.
+    pub fn publish(&self, book: &mut BookSeat<O, E>, changes: u64, weight: u64)
+        ghost entry: { E }
+        requires gauge { book.old.table ≡ self.now.table.shared.table_id }
+        requires follows { Follows P.legal P.changes P.weight book.old.view (entry ∷ []) changes
+            weight }
+        ensures { book.new ≡ held book.old.table (grown (entry ∷ []) book.old.view) }
+    {
+        self.publish_as::<Brand>(book, changes, weight)
+    }
+
+    /// The same for the entries that a type tells of.
+    fn publish_as<M: Picks<E>>(&self, book: &mut BookSeat<O, E>, changes: u64, weight: u64)
+        requires gauge { book.old.table ≡ self.now.table.shared.table_id }
+        requires follows { Follows P.legal P.changes P.weight book.old.view M.picked changes
+            weight }
+        ensures { book.new ≡ held book.old.table (grown M.picked book.old.view) }
+    {
+        let word = changes * CHANGE + weight;
+        self.table
+            .shared
+            .store::<Publish<M>>(&mut book.seat, 0, word)
+    }
+
+    /// The pair of the history at this moment, by one load, which waits for nobody and takes no
+    /// memory. The seat has then seen that history, which begins with what it saw before.
+    pub fn read(&self, seat: &mut ReadSeat<O, E>) -> Reading
+        requires { seat.old.table ≡ self.now.table.shared.table_id }
+        ensures table { seat.new.table ≡ seat.old.table }
+        ensures reads { Reads P.legal P.changes P.weight seat.old.view result.changes result.weight
+            seat.new.view }
+    {
+        let word = self.table.shared.load::<Look<P>>(&mut seat.seat, 0);
+        Reading {
+            changes: word / CHANGE,
+            weight: word % CHANGE,
+        }
+    }
+
+    /// What the seat, of either kind, has seen, to be handed to another. The seat stays as it is.
+    pub fn note<S: Watcher<O, E>>(&self, seat: &mut S) -> Note<O, E>
+        requires { (S.knows seat.old).table ≡ self.now.table.shared.table_id }
+        ensures seat { S.knows seat.new ≡ S.knows seat.old }
+        ensures note { result ≡ copy_of (S.knows seat.old) }
+    {
+        seat.note_of(self)
+    }
+
+    /// Joins a note of the same gauge into a seat of either kind. The seat has then seen the longer
+    /// of the two histories, of which the other is a beginning. A seat of the book knows the whole
+    /// history, so that it learns only that the note is a beginning of it.
+    pub fn learn<S: Watcher<O, E>>(&self, seat: &mut S, note: Note<O, E>)
+        requires seat { (S.knows seat.old).table ≡ self.now.table.shared.table_id }
+        requires note { note.table ≡ self.now.table.shared.table_id }
+        ensures table { (S.knows seat.new).table ≡ (S.knows seat.old).table }
+        ensures learns { Learns P.legal P.changes P.weight (S.knows seat.old).view note.view
+            (S.knows seat.new).view }
+    {
+        seat.learn_from(self, note);
+    }
+
+    /// [`Gauge::learn`] of a seat that reads: one join, and one load that compares the two.
+    pub(crate) fn reader_learns(&self, seat: &mut ReadSeat<O, E>, note: Note<O, E>)
+        requires seat { seat.old.table ≡ self.now.table.shared.table_id }
+        requires note { note.table ≡ self.now.table.shared.table_id }
+        ensures table { seat.new.table ≡ seat.old.table }
+        ensures learns { Learns P.legal P.changes P.weight seat.old.view note.view seat.new.view }
+    {
+        let Note { seat: other } = note;
+        self.table.shared.join_seat::<Merge>(&mut seat.seat, other);
+        self.table.shared.load::<Compare<P>>(&mut seat.seat, 0);
+    }
+
+    /// [`Gauge::learn`] of the book's seat.
+    pub(crate) fn book_learns(&self, book: &mut BookSeat<O, E>, note: Note<O, E>)
+        requires seat { book.old.table ≡ self.now.table.shared.table_id }
+        requires note { note.table ≡ self.now.table.shared.table_id }
+        ensures table { book.new.table ≡ book.old.table }
+        ensures learns { Learns P.legal P.changes P.weight book.old.view note.view book.new.view }
+    {
+        let Note { seat: other } = note;
+        self.table.shared.join_seat::<Merge>(&mut book.seat, other);
+        self.table.shared.load::<Compare<P>>(&mut book.seat, 0);
+    }
+}

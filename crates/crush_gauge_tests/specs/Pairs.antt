@@ -1,0 +1,14 @@
+-- Histories of pairs.
+use Rattle.std.specs.Prelude.{ℕ, List, [], ◌∷◌}
+
+-- the changes of the last pair
+abbrev pub changes_of : List (ℕ × ℕ) → ℕ
+changes_of [] = 0
+changes_of (e ∷ []) = e.0
+changes_of (e ∷ (f ∷ h)) = changes_of (f ∷ h)
+
+-- the weight of the last pair, or that of the opening
+abbrev pub weight_of : ℕ → List (ℕ × ℕ) → ℕ
+weight_of o [] = o
+weight_of o (e ∷ []) = e.1
+weight_of o (e ∷ (f ∷ h)) = weight_of o (f ∷ h)
