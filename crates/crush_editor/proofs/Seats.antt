@@ -1,0 +1,84 @@
+-- What a seat knows after a call.
+use Rattle.std.proofs.Common.{◌≡◌, ◌≢◌, ℕ, ◌+◌, ◌<◌, ◌≤◌, List, [], ◌∷◌, ◌++◌, length, refl, sym, ap, ◌∙◌, subst, arith, length-append}
+use mathlib.Core.List.{IsPrefix}
+use Rattle.crush_calls.specs.declared.call.Call.{Call}
+use Rattle.crush_calls.specs.declared.call.Reply.{Reply}
+use Rattle.crush_calls.specs.History.{EntryData, AnsweredData, of_operator, changes}
+use Rattle.crush_map.specs.MapData.{MapData}
+use Rattle.crush_editor.specs.History.{entry, slip, IsLegalFrom, weight_from}
+use Rattle.crush_editor.specs.Book.{BookData}
+use Rattle.crush_editor.proofs.Parts.{of-append, of-push_hit}
+use Rattle.crush_gauge.proofs.Prefixes.{prefix_trans, prefix_whole, prefix_length}
+use Rattle.crush_gauge.specs.declared.view.View.{View}
+use Rattle.crush_gauge.specs.Rule.{Reads, Learns}
+use Rattle.crush_editor.specs.Seat.{StandsIn}
+use Rattle.atomic_table.specs.Seated.{TableId}
+use Rattle.crush_gauge.specs.Held.{Held, held}
+use Rattle.crush_editor.specs.Seat.{reads, seen_of, SeatData, seat_data, IsSeat, Answered, Sees}
+use Rattle.crush_editor.proofs.Counting.{stands_more, stands_push}
+
+-- two lists that begin each other
+pub prefix_same : {A : Type 0} (xs ys : List A) → IsPrefix xs ys → IsPrefix ys xs → xs ≡ ys
+prefix_same xs ys p q = prefix_whole xs ys p (prefix_length ys xs q)
+
+pub stands_later : (k : ℕ) (slips : List AnsweredData) (seen now : List EntryData) → StandsIn slips (of_operator k seen) → IsPrefix seen now → StandsIn slips (of_operator k now)
+stands_later k slips seen now stands p =
+    subst (λ h. StandsIn slips (of_operator k h)) p.1 (subst (StandsIn slips) (sym (of-append k seen p.0)) (stands_more slips (of_operator k seen) (of_operator k p.0) stands))
+
+pub seat_later : (o : MapData) (k : ℕ) (slips : List AnsweredData) (seen now : List EntryData) → IsSeat o k slips seen → IsPrefix seen now → IsLegalFrom o now → IsSeat o k slips now
+seat_later o k slips seen now seat p legal = record { below = seat.below; legal = legal; stands = stands_later k slips seen now seat.stands p }
+
+pub seat_answered : (o : MapData) (k : ℕ) (slips : List AnsweredData) (seen h : List EntryData) (c : Call) (r : Reply) → IsSeat o k slips seen → IsPrefix seen h → IsLegalFrom o (h ++ entry k c r ∷ []) → IsSeat o k (slips ++ slip c r ∷ []) (h ++ entry k c r ∷ [])
+seat_answered o k slips seen h c r seat p legal = record {
+  below = seat.below;
+  legal = legal;
+  stands = subst (StandsIn (slips ++ slip c r ∷ [])) (sym (of-push_hit k h (entry k c r) refl)) (stands_push slips (of_operator k h) (slip c r) (stands_later k slips seen h seat.stands p));
+}
+
+pub answered : (o : MapData) (k : ℕ) (slips : List AnsweredData) (seen h : List EntryData) (c : Call) (r : Reply) → IsSeat o k slips seen → IsPrefix seen h → IsLegalFrom o (h ++ entry k c r ∷ []) → Answered o (seat_data k slips seen) c r (seat_data k (slips ++ slip c r ∷ []) (h ++ entry k c r ∷ []))
+answered o k slips seen h c r seat p legal = record {
+  operator = refl;
+  slips = refl;
+  begins = prefix_trans seen h (h ++ entry k c r ∷ []) p (entry k c r ∷ [], refl);
+  ends = (h, refl);
+  seat = seat_answered o k slips seen h c r seat p legal;
+}
+
+pub missed : (o : MapData) (k : ℕ) (slips : List AnsweredData) (seen now : List EntryData) → IsSeat o k slips seen → IsPrefix seen now → IsLegalFrom o now → Sees o (seat_data k slips seen) (seat_data k slips now)
+missed o k slips seen now seat p legal = record { operator = refl; slips = refl; begins = p; seat = seat_later o k slips seen now seat p legal }
+
+-- a seat that has seen the history of the book after a call that was not answered
+pub missed_all : (z : TableId) (o : MapData) (k : ℕ) (slips : List AnsweredData) (seen : List EntryData) (b now : BookData) (r : Held MapData EntryData) → b.table ≡ z → b.opening ≡ o → now.history ≡ b.history → r ≡ held b.table (reads b.opening now.history) → IsPrefix seen b.history → IsLegalFrom b.opening now.history → IsSeat o k slips seen
+    → (r.table ≡ z) × (r.view ≡ reads o (seen_of r.view)) × IsSeat o k slips (seen_of r.view) × Sees o (seat_data k slips seen) (seat_data k slips (seen_of r.view))
+missed_all z o k slips seen b now r tz oz same is pre legal seat =
+    let h : r ≡ held z (reads o now.history) = is ∙ (λ i. held (tz i) (reads (oz i) now.history)) in
+    let p : IsPrefix seen now.history = subst (IsPrefix seen) (sym same) pre in
+    let l : IsLegalFrom o now.history = subst (λ (x : MapData). IsLegalFrom x now.history) oz legal in
+    subst (λ (x : Held MapData EntryData). (x.table ≡ z) × (x.view ≡ reads o (seen_of x.view)) × IsSeat o k slips (seen_of x.view) × Sees o (seat_data k slips seen) (seat_data k slips (seen_of x.view))) (sym h)
+    (refl, refl, seat_later o k slips seen now.history seat p l, missed o k slips seen now.history seat p l)
+
+pub answered_all : (z : TableId) (o : MapData) (k : ℕ) (slips : List AnsweredData) (seen : List EntryData) (c : Call) (x : Reply) (b now : BookData) (r : Held MapData EntryData) → b.table ≡ z → b.opening ≡ o → now.history ≡ b.history ++ entry k c x ∷ [] → r ≡ held b.table (reads b.opening now.history) → IsPrefix seen b.history → IsLegalFrom b.opening now.history → IsSeat o k slips seen
+    → (r.table ≡ z) × (r.view ≡ reads o (seen_of r.view)) × IsSeat o k (slips ++ slip c x ∷ []) (seen_of r.view) × Answered o (seat_data k slips seen) c x (seat_data k (slips ++ slip c x ∷ []) (seen_of r.view))
+answered_all z o k slips seen c x b now r tz oz e is pre legal seat =
+    let after' = b.history ++ entry k c x ∷ [] in
+    let h : r ≡ held z (reads o after') = is ∙ (λ i. held (tz i) (reads (oz i) (e i))) in
+    let l : IsLegalFrom o after' = subst (λ (y : MapData × List EntryData). IsLegalFrom y.0 y.1) (λ i. (oz i, e i)) legal in
+    subst (λ (y : Held MapData EntryData). (y.table ≡ z) × (y.view ≡ reads o (seen_of y.view)) × IsSeat o k (slips ++ slip c x ∷ []) (seen_of y.view) × Answered o (seat_data k slips seen) c x (seat_data k (slips ++ slip c x ∷ []) (seen_of y.view))) (sym h)
+    (refl, refl, seat_answered o k slips seen b.history c x seat pre l, answered o k slips seen b.history c x seat pre l)
+
+-- the seat has seen more
+pub sees_more : (z : TableId) (o : MapData) (k : ℕ) (slips : List AnsweredData) (v w : Held MapData EntryData) → v.table ≡ z → IsSeat o k slips (seen_of v.view) → w.table ≡ v.table → (h : List EntryData) × (w.view ≡ reads o h) × IsPrefix (seen_of v.view) h × IsLegalFrom o h
+    → (w.table ≡ z) × (w.view ≡ reads o (seen_of w.view)) × IsSeat o k slips (seen_of w.view) × Sees o (seat_data k slips (seen_of v.view)) (seat_data k slips (seen_of w.view))
+sees_more z o k slips v w tz seat same now =
+    let seen = seen_of v.view in
+    let t = subst (λ (y : View MapData EntryData). (y ≡ reads o (seen_of y)) × IsSeat o k slips (seen_of y) × Sees o (seat_data k slips seen) (seat_data k slips (seen_of y))) (sym now.1)
+    (refl, seat_later o k slips seen now.0 seat now.2 now.3, missed o k slips seen now.0 seat now.2 now.3) in
+    (same ∙ tz, t.0, t.1, t.2)
+
+pub after_reading : (o : MapData) (v w : View MapData EntryData) (c x : ℕ) → v ≡ reads o (seen_of v) → Reads IsLegalFrom (λ _. changes) weight_from v c x w → (h : List EntryData) × (w ≡ reads o h) × IsPrefix (seen_of v) h × IsLegalFrom o h
+after_reading o v w c x is r =
+    let t = subst (λ (y : View MapData EntryData). Reads IsLegalFrom (λ _. changes) weight_from y c x w) is r in (t.0, t.1, t.2, t.3.0)
+
+pub after_learning : (o : MapData) (v j w : View MapData EntryData) → v ≡ reads o (seen_of v) → j ≡ reads o (seen_of j) → Learns IsLegalFrom (λ _. changes) weight_from v j w → (h : List EntryData) × (w ≡ reads o h) × IsPrefix (seen_of v) h × IsLegalFrom o h
+after_learning o v j w is also l =
+    let t = subst (λ (y : View MapData EntryData × View MapData EntryData). Learns IsLegalFrom (λ _. changes) weight_from y.0 y.1 w) (λ i. (is i, also i)) l in (t.0, t.1, t.4, t.3.0)

@@ -1,0 +1,49 @@
+-- What contracts see of a book, and what it keeps.
+use Rattle.std.specs.Prelude.{ℕ, ◌≡◌, ◌<◌, ◌≤◌, List, length}
+use Rattle.std.specs.List.{All}
+use Rattle.crush_units.specs.declared.limits.TheConstants.{MOST_ENTRIES, MOST_OPERATORS}
+use Rattle.atomic_table.specs.Seated.{TableId}
+use Rattle.crush_table.specs.Table.{Row}
+use Rattle.crush_edits.specs.Setting.{SettingData}
+use Rattle.crush_map.specs.MapData.{MapData, MapStands}
+use Rattle.crush_calls.specs.History.{EntryData, changes, table_after, IsLegal}
+use Rattle.crush_calls.specs.Turns.{IsSameMap}
+use Rattle.crush_gauge.specs.declared.view.View.{View}
+use Rattle.crush_gauge.specs.declared.view.View.TheVariants.{Book}
+use Rattle.crush_gauge.specs.Rule.{known}
+use Rattle.crush_editor.specs.History.{IsLegalFrom, table_from}
+
+-- the gauge of a book, its opening map, its map, and its history
+pub record BookData : Type 0 where
+  pub table : TableId
+  pub opening : MapData
+  pub map : MapData
+  pub history : List EntryData
+
+abbrev pub book_data : TableId → MapData → MapData → List EntryData → BookData
+book_data z o m h = record { table = z; opening = o; map = m; history = h }
+
+-- the map stands for the table after the history
+abbrev pub StandsAfter : MapData → MapData → List EntryData → Type 0
+StandsAfter o m h = MapStands m o.setting (table_from o h)
+
+-- MAKES ALL: whatever table the old map stood for, the history is legal on it, and the new map stands for the table after
+abbrev pub MakesAll : MapData → MapData → List EntryData → Type 0
+MakesAll old new h = (s : SettingData) (t : List Row) → MapStands old s t → IsLegal s t h × MapStands new s (table_after s t h)
+
+-- what each book keeps
+pub record IsKept (o m : MapData) (h : List EntryData) (count : ℕ) (view : View MapData EntryData) : Type 0 where
+  pub legal : IsLegalFrom o h
+  pub stands : StandsAfter o m h
+  pub all : MakesAll o m h
+  pub operators : All (λ (e : EntryData). e.operator < MOST_OPERATORS) h
+  pub room : length h ≤ MOST_ENTRIES
+  pub counted : count ≡ changes h
+  pub shown : view ≡ Book (known o h)
+
+-- a book that has the same history, and a map with the same setting and items
+pub record IsSameBook (new old : BookData) : Type 0 where
+  pub table : new.table ≡ old.table
+  pub opening : new.opening ≡ old.opening
+  pub map : IsSameMap new.map old.map
+  pub history : new.history ≡ old.history

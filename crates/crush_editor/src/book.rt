@@ -1,0 +1,282 @@
+//! The book of a map: its opening, the map now, and the history between them.
+
+ghost use Rattle.std.specs.Prelude.{◌≡◌, ◌<◌, ◌≤◌, ◌++◌, ◌∷◌, [], length, IfOk, OnErr};
+ghost use mathlib.Core.Logic.{◌↔◌};
+ghost use Rattle.crush_units.specs.declared.limits.TheConstants.{MOST_ENTRIES, MOST_OPERATORS};
+ghost use Rattle.crush_calls.specs.History.{EntryData, changes};
+ghost use Rattle.crush_calls.specs.Turns.{Makes, IsSameMap, StandsAsBefore};
+ghost use Rattle.crush_gauge.specs.declared.view.View.TheVariants.{Book as BookSees};
+ghost use Rattle.crush_gauge.specs.Rule.{known, Follows, grown};
+ghost use Rattle.crush_gauge.specs.Held.{held};
+ghost use Rattle.crush_editor.specs.History.{entry, change_of, IsLegalFrom, weight_from};
+ghost use Rattle.crush_editor.specs.Book.{IsSameBook, MakesAll, StandsAfter};
+ghost use Rattle.crush_editor.specs.Seat.{seen_of, reads};
+ghost use mathlib.Core.List.{IsPrefix};
+
+use crate::law::{MapBookSeat, MapGauge, MapNote, Reader};
+use crush_calls::{Call, Entry, Reply, is_change, make_call};
+use crush_map::CrushMap;
+use crush_units::limits::MOST_ENTRIES;
+use std::alloc::{Allocator, Global};
+use std::marker::Model;
+
+/// Why a call was not answered. It is then in no history, and nothing has changed.
+#[derive(Clone, Copy, Debug, PartialEq, Eq)]
+pub enum SubmitFault {
+    /// The history has as many entries as it may have: 65,536.
+    Full,
+    /// A growth was refused.
+    OutOfMemory,
+}
+
+/// A map, with the opening that it came from and the history of what was asked of it since.
+///
+/// The type keeps, of every book: its history is legal from the opening, has at most 65,536 entries,
+/// each of an operator below 16, and the map stands for the table after it, with the opening's
+/// setting; and the gauge was told of the whole history.
+///
+/// `A` is where its two maps live. Calls and entries are in the machine's memory.
+#[derive(Drop)]
+pub struct Book<A: Allocator> {
+    opening: CrushMap<A>,
+    map: CrushMap<A>,
+    history: Vec<Entry>,
+    changes: u64,
+    seat: MapBookSeat,
+}
+
+impl<A: Allocator> Model for Book<A> {
+    ghost use Rattle.crush_editor.specs.Book.{BookData, book_data, IsKept};
+    ghost use Rattle.std.specs.Coded.{codes};
+    ghost use Rattle.crush_map.specs.MapData.{coded_map};
+
+    ghost Value = { BookData };
+
+    ghost coded = { Prim.hlevel (codes, coded_map) };
+
+    ghost view = { λ b. book_data b.seat.table b.opening b.map b.history.items };
+
+    ghost invariant = { λ b. IsKept b.opening b.map b.history.items b.changes b.seat.view };
+}
+
+impl<A: Allocator + Clone> Book<A> {
+    /// The book of a map, with no entry. The seat is the one that publishes of a gauge that was made
+    /// for this map and was never published to. For want of memory the map comes back.
+    pub fn new(map: CrushMap<A>, seat: MapBookSeat, alloc: Global) -> Result<Book<A>, CrushMap<A>>
+        requires { seat.view ≡ BookSees (known map []) }
+        ensures opening { IfOk result (λ b. b.opening ≡ map) }
+        ensures map { IfOk result (λ b. IsSameMap b.map map) }
+        ensures stands { IfOk result (λ b. StandsAsBefore b.opening b.map) }
+        ensures history { IfOk result (λ b. b.history ≡ []) }
+        ensures table { IfOk result (λ b. b.table ≡ seat.table) }
+        ensures err { OnErr result (result ≡ Err map) }
+    {
+        map.forest().recall_invariant();
+        let Ok(copy) = map.try_copy() else {
+            return Err(map);
+        };
+        Ok(Book {
+            opening: map,
+            map: copy,
+            history: Vec::new(alloc),
+            changes: 0,
+            seat,
+        })
+    }
+
+    /// Makes a call of operator k, counted from 0 and below 16, records it with its reply behind the
+    /// other entries, and publishes the new number of changes and the new weight: once, also where
+    /// the call is refused. The gauge is the book's.
+    ///
+    /// `Full` is judged first, and exactly where there are 65,536 entries. After either fault the book
+    /// is as before, but that its map may have room for more: all memory is taken before anything
+    /// changes.
+    pub fn commit(
+        &mut self,
+        alloc: Global,
+        gauge: &MapGauge,
+        k: usize,
+        call: &Call,
+    ) -> Result<Reply, SubmitFault>
+        requires operator { k < MOST_OPERATORS }
+        requires gauge { self.old.table ≡ gauge.now.table.shared.table_id }
+        ensures made { IfOk result (Makes self.old.map self.new.map call.now) }
+        ensures history { IfOk result (λ r.
+            self.new.history ≡ self.old.history ++ entry k call.now r ∷ []) }
+        ensures full { (result ≡ Err SubmitFault.Full) ↔ (length self.old.history ≡ MOST_ENTRIES) }
+        ensures unchanged { result ≡ Err SubmitFault.Full → self.new ≡ self.old }
+        ensures err { OnErr result (IsSameBook self.new self.old) }
+        ensures opening { self.new.opening ≡ self.old.opening }
+        ensures table { self.new.table ≡ self.old.table }
+    {
+        if self.history.len() == MOST_ENTRIES {
+            return Err(SubmitFault::Full);
+        }
+        let Ok(copy) = call.try_copy(alloc) else {
+            return Err(SubmitFault::OutOfMemory);
+        };
+        if self.history.reserve(1).is_err() {
+            return Err(SubmitFault::OutOfMemory);
+        }
+        let Ok(reply) = make_call(&mut self.map, call) else {
+            return Err(SubmitFault::OutOfMemory);
+        };
+        let changes = self.changes + change_of(reply);
+        let weight = self.map.total();
+        let entry = Entry {
+            operator: k,
+            call: copy,
+            reply,
+        };
+        publish(gauge, &mut self.seat, &entry, changes, weight);
+        self.changes = changes;
+        self.history.push_reserved(entry);
+        Ok(reply)
+    }
+
+    /// Takes in a note of the same gauge: what it has seen is a beginning of the history.
+    pub(crate) fn meet(&mut self, gauge: &MapGauge, note: MapNote)
+        requires gauge { self.old.table ≡ gauge.now.table.shared.table_id }
+        requires note { (note.table ≡ self.old.table)
+            × (note.view ≡ reads self.old.opening (seen_of note.view)) }
+        ensures book { self.new ≡ self.old }
+        ensures begins { IsPrefix (seen_of note.view) self.old.history }
+    {
+        gauge.learn(&mut self.seat, note);
+    }
+
+    /// A note that has seen the whole history.
+    pub(crate) fn shown(&mut self, gauge: &MapGauge) -> MapNote
+        requires { self.old.table ≡ gauge.now.table.shared.table_id }
+        ensures book { self.new ≡ self.old }
+        ensures legal { IsLegalFrom self.old.opening self.old.history }
+        ensures note { result ≡ held self.old.table (reads self.old.opening self.old.history) }
+    {
+        gauge.note(&mut self.seat)
+    }
+
+    /// One call of operator k, whose reader has seen a beginning of the history. It has then seen the
+    /// whole, with the entry of the call where that was answered.
+    pub(crate) fn serve(
+        &mut self,
+        alloc: Global,
+        gauge: &MapGauge,
+        reader: &mut Reader,
+        k: usize,
+        call: &Call,
+    ) -> Result<Reply, SubmitFault>
+        requires operator { k < MOST_OPERATORS }
+        requires gauge { self.old.table ≡ gauge.now.table.shared.table_id }
+        requires reader { (reader.old.table ≡ self.old.table)
+            × (reader.old.view ≡ reads self.old.opening (seen_of reader.old.view)) }
+        ensures made { IfOk result (Makes self.old.map self.new.map call.now) }
+        ensures history { IfOk result (λ r.
+            self.new.history ≡ self.old.history ++ entry k call.now r ∷ []) }
+        ensures full { (result ≡ Err SubmitFault.Full) ↔ (length self.old.history ≡ MOST_ENTRIES) }
+        ensures err { OnErr result (IsSameBook self.new self.old) }
+        ensures opening { self.new.opening ≡ self.old.opening }
+        ensures table { self.new.table ≡ self.old.table }
+        ensures begins { IsPrefix (seen_of reader.old.view) self.old.history }
+        ensures legal { IsLegalFrom self.old.opening self.new.history }
+        ensures seen { reader.new ≡ held self.old.table (reads self.old.opening self.new.history) }
+    {
+        let note = gauge.note(reader);
+        self.meet(gauge, note);
+        let outcome = self.commit(alloc, gauge, k, call);
+        let shown = self.shown(gauge);
+        gauge.learn(reader, shown);
+        outcome
+    }
+}
+
+impl<A: Allocator> Book<A> {
+    /// The map that the book was made of, as it was then.
+    pub fn opening(&self) -> &CrushMap<A>
+        ensures { result.now ≡ self.now.opening }
+    {
+        &self.opening
+    }
+
+    /// The map after the history.
+    pub fn map(&self) -> &CrushMap<A>
+        ensures { result.now ≡ self.now.map }
+    {
+        &self.map
+    }
+
+    /// The entries, in the order in which the calls were made.
+    pub fn history(&self) -> &[Entry]
+        ensures { result.now ≡ self.now.history }
+    {
+        self.history.as_slice()
+    }
+
+    /// The map that the book was made of, in place of the book.
+    pub(crate) fn into_opening(self) -> CrushMap<A>
+        ensures { result ≡ self.opening }
+    {
+        let Book {
+            opening,
+            map: _,
+            history: _,
+            changes: _,
+            seat: _,
+        } = self;
+        opening
+    }
+
+    /// Opening, map and history, in place of the book. It takes no memory.
+    pub fn into_closed(self) -> Closed<A>
+        ensures opening { result.opening ≡ self.opening }
+        ensures map { result.map ≡ self.map }
+        ensures history { result.history.items ≡ self.history }
+        ensures legal { IsLegalFrom self.opening self.history }
+        ensures stands { StandsAfter self.opening self.map self.history }
+        ensures all { MakesAll self.opening self.map self.history }
+        ensures few { length result.history.items ≤ MOST_ENTRIES }
+    {
+        let Book {
+            opening,
+            map,
+            history,
+            changes: _,
+            seat: _,
+        } = self;
+        Closed {
+            opening,
+            map,
+            history,
+        }
+    }
+}
+
+/// What an editor hands out when it is closed, or a book in place of itself.
+#[derive(Drop)]
+pub struct Closed<A: Allocator> {
+    /// The map before the first call.
+    pub opening: CrushMap<A>,
+    /// The map after the history.
+    pub map: CrushMap<A>,
+    /// What was asked and answered, in the order in which the calls were made.
+    pub history: Vec<Entry>,
+}
+
+/// Publishes the pair of the history with one entry more, of which contracts alone see what it is.
+fn publish(gauge: &MapGauge, seat: &mut MapBookSeat, joining: &Entry, count: u64, weight: u64)
+    ghost joined: { EntryData }
+    requires joins { joined ≡ joining.now }
+    requires gauge { seat.old.table ≡ gauge.now.table.shared.table_id }
+    requires follows { Follows IsLegalFrom (λ o h. changes h) weight_from seat.old.view
+        (joining.now ∷ []) count weight }
+    ensures { seat.new ≡ held seat.old.table (grown (joining.now ∷ []) seat.old.view) }
+{
+    let _joining = joining;
+    gauge.publish(seat, count, weight)
+}
+
+/// How many changes a reply tells of: one or none.
+fn change_of(reply: Reply) -> u64
+    ensures { result ≡ change_of reply }
+{
+    if is_change(reply) { 1 } else { 0 }
+}

@@ -1,0 +1,331 @@
+//! An editor: what it is made of, its seats' calls, and its close.
+
+ghost use Rattle.std.specs.Prelude.{◌≡◌, ℕ, ◌<◌, ◌≤◌, [], length, IfOk, OnErr, vec_len, slice_index_or};
+ghost use mathlib.Core.List.{IsPrefix};
+ghost use Rattle.crush_units.specs.declared.limits.TheConstants.{MOST_ENTRIES, MOST_OPERATORS};
+ghost use Rattle.crush_map.specs.MapData.{MapData};
+ghost use Rattle.crush_gauge.specs.declared.view.View.TheVariants.{Book as BookSees};
+ghost use Rattle.crush_gauge.specs.Rule.{known};
+ghost use Rattle.crush_gauge.specs.Held.{held};
+ghost use Rattle.std.specs.List.{All};
+ghost use Rattle.crush_calls.specs.History.{changes};
+ghost use Rattle.crush_editor.specs.History.{weight_from, OpensGauge};
+ghost use Rattle.crush_calls.specs.Turns.{StandsAsBefore};
+ghost use Rattle.crush_editor.specs.Book.{MakesAll};
+ghost use Rattle.crush_editor.specs.Seat.{Answered, Sees, InOrder, IsHistoryOf, seat_data, reads};
+
+use crate::book::{Book, Closed, SubmitFault};
+use crate::law::{MapBookSeat, MapGauge, MapNote, Reader};
+use crate::locked::{Desk, Locked, Seat};
+use crush_calls::{Call, Reply};
+use crush_gauge::Reading;
+use crush_map::CrushMap;
+use std::alloc::{AllocError, Global};
+use std::marker::{Brand, Model, PhantomData};
+use std::sync::ledger::Blank;
+use std::sync::{Mutex, Wait};
+
+/// What is made before an editor has its name: the gauge, the book, and the readers of the seats.
+///
+/// The name of an editor, `N`, tells contracts which gauge and which opening map are its. They are
+/// there only once this is made. So a caller makes it first, and then calls a function that is generic
+/// in `N` at [`Brand`].
+#[derive(Drop)]
+pub struct Started {
+    gauge: MapGauge,
+    book: Book<Global>,
+    readers: Vec<Reader>,
+    blank: Blank,
+}
+
+impl Model for Started {
+    ghost use Rattle.std.specs.Prelude.{◌≡◌, ◌≤◌, [], vec_len};
+    ghost use Rattle.std.specs.List.{All};
+    ghost use Rattle.std.specs.Coded.{codes};
+    ghost use Rattle.crush_units.specs.declared.limits.TheConstants.{MOST_OPERATORS};
+    ghost use Rattle.crush_map.specs.MapData.{coded_map};
+    ghost use Rattle.crush_calls.specs.Turns.{StandsAsBefore};
+    ghost use Rattle.crush_gauge.specs.Held.{held};
+    ghost use Rattle.crush_editor.specs.Seat.{StartedData, reads};
+
+    ghost Value = { StartedData };
+
+    ghost coded = { Prim.hlevel (codes, coded_map) };
+
+    ghost view = { λ s. record {
+      table = s.gauge.table.shared.table_id;
+      opening = s.book.opening;
+      name = s.blank.name;
+      parts = s.blank.parts;
+    } };
+
+    ghost invariant = { λ s. (s.book.table ≡ s.gauge.table.shared.table_id)
+        × (s.book.history ≡ []) × StandsAsBefore s.book.opening s.book.map
+        × (vec_len s.readers ≡ s.blank.parts)
+        × (vec_len s.readers ≤ MOST_OPERATORS)
+        × All (λ r. r ≡ held s.gauge.table.shared.table_id (reads s.book.opening []))
+        s.readers.items };
+}
+
+impl Started {
+    /// Makes the gauge, the book and the readers of so many operators: 1 to 16. For want of memory the
+    /// map comes back.
+    pub fn new(
+        map: CrushMap<Global>,
+        operators: usize,
+        alloc: Global,
+    ) -> Result<Started, CrushMap<Global>>
+        requires some { 0 < operators }
+        requires few { operators ≤ MOST_OPERATORS }
+        ensures opening { IfOk result (λ s. s.opening ≡ map) }
+        ensures operators { IfOk result (λ s. s.parts ≡ operators) }
+        ensures err { OnErr result (result ≡ Err map) }
+    {
+        let Ok((gauge, seat, readers)) = make_gauge::<Brand>(&map, operators, alloc) else {
+            return Err(map);
+        };
+        let book = Book::new(map, seat, alloc)?;
+        Ok(Started {
+            gauge,
+            book,
+            readers,
+            blank: Blank::new(operators as u64),
+        })
+    }
+
+    /// The gauge and the book, for one thread that needs no lock.
+    pub fn into_book(self) -> (MapGauge, Book<Global>)
+        ensures table { result.1.table ≡ result.0.table.shared.table_id }
+        ensures opening { result.1.opening ≡ self.opening }
+        ensures map { StandsAsBefore self.opening result.1.map }
+        ensures history { result.1.history ≡ [] }
+    {
+        let Started {
+            gauge,
+            book,
+            readers: _,
+            blank: _,
+        } = self;
+        (gauge, book)
+    }
+}
+
+/// The opening of a gauge, which contracts alone see. Each call picks it.
+trait Opening {
+    ghost use Rattle.crush_map.specs.MapData.{MapData};
+
+    ghost map: { MapData };
+}
+
+impl Opening for Brand {
+    ghost use Rattle.crush_editor.specs.Seat.{no_map};
+
+    ghost map = { no_map };
+}
+
+/// The gauge of a map, with as many readers as there are operators.
+fn make_gauge<M: Opening>(
+    map: &CrushMap<Global>,
+    operators: usize,
+    alloc: Global,
+) -> Result<(MapGauge, MapBookSeat, Vec<Reader>), AllocError>
+    requires opens { M.map ≡ map.now }
+    ensures book { IfOk result (λ r.
+        r.1 ≡ held r.0.table.shared.table_id (BookSees (known map.now []))) }
+    ensures count { IfOk result (λ r. vec_len r.2 ≡ operators) }
+    ensures readers { IfOk result (λ r.
+        All (λ s. s ≡ held r.0.table.shared.table_id (reads map.now [])) r.2.items) }
+{
+    map.forest().recall_invariant();
+    new_gauge::<M>(map.total(), operators, alloc)
+}
+
+/// The gauge of an opening of this weight.
+fn new_gauge<M: Opening>(
+    weight: u64,
+    operators: usize,
+    alloc: Global,
+) -> Result<(MapGauge, MapBookSeat, Vec<Reader>), AllocError>
+    requires opens { OpensGauge M.map weight }
+    ensures book { IfOk result (λ r.
+        r.1 ≡ held r.0.table.shared.table_id (BookSees (known M.map []))) }
+    ensures count { IfOk result (λ r. vec_len r.2 ≡ operators) }
+    ensures readers { IfOk result (λ r.
+        All (λ s. s ≡ held r.0.table.shared.table_id (reads M.map [])) r.2.items) }
+{
+    MapGauge::new(alloc, weight, operators)
+}
+
+/// What a seat has seen, to be handed to another seat of the same editor. It can cross threads.
+#[derive(Drop)]
+pub struct Note<N: Desk> {
+    note: MapNote,
+    of: PhantomData<N>,
+}
+
+impl<N: Desk> Model for Note<N> {
+    ghost use Rattle.std.specs.Prelude.{◌≡◌, List};
+    ghost use Rattle.crush_calls.specs.History.{EntryData};
+    ghost use Rattle.crush_editor.specs.History.{IsLegalFrom};
+    ghost use Rattle.crush_editor.specs.Seat.{seen_of, reads};
+
+    ghost Value = { List EntryData };
+
+    ghost view = { λ n. seen_of n.note.view };
+
+    ghost invariant = { λ n. (n.note.table ≡ N.gauge)
+        × (n.note.view ≡ reads N.opening (seen_of n.note.view))
+        × IsLegalFrom N.opening (seen_of n.note.view) };
+}
+
+/// The editor of a name: a book under one lock, and a gauge that is read without it.
+#[derive(Drop)]
+pub struct Editor<N: Desk> {
+    gauge: MapGauge,
+    desk: Mutex<Locked<N>>,
+    ghost tied: { gauge.table.shared.table_id ≡ N.gauge },
+}
+
+impl<N: Desk> Editor<N> {
+    /// Makes a call of the seat's operator, under the lock.
+    ///
+    /// Where it is answered, the seat's slips have the call with its reply behind the others, and the
+    /// seat has seen a legal history that ends with it and begins with what it saw before. After a
+    /// fault the slips and the history are as before, and the seat may have seen more of it; after
+    /// `Full` it has seen all 65,536 entries. The seat's own memory is taken before the lock.
+    ///
+    /// A call that waits for the lock may wait for ever; that it returns is not promised.
+    pub fn submit(
+        &self,
+        rt: &impl Wait,
+        alloc: Global,
+        seat: &mut Seat<N>,
+        call: &Call,
+    ) -> Result<Reply, SubmitFault>
+        ensures ok { IfOk result (λ r. Answered N.opening seat.old call.now r seat.new) }
+        ensures err { OnErr result (Sees N.opening seat.old seat.new) }
+        ensures full { result ≡ Err SubmitFault.Full → length seat.new.seen ≡ MOST_ENTRIES }
+    {
+        self.desk.lock(rt).submit(alloc, &self.gauge, seat, call)
+    }
+
+    /// The number of changes so far and the weight of all placed devices, in units, by one load: it
+    /// takes no lock and no memory. They are those of a legal history that begins with what the seat
+    /// saw before, its own calls among it, and that the seat has then seen.
+    pub fn reading(&self, seat: &mut Seat<N>) -> Reading
+        ensures seat { Sees N.opening seat.old seat.new }
+        ensures changes { result.changes ≡ changes seat.new.seen }
+        ensures weight { result.weight ≡ weight_from N.opening seat.new.seen }
+    {
+        self.gauge.read(&mut seat.reader)
+    }
+
+    /// What the seat has seen, for another seat of this editor. It takes no memory.
+    pub fn note(&self, seat: &mut Seat<N>) -> Note<N>
+        ensures seat { seat.new ≡ seat.old }
+        ensures note { result ≡ seat.old.seen }
+    {
+        let note = self.gauge.note(&mut seat.reader);
+        Note {
+            note,
+            of: PhantomData,
+        }
+    }
+
+    /// The seat has then also seen what the note's seat had seen when the note was made: its next
+    /// reading is not before either. It takes no memory.
+    pub fn learn(&self, seat: &mut Seat<N>, note: Note<N>)
+        ensures seat { Sees N.opening seat.old seat.new }
+        ensures note { IsPrefix note seat.new.seen }
+    {
+        let Note { note, of: _ } = note;
+        self.gauge.learn(&mut seat.reader, note);
+    }
+}
+
+impl<N: Desk> Editor<N> {
+    /// The editor of a name, with a seat for each operator, seat k for operator k, counted from 0. No
+    /// seat has a slip, and each has seen the history without an entry. For want of memory the map
+    /// comes back as it was.
+    pub fn open(
+        started: Started,
+        alloc: Global,
+    ) -> Result<(Editor<N>, Vec<Seat<N>>), CrushMap<Global>>
+        requires gauge { started.table ≡ N.gauge }
+        requires opening { started.opening ≡ N.opening }
+        requires name { started.name ≡ N.name }
+        requires parts { started.parts ≡ N.parts }
+        ensures count { IfOk result (λ r. vec_len r.1 ≡ N.parts) }
+        ensures seats { IfOk result (λ r. (k : ℕ) → k < vec_len r.1
+            → slice_index_or r.1.items k (seat_data 0 [] []) ≡ seat_data k [] []) }
+        ensures err { OnErr result (result ≡ Err started.opening) }
+    {
+        let Started {
+            gauge,
+            book,
+            readers,
+            blank,
+        } = started;
+        let (count, mut all) = blank.open::<N>();
+        let mut seats = Vec::new(alloc);
+        for reader in readers {
+            let share = all.split_off(1, 0);
+            let operator = seats.len();
+            let Ok(()) = seats.push(Seat {
+                operator,
+                slips: Vec::new(alloc),
+                reader,
+                share,
+            }) else {
+                return Err(book.into_opening());
+            };
+        }
+        let locked = Locked {
+            book,
+            count,
+            spare: all,
+        };
+        Ok((
+            Editor {
+                gauge,
+                desk: Mutex::new(locked),
+            },
+            seats,
+        ))
+    }
+
+    /// Opening, map and history, once all seats are given back, in the order of `open`.
+    ///
+    /// The history is one of one thread: it holds exactly the answered calls of all seats, each once
+    /// and in its operator's order, and every reply is what the plain table replies at that point; and
+    /// the map is the one after all of them. The opening is the map that the editor was made of. It has
+    /// no fault and takes no memory.
+    pub fn close(self, seats: Vec<Seat<N>>) -> Closed<Global>
+        requires count { vec_len seats ≡ N.parts }
+        requires order { InOrder seats.items }
+        ensures opening { result.opening ≡ N.opening }
+        ensures history { IsHistoryOf N.opening result.map result.history.items seats.items }
+        ensures all { MakesAll N.opening result.map result.history.items }
+        ensures few { length result.history.items ≤ MOST_ENTRIES }
+    {
+        let Editor { gauge, desk } = self;
+        let Locked {
+            mut book,
+            mut count,
+            spare,
+        } = desk.into_inner();
+        let mut all = spare;
+        for seat in seats {
+            let Seat {
+                operator: _,
+                slips: _,
+                reader,
+                share,
+            } = seat;
+            book.meet(&gauge, reader.into_note());
+            all.merge(share);
+        }
+        count.audit(&mut all);
+        book.into_closed()
+    }
+}

@@ -1,0 +1,20 @@
+//! An editor of one map for operators at once.
+//!
+//! A [`Book`] has a map, the map that it came from, and the history of what was asked of it since. An
+//! [`Editor`] has a book under one lock and a gauge beside it. Each operator has a [`Seat`]: it submits
+//! calls by it, one at a time, reads the number of changes and the weight of the map without the lock,
+//! and keeps a slip of each call that it was answered. Where all seats are given back, `close` hands
+//! out a history that one thread could have made.
+//!
+//! Only [`Editor::submit`] may wait: it takes the lock.
+#![tactic(auto)]
+
+pub mod book;
+pub mod editor;
+pub mod law;
+pub mod locked;
+
+pub use book::{Book, Closed, SubmitFault};
+pub use editor::{Editor, Note, Started};
+pub use law::{MapBookSeat, MapGauge, MapNote, OfMap, Reader};
+pub use locked::{Desk, Locked, Seat};
