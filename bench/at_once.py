@@ -19,7 +19,7 @@ import sys
 from against_reference import call_lines, random_call, random_map, run_call
 
 OPERATORS = [f"op{number}" for number in range(16)]
-MOST_CALLS = 20
+MOST_CALLS = 100
 END = "# end crush map\n"
 
 
