@@ -79,7 +79,7 @@ fn file<'a>(alloc: Global) -> Arg<'a>
 fn command<'a>(alloc: Global) -> Result<Command<'a>, AllocError>
     ensures { IfOk result (λ command. app_of command ≡ program) }
 {
-    let in_turn = "Run the operators' scripts one after the other, in their order, not at once";
+    let in_turn = "Run the operators' scripts one after the other, in the job's order, not at once";
     let no_history = "Write no line for each command behind the map";
     Command::new(alloc, "crushedit")
         .no_binary_name(true)
