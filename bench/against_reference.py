@@ -384,6 +384,27 @@ def random_command(dice, map):
     return [word, name(), name()]
 
 
+def random_call(dice, map):
+    """A call: whether it is a batch, and its commands, each as its words."""
+    is_batch = dice.random() < 0.2
+    count = dice.randint(0, 4) if is_batch else 1
+    return is_batch, [random_command(dice, map) for _ in range(count)]
+
+
+def call_lines(dice, call):
+    """The lines of a script that ask for a call."""
+    is_batch, commands = call
+    if is_batch:
+        return "begin\n" + "".join(" ".join(words) + "\n" for words in commands) + "commit\n"
+    return " ".join(commands[0]) + dice.choice(["", "", " # why not", "\r"]) + "\n"
+
+
+def run_call(map, call):
+    """The map after a call, and what its history line has behind the operator's name."""
+    is_batch, commands = call
+    return run_batch(map, commands) if is_batch else run_one(map, commands[0])
+
+
 def random_job(dice):
     """The bytes of a job, and what is to be printed of it."""
     map = random_map(dice)
@@ -392,14 +413,9 @@ def random_job(dice):
         job += f"%operator {operator}\n"
         for _ in range(dice.randint(0, 6)):
             number += 1
-            if dice.random() < 0.2:
-                batch = [random_command(dice, map) for _ in range(dice.randint(0, 4))]
-                job += "begin\n" + "".join(" ".join(w) + "\n" for w in batch) + "commit\n"
-                map, line = run_batch(map, batch)
-            else:
-                words = random_command(dice, map)
-                job += " ".join(words) + dice.choice(["", "", " # why not", "\r"]) + "\n"
-                map, line = run_one(map, words)
+            call = random_call(dice, map)
+            job += call_lines(dice, call)
+            map, line = run_call(map, call)
             lines.append(f"# {number} {operator} {line}\n")
     return job, map.text() + "".join(lines)
 
@@ -422,4 +438,5 @@ def main():
     print(f"{count} jobs of seed {seed} are the same; refusals:", refusals)
 
 
-main()
+if __name__ == "__main__":
+    main()

@@ -60,11 +60,13 @@ def map_text(devices, rules=False):
     return "\n".join(lines) + "\n"
 
 
-def script(devices, calls):
-    """The last device first, and then devices far from one another, each call with another weight than 0.5."""
-    lines = ["%operator a"]
-    lines += [f"reweight osd.{(devices - 1 + call * 7919) % devices} {2 + call % 5}.5" for call in range(calls)]
-    return "\n".join(lines) + "\n"
+def script(devices, calls, operators=1):
+    """The last device first, and then devices far from one another, each call with another weight than 0.5. Of
+    several operators each has as many of the calls, or one more."""
+    lines = [f"reweight osd.{(devices - 1 + call * 7919) % devices} {2 + call % 5}.5" for call in range(calls)]
+    names = "abcdefghijklmnop"[:operators]
+    sections = [[f"%operator {name}", *lines[place::operators]] for place, name in enumerate(names)]
+    return "\n".join(line for section in sections for line in section) + "\n"
 
 
 def main():

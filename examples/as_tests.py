@@ -3,7 +3,10 @@
 
 Each NAME.job of this folder, of maps/ and of worked/ has a NAME.out, which must be written for it, and, if
 standard error must get anything, a NAME.err. It becomes a file of crates/crush_examples/data, a line of `jobs`
-there for each mode that it is run in, and a part of the crate's `stdout`. Of an example of this folder or of
+there for each mode that it is run in, and a part of the crate's `stdout`. A job of several operators is run
+with --in-turn, since without it there may be several outputs; others are run without. A job of at_once/ has
+them all, a NAME.OPERATOR.out for each operator whose script may be the first: there the job is run in turn
+with that operator's section before the others (NAME.OPERATOR.job). Of an example of this folder or of
 maps/ that is no refused one, what is written is run again and gives the same map (NAME.again.job), and the
 job's map alone is printed as it is, or, where there is a NAME.map, as that (NAME.alone.job). What a run is
 summed up as is counted here from the history. Each row of a table of refused/ is a job that is refused; these
@@ -16,10 +19,9 @@ import sys
 
 HERE = pathlib.Path(__file__).resolve().parent
 CRATE = HERE.parent / "crates/crush_examples"
-# The words before a job's name, for each run of it.
-MODE = ["--in-turn "]
 # What stands between two jobs that are refused: no text and no command has it.
 SEPARATOR = "\x1e"
+# The words before a job's name, for each run of a job that has more than one.
 MODES = {"each_mode": ["", "--in-turn ", "--in-turn --no-history "]}
 
 
@@ -30,6 +32,16 @@ def read(path):
 def lines_before(text, begin):
     """The lines before the first one that begins like this."""
     return re.split(f"(?m)^{begin}", text, maxsplit=1)[0]
+
+
+def sections(job):
+    """The sections of a job, each with the line that begins it."""
+    return re.findall(r"(?ms)^%.*?(?=^%|\Z)", job)
+
+
+def mode(job):
+    """The words before a job's name: the scripts of several operators run in turn, for one output."""
+    return "--in-turn " if len(sections(job)) > 1 else ""
 
 
 def map_of(out):
@@ -56,12 +68,22 @@ def runs(job):
     """The runs of an example: the words before the job's name, its name and bytes, and what it must write and tell."""
     name, text, out, err = job.stem, read(job), read(job.with_suffix(".out")), read(job.with_suffix(".err"))
     assert job.with_suffix(".out").exists(), f"{job.name} has no output"
-    for words in MODES.get(name, MODE):
+    for words in MODES.get(name, [mode(text)]):
         yield words, f"{name}.job", text, out, err
     if out and job.parent.name != "worked":
         alone = lines_before(text, "%")
-        yield MODE[0], f"{name}.alone.job", alone, read(job.with_suffix(".map")) or alone, err
-        yield MODE[0], f"{name}.again.job", out, map_of(out), ""
+        yield mode(alone), f"{name}.alone.job", alone, read(job.with_suffix(".map")) or alone, err
+        yield mode(out), f"{name}.again.job", out, map_of(out), ""
+
+
+def orders(job):
+    """The runs in turn that a job of at_once/ may come to, with another operator's section first in each."""
+    text = read(job)
+    for out in sorted(job.parent.glob(f"{job.stem}.*.out")):
+        first = f"%operator {out.stem.rpartition('.')[2]}\n"
+        ordered = sorted(sections(text), key=lambda section: not section.startswith(first))
+        name = f"{out.stem}.job"
+        yield mode(text), name, lines_before(text, "%") + "".join(ordered), read(out), ""
 
 
 def spelled(text):
@@ -92,13 +114,15 @@ def refused(table):
 def wanted():
     """What each file of the crate beside src/ has to hold."""
     jobs = [job for folder in (HERE, HERE / "maps", HERE / "worked") for job in sorted(folder.glob("*.job"))]
-    assert len({job.name for job in jobs}) == len(jobs), "two examples have one name"
+    at_once = sorted((HERE / "at_once").glob("*.job"))
+    names = {job.name for job in jobs + at_once}
+    assert len(names) == len(jobs + at_once), "two examples have one name"
     files, lines, stdout = {}, [], []
-    for job in jobs:
-        for words, name, text, out, err in runs(job):
-            files[CRATE / "data" / name] = text
-            lines.append(f"{words}{name}\n")
-            stdout.append(printed(f"{words}{name}", out, err))
+    each_run = [run for job in jobs for run in runs(job)] + [run for job in at_once for run in orders(job)]
+    for words, name, text, out, err in each_run:
+        files[CRATE / "data" / name] = text
+        lines.append(f"{words}{name}\n")
+        stdout.append(printed(f"{words}{name}", out, err))
     rows = [row for table in sorted((HERE / "refused").glob("*.txt")) for row in refused(table)]
     assert not any(SEPARATOR in text for text, _ in rows), "a job has the byte that separates jobs"
     stdout += [printed(f"refused {number}", "", err) for number, (_, err) in enumerate(rows)]

@@ -6,7 +6,8 @@ use thiserror::Error;
 /// How a job is to be run.
 #[derive(Clone, Copy, Debug, PartialEq, Eq)]
 pub struct Mode {
-    /// Whether the scripts run one after the other, in the order of their sections.
+    /// Whether the scripts run one after the other, in the order of their sections, and not at
+    /// once.
     pub in_turn: bool,
     /// Whether the history is written behind the map.
     pub history: bool,

@@ -39,15 +39,19 @@ Commands, as those of `ceph osd crush`, with weights in Ceph's decimals, 0 to 32
     rename-bucket NAME NAME              gives a bucket another name
     begin, commit                        the commands between are made all, or none
 
+The scripts of several operators run at once; with --in-turn they run one after the other, in the
+order of the job, so that the output is the same each time.
+
 Standard output gets the map after the scripts, and behind it, as comments, a line for each
-command with its answer. A command that is refused changes nothing, and the next one is tried.
+command with its answer, in the order in which they were made. A command that is refused changes
+nothing, and the next one is tried.
 
 Exit status:
     0    the run was done, also where commands were refused
     1    the input is no job, and nothing was written
     2    the command line is refused
     3    reading or writing failed
-    4    there was no memory, and nothing was written
+    4    there was no memory or no thread, and nothing was written
 ";
 
 /// A flag `--NAME`.
@@ -75,7 +79,7 @@ fn file<'a>(alloc: Global) -> Arg<'a>
 fn command<'a>(alloc: Global) -> Result<Command<'a>, AllocError>
     ensures { IfOk result (λ command. app_of command ≡ program) }
 {
-    let in_turn = "Run the scripts one after the other, as they run so far in any case";
+    let in_turn = "Run the operators' scripts one after the other, in the job's order, not at once";
     let no_history = "Write no line for each command behind the map";
     Command::new(alloc, "crushedit")
         .no_binary_name(true)
