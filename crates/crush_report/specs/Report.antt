@@ -43,6 +43,7 @@ run_fault (run.Job f) = if lacks_memory f then out_of_memory else job_fault f
 run_fault run.Read = codes "crushedit: read fault\n"
 run_fault run.Write = codes "crushedit: write fault\n"
 run_fault run.Memory = out_of_memory
+run_fault run.Thread = codes "crushedit: no thread\n"
 
 -- one line, or nothing where all is well and no weight was replaced
 abbrev pub report_line : Result Summary RunFault → List ℕ
@@ -54,8 +55,9 @@ fault_status (run.Job f) = if lacks_memory f then 4 else 1
 fault_status run.Read = 3
 fault_status run.Write = 3
 fault_status run.Memory = 4
+fault_status run.Thread = 4
 
--- 0 where the run was done, 1 for what is no job, 3 where reading or writing failed, 4 for want of memory
+-- 0 where the run was done, 1 for what is no job, 3 where reading or writing failed, 4 for want of memory or of a thread
 abbrev pub status : Result Summary RunFault → ℕ
 status (Ok s) = 0
 status (Err f) = fault_status f

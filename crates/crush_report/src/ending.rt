@@ -82,6 +82,7 @@ fn write_run_fault<E: Write>(fault: RunFault, err: &mut E) -> Result<(), WriteFa
         RunFault::Read => put(err, b"crushedit: read fault\n"),
         RunFault::Write => put(err, b"crushedit: write fault\n"),
         RunFault::Memory => put(err, OUT_OF_MEMORY),
+        RunFault::Thread => put(err, b"crushedit: no thread\n"),
     }
 }
 
@@ -125,6 +126,7 @@ fn write_report<E: Write>(
 /// | 1 | the input is no job | `crushedit: line L: NAME`, `crushedit: byte P: NAME` or `crushedit: TooLong` |
 /// | 3 | reading or writing failed | `crushedit: read fault`, `crushedit: write fault` |
 /// | 4 | a growth was refused, whatever the fault that says so | `crushedit: out of memory` |
+/// | 4 | a worker couldn't be started | `crushedit: no thread` |
 ///
 /// Where writing the line fails, a front of it stands there, and the status is the same.
 pub fn report<E: Write>(outcome: &Result<Summary, RunFault>, err: &mut E) -> u8
@@ -135,7 +137,7 @@ pub fn report<E: Write>(outcome: &Result<Summary, RunFault>, err: &mut E) -> u8
     let _ = write_report(outcome, err);
     match outcome {
         Ok(_) => 0,
-        Err(RunFault::Memory) => 4,
+        Err(RunFault::Memory | RunFault::Thread) => 4,
         Err(RunFault::Job(fault)) if lacks_memory(*fault) => 4,
         Err(RunFault::Job(_)) => 1,
         Err(RunFault::Read | RunFault::Write) => 3,

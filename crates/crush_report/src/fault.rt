@@ -25,6 +25,9 @@ pub enum RunFault {
     /// A growth was refused. Nothing was written.
     #[error("out of memory")]
     Memory,
+    /// A worker couldn't be started. Nothing was written.
+    #[error("no thread")]
+    Thread,
 }
 
 /// Whether the fault is want of memory, of the job or of its text.
