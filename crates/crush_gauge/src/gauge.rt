@@ -118,8 +118,8 @@ impl<O, E, P: Law<O, E>> Gauge<O, E, P> {
         }
     }
 
-    /// An entry joins the history, by one store: from then on each reading gives the pair of a
-    /// history that has it.
+    /// An entry joins the history, by one store: the word is then the pair of the history with it,
+    /// which the book's seat has seen.
     ///
     /// The entry is picked by the proof of the call and no argument. The condition: the history of
     /// the book's seat with this entry is legal and has this pair, of at most
