@@ -12,7 +12,7 @@ use Rattle.crush_report.specs.declared.fault.RunFault.TheVariants as run
 use Rattle.crush_report.specs.declared.fault.RunFault.{RunFault}
 use Rattle.crush_report.specs.declared.summary.Summary.{Summary}
 use Rattle.crush_run.specs.Run.{IsRunFault}
-use Rattle.crush_run.specs.Stages.{IsInputFault, IsOutcomeFault}
+use Rattle.crush_run.specs.Stages.{IsInputFault, IsOutcomeFault, IsScriptsFault}
 
 -- what is read of a short input is all of it
 pub all_read : (bytes all : List ℕ) → bytes ≡ take 16777217 all → length bytes ≤ 16777216 → bytes ≡ all
@@ -30,23 +30,27 @@ pub is_job : (r : Result Summary RunFault) (all : Option (List ℕ)) → IfSome 
 is_job (Err f) all has = tt
 is_job (Ok x) all has = has
 
-pub run_fault_of_job : (r : Result Summary RunFault) (all : Option (List ℕ)) → IfSome all HasJob → IfErr r IsOutcomeFault → IfErr r (IsRunFault all)
-run_fault_of_job (Ok x) all has h = tt
-run_fault_of_job (Err (run.Job f)) all has h = absurd h
-run_fault_of_job (Err run.Read) all has h = absurd h
-run_fault_of_job (Err run.Write) all has h = has
-run_fault_of_job (Err run.Memory) all has h = tt
+pub run_fault_of_job : (in_turn : Bool) (r : Result Summary RunFault) (all : Option (List ℕ)) → IfSome all HasJob → IfErr r (IsOutcomeFault in_turn) → IfErr r (IsRunFault in_turn all)
+run_fault_of_job in_turn (Ok x) all has h = tt
+run_fault_of_job in_turn (Err (run.Job f)) all has h = absurd h
+run_fault_of_job in_turn (Err run.Read) all has h = absurd h
+run_fault_of_job in_turn (Err run.Write) all has h = has
+run_fault_of_job in_turn (Err run.Memory) all has h = tt
+run_fault_of_job in_turn (Err run.Thread) all has h = (h, has)
+
+-- a fault of the scripts is one of the outcome
+pub outcome_fault_of_scripts : (in_turn : Bool) (f : RunFault) → IsScriptsFault in_turn f → IsOutcomeFault in_turn f
+outcome_fault_of_scripts in_turn (run.Job f) h = h
+outcome_fault_of_scripts in_turn run.Read h = h
+outcome_fault_of_scripts in_turn run.Write h = absurd h
+outcome_fault_of_scripts in_turn run.Memory h = h
+outcome_fault_of_scripts in_turn run.Thread h = h
 
 -- whatever job all bytes are, the bytes read are that job
 pub job_of_all : (all : Option (List ℕ)) (bytes xs : List ℕ) (job : JobData) → IfSome all (λ ys. bytes ≡ take 16777217 ys) → length bytes ≤ 16777216 → all ≡ Some xs → IsJob xs job → IsJob bytes job
 job_of_all all bytes xs job e short is_xs is =
     let front : bytes ≡ take 16777217 xs = subst (λ (o : Option (List ℕ)). IfSome o (λ ys. bytes ≡ take 16777217 ys)) is_xs e in
     subst (λ (z : List ℕ). IsJob z job) (sym (all_read bytes xs front short)) is
-
--- what holds of the summary for a job
-pub summary_for : (r : Result Summary RunFault) (P : JobData → Type 0) (job : JobData) (of : JobData → Summary) → IfOk r (λ summary. (read : JobData) → P read → summary ≡ of read) → P job → IfOk r (λ summary. summary ≡ of job)
-summary_for (Ok x) P job of told h = told job h
-summary_for (Err f) P job of told h = tt
 
 -- after a fault before anything was written, nothing is a front of the output
 pub nothing_written : (r : Result Summary RunFault) (f : RunFault) (old : Option (List ℕ)) (text : List ℕ) → r ≡ Err f → Writes r old old text
@@ -63,24 +67,25 @@ too_long None bytes e h = tt
 too_long (Some xs) bytes e h = omega (arith, h, ap length e, length-take 16777217 xs)
 
 -- a fault of the bytes, as one of the run
-pub is_run_fault : (all : Option (List ℕ)) (bytes : List ℕ) (f : JobFault) → IfSome all (λ xs. bytes ≡ take 16777217 xs) → IsJobFault bytes f → IsRunFault all (of_job f)
-is_run_fault all bytes (BadLine n) e h = (refl, fault_of_all all bytes (BadLine n) e h.short h)
-is_run_fault all bytes (NoSuchCommand n) e h = (refl, fault_of_all all bytes (NoSuchCommand n) e h.short h)
-is_run_fault all bytes (OpenBatch n) e h = (refl, fault_of_all all bytes (OpenBatch n) e h.short h)
-is_run_fault all bytes (TooManyOperators n) e h = (refl, fault_of_all all bytes (TooManyOperators n) e h.short h)
-is_run_fault all bytes (DuplicateOperator n) e h = (refl, fault_of_all all bytes (DuplicateOperator n) e h.short h)
-is_run_fault all bytes (TooManyCalls n) e h = (refl, fault_of_all all bytes (TooManyCalls n) e h.short h)
-is_run_fault all bytes (Text f) e h = by_want (is_want f.kind) refl
+pub is_run_fault : (in_turn : Bool) (all : Option (List ℕ)) (bytes : List ℕ) (f : JobFault) → IfSome all (λ xs. bytes ≡ take 16777217 xs) → IsJobFault bytes f → IsRunFault in_turn all (of_job f)
+is_run_fault in_turn all bytes (BadLine n) e h = (refl, fault_of_all all bytes (BadLine n) e h.short h)
+is_run_fault in_turn all bytes (NoSuchCommand n) e h = (refl, fault_of_all all bytes (NoSuchCommand n) e h.short h)
+is_run_fault in_turn all bytes (OpenBatch n) e h = (refl, fault_of_all all bytes (OpenBatch n) e h.short h)
+is_run_fault in_turn all bytes (TooManyOperators n) e h = (refl, fault_of_all all bytes (TooManyOperators n) e h.short h)
+is_run_fault in_turn all bytes (DuplicateOperator n) e h = (refl, fault_of_all all bytes (DuplicateOperator n) e h.short h)
+is_run_fault in_turn all bytes (TooManyCalls n) e h = (refl, fault_of_all all bytes (TooManyCalls n) e h.short h)
+is_run_fault in_turn all bytes (Text f) e h = by_want (is_want f.kind) refl
   where
-    by_want : (b : Bool) → is_want f.kind ≡ b → IsRunFault all (cond b run.Memory (run.Job (Text f)))
+    by_want : (b : Bool) → is_want f.kind ≡ b → IsRunFault in_turn all (cond b run.Memory (run.Job (Text f)))
     by_want true k = tt
     by_want false k = (k, fault_of_all all bytes (Text f) e h.short h)
-is_run_fault all bytes TooLong e h = (refl, too_long all bytes e h)
-is_run_fault all bytes OutOfMemory e h = tt
+is_run_fault in_turn all bytes TooLong e h = (refl, too_long all bytes e h)
+is_run_fault in_turn all bytes OutOfMemory e h = tt
 
 -- no fault of reading is one of the bytes
-pub run_fault_of_input : (f : RunFault) (all : Option (List ℕ)) → IsInputFault f → IsRunFault all f
-run_fault_of_input (run.Job f) all h = absurd h
-run_fault_of_input run.Read all h = tt
-run_fault_of_input run.Write all h = absurd h
-run_fault_of_input run.Memory all h = tt
+pub run_fault_of_input : (in_turn : Bool) (f : RunFault) (all : Option (List ℕ)) → IsInputFault f → IsRunFault in_turn all f
+run_fault_of_input in_turn (run.Job f) all h = absurd h
+run_fault_of_input in_turn run.Read all h = tt
+run_fault_of_input in_turn run.Write all h = absurd h
+run_fault_of_input in_turn run.Memory all h = tt
+run_fault_of_input in_turn run.Thread all h = absurd h

@@ -1,31 +1,44 @@
 -- The run of a job: what its contract says, on one page.
-use Rattle.std.specs.Prelude.{◌≡◌, ◌≤◌, ◌+◌, ℕ, Option, IfSome, List, Bool, false, if◌then◌else◌, length}
+use Rattle.std.specs.Prelude.{◌≡◌, ◌≤◌, ◌+◌, ℕ, Option, Result, IfOk, IfSome, List, Bool, true, false, if◌then◌else◌, length}
 use Rattle.std.specs.Io.KnownBytes.{Consumes}
 use Rattle.crush_units.specs.declared.limits.TheConstants.{LONGEST_JOB}
+use Rattle.crush_bytes.specs.Writes.{Writes}
 use Rattle.crush_print.specs.MapText.{map_text}
-use Rattle.crush_calls.specs.History.{EntryData, table_after, changes, turns}
+use Rattle.crush_calls.specs.History.{EntryData, IsLegal, of_operator, table_after, changes, turns}
+use Rattle.crush_calls.specs.Turns.{calls_at, calls_of}
 use Rattle.crush_script.specs.JobText.{job_text}
 use Rattle.crush_calls.specs.HistoryText.{names_of}
 use Rattle.crush_script.specs.Job.{JobData, HasJob, IsJobFault}
 use Rattle.crush_script.specs.declared.fault.JobFault.{JobFault}
+use Rattle.crush_options.specs.declared.asked.Mode.{Mode}
 use Rattle.crush_report.specs.Faults.{lacks_memory}
 use Rattle.crush_report.specs.declared.fault.RunFault.{RunFault}
 use Rattle.crush_report.specs.declared.fault.RunFault.TheVariants as run
 use Rattle.crush_report.specs.declared.summary.Summary.{Summary}
 
--- the history of a job: the calls of its scripts, one script after the other, each with the reply of the table at that point
-abbrev pub history_of : JobData → List EntryData
-history_of job = turns job.setting job.table job.scripts
+-- RUN: a history of a job. Each reply is the table's at that point; the calls of each operator are its script's, in order, and
+-- there are no others; in turn the scripts run one after the other
+pub record IsRunOf (in_turn : Bool) (job : JobData) (h : List EntryData) : Type 0 where
+  pub legal : IsLegal job.setting job.table h
+  pub calls : (k : ℕ) → calls_of (of_operator k h) ≡ calls_at job.scripts k
+  pub order : in_turn ≡ true → h ≡ turns job.setting job.table job.scripts
 
--- OUTPUT: the map after that history and, where it is asked for, a line for each of its entries
-abbrev pub output : Bool → JobData → List ℕ
-output history job =
-    if history then job_text job.setting job.table (names_of job.scripts) (history_of job)
-    else map_text job.setting (table_after job.setting job.table (history_of job))
+-- OUTPUT: the map after the history and, where it is asked for, a line for each of its entries
+abbrev pub output_of : Bool → JobData → List EntryData → List ℕ
+output_of history job h =
+    if history then job_text job.setting job.table (names_of job.scripts) h
+    else map_text job.setting (table_after job.setting job.table h)
 
 -- SUMMARY: the written weights that were replaced, the calls, and those that changed the map
-abbrev pub summary_of : JobData → Summary
-summary_of job = record { adjusted = job.adjusted; calls = length (history_of job); changes = changes (history_of job) }
+abbrev pub summary_of : JobData → List EntryData → Summary
+summary_of job h = record { adjusted = job.adjusted; calls = length h; changes = changes h }
+
+-- ENDS: there is a run of the job whose output is written, or after a fault a front of it, and which the summary sums up
+pub record Ends (mode : Mode) (job : JobData) (result : Result Summary RunFault) (old new : Option (List ℕ)) : Type 0 where
+  pub history : List EntryData
+  pub run : IsRunOf mode.in_turn job history
+  pub writes : Writes result old new (output_of mode.history job history)
+  pub summary : IfOk result (λ (s : Summary). s ≡ summary_of job history)
 
 -- TAKEN: of the reader's bytes no more are taken than the longest job has and one more, its first
 abbrev pub TakesFew : Option (List ℕ) → Option (List ℕ) → Type 0
@@ -35,9 +48,10 @@ TakesFew old new = (front : List ℕ) × (length front ≤ LONGEST_JOB + 1) × C
 abbrev pub IsRefusal : Option (List ℕ) → JobFault → Type 0
 IsRefusal all fault = (lacks_memory fault ≡ false) × IfSome all (λ bytes. IsJobFault bytes fault)
 
--- when each fault is told: Job of bytes that are no job, Write only of bytes that are one
-abbrev pub IsRunFault : Option (List ℕ) → RunFault → Type 0
-IsRunFault all (run.Job fault) = IsRefusal all fault
-IsRunFault all run.Write = IfSome all HasJob
-IsRunFault all run.Read = Unit {0}
-IsRunFault all run.Memory = Unit {0}
+-- when each fault is told: Job of bytes that are no job, Write and Thread only of bytes that are one, and Thread never in turn
+abbrev pub IsRunFault : Bool → Option (List ℕ) → RunFault → Type 0
+IsRunFault in_turn all (run.Job fault) = IsRefusal all fault
+IsRunFault in_turn all run.Write = IfSome all HasJob
+IsRunFault in_turn all run.Read = Unit {0}
+IsRunFault in_turn all run.Memory = Unit {0}
+IsRunFault in_turn all run.Thread = (in_turn ≡ false) × IfSome all HasJob

@@ -1,9 +1,13 @@
--- The stages of a run: which faults may come at which.
-use Rattle.std.specs.Prelude.{ℕ, List, Bool, if◌then◌else◌, []}
-use Rattle.crush_calls.specs.History.{EntryData}
+-- The stages of a run: what comes of each, and which faults may come at which.
+use Rattle.std.specs.Prelude.{◌≡◌, ℕ, List, Bool, false, if◌then◌else◌, []}
+use Rattle.crush_map.specs.MapData.{MapData, MapStands}
+use Rattle.crush_calls.specs.History.{EntryData, table_after}
 use Rattle.crush_calls.specs.HistoryText.{entries_text}
+use Rattle.crush_calls.specs.Script.{ScriptData}
+use Rattle.crush_script.specs.Job.{JobData}
 use Rattle.crush_report.specs.declared.fault.RunFault.{RunFault}
 use Rattle.crush_report.specs.declared.fault.RunFault.TheVariants as run
+use Rattle.crush_run.specs.Run.{IsRunOf}
 
 -- what may fail while the bytes are read
 abbrev pub IsInputFault : RunFault → Type 0
@@ -11,13 +15,39 @@ IsInputFault (run.Job fault) = ⊥
 IsInputFault run.Read = Unit {0}
 IsInputFault run.Write = ⊥
 IsInputFault run.Memory = Unit {0}
+IsInputFault run.Thread = ⊥
+
+-- what may fail while operators are at work at once
+abbrev pub IsAtOnceFault : RunFault → Type 0
+IsAtOnceFault (run.Job fault) = ⊥
+IsAtOnceFault run.Read = ⊥
+IsAtOnceFault run.Write = ⊥
+IsAtOnceFault run.Memory = Unit {0}
+IsAtOnceFault run.Thread = Unit {0}
+
+-- what may fail while the scripts run: in turn they want no thread
+abbrev pub IsScriptsFault : Bool → RunFault → Type 0
+IsScriptsFault in_turn (run.Job fault) = ⊥
+IsScriptsFault in_turn run.Read = ⊥
+IsScriptsFault in_turn run.Write = ⊥
+IsScriptsFault in_turn run.Memory = Unit {0}
+IsScriptsFault in_turn run.Thread = in_turn ≡ false
 
 -- what may fail once the job is read
-abbrev pub IsOutcomeFault : RunFault → Type 0
-IsOutcomeFault (run.Job fault) = ⊥
-IsOutcomeFault run.Read = ⊥
-IsOutcomeFault run.Write = Unit {0}
-IsOutcomeFault run.Memory = Unit {0}
+abbrev pub IsOutcomeFault : Bool → RunFault → Type 0
+IsOutcomeFault in_turn (run.Job fault) = ⊥
+IsOutcomeFault in_turn run.Read = ⊥
+IsOutcomeFault in_turn run.Write = Unit {0}
+IsOutcomeFault in_turn run.Memory = Unit {0}
+IsOutcomeFault in_turn run.Thread = in_turn ≡ false
+
+-- what scripts leave of a map, whatever job they and the map stand for: a run of the job, and the map after its history
+pub record HaveRun (in_turn : Bool) (job : JobData) (after : MapData) (h : List EntryData) : Type 0 where
+  pub run : IsRunOf in_turn job h
+  pub stands : MapStands after job.setting (table_after job.setting job.table h)
+
+abbrev pub RunsScripts : Bool → MapData → List ScriptData → MapData → List EntryData → Type 0
+RunsScripts in_turn map scripts after h = (job : JobData) → MapStands map job.setting job.table → scripts ≡ job.scripts → HaveRun in_turn job after h
 
 -- the lines of entries, where they are asked for
 abbrev pub lines_asked : Bool → List (List ℕ) → List EntryData → List ℕ

@@ -1,7 +1,11 @@
 //! The run of a job, from the bytes read to the bytes written.
 #![tactic(auto)]
 
+mod at_once;
+mod gate;
+mod in_turn;
 mod input;
 mod run;
 
+pub use gate::{Gate, NoGate};
 pub use run::run_job;

@@ -9,14 +9,18 @@ ghost use Rattle.crush_bytes.specs.Writes.{Writes};
 ghost use Rattle.crush_calls.specs.Entries.{AreOf};
 ghost use Rattle.crush_calls.specs.HistoryText.{names_of};
 ghost use Rattle.crush_script.specs.Job.{HasJob, IsJob, JobData, JobStands};
-ghost use Rattle.crush_calls.specs.Script.{scripts_data, call_count};
-ghost use Rattle.crush_run.specs.Run.{IsRunFault, TakesFew, output, summary_of};
-ghost use Rattle.crush_run.specs.Stages.{IsOutcomeFault, lines_asked};
-ghost use Rattle.crush_units.specs.declared.limits.TheConstants.{MOST_CALLS, MOST_ENTRIES};
+ghost use Rattle.crush_calls.specs.Script.{scripts_data};
+ghost use Rattle.crush_run.specs.Run.{Ends, IsRunFault, TakesFew};
+ghost use Rattle.crush_run.specs.Stages.{IsOutcomeFault, IsScriptsFault, RunsScripts, lines_asked};
+ghost use Rattle.crush_units.specs.declared.limits.TheConstants.{MOST_ENTRIES, MOST_OPERATORS};
 
+use crate::at_once::run_at_once;
+use crate::gate::Gate;
+use crate::in_turn::run_in_turn;
 use crate::input::read_bytes;
 use crush_bytes::put;
-use crush_calls::{Entry, Script, count_changes, history_text, run_in_turn};
+use crush_calls::{Entry, Script, count_changes, history_text};
+use crush_editor::Closed;
 use crush_map::CrushMap;
 use crush_options::Mode;
 use crush_print::write_map;
@@ -24,6 +28,8 @@ use crush_report::{RunFault, Summary};
 use crush_script::{Job, read_job};
 use std::alloc::{AllocError, Global};
 use std::io::{Read, Write};
+use std::sync::Wait;
+use std::thread::Threads;
 
 /// The lines of the history, where they are asked for.
 fn lines_asked(
@@ -47,7 +53,7 @@ fn lines_asked(
 /// anything is written.
 fn write_outcome<W: Write>(
     alloc: Global,
-    history: bool,
+    mode: Mode,
     map: &CrushMap<Global>,
     scripts: &[Script],
     entries: &[Entry],
@@ -58,60 +64,86 @@ fn write_outcome<W: Write>(
     ensures writes { (t : List Row) → Stands map.now.forest t
         → Writes result (W.contents writer.old) (W.contents writer.new)
         (map_text map.now.setting t
-        ++ lines_asked history (names_of (scripts_data scripts.now)) entries.now) }
+        ++ lines_asked mode.history (names_of (scripts_data scripts.now)) entries.now) }
     ensures nothing { IfErr result (λ fault. fault ≢ RunFault.Write
         → Keeps (W.contents writer.old) (W.contents writer.new)) }
-    ensures fault { IfErr result IsOutcomeFault }
+    ensures fault { IfErr result (IsOutcomeFault mode.in_turn) }
 {
-    let lines = lines_asked(alloc, history, scripts, entries)?;
+    let lines = lines_asked(alloc, mode.history, scripts, entries)?;
     write_map(alloc, map, writer)?;
     put(writer, lines.as_slice())?;
     Ok(())
 }
 
-/// Runs the scripts of a job one after the other, and writes what comes of them.
-fn run_scripts<W: Write>(
-    alloc: Global,
+/// Runs the scripts, at once where that is asked for and there are any.
+fn run_scripts<H: AllocGlobal + Threads + Wait + Sync, G: Gate + Sync>(
+    rt: &H,
+    gate: &G,
+    in_turn: bool,
+    map: CrushMap<Global>,
+    scripts: &[Script],
+) -> Result<Closed<Global>, RunFault>
+    requires few { length scripts.now ≤ MOST_OPERATORS }
+    ensures runs { IfOk result (λ c.
+        RunsScripts in_turn map (scripts_data scripts.now) c.map c.history.items) }
+    ensures operators { IfOk result (λ c. AreOf (length scripts.now) c.history.items) }
+    ensures few { IfOk result (λ c. length c.history.items ≤ MOST_ENTRIES) }
+    ensures fault { IfErr result (IsScriptsFault in_turn) }
+{
+    let alloc = rt.alloc();
+    if in_turn || scripts.is_empty() {
+        return run_in_turn(rt, alloc, gate, map, scripts);
+    }
+    run_at_once(rt, alloc, gate, map, scripts)
+}
+
+/// Runs the scripts of a job that was read, and writes what comes of them.
+fn run_read<H: AllocGlobal + Threads + Wait + Sync, G: Gate + Sync, W: Write>(
+    rt: &H,
+    gate: &G,
     mode: Mode,
-    job: &mut Job,
+    job: Job,
     writer: &mut W,
 ) -> Result<Summary, RunFault>
-    requires { call_count (scripts_data job.old.scripts.items) ≤ MOST_CALLS }
-    ensures writes { (read : JobData) → JobStands job.old read
-        → Writes result (W.contents writer.old) (W.contents writer.new)
-        (output mode.history read) }
-    ensures summary { IfOk result (λ summary. (read : JobData) → JobStands job.old read
-        → summary ≡ summary_of read) }
+    requires few { length job.scripts.items ≤ MOST_OPERATORS }
+    ensures ends { (read : JobData) → JobStands job read
+        → Ends mode read result (W.contents writer.old) (W.contents writer.new) }
     ensures nothing { IfErr result (λ fault. fault ≢ RunFault.Write
         → Keeps (W.contents writer.old) (W.contents writer.new)) }
-    ensures fault { IfErr result IsOutcomeFault }
+    ensures fault { IfErr result (IsOutcomeFault mode.in_turn) }
 {
-    let scripts = job.scripts.as_slice();
-    let entries = run_in_turn(alloc, &mut job.map, scripts)?;
-    write_outcome(
-        alloc,
-        mode.history,
-        &job.map,
+    let Job {
+        map,
+        adjusted,
         scripts,
-        entries.as_slice(),
-        writer,
-    )?;
+    } = job;
+    let scripts = scripts.as_slice();
+    let closed = run_scripts(rt, gate, mode.in_turn, map, scripts)?;
+    let entries = closed.history.as_slice();
+    write_outcome(rt.alloc(), mode, &closed.map, scripts, entries, writer)?;
     Ok(Summary {
-        adjusted: job.adjusted,
+        adjusted,
         calls: entries.len() as u32,
-        changes: count_changes(entries.as_slice()),
+        changes: count_changes(entries),
     })
 }
 
 /// Reads a job, runs the scripts of its operators, and writes the map after them and, where the
 /// mode asks for it, a line for each call with its reply.
 ///
+/// In turn the scripts run one after the other, in the order of their sections, so that what is
+/// written is a function of the bytes read. Otherwise each operator has a thread of its own, and
+/// the calls come in an order that nothing but their scripts orders. The gate is called before and
+/// after each call.
+///
 /// After [`RunFault::Write`] a front of the output was written, after any other fault nothing.
 /// [`RunFault::Job`] says what is wrong with the bytes, and never that memory lacked, which is
-/// [`RunFault::Memory`]; of bytes that are no job it is never told that a write failed. The reader
-/// is asked for at most 16,777,217 bytes, at most that many times.
-pub fn run_job<H: AllocGlobal, R: Read, W: Write>(
+/// [`RunFault::Memory`]; of bytes that are no job it is never told that a write failed, nor that a
+/// thread couldn't be started, which is [`RunFault::Thread`] and never told in turn. The reader is
+/// asked for at most 16,777,217 bytes, at most that many times.
+pub fn run_job<H: AllocGlobal + Threads + Wait + Sync, G: Gate + Sync, R: Read, W: Write>(
     rt: &H,
+    gate: &G,
     mode: Mode,
     reader: &mut R,
     writer: &mut W,
@@ -119,15 +151,11 @@ pub fn run_job<H: AllocGlobal, R: Read, W: Write>(
     // Where the run is done, what was read is a job.
     ensures job { IfOk result (λ _. IfSome (R.remaining reader.old) HasJob) }
 
-    // For whatever job the bytes are, what is written is its output, or after a fault a front of
-    // it. So the output is a function of the bytes.
+    // For whatever job the bytes are, there is a run of it whose output is written, or after a
+    // fault a front of that, and which the summary sums up.
     ensures output { (bytes : List ℕ) (job : JobData) → R.remaining reader.old ≡ Some bytes
-        → IsJob bytes job → Writes result (W.contents writer.old) (W.contents writer.new)
-        (output mode.history job) }
-
-    // And the summary is that of its history.
-    ensures summary { (bytes : List ℕ) (job : JobData) → R.remaining reader.old ≡ Some bytes
-        → IsJob bytes job → IfOk result (λ summary. summary ≡ summary_of job) }
+        → IsJob bytes job
+        → Ends mode job result (W.contents writer.old) (W.contents writer.new) }
 
     // Only a failed write leaves anything.
     ensures nothing { IfErr result (λ fault. fault ≢ RunFault.Write
@@ -136,13 +164,13 @@ pub fn run_job<H: AllocGlobal, R: Read, W: Write>(
     // However it ends, little more than the longest job is taken of the reader.
     ensures taken { TakesFew (R.remaining reader.old) (R.remaining reader.new) }
 
-    // Bytes are refused for what is wrong with them, and only a job's are written of.
-    ensures fault { IfErr result (IsRunFault (R.remaining reader.old)) }
+    // Bytes are refused for what is wrong with them, and only a job's are run and written of.
+    ensures fault { IfErr result (IsRunFault mode.in_turn (R.remaining reader.old)) }
 {
     let alloc = rt.alloc();
     let bytes = read_bytes(alloc, reader)?;
     match read_job(alloc, bytes.as_slice()) {
-        Ok(mut job) => run_scripts(alloc, mode, &mut job, writer),
+        Ok(job) => run_read(rt, gate, mode, job, writer),
         Err(fault) => Err(RunFault::from(fault)),
     }
 }

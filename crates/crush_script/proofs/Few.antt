@@ -1,5 +1,5 @@
--- A job has at most 65,536 calls.
-use Rattle.std.proofs.Common.{◌≡◌, ℕ, ◌+◌, ◌<◌, ◌≤◌, Bool, true, false, List, [], ◌∷◌, ◌++◌, Option, Some, None, Ok, length, nat_le, refl, ap, arith, rules, tests, length-append}
+-- A job has at most 16 scripts and 65,536 calls.
+use Rattle.std.proofs.Common.{◌≡◌, ℕ, suc, ◌+◌, ◌<◌, ◌≤◌, Bool, true, false, List, [], ◌∷◌, ◌++◌, Option, Some, None, Ok, length, nat_le, refl, ap, arith, rules, tests, length-append}
 use Rattle.std.specs.Prelude.{IfOk}
 use Rattle.std.proofs.lemmas.List.Sums.{sum_by-append, sum_by-cons}
 use Rattle.crush_edits.specs.declared.edit.Edit.{Edit}
@@ -19,15 +19,17 @@ abbrev open_calls : Option BegunBatch → ℕ
 open_calls None = 0
 open_calls (Some b) = 1
 
--- the calls are counted, and they are few
+-- the calls are counted, and they and the scripts are few
 record IsFew (s : SectionsData) : Type 0 where
   counted : call_count s.scripts + open_calls s.begun ≤ s.calls
   few : s.calls ≤ 65536
+  scripts : length s.scripts ≤ 16
 
 -- the same where one more is counted already
 record IsFewer (s : SectionsData) : Type 0 where
   counted : call_count s.scripts + open_calls s.begun + 1 ≤ s.calls
   few : s.calls ≤ 65536
+  scripts : length s.scripts ≤ 16
 
 -- the last script has one more call, if there is one
 call_count-call_in_last : (c : Call) (scripts : List ScriptData) → call_count (call_in_last c scripts) ≤ call_count scripts + 1
@@ -39,6 +41,11 @@ call_count-call_in_last c (s ∷ r ∷ rest) =
     let old : call_count (s ∷ r ∷ rest) ≡ length s.calls + call_count (r ∷ rest) = sum_by-cons (λ (x : ScriptData). length x.calls) s (r ∷ rest) in
     omega (arith, below, new, old)
 
+length-call_in_last : (c : Call) (scripts : List ScriptData) → length (call_in_last c scripts) ≡ length scripts
+length-call_in_last c [] = refl
+length-call_in_last c (s ∷ []) = refl
+length-call_in_last c (s ∷ r ∷ rest) = ap suc (length-call_in_last c (r ∷ rest))
+
 closed_few : (s : SectionsData) → IsFew s → IfOk (closed s) IsFew
 closed_few s few = at s.begun
   where
@@ -48,9 +55,16 @@ closed_few s few = at s.begun
 
 section_few : (number : ℕ) (s : SectionsData) (name : List ℕ) → IsFew s → IfOk (with_section number s name) IsFew
 section_few number s name few =
-    let new : ScriptData = record { name = name; calls = [] } in
-    let same : call_count (s.scripts ++ new ∷ []) ≡ call_count s.scripts + 0 = sum_by-append (λ (x : ScriptData). length x.calls) s.scripts (new ∷ []) in
-    if_ok-else _ _ (nat_le 16 (length s.scripts)) IsFew (if_ok-else _ _ (has_operator s.scripts name) IsFew (record { counted = omega (arith, same, few.counted); few = few.few }))
+    at (nat_le 16 (length s.scripts)) refl
+  where
+    at : (b : Bool) → nat_le 16 (length s.scripts) ≡ b → IfOk (with_section number s name) IsFew
+    at true e = rw e tt
+    at false e =
+        let new : ScriptData = record { name = name; calls = [] } in
+        let same : call_count (s.scripts ++ new ∷ []) ≡ call_count s.scripts + 0 = sum_by-append (λ (x : ScriptData). length x.calls) s.scripts (new ∷ []) in
+        let less : length s.scripts < 16 = search (rules, tests) in
+        let long = length-append s.scripts (new ∷ []) in
+        rw e (if_ok-else _ _ (has_operator s.scripts name) IsFew (record { counted = omega (arith, same, few.counted); few = few.few; scripts = omega (arith, long) }))
 
 counted_fewer : (number : ℕ) (s : SectionsData) → IsFew s → IfOk (counted number s) IsFewer
 counted_fewer number s few = at (nat_le 65536 s.calls) refl
@@ -59,23 +73,23 @@ counted_fewer number s few = at (nat_le 65536 s.calls) refl
     at true e = rw e tt
     at false e =
         let less : s.calls < 65536 = search (rules, tests) in
-        rw e (record { counted = omega (arith, few.counted); few = omega arith })
+        rw e (record { counted = omega (arith, few.counted); few = omega arith; scripts = few.scripts })
 
 call_few : (s : SectionsData) (c : Call) → IsFewer s → IsFew (with_call c s)
-call_few s c fewer = record { counted = omega (arith, call_count-call_in_last c s.scripts, fewer.counted); few = fewer.few }
+call_few s c fewer = record { counted = omega (arith, call_count-call_in_last c s.scripts, fewer.counted); few = fewer.few; scripts = omega (arith, fewer.scripts, length-call_in_last c s.scripts) }
 
 edit_few : (number : ℕ) (s : SectionsData) (o : Option BegunBatch) (e : Edit) → o ≡ s.begun → IsFew s → IfOk (with_edit number s o e) IsFew
 edit_few number s None e is few = bind-if_ok_at (counted number s) (λ more. Ok (with_call (One e) more)) IsFew IsFewer (counted_fewer number s few) (λ more fewer. call_few more (One e) fewer)
-edit_few number s (Some b) e is few = if_ok-else _ _ (nat_le 65536 (length b.edits)) IsFew (record { counted = omega (arith, few.counted, ap open_calls is); few = few.few })
+edit_few number s (Some b) e is few = if_ok-else _ _ (nat_le 65536 (length b.edits)) IsFew (record { counted = omega (arith, few.counted, ap open_calls is); few = few.few; scripts = few.scripts })
 
 begin_few : (number : ℕ) (s : SectionsData) (o : Option BegunBatch) → IsFew s → IfOk (with_begin number s o) IsFew
 begin_few number s None few =
-    bind-if_ok_at (counted number s) (λ more. Ok (record more { begun = Some (record { line = number; edits = [] }) })) IsFew IsFewer (counted_fewer number s few) (λ more fewer. record { counted = omega (arith, fewer.counted); few = fewer.few })
+    bind-if_ok_at (counted number s) (λ more. Ok (record more { begun = Some (record { line = number; edits = [] }) })) IsFew IsFewer (counted_fewer number s few) (λ more fewer. record { counted = omega (arith, fewer.counted); few = fewer.few; scripts = fewer.scripts })
 begin_few number s (Some b) few = tt
 
 commit_few : (number : ℕ) (s : SectionsData) (o : Option BegunBatch) → o ≡ s.begun → IsFew s → IfOk (with_commit number s o) IsFew
 commit_few number s None is few = tt
-commit_few number s (Some b) is few = record { counted = omega (arith, few.counted, ap open_calls is, call_count-call_in_last (Batch b.edits) s.scripts); few = few.few }
+commit_few number s (Some b) is few = record { counted = omega (arith, few.counted, ap open_calls is, call_count-call_in_last (Batch b.edits) s.scripts); few = few.few; scripts = omega (arith, few.scripts, length-call_in_last (Batch b.edits) s.scripts) }
 
 command_few : (number : ℕ) (s : SectionsData) (c : Command) → IsFew s → IfOk (with_command number s c) IsFew
 command_few number s says.Nothing few = few
@@ -96,8 +110,12 @@ lines_few number s [] few = closed_few s few
 lines_few number s (text ∷ rest) few =
     bind-if_ok_at (with_line number s text) (λ next. with_lines (number + 1) next rest) IsFew IsFew (line_few number s text few) (λ next h. lines_few (number + 1) next rest h)
 
--- however the lines of a job go on, its scripts have few calls
+-- however the lines of a job go on, its scripts are few and have few calls
+all_few : (number : ℕ) (lines : List (List ℕ)) (s : SectionsData) → with_lines number no_sections lines ≡ Ok s → IsFew s
+all_few number lines s is = if_ok-at (with_lines number no_sections lines) s IsFew is (lines_few number no_sections lines (record { counted = omega arith; few = omega arith; scripts = omega arith }))
+
 pub calls_few : (number : ℕ) (lines : List (List ℕ)) (s : SectionsData) → with_lines number no_sections lines ≡ Ok s → call_count s.scripts ≤ 65536
-calls_few number lines s is =
-    let few : IsFew s = if_ok-at (with_lines number no_sections lines) s IsFew is (lines_few number no_sections lines (record { counted = omega arith; few = omega arith })) in
-    omega (arith, few.counted, few.few)
+calls_few number lines s is = let few = all_few number lines s is in omega (arith, few.counted, few.few)
+
+pub scripts_few : (number : ℕ) (lines : List (List ℕ)) (s : SectionsData) → with_lines number no_sections lines ≡ Ok s → length s.scripts ≤ 16
+scripts_few number lines s is = (all_few number lines s is).scripts

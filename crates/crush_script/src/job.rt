@@ -1,6 +1,6 @@
 //! Jobs: a map's text, and behind it the scripts of its operators.
 
-ghost use Rattle.std.specs.Prelude.{◌≡◌, ◌≤◌, ℕ, List, IfOk, IfErr};
+ghost use Rattle.std.specs.Prelude.{◌≡◌, ◌≤◌, ℕ, List, IfOk, IfErr, length};
 ghost use Rattle.crush_table.specs.Table.{Row};
 ghost use Rattle.crush_edits.specs.Setting.{SettingData};
 ghost use Rattle.crush_table.specs.Stands.{Stands};
@@ -10,7 +10,7 @@ ghost use Rattle.crush_script.specs.Lines.{map_part};
 ghost use Rattle.crush_calls.specs.Script.{scripts_data, call_count};
 ghost use Rattle.crush_script.specs.Job.{IsJob, IsJobFault, JobData, JobStands};
 ghost use Rattle.crush_script.specs.MapPart.{IsMapFault};
-ghost use Rattle.crush_units.specs.declared.limits.TheConstants.{MOST_CALLS};
+ghost use Rattle.crush_units.specs.declared.limits.TheConstants.{MOST_CALLS, MOST_OPERATORS};
 
 use crate::fault::JobFault;
 use crate::line::{cut_job, line_feeds};
@@ -82,7 +82,8 @@ pub fn read_job(alloc: Global, bytes: &[u8]) -> Result<Job, JobFault>
         → IfErr result (λ fault. fault ≡ JobFault.OutOfMemory) }
     ensures fault { IfErr result (IsJobFault bytes.now) }
 
-    // A job has at most 65,536 calls.
+    // A job has at most 16 scripts, and 65,536 calls in all.
+    ensures operators { IfOk result (λ read. length read.scripts.items ≤ MOST_OPERATORS) }
     ensures few { IfOk result (λ read. call_count (scripts_data read.scripts.items) ≤ MOST_CALLS) }
 {
     if bytes.len() > LONGEST_JOB {

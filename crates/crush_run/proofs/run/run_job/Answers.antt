@@ -2,9 +2,9 @@ use Rattle.std.proofs.Common.{◌≡◌, refl, sym, subst, List, ℕ, Option, So
 use Rattle.std.specs.Prelude.{IfSome}
 use Rattle.std.specs.Io.KnownBytes.{Keeps}
 use Rattle.std.proofs.lemmas.Result.{err_from_is_err_and}
-use Rattle.crush_script.specs.Job.{JobStands}
-use Rattle.crush_run.specs.Run.{IsRunFault, summary_of}
-use Rattle.crush_run.proofs.Told.{has_job, is_job, job_of_all, summary_for, is_run_fault, run_fault_of_job, run_fault_of_input, nothing_written}
+use Rattle.crush_run.specs.Run.{IsRunFault}
+use Rattle.crush_run.proofs.Told.{has_job, is_job, job_of_all, is_run_fault, run_fault_of_job, run_fault_of_input}
+use Rattle.crush_run.proofs.Runs.{ended_early}
 use Rattle.crush_run.proofs.run.run_job.Goals as goal
 
 -- the bytes that were read, as those that the job is read from
@@ -14,16 +14,16 @@ as_read all vec bytes e h = subst (λ (z : List ℕ). IfSome all (λ xs. z ≡ t
 pub returns-in_err-bytes-clause-fault : goal.returns-in_err-bytes-clause-fault
 returns-in_err-bytes-clause-fault g c =
     let p = err_from_is_err_and c.from_residual.result c.from_residual.ensures.1 in
-    rw (p.1, p.2) (run_fault_of_input _ _ c.in_err-bytes.ensures.fault)
+    rw (p.1, p.2) (run_fault_of_input c.args.mode.in_turn _ _ c.in_err-bytes.ensures.fault)
 
 pub returns-in_err-bytes-clause-output : goal.returns-in_err-bytes-clause-output
 returns-in_err-bytes-clause-output g c = λ bytes job all is.
     let p = err_from_is_err_and c.from_residual.result c.from_residual.ensures.1 in
-    nothing_written _ _ _ _ p.1
+    ended_early c.args.mode job _ _ _ p.1
 
 -- where there is no job, nothing was written, and the fault is one of the bytes
 pub returns-clause-output : goal.returns-clause-output
-returns-clause-output g c = λ bytes job all is. nothing_written _ c.from.result _ _ refl
+returns-clause-output g c = λ bytes job all is. ended_early c.args.mode job _ c.from.result _ refl
 
 kept : (bytes : Option (List ℕ)) → Keeps bytes bytes
 kept None = tt
@@ -35,28 +35,22 @@ returns-clause-nothing g c = λ told. kept (g.W.Write.contents c.args.writer.now
 pub returns-clause-fault : goal.returns-clause-fault
 returns-clause-fault g c =
     let bytes = as_read _ _ _ c.as_slice.ensures.value c.in_ok-bytes.ensures.bytes in
-    subst (IsRunFault _) (sym c.from.ensures) (is_run_fault _ _ _ bytes c.in-Err.ensures.fault)
+    subst (IsRunFault c.args.mode.in_turn _) (sym c.from.ensures) (is_run_fault c.args.mode.in_turn _ _ _ bytes c.in-Err.ensures.fault)
 
 pub returns-in-Ok-clause-job : goal.returns-in-Ok-clause-job
 returns-in-Ok-clause-job g c =
     let bytes = as_read _ _ _ c.as_slice.ensures.value c.in_ok-bytes.ensures.bytes in
-    is_job c.run_scripts.result _ (has_job _ _ _ bytes c.in-Ok.ensures.job.1)
+    is_job c.run_read.result _ (has_job _ _ _ bytes c.in-Ok.ensures.job.1)
 
 pub returns-in-Ok-clause-output : goal.returns-in-Ok-clause-output
 returns-in-Ok-clause-output g c = λ xs job all is.
     let bytes = as_read _ _ _ c.as_slice.ensures.value c.in_ok-bytes.ensures.bytes in
-    c.run_scripts.ensures.writes job (c.in-Ok.ensures.only job (job_of_all _ _ xs job bytes c.in-Ok.ensures.job.1.short all is))
-
-pub returns-in-Ok-clause-summary : goal.returns-in-Ok-clause-summary
-returns-in-Ok-clause-summary g c = λ xs job all is.
-    let bytes = as_read _ _ _ c.as_slice.ensures.value c.in_ok-bytes.ensures.bytes in
-    let stands = c.in-Ok.ensures.only job (job_of_all _ _ xs job bytes c.in-Ok.ensures.job.1.short all is) in
-    summary_for _ (JobStands c.in-Ok.job) job summary_of c.run_scripts.ensures.summary stands
+    c.run_read.ensures.ends job (c.in-Ok.ensures.only job (job_of_all _ _ xs job bytes c.in-Ok.ensures.job.1.short all is))
 
 pub returns-in-Ok-clause-fault : goal.returns-in-Ok-clause-fault
 returns-in-Ok-clause-fault g c =
     let bytes = as_read _ _ _ c.as_slice.ensures.value c.in_ok-bytes.ensures.bytes in
-    run_fault_of_job c.run_scripts.result _ (has_job _ _ _ bytes c.in-Ok.ensures.job.1) c.run_scripts.ensures.fault
+    run_fault_of_job c.args.mode.in_turn c.run_read.result _ (has_job _ _ _ bytes c.in-Ok.ensures.job.1) c.run_read.ensures.fault
 
 -- what was read is what was taken of the reader
 pub returns-in-Ok-clause-taken : goal.returns-in-Ok-clause-taken

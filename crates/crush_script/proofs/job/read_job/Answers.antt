@@ -1,12 +1,13 @@
 use Rattle.std.proofs.Common.{◌≡◌, ℕ, ◌+◌, ◌==◌, List, [], Result, Ok, Err, count_by, refl, sym, ap, subst, ◌∙◌, arith}
+use Rattle.std.proofs.lemmas.List.{length-map}
 use Rattle.std.proofs.lemmas.Result.{err_from_is_err_and}
 use Rattle.crush_text.specs.Document.{IsMapText}
 use Rattle.crush_script.specs.Lines.{lines, map_part, section_part, section_line}
-use Rattle.crush_calls.specs.Script.{ScriptData, scripts_data}
+use Rattle.crush_calls.specs.Script.{ScriptData, script_data, scripts_data}
 use Rattle.crush_script.specs.Sections.{SectionsData, no_sections, sections_data, sections_of, with_lines}
 use Rattle.crush_script.specs.Job.{JobData}
 use Rattle.crush_script.specs.declared.fault.JobFault.{JobFault}
-use Rattle.crush_script.proofs.Few.{calls_few}
+use Rattle.crush_script.proofs.Few.{calls_few, scripts_few}
 use Rattle.crush_script.proofs.job.read_job.Goals as goal
 
 -- what the lines behind the cut say is what the sections of the job say
@@ -52,6 +53,11 @@ returns-clause-only c = λ job is.
 
 pub returns-clause-few : goal.returns-clause-few
 returns-clause-few c = calls_few (c.line_feeds.result + 1) (lines c.cut_job.result.1.now) (sections_data c.in_ok-sections.sections) c.in_ok-sections.ensures
+
+pub returns-clause-operators : goal.returns-clause-operators
+returns-clause-operators c =
+    let few = scripts_few (c.line_feeds.result + 1) (lines c.cut_job.result.1.now) (sections_data c.in_ok-sections.sections) c.in_ok-sections.ensures in
+    omega (arith, few, length-map c.in_ok-sections.sections.scripts.items script_data)
 
 pub returns-in_err-map-clause-want : goal.returns-in_err-map-clause-want
 returns-in_err-map-clause-want c =

@@ -1,0 +1,121 @@
+-- Runs of a job: in turn, at once, and where nothing came of one.
+use Rattle.std.proofs.Common.{◌≡◌, ℕ, zero, suc, ◌<◌, ◌≤◌, ◌==◌, Bool, true, false, List, [], ◌∷◌, ◌++◌, Option, Result, Ok, Err, length, map, filter, nat_lt, refl, sym, ap, subst, ◌∙◌, arith, rules, tests}
+use Rattle.std.specs.Prelude.{IfOk}
+use Rattle.std.proofs.lemmas.List.{append-nil, length-map}
+use Rattle.std.proofs.lemmas.List.Elements.{All-nil, All-cons}
+use Rattle.crush_bytes.specs.Writes.{AppendsFront}
+use Rattle.crush_table.specs.Table.{Row}
+use Rattle.crush_edits.specs.Setting.{SettingData}
+use Rattle.crush_map.specs.MapData.{MapData, MapStands}
+use Rattle.crush_options.specs.declared.asked.Mode.{Mode}
+use Rattle.crush_calls.specs.declared.call.Call.{Call}
+use Rattle.crush_calls.specs.declared.script.Script.{Script}
+use Rattle.crush_calls.specs.Entries.{AreOf}
+use Rattle.crush_calls.specs.Script.{ScriptData, script_data, scripts_data}
+use Rattle.crush_calls.specs.History.{EntryData, IsLegal, changes, of_operator, table_after, turns}
+use Rattle.crush_calls.specs.Turns.{calls_at, calls_of}
+use Rattle.crush_calls.specs.HistoryText.{entries_text, names_of}
+use Rattle.crush_print.specs.MapText.{map_text}
+use Rattle.crush_calls.proofs.Histories.{turns_are_history}
+use Rattle.crush_editor.specs.Book.{MakesAll}
+use Rattle.crush_report.specs.declared.fault.RunFault.{RunFault}
+use Rattle.crush_report.specs.declared.summary.Summary.{Summary}
+use Rattle.crush_script.specs.Job.{JobData}
+use Rattle.crush_run.specs.Run.{Ends, IsRunOf, output_of}
+use Rattle.crush_run.specs.Stages.{HaveRun, RunsScripts, lines_asked}
+use Rattle.crush_run.proofs.Told.{nothing_written}
+
+-- the turns of the scripts are a run, in turn and at once
+pub turns_run : (in_turn : Bool) (job : JobData) → IsRunOf in_turn job (turns job.setting job.table job.scripts)
+turns_run in_turn job =
+    let law = turns_are_history job.setting job.table job.scripts in
+    record { legal = law.legal; calls = law.calls; order = λ _. refl }
+
+-- so scripts that ran in turn have run
+pub in_turn_runs : (in_turn : Bool) (m : MapData) (scripts : List ScriptData) (after : MapData) (h : List EntryData)
+    → ((s : SettingData) (t : List Row) → MapStands m s t → (h ≡ turns s t scripts) × MapStands after s (table_after s t (turns s t scripts))) → RunsScripts in_turn m scripts after h
+in_turn_runs in_turn m scripts after h ran job stands is =
+    let told = ran job.setting job.table stands in
+    let own : h ≡ turns job.setting job.table job.scripts = told.0 ∙ ap (turns job.setting job.table) is in
+    record {
+      run = subst (IsRunOf in_turn job) (sym own) (turns_run in_turn job);
+      stands = subst (λ (x : List EntryData). MapStands after job.setting (table_after job.setting job.table x)) (sym told.0) told.1;
+    }
+
+-- and those that ran at once
+pub at_once_runs : (in_turn : Bool) (m : MapData) (scripts : List ScriptData) (after : MapData) (h : List EntryData)
+    → in_turn ≡ false → MakesAll m after h → ((k : ℕ) → calls_of (of_operator k h) ≡ calls_at scripts k) → RunsScripts in_turn m scripts after h
+at_once_runs in_turn m scripts after h not_in_turn all calls job stands is =
+    let made = all job.setting job.table stands in
+    record {
+      run = record {
+        legal = made.0;
+        calls = λ k. calls k ∙ ap (λ (x : List ScriptData). calls_at x k) is;
+        order = λ yes. absurd cc;
+      };
+      stands = made.1;
+    }
+
+-- behind the last script there are no calls
+no_calls : (scripts : List ScriptData) (k : ℕ) → length scripts ≤ k → calls_at scripts k ≡ []
+no_calls [] k past = refl
+no_calls (x ∷ xs) zero past = absurd (omega arith)
+no_calls (x ∷ xs) (suc k) past = no_calls xs k (omega arith)
+
+-- the calls of an operator, where the first entry is its own and where it isn't
+own_entry : (k : ℕ) (e : EntryData) (h : List EntryData) → (e.operator == k) ≡ true → calls_of (of_operator k (e ∷ h)) ≡ e.call ∷ calls_of (of_operator k h)
+own_entry k e h own = rw own refl
+
+other_entry : (k : ℕ) (e : EntryData) (h : List EntryData) → (e.operator == k) ≡ false → calls_of (of_operator k (e ∷ h)) ≡ calls_of (of_operator k h)
+other_entry k e h other = rw other refl
+
+-- where operators from a number on have no entry, the first entry is of one before, and so are the others
+first_below : (n : ℕ) (e : EntryData) (h : List EntryData) → ((k : ℕ) → n ≤ k → calls_of (of_operator k (e ∷ h)) ≡ []) → (k : ℕ) → n ≤ k → (e.operator == k) ≡ false
+first_below n e h none k past = at (e.operator == k) refl
+  where
+    at : (b : Bool) → (e.operator == k) ≡ b → (e.operator == k) ≡ false
+    at false other = other
+    at true own = let some = ap length (sym (own_entry k e h own) ∙ none k past) in absurd (omega (arith, some))
+
+entries_below : (n : ℕ) (h : List EntryData) → ((k : ℕ) → n ≤ k → calls_of (of_operator k h) ≡ []) → AreOf n h
+entries_below n [] none = All-nil (λ (e : EntryData). e.operator < n)
+entries_below n (e ∷ h) none =
+    All-cons (λ (x : EntryData). x.operator < n) e h (at (nat_lt e.operator n) refl) (entries_below n h (λ k past. sym (other_entry k e h (first_below n e h none k past)) ∙ none k past))
+  where
+    at : (b : Bool) → nat_lt e.operator n ≡ b → e.operator < n
+    at true less = search (rules, tests)
+    at false past =
+        let from : n ≤ e.operator = search (rules, tests) in
+        let same : (e.operator == e.operator) ≡ true = search (rules, tests) in
+        let other = first_below n e h none e.operator from in
+        absurd cc
+
+-- so the entries of a run are of its scripts
+pub entries_of_scripts : (scripts : List Script) (h : List EntryData) → ((k : ℕ) → calls_of (of_operator k h) ≡ calls_at (scripts_data scripts) k) → AreOf (length scripts) h
+entries_of_scripts scripts h calls = entries_below (length scripts) h (λ k past. calls k ∙ no_calls (scripts_data scripts) k (omega (arith, past, length-map scripts script_data)))
+
+-- what was laid out is the output
+pub outcome_text : (history : Bool) (job : JobData) (s : SettingData) (scripts : List ScriptData) (h es : List EntryData) → s ≡ job.setting → scripts ≡ job.scripts → es ≡ h
+    → map_text s (table_after job.setting job.table h) ++ lines_asked history (names_of scripts) es ≡ output_of history job h
+outcome_text true job s scripts h es setting same entries = λ i. map_text (setting i) (table_after job.setting job.table h) ++ entries_text (names_of (same i)) 1 (entries i)
+outcome_text false job s scripts h es setting same entries = append-nil (map_text s (table_after job.setting job.table h)) ∙ ap (λ (x : SettingData). map_text x (table_after job.setting job.table h)) setting
+
+-- a run of which a front was written
+pub ended_by : (mode : Mode) (job : JobData) (r : Result Summary RunFault) (f : RunFault) (old new : Option (List ℕ)) (h : List EntryData) → r ≡ Err f → IsRunOf mode.in_turn job h
+    → AppendsFront old new (output_of mode.history job h) → Ends mode job r old new
+ended_by mode job r f old new h is run front = record { history = h; run = run; writes = rw is front; summary = rw is tt }
+
+-- where nothing was written of a job, nothing is a front of what its turns would have had written
+pub ended_early : (mode : Mode) (job : JobData) (r : Result Summary RunFault) (f : RunFault) (old : Option (List ℕ)) → r ≡ Err f → Ends mode job r old old
+ended_early mode job r f old is =
+    let h = turns job.setting job.table job.scripts in
+    record { history = h; run = turns_run mode.in_turn job; writes = nothing_written r f old (output_of mode.history job h) is; summary = rw is tt }
+
+-- what follows of one promise of a run that was done, and of two
+pub when_ok : {X E : Type 0} (P Q : X → Type 0) (r : Result X E) → ((x : X) → P x → Q x) → IfOk r P → IfOk r Q
+when_ok P Q (Ok x) then_is p = then_is x p
+when_ok P Q (Err e) then_is p = tt
+
+pub when_both : {X E : Type 0} (P S Q : X → Type 0) (r : Result X E) → ((x : X) → P x → S x → Q x) → IfOk r P → IfOk r S → IfOk r Q
+when_both P S Q (Ok x) then_is p s = then_is x p s
+when_both P S Q (Err e) then_is p s = tt
