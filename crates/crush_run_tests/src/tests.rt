@@ -2,9 +2,10 @@
 
 use crush_options::Mode;
 use crush_report::{RunFault, Summary, report};
-use crush_run::run_job;
+use crush_run::{NoGate, run_job};
 use std::process::Abort;
 
+mod at_once;
 mod command_lines;
 mod failing;
 mod limits;
@@ -45,7 +46,7 @@ fn writes(
     summary: Summary,
 ) -> bool {
     let mut out = Vec::new(rt.alloc());
-    let outcome = run_job(rt, mode, &mut &*job, &mut out);
+    let outcome = run_job(rt, &NoGate, mode, &mut &*job, &mut out);
     outcome == Ok(summary)
         && out.len().checked_sub(map.len()) == Some(lines.len())
         && out.starts_with(map)

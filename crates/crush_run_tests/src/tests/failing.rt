@@ -2,7 +2,7 @@
 
 use super::{MODE, PLAIN, REWEIGHED, is_told, joined};
 use crush_report::RunFault;
-use crush_run::run_job;
+use crush_run::{NoGate, run_job};
 use crush_script::JobFault;
 use std::io::{self, ErrorKind, Read, Write};
 
@@ -79,7 +79,7 @@ fn stops_at(rt: &impl AllocGlobal, job: &[u8], reads_left: usize) -> bool {
         reads_left,
     };
     let mut out = Vec::new(rt.alloc());
-    let outcome = run_job(rt, MODE, &mut reader, &mut out);
+    let outcome = run_job(rt, &NoGate, MODE, &mut reader, &mut out);
     outcome == Err(RunFault::Read)
         && out.is_empty()
         && is_told(rt, &outcome, b"crushedit: read fault\n", 3)
@@ -107,7 +107,7 @@ fn leaves_a_front(
         room,
         answers_error,
     };
-    let outcome = run_job(rt, MODE, &mut &*job, &mut writer);
+    let outcome = run_job(rt, &NoGate, MODE, &mut &*job, &mut writer);
     outcome == Err(RunFault::Write)
         && writer.taken.len() == room
         && whole.starts_with(writer.taken.as_slice())
@@ -132,7 +132,7 @@ fn leaves_a_front_at_a_failed_write(rt: HostRuntime) {
 fn asks_an_endless_reader_for_one_byte_too_many(rt: HostRuntime) {
     let mut reader = EndlessReader { asked: 0 };
     let mut out = Vec::new(rt.alloc());
-    let outcome = run_job(&rt, MODE, &mut reader, &mut out);
+    let outcome = run_job(&rt, &NoGate, MODE, &mut reader, &mut out);
     assert!(rt;
         outcome == Err(RunFault::Job(JobFault::TooLong))
             && reader.asked == 16_777_217
