@@ -1,0 +1,172 @@
+//! What operators read of one editor, and what its closed history has.
+//!
+//! The weights are in 65536ths: the map's devices weigh 1, 1 and a half, 163840 in all, and each call
+//! here sets one of the first two to 2.
+
+ghost use Rattle.std.specs.Prelude.{◌≡◌, ◌<◌, ◌≤◌};
+ghost use Rattle.crush_units.specs.declared.limits.TheConstants.{MOST_OPERATORS};
+
+use crush_calls::Call;
+use crush_editor::{Desk, Editor, Seat, Started};
+use crush_edits::Edit;
+use crush_gauge::Reading;
+use crush_text::read_map;
+use crush_units::{Name, Weight};
+use std::marker::Brand;
+use std::process::Abort;
+use std::sync::Wait;
+
+const PLAIN_EXAMPLE_MAP: &[u8] = b"\
+    # begin crush map\n\
+    \n\
+    # devices\n\
+    device 0 osd.0\n\
+    device 1 osd.1\n\
+    device 2 osd.2\n\
+    \n\
+    # types\n\
+    type 0 osd\n\
+    type 1 host\n\
+    type 3 rack\n\
+    type 11 root\n\
+    \n\
+    # buckets\n\
+    host h1 {\n\
+    \tid -2\t\t# do not change unnecessarily\n\
+    \t# weight 2.00000\n\
+    \talg straw2\n\
+    \thash 0\t# rjenkins1\n\
+    \titem osd.0 weight 1.00000\n\
+    \titem osd.1 weight 1.00000\n\
+    }\n\
+    host h2 {\n\
+    \tid -3\t\t# do not change unnecessarily\n\
+    \t# weight 0.50000\n\
+    \talg straw2\n\
+    \thash 0\t# rjenkins1\n\
+    \titem osd.2 weight 0.50000\n\
+    }\n\
+    root default {\n\
+    \tid -1\t\t# do not change unnecessarily\n\
+    \t# weight 2.50000\n\
+    \talg straw2\n\
+    \thash 0\t# rjenkins1\n\
+    \titem h1 weight 2.00000\n\
+    \titem h2 weight 0.50000\n\
+    }\n\
+    \n\
+    # rules\n\
+    \n\
+    # end crush map\n";
+
+/// What an editor of the example map is opened with, for so many operators.
+fn started(rt: &(impl Abort + AllocGlobal), operators: usize) -> Started
+    requires some { 0 < operators }
+    requires few { operators ≤ MOST_OPERATORS }
+    ensures { result.parts ≡ operators }
+{
+    let (map, _) = read_map(rt.alloc(), PLAIN_EXAMPLE_MAP).expect(rt, "no map");
+    match Started::new(map, operators, rt.alloc()) {
+        Ok(started) => started,
+        Err(map) => {
+            drop(map);
+            panic!(rt; "no memory")
+        }
+    }
+}
+
+/// The editor, and its seats.
+fn opened<N: Desk>(rt: &(impl Abort + AllocGlobal), started: Started) -> (Editor<N>, Vec<Seat<N>>)
+    requires gauge { started.table ≡ N.gauge }
+    requires opening { started.opening ≡ N.opening }
+    requires name { started.name ≡ N.name }
+    requires parts { started.parts ≡ N.parts }
+{
+    match Editor::<N>::open(started, rt.alloc()) {
+        Ok(opened) => opened,
+        Err(map) => {
+            drop(map);
+            panic!(rt; "no memory")
+        }
+    }
+}
+
+/// Sets the weight of the device of this name to 2.
+fn weigh_two<N: Desk>(
+    rt: &(impl Abort + AllocGlobal + Wait),
+    editor: &Editor<N>,
+    seat: &mut Seat<N>,
+    device: &[u8],
+) {
+    let name = Name::read(rt.alloc(), device).expect(rt, "no name");
+    let weight = Weight::from_units(131072);
+    let call = Call::One(Edit::Reweight { name, weight });
+    let answered = editor.submit(rt, rt.alloc(), seat, &call).is_ok();
+    drop(call);
+    assert!(rt; answered);
+}
+
+/// Whether so many changes and this weight are read.
+fn reads(read: Reading, changes: u64, weight: u64) -> bool {
+    read.changes == changes && read.weight == weight
+}
+
+#[test]
+fn one_operator(rt: HostRuntime) {
+    one_operator_of::<Brand>(&rt, started(&rt, 1));
+}
+
+fn one_operator_of<N: Desk>(rt: &(impl Abort + AllocGlobal + Wait), started: Started)
+    requires gauge { started.table ≡ N.gauge }
+    requires opening { started.opening ≡ N.opening }
+    requires name { started.name ≡ N.name }
+    requires parts { started.parts ≡ N.parts }
+{
+    let (editor, mut seats) = opened::<N>(rt, started);
+    let mut seat = seats.pop().expect(rt, "no seat");
+    assert!(rt; reads(editor.reading(&mut seat), 0, 163840));
+    weigh_two(rt, &editor, &mut seat, b"osd.0");
+    assert!(rt; reads(editor.reading(&mut seat), 1, 229376) && seat.slips().len() == 1);
+}
+
+#[test]
+fn a_seat_reads_what_another_submitted(rt: HostRuntime) {
+    two_operators::<Brand>(&rt, started(&rt, 2));
+}
+
+fn two_operators<N: Desk>(rt: &(impl Abort + AllocGlobal + Wait), started: Started)
+    requires gauge { started.table ≡ N.gauge }
+    requires opening { started.opening ≡ N.opening }
+    requires name { started.name ≡ N.name }
+    requires parts { started.parts ≡ N.parts }
+{
+    let (editor, mut seats) = opened::<N>(rt, started);
+    let mut last = seats.pop().expect(rt, "no seat");
+    let mut first = seats.pop().expect(rt, "no seat");
+    weigh_two(rt, &editor, &mut first, b"osd.0");
+    assert!(rt; reads(editor.reading(&mut last), 1, 229376) && last.slips().len() == 0);
+}
+
+#[test]
+fn a_seat_that_learns_both_notes_reads_both_calls(rt: HostRuntime) {
+    three_operators::<Brand>(&rt, started(&rt, 3));
+}
+
+fn three_operators<N: Desk>(rt: &(impl Abort + AllocGlobal + Wait), started: Started)
+    requires gauge { started.table ≡ N.gauge }
+    requires opening { started.opening ≡ N.opening }
+    requires name { started.name ≡ N.name }
+    requires parts { started.parts ≡ N.parts }
+{
+    let (editor, mut seats) = opened::<N>(rt, started);
+    let mut last = seats.pop().expect(rt, "no seat");
+    let mut middle = seats.pop().expect(rt, "no seat");
+    let mut first = seats.pop().expect(rt, "no seat");
+    weigh_two(rt, &editor, &mut first, b"osd.0");
+    weigh_two(rt, &editor, &mut middle, b"osd.1");
+    let of_first = editor.note(&mut first);
+    let of_middle = editor.note(&mut middle);
+    editor.learn(&mut last, of_first);
+    editor.learn(&mut last, of_middle);
+    assert!(rt; reads(editor.reading(&mut last), 2, 294912));
+}
