@@ -68,8 +68,7 @@ impl<C: Clock> Gate for ByTurns<'_, C> {
 }
 
 /// Two operators who want the same device in two hosts.
-const ONE_DEVICE: &[u8] =
-    b"%operator a\nadd osd.7 1 host=h1\n%operator b\nadd osd.7 1 host=h2\n";
+const ONE_DEVICE: &[u8] = b"%operator a\nadd osd.7 1 host=h1\n%operator b\nadd osd.7 1 host=h2\n";
 
 const FIRST_HAS_IT: &[u8] =
     b"# end crush map\n# 1 a add osd.7 1.00000 host=h1 = done changed 1 made 0\n# 2 b add osd.7 1.00000 host=h2 = refused AlreadyPlaced 17\n";
