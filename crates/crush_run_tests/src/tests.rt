@@ -4,6 +4,8 @@ use crush_options::Mode;
 use crush_report::{RunFault, Summary, report};
 use crush_run::{NoGate, run_job};
 use std::process::Abort;
+use std::sync::Wait;
+use std::thread::Threads;
 
 mod at_once;
 mod command_lines;
@@ -24,6 +26,11 @@ const MODE: Mode = Mode {
     history: true,
 };
 
+const AT_ONCE: Mode = Mode {
+    in_turn: false,
+    history: true,
+};
+
 /// The bytes of both, one behind the other.
 fn joined(rt: &(impl Abort + AllocGlobal), first: &[u8], second: &[u8]) -> Vec<u8> {
     let parts = [first, second];
@@ -38,7 +45,7 @@ fn put_behind(rt: &impl Abort, text: &mut Vec<u8>, bytes: &[u8]) {
 /// Whether a job that is run in this mode writes this map and these lines behind it, and is summed
 /// up like this.
 fn writes(
-    rt: &impl AllocGlobal,
+    rt: &(impl AllocGlobal + Threads + Wait + Sync),
     mode: Mode,
     job: &[u8],
     map: &[u8],

@@ -1,19 +1,13 @@
 //! Runs of operators at once. What a gate sees shows that threads are at work at the same time, which
 //! no clause says.
 
-use super::{PLAIN, joined, put_behind, summary};
-use crush_options::Mode;
+use super::{AT_ONCE, PLAIN, joined, put_behind, summary};
 use crush_run::{Gate, NoGate, run_job};
 use std::process::Abort;
 use std::sync::Wait;
 use std::sync::atomic::{AtomicU64, Ordering};
 use std::thread;
 use std::time::{Clock, Duration};
-
-const AT_ONCE: Mode = Mode {
-    in_turn: false,
-    history: true,
-};
 
 /// How often a gate sleeps for a millisecond at the most before it gives up.
 const MOST_NAPS: u64 = 10_000;
@@ -30,6 +24,7 @@ fn reaches(clock: &impl Clock, count: &AtomicU64, goal: u64) -> bool {
 }
 
 /// Lets the first two calls begin when both are there.
+#[derive(Drop)]
 struct Meeting<'a, C> {
     clock: &'a C,
     begun: AtomicU64,
@@ -48,6 +43,7 @@ impl<C: Clock> Gate for Meeting<'_, C> {
 }
 
 /// Lets the calls of two operators come by turns, the first operator's first.
+#[derive(Drop)]
 struct ByTurns<'a, C> {
     clock: &'a C,
     made: AtomicU64,

@@ -5,6 +5,8 @@ use crush_report::RunFault;
 use crush_run::{NoGate, run_job};
 use crush_script::JobFault;
 use std::io::{self, ErrorKind, Read, Write};
+use std::sync::Wait;
+use std::thread::Threads;
 
 /// Gives at most 16 bytes a read, and answers an error at one of the reads, counted from 0.
 #[derive(Drop)]
@@ -73,7 +75,11 @@ impl Read for EndlessReader {
 const SCRIPT: &[u8] = b"%operator a\nreweight osd.2 1.0\n";
 
 /// Whether nothing is written where so many reads of the job are answered.
-fn stops_at(rt: &impl AllocGlobal, job: &[u8], reads_left: usize) -> bool {
+fn stops_at(
+    rt: &(impl AllocGlobal + Threads + Wait + Sync),
+    job: &[u8],
+    reads_left: usize,
+) -> bool {
     let mut reader = FailingReader {
         bytes: job,
         reads_left,
@@ -95,7 +101,7 @@ fn stops_at_a_failed_read(rt: HostRuntime) {
 
 /// Whether a front of the whole output is written where there is room for so many bytes.
 fn leaves_a_front(
-    rt: &impl AllocGlobal,
+    rt: &(impl AllocGlobal + Threads + Wait + Sync),
     job: &[u8],
     whole: &[u8],
     room: usize,
