@@ -5,7 +5,7 @@
 
 use crush_options::{Mode, Options, options};
 use crush_report::{RunFault, Summary, report};
-use crush_run::run_job;
+use crush_run::{NoGate, run_job};
 use std::fs::{self, File};
 use std::io;
 
@@ -40,7 +40,7 @@ fn run_record(rt: &HostRuntime, job: &[u8]) -> Result<Summary, RunFault> {
         history: true,
     };
     let mut reader = job;
-    run_job(rt, mode, &mut reader, &mut rt.stdout())
+    run_job(rt, &NoGate, mode, &mut reader, &mut rt.stdout())
 }
 
 /// Runs each line, which has the words of a command line behind the program's name.
@@ -73,7 +73,7 @@ fn run_options(rt: &HostRuntime, options: &Options) -> Result<Summary, RunFault>
     let Ok(mut file) = File::open(rt, name.as_str()) else {
         return Err(RunFault::Read);
     };
-    run_job(rt, options.mode, &mut file, &mut rt.stdout())
+    run_job(rt, &NoGate, options.mode, &mut file, &mut rt.stdout())
 }
 
 /// Prints what a run comes to, what standard error is told of it, and the status.

@@ -2,8 +2,10 @@
 
 use crush_options::Mode;
 use crush_report::{RunFault, Summary, report};
-use crush_run::run_job;
+use crush_run::{NoGate, run_job};
 use std::process::Abort;
+use std::sync::Wait;
+use std::thread::Threads;
 
 mod command_lines;
 mod failing;
@@ -23,6 +25,12 @@ const MODE: Mode = Mode {
     history: true,
 };
 
+/// The same where operators are at work at once.
+const AT_ONCE: Mode = Mode {
+    in_turn: false,
+    history: true,
+};
+
 /// The bytes of both, one behind the other.
 fn joined(rt: &(impl Abort + AllocGlobal), first: &[u8], second: &[u8]) -> Vec<u8> {
     let parts = [first, second];
@@ -37,7 +45,7 @@ fn put_behind(rt: &impl Abort, text: &mut Vec<u8>, bytes: &[u8]) {
 /// Whether a job that is run in this mode writes this map and these lines behind it, and is summed
 /// up like this.
 fn writes(
-    rt: &impl AllocGlobal,
+    rt: &(impl AllocGlobal + Threads + Wait + Sync),
     mode: Mode,
     job: &[u8],
     map: &[u8],
@@ -45,11 +53,23 @@ fn writes(
     summary: Summary,
 ) -> bool {
     let mut out = Vec::new(rt.alloc());
-    let outcome = run_job(rt, mode, &mut &*job, &mut out);
+    let outcome = run_job(rt, &NoGate, mode, &mut &*job, &mut out);
     outcome == Ok(summary)
         && out.len().checked_sub(map.len()) == Some(lines.len())
         && out.starts_with(map)
         && out.ends_with(lines)
+}
+
+/// One operator at once is as one in turn.
+#[test]
+fn runs_one_operator_at_once(rt: HostRuntime) {
+    let job = joined(&rt, PLAIN, b"%operator a\nreweight osd.2 1.0\n");
+    let lines = b"# 1 a reweight osd.2 1.00000 = done changed 1 made 0\n";
+    let sum = summary(0, 1, 1);
+    assert!(rt;
+        writes(&rt, MODE, job.as_slice(), REWEIGHED, lines, sum)
+            && writes(&rt, AT_ONCE, job.as_slice(), REWEIGHED, lines, sum)
+    );
 }
 
 /// What a run comes to of these numbers of weights that are replaced, calls, and changes.

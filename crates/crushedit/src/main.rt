@@ -3,7 +3,7 @@
 
 use crush_options::{Options, OptionsFault, options};
 use crush_report::{RunFault, Summary, report, tell};
-use crush_run::run_job;
+use crush_run::{NoGate, run_job};
 use std::fs::File;
 use std::io::ErrorKind;
 use std::process::ExitCode;
@@ -42,10 +42,10 @@ fn words_behind_name(rt: &HostRuntime) -> Result<Vec<String>, OptionsFault> {
 /// is one that can't be read.
 fn run_options(rt: &HostRuntime, options: &Options) -> Result<Summary, RunFault> {
     let Some(name) = &options.file else {
-        return run_job(rt, options.mode, &mut rt.stdin(), &mut rt.stdout());
+        return run_job(rt, &NoGate, options.mode, &mut rt.stdin(), &mut rt.stdout());
     };
     let Ok(mut file) = File::open(rt, name.as_str()) else {
         return Err(RunFault::Read);
     };
-    run_job(rt, options.mode, &mut file, &mut rt.stdout())
+    run_job(rt, &NoGate, options.mode, &mut file, &mut rt.stdout())
 }

@@ -2,9 +2,11 @@
 
 use super::{MODE, PLAIN, REWEIGHED, is_told, joined};
 use crush_report::RunFault;
-use crush_run::run_job;
+use crush_run::{NoGate, run_job};
 use crush_script::JobFault;
 use std::io::{self, ErrorKind, Read, Write};
+use std::sync::Wait;
+use std::thread::Threads;
 
 /// Gives at most 16 bytes a read, and answers an error at one of the reads, counted from 0.
 #[derive(Drop)]
@@ -73,13 +75,17 @@ impl Read for EndlessReader {
 const SCRIPT: &[u8] = b"%operator a\nreweight osd.2 1.0\n";
 
 /// Whether nothing is written where so many reads of the job are answered.
-fn stops_at(rt: &impl AllocGlobal, job: &[u8], reads_left: usize) -> bool {
+fn stops_at(
+    rt: &(impl AllocGlobal + Threads + Wait + Sync),
+    job: &[u8],
+    reads_left: usize,
+) -> bool {
     let mut reader = FailingReader {
         bytes: job,
         reads_left,
     };
     let mut out = Vec::new(rt.alloc());
-    let outcome = run_job(rt, MODE, &mut reader, &mut out);
+    let outcome = run_job(rt, &NoGate, MODE, &mut reader, &mut out);
     outcome == Err(RunFault::Read)
         && out.is_empty()
         && is_told(rt, &outcome, b"crushedit: read fault\n", 3)
@@ -95,7 +101,7 @@ fn stops_at_a_failed_read(rt: HostRuntime) {
 
 /// Whether a front of the whole output is written where there is room for so many bytes.
 fn leaves_a_front(
-    rt: &impl AllocGlobal,
+    rt: &(impl AllocGlobal + Threads + Wait + Sync),
     job: &[u8],
     whole: &[u8],
     room: usize,
@@ -107,7 +113,7 @@ fn leaves_a_front(
         room,
         answers_error,
     };
-    let outcome = run_job(rt, MODE, &mut &*job, &mut writer);
+    let outcome = run_job(rt, &NoGate, MODE, &mut &*job, &mut writer);
     outcome == Err(RunFault::Write)
         && writer.taken.len() == room
         && whole.starts_with(writer.taken.as_slice())
@@ -132,7 +138,7 @@ fn leaves_a_front_at_a_failed_write(rt: HostRuntime) {
 fn asks_an_endless_reader_for_one_byte_too_many(rt: HostRuntime) {
     let mut reader = EndlessReader { asked: 0 };
     let mut out = Vec::new(rt.alloc());
-    let outcome = run_job(&rt, MODE, &mut reader, &mut out);
+    let outcome = run_job(&rt, &NoGate, MODE, &mut reader, &mut out);
     assert!(rt;
         outcome == Err(RunFault::Job(JobFault::TooLong))
             && reader.asked == 16_777_217

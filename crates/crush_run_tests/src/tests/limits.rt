@@ -1,7 +1,7 @@
 //! As much as a map and a job may have: buckets below one another, and calls.
 
 use super::{MODE, PLAIN, joined, put_behind, summary, writes};
-use crush_run::run_job;
+use crush_run::{NoGate, run_job};
 use std::process::Abort;
 
 /// As many buckets as a map may have.
@@ -68,7 +68,7 @@ fn runs_the_most_calls(rt: HostRuntime) {
     let mut job = joined(&rt, PLAIN, b"%operator a\n");
     put_most_calls(&rt, &mut job);
     let mut out = Vec::new(rt.alloc());
-    let outcome = run_job(&rt, MODE, &mut job.as_slice(), &mut out);
+    let outcome = run_job(&rt, &NoGate, MODE, &mut job.as_slice(), &mut out);
     assert!(rt;
         outcome == Ok(summary(0, 65_536, 65_536))
             && out.starts_with(PLAIN)
