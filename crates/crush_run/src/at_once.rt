@@ -1,20 +1,28 @@
-//! Operators at once.
+//! The scripts of all operators at once, each in a worker of its own.
 
-ghost use Rattle.std.specs.Prelude.{◌<◌, ◌≤◌, length, IfOk, IfErr};
+ghost use Rattle.std.specs.Prelude.{◌≡◌, ℕ, ◌<◌, ◌≤◌, length, vec_len, IfOk, IfErr, None, slice_index_or};
 ghost use Rattle.crush_units.specs.declared.limits.TheConstants.{MOST_ENTRIES, MOST_OPERATORS};
 ghost use Rattle.crush_editor.specs.Book.{MakesAll};
 ghost use Rattle.crush_run.specs.Script.{Carries};
 ghost use Rattle.crush_run.specs.Stages.{IsAtOnceFault};
 
 use crate::gate::Gate;
+use crate::worker::Finished;
+use crate::workers::run_all;
 use crush_calls::Script;
-use crush_editor::Closed;
+use crush_editor::{Closed, Desk, Editor, Seat, Started};
 use crush_map::CrushMap;
 use crush_report::RunFault;
 use std::alloc::Global;
+use std::marker::Brand;
 use std::sync::Wait;
 use std::thread::Threads;
 
+/// Runs the scripts of 1 to 16 operators at once from a map, and hands out that map, the map after
+/// all calls, and the history in which they were made.
+///
+/// [`RunFault::Thread`] where a worker can't be started; those that run finish. Else
+/// [`RunFault::Memory`] where memory lacked, for a worker or before.
 pub(crate) fn run_at_once<G: Gate + Sync, R: Threads + Wait + Sync>(
     rt: &R,
     alloc: Global,
@@ -29,7 +37,56 @@ pub(crate) fn run_at_once<G: Gate + Sync, R: Threads + Wait + Sync>(
     ensures few { IfOk result (λ c. length c.history.items ≤ MOST_ENTRIES) }
     ensures fault { IfErr result IsAtOnceFault }
 {
-    let _alloc = alloc;
-    let _map = map;
-    Err(RunFault::Thread)
+    match Started::new(map, scripts.len(), alloc) {
+        Ok(started) => operate::<Brand, G, R>(rt, alloc, gate, started, scripts),
+        Err(_) => Err(RunFault::Memory),
+    }
+}
+
+/// Runs the scripts by the editor of a name.
+fn operate<N: Desk + Send + Sync, G: Gate + Sync, R: Threads + Wait + Sync>(
+    rt: &R,
+    alloc: Global,
+    gate: &G,
+    started: Started,
+    scripts: &[Script],
+) -> Result<Closed<Global>, RunFault>
+    requires gauge { started.table ≡ N.gauge }
+    requires opening { started.opening ≡ N.opening }
+    requires ledger { (started.name ≡ N.name) × (started.parts ≡ N.parts) }
+    requires operators { (started.parts ≡ length scripts.now)
+        × (length scripts.now ≤ MOST_OPERATORS) }
+    ensures run { IfOk result (λ c. Carries N.opening scripts.now c.map c.history.items) }
+    ensures all { IfOk result (λ c. MakesAll N.opening c.map c.history.items) }
+    ensures few { IfOk result (λ c. length c.history.items ≤ MOST_ENTRIES) }
+    ensures fault { IfErr result IsAtOnceFault }
+{
+    let Ok((editor, seats)) = Editor::<N>::open(started, alloc) else {
+        return Err(RunFault::Memory);
+    };
+    let finished = run_all(rt, alloc, &editor, gate, seats, scripts)?;
+    let seats = gather(alloc, finished)?;
+    Ok(editor.close(seats))
+}
+
+/// The seats of workers, none of which met a fault. A worker's fault is want of memory: a history
+/// has room for all the calls of a job.
+fn gather<N: Desk>(alloc: Global, finished: Vec<Finished<N>>) -> Result<Vec<Seat<N>>, RunFault>
+    ensures count { IfOk result (λ seats. vec_len seats ≡ vec_len finished) }
+    ensures each { IfOk result (λ seats. (k : ℕ) (d : _) (e : _) → k < vec_len seats
+        → (slice_index_or seats.items k d ≡ (slice_index_or finished.items k e).seat)
+        × ((slice_index_or finished.items k e).fault ≡ None)) }
+    ensures fault { IfErr result IsAtOnceFault }
+{
+    let mut seats = Vec::new(alloc);
+    for done in finished {
+        let Finished { seat, fault } = done;
+        if fault.is_some() {
+            return Err(RunFault::Memory);
+        }
+        let Ok(()) = seats.push(seat) else {
+            return Err(RunFault::Memory);
+        };
+    }
+    Ok(seats)
 }

@@ -1,17 +1,20 @@
-//! What stands round each call of an operator.
+//! What stands before and after each call of a worker.
 
 use std::sync::Wait;
 
-/// What is called before and after each call that an operator makes.
+/// What a worker calls before and after each of its calls, with the number of its operator and of
+/// the call in the operator's script, both counted from 0. A test sets the order of calls by one;
+/// no clause speaks of it.
 pub trait Gate {
-    /// Before the call of this number of the operator of this number, both from 0.
+    /// Before the call is submitted.
     fn before<R: Wait>(&self, rt: &R, operator: usize, number: usize);
 
-    /// After it, whether it was answered or not.
+    /// After the call was submitted, also where it met a fault.
     fn after<R: Wait>(&self, rt: &R, operator: usize, number: usize);
 }
 
-/// A gate that lets each call pass at once.
+/// The gate that does nothing.
+#[derive(Clone, Copy)]
 pub struct NoGate;
 
 impl Gate for NoGate {

@@ -6,6 +6,8 @@ mod gate;
 mod in_turn;
 mod input;
 mod run;
+mod worker;
+mod workers;
 
 pub use gate::{Gate, NoGate};
 pub use run::run_job;

@@ -1,0 +1,30 @@
+-- An editor may be shared by threads: its gauge may, and what stands under its lock crosses them.
+use denote.RattleType.{RattleType}
+use denote.Hole.{as_row}
+use denote.Param.Send.{IsSync, sendable}
+use denote.Param.SendFields.{declared_sync}
+use Rattle.std.proofs.Crossing.{crosses}
+use Rattle.std.specs.declared.sync.ledger.Ledger as Ledger
+use Rattle.std.specs.contracts.alloc.Global as Global
+use Rattle.std.specs.contracts.impls.GlobalAllocator.TheImpl as GlobalImpl
+use Rattle.std.specs.contracts.sync.Mutex as Mutex
+use Rattle.crush_gauge.proofs.gauge.Gauge.TheSendSync.{the_sync as any_gauge_sync}
+use Rattle.crush_calls.specs.contracts.entry.Entry as Entry
+use Rattle.crush_map.specs.contracts.map.CrushMap as CrushMap
+use Rattle.crush_gauge.specs.contracts.gauge.Gauge as Gauge
+use Rattle.crush_editor.specs.contracts.law.OfMap as OfMap
+use Rattle.crush_editor.specs.contracts.law.OfMapLawCrushMapGlobalEntry.TheImpl as OfMapImpl
+use Rattle.crush_editor.specs.contracts.locked.Locked as Locked
+use Rattle.crush_editor.specs.contracts.editor.Editor as Editor
+use Rattle.crush_editor.specs.declared.locked.Desk as Desk
+use Rattle.crush_editor.proofs.Crossing.{locked_send}
+
+gauge_sync : IsSync (as_row (Gauge.the_field (CrushMap.the_row Global.the_row GlobalImpl.ghosts) Entry.the_row OfMap.the_row OfMapImpl.ghosts))
+gauge_sync = search (any_gauge_sync, sendable, crosses) depth 20
+
+module _ (N : RattleType) (g : Desk.Ghosts N.Denot) (g' : Ledger.Ghosts N.Denot) where
+  desk_sync : IsSync (as_row (Mutex.the_field (Locked.the_row N g g')))
+  desk_sync = search (locked_send, sendable, crosses) depth 20
+
+  pub editor_sync : IsSync (Editor.the_row N g g')
+  editor_sync = declared_sync (Editor.the_type N g g') (gauge_sync, (desk_sync, tt))
