@@ -26,6 +26,7 @@ const MODE: Mode = Mode {
     history: true,
 };
 
+/// The same where operators are at work at once.
 const AT_ONCE: Mode = Mode {
     in_turn: false,
     history: true,
@@ -58,6 +59,18 @@ fn writes(
         && out.len().checked_sub(map.len()) == Some(lines.len())
         && out.starts_with(map)
         && out.ends_with(lines)
+}
+
+/// One operator at once is as one in turn.
+#[test]
+fn runs_one_operator_at_once(rt: HostRuntime) {
+    let job = joined(&rt, PLAIN, b"%operator a\nreweight osd.2 1.0\n");
+    let lines = b"# 1 a reweight osd.2 1.00000 = done changed 1 made 0\n";
+    let sum = summary(0, 1, 1);
+    assert!(rt;
+        writes(&rt, MODE, job.as_slice(), REWEIGHED, lines, sum)
+            && writes(&rt, AT_ONCE, job.as_slice(), REWEIGHED, lines, sum)
+    );
 }
 
 /// What a run comes to of these numbers of weights that are replaced, calls, and changes.

@@ -54,16 +54,6 @@ fn edits_the_most_buckets(rt: HostRuntime) {
     let after = chain(&rt, "2.00000");
     let summary = summary(0, 6, 3);
     assert!(rt; writes(&rt, MODE, job.as_slice(), after.as_slice(), LINES, summary));
-    assert!(rt;
-        writes(
-            &rt,
-            AT_ONCE,
-            job.as_slice(),
-            after.as_slice(),
-            LINES,
-            summary
-        )
-    );
 }
 
 /// Puts as many calls behind a text as a job may have.
