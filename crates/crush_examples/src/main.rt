@@ -8,14 +8,16 @@ use crush_report::{RunFault, Summary, report};
 use crush_run::{NoGate, run_job};
 use std::fs::{self, File};
 use std::io;
+use std::sync::Wait;
+use std::thread::Threads;
 
 fn main(rt: HostRuntime) -> io::Result<()> {
     let lines = fs::read_to_string(&rt, "jobs")?;
-    let done = run_lines(&rt, lines.as_str());
+    let done = run_lines(&rt, &rt, lines.as_str());
     drop(lines);
     done?;
     let records = fs::read(&rt, "refused")?;
-    let done = run_records(&rt, records.as_slice());
+    let done = run_records(&rt, &rt, records.as_slice());
     drop(records);
     done
 }
@@ -24,41 +26,57 @@ fn main(rt: HostRuntime) -> io::Result<()> {
 const RECORD_SEPARATOR: u8 = 0x1e;
 
 /// Runs each of the jobs between record separators.
-fn run_records(rt: &HostRuntime, records: &[u8]) -> io::Result<()> {
+fn run_records(
+    rt: &HostRuntime,
+    workers: &(impl AllocGlobal + Threads + Wait + Sync),
+    records: &[u8],
+) -> io::Result<()> {
     let jobs = records.split(|byte| *byte == RECORD_SEPARATOR);
     for (number, job) in jobs.enumerate() {
         println!(rt; "> refused {number}")?;
-        print_end(rt, &run_record(rt, job))?;
+        print_end(rt, &run_record(rt, workers, job))?;
     }
     Ok(())
 }
 
 /// Runs a job that is in memory.
-fn run_record(rt: &HostRuntime, job: &[u8]) -> Result<Summary, RunFault> {
+fn run_record(
+    rt: &HostRuntime,
+    workers: &(impl AllocGlobal + Threads + Wait + Sync),
+    job: &[u8],
+) -> Result<Summary, RunFault> {
     let mode = Mode {
         in_turn: true,
         history: true,
     };
     let mut reader = job;
-    run_job(rt, &NoGate, mode, &mut reader, &mut rt.stdout())
+    run_job(workers, &NoGate, mode, &mut reader, &mut rt.stdout())
 }
 
 /// Runs each line, which has the words of a command line behind the program's name.
-fn run_lines(rt: &HostRuntime, lines: &str) -> io::Result<()> {
+fn run_lines(
+    rt: &HostRuntime,
+    workers: &(impl AllocGlobal + Threads + Wait + Sync),
+    lines: &str,
+) -> io::Result<()> {
     for line in lines.lines() {
         println!(rt; "> {line}")?;
-        print_end(rt, &run_line(rt, line))?;
+        print_end(rt, &run_line(rt, workers, line))?;
     }
     Ok(())
 }
 
 /// Runs the job of a command line. One that is refused is told as a fault of reading.
-fn run_line(rt: &HostRuntime, line: &str) -> Result<Summary, RunFault> {
+fn run_line(
+    rt: &HostRuntime,
+    workers: &(impl AllocGlobal + Threads + Wait + Sync),
+    line: &str,
+) -> Result<Summary, RunFault> {
     let words: Vec<&str> = line.split_whitespace().collect(rt.alloc())?;
     let read = options(rt.alloc(), words.as_slice());
     drop(words);
     let outcome = match &read {
-        Ok(options) => run_options(rt, options),
+        Ok(options) => run_options(rt, workers, options),
         Err(_) => Err(RunFault::Read),
     };
     drop(read);
@@ -66,14 +84,18 @@ fn run_line(rt: &HostRuntime, line: &str) -> Result<Summary, RunFault> {
 }
 
 /// Runs the job of the file that is named.
-fn run_options(rt: &HostRuntime, options: &Options) -> Result<Summary, RunFault> {
+fn run_options(
+    rt: &HostRuntime,
+    workers: &(impl AllocGlobal + Threads + Wait + Sync),
+    options: &Options,
+) -> Result<Summary, RunFault> {
     let Some(name) = &options.file else {
         return Err(RunFault::Read);
     };
     let Ok(mut file) = File::open(rt, name.as_str()) else {
         return Err(RunFault::Read);
     };
-    run_job(rt, &NoGate, options.mode, &mut file, &mut rt.stdout())
+    run_job(workers, &NoGate, options.mode, &mut file, &mut rt.stdout())
 }
 
 /// Prints what a run comes to, what standard error is told of it, and the status.
