@@ -5,9 +5,11 @@ Each name in backticks has to stand in the crates: a function, a type, a definit
 an edit that must fail. In a table whose head has a column of must-fail edits, each name of that column has
 to be the file of one; and each such file has to be named by a page. In a table that has a column of code
 too, each cell of it has to name files of the crates in backticks, from the crate down, and each edit of
-the row has to change one of them. Of FORMATS.md, DECISIONS.md and README.md, which name words of jobs and
-of Ceph beside names of the code, only those columns are looked at. Prints what is missing, and ends with
-status 1 where anything is.
+the row has to change one of them. Of FORMATS.md, OPERATING.md, DECISIONS.md and README.md, which name words
+of jobs and of Ceph beside names of the code, only those columns are looked at. ADDING.md lists the
+files that an addition touches: each has to be there, and each file of src/ and specs/ that names all variants
+of an enum of ADDED has to stand in its section. Prints what is missing, and ends with status 1 where anything
+is.
 """
 import pathlib
 import re
@@ -20,7 +22,14 @@ NAME = re.compile(r"^[A-Za-z_][A-Za-z0-9_]*(?:(?:::|\.)[A-Za-z_][A-Za-z0-9_]*)*(
 # A file or a folder of the repository.
 FILE = re.compile(r"^(?:[a-z0-9_./-]*/[A-Za-z0-9_./+-]*|[A-Za-z0-9_]+\.(?:md|rt|antt|txt|job|py|edit))$")
 # Pages on texts and on choices name words of jobs and of Ceph beside names of the code.
-WORDS_OF_TEXTS = {"FORMATS.md", "DECISIONS.md", "README.md"}
+# The sections of ADDING.md, each with the enum that grows by what it adds.
+ADDED = {
+    "An edit": ("crush_edits/src/edit.rt", "Edit"),
+    "A refusal": ("crush_edits/src/refusal.rt", "Refusal"),
+    "A fault of a text": ("crush_text/src/fault.rt", "TextFaultKind"),
+    "A fault of a job": ("crush_script/src/fault.rt", "JobFault"),
+}
+WORDS_OF_TEXTS = {"FORMATS.md", "OPERATING.md", "DECISIONS.md", "README.md"}
 
 
 def crate_files():
@@ -81,6 +90,31 @@ def code_faults(head, rows, changed):
                     yield f"{name} changes {changed[name]}"
 
 
+def variants(name, enum):
+    """The variants of an enum of a file of the crates."""
+    body = re.search(rf"pub enum {enum}\b[^{{]*{{(.*?)\n}}", (TOP / "crates" / name).read_text(), re.S).group(1)
+    return re.findall(r"^    ([A-Z]\w*)", body, re.M)
+
+
+def naming_all(names):
+    """The files of src/ and specs/, but for those of tests, that name all of these, from the crate down."""
+    for path in crate_files():
+        crate, folder = path.relative_to(TOP / "crates").parts[:2]
+        if folder in {"src", "specs"} and not crate.endswith("_tests"):
+            if set(names) <= set(re.findall(r"\w+", path.read_text())):
+                yield str(path.relative_to(TOP / "crates"))
+
+
+def adding_faults():
+    """What is wrong with the lists of files of ADDING.md."""
+    sections = re.split(r"(?m)^## ", (TOP / "docs/ADDING.md").read_text())[1:]
+    sections = {section.split("\n", 1)[0]: quoted(section) for section in sections}
+    for title, (name, enum) in ADDED.items():
+        for file in naming_all(variants(name, enum)):
+            if file not in sections.get(title, []):
+                yield f"{title} doesn't name {file}"
+
+
 def main():
     words = known_words()
     changed = {path.stem: changed_file(path) for path in crate_files() if path.suffix == ".edit"}
@@ -110,6 +144,7 @@ def main():
                     if part not in words:
                         faults.append(f"{page.name}: nothing is named {name}")
                         break
+    faults += [f"ADDING.md: {fault}" for fault in adding_faults()]
     faults += [f"no page names the must-fail edit {edit}" for edit in sorted(edits - named)]
     for fault in faults:
         print(fault)
