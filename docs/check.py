@@ -8,8 +8,8 @@ too, each cell of it has to name files of the crates in backticks, from the crat
 the row has to change one of them. Of FORMATS.md, OPERATING.md, DECISIONS.md and README.md, which name words
 of jobs and of Ceph beside names of the code, only those columns are looked at. ADDING.md lists the
 files that an addition touches: each has to be there, and each file of src/ and specs/ that names all variants
-of an enum of ADDED has to stand in its section. Prints what is missing, and ends with status 1 where anything
-is.
+of an enum of ADDED has to stand in its section. RULES.md has a row for each variant of the enums of ROWS, and
+for each limit. Prints what is missing, and ends with status 1 where anything is.
 """
 import pathlib
 import re
@@ -28,6 +28,12 @@ ADDED = {
     "A refusal": ("crush_edits/src/refusal.rt", "Refusal"),
     "A fault of a text": ("crush_text/src/fault.rt", "TextFaultKind"),
     "A fault of a job": ("crush_script/src/fault.rt", "JobFault"),
+}
+# The sections of RULES.md that have a row for each variant of an enum.
+ROWS = {
+    "Refusals": ("crush_edits/src/refusal.rt", "Refusal"),
+    "Faults of a text": ("crush_text/src/fault.rt", "TextFaultKind"),
+    "Faults of a job": ("crush_script/src/fault.rt", "JobFault"),
 }
 WORDS_OF_TEXTS = {"FORMATS.md", "OPERATING.md", "DECISIONS.md", "README.md"}
 
@@ -105,10 +111,29 @@ def naming_all(names):
                 yield str(path.relative_to(TOP / "crates"))
 
 
+def sections_of(page):
+    """The sections of a page by their titles."""
+    sections = re.split(r"(?m)^## ", (TOP / "docs" / page).read_text())[1:]
+    return {section.split("\n", 1)[0]: section for section in sections}
+
+
+def rule_faults():
+    """Which refusals, faults and limits have no row in RULES.md."""
+    sections = sections_of("RULES.md")
+    wanted = {title: variants(name, enum) for title, (name, enum) in ROWS.items()}
+    limits = (TOP / "crates/crush_units/src/limits.rt").read_text()
+    wanted["Limits"] = re.findall(r"(?m)^pub const (\w+)", limits)
+    for title, names in wanted.items():
+        rows = [row for _, rows in tables(sections.get(title, "")) for row in rows]
+        there = {name for row in rows for cell in row[:2] for name in quoted(cell)}
+        for name in names:
+            if name not in there:
+                yield f"{title} has no row for {name}"
+
+
 def adding_faults():
     """What is wrong with the lists of files of ADDING.md."""
-    sections = re.split(r"(?m)^## ", (TOP / "docs/ADDING.md").read_text())[1:]
-    sections = {section.split("\n", 1)[0]: quoted(section) for section in sections}
+    sections = {title: quoted(section) for title, section in sections_of("ADDING.md").items()}
     for title, (name, enum) in ADDED.items():
         for file in naming_all(variants(name, enum)):
             if file not in sections.get(title, []):
@@ -144,6 +169,7 @@ def main():
                     if part not in words:
                         faults.append(f"{page.name}: nothing is named {name}")
                         break
+    faults += [f"RULES.md: {fault}" for fault in rule_faults()]
     faults += [f"ADDING.md: {fault}" for fault in adding_faults()]
     faults += [f"no page names the must-fail edit {edit}" for edit in sorted(edits - named)]
     for fault in faults:
