@@ -9,7 +9,7 @@ the row has to change one of them. Of FORMATS.md, OPERATING.md, DECISIONS.md and
 of jobs and of Ceph beside names of the code, only those columns are looked at. ADDING.md lists the
 files that an addition touches: each has to be there, and each file of src/ and specs/ that names all variants
 of an enum of ADDED has to stand in its section. RULES.md has a row for each variant of the enums of ROWS, and
-for each limit. Prints what is missing, and ends with status 1 where anything is.
+for each limit. The index of examples/ names each job. Prints what is missing, and ends with status 1 where anything is.
 """
 import pathlib
 import re
@@ -131,6 +131,14 @@ def rule_faults():
                 yield f"{title} has no row for {name}"
 
 
+def example_faults():
+    """Which jobs the index of the examples doesn't name."""
+    named = set(quoted((TOP / "examples/README.md").read_text()))
+    for job in sorted([*(TOP / "examples").glob("*.job"), *(TOP / "examples/worked").glob("*.job")]):
+        if not {job.name, job.stem} & named:
+            yield f"{job.name} isn't named"
+
+
 def adding_faults():
     """What is wrong with the lists of files of ADDING.md."""
     sections = {title: quoted(section) for title, section in sections_of("ADDING.md").items()}
@@ -171,6 +179,7 @@ def main():
                         break
     faults += [f"RULES.md: {fault}" for fault in rule_faults()]
     faults += [f"ADDING.md: {fault}" for fault in adding_faults()]
+    faults += [f"examples/README.md: {fault}" for fault in example_faults()]
     faults += [f"no page names the must-fail edit {edit}" for edit in sorted(edits - named)]
     for fault in faults:
         print(fault)
