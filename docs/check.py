@@ -9,10 +9,14 @@ the row has to change one of them. Of FORMATS.md, OPERATING.md, DECISIONS.md and
 of jobs and of Ceph beside names of the code, only those columns are looked at. ADDING.md lists the
 files that an addition touches: each has to be there, and each file of src/ and specs/ that names all variants
 of an enum of ADDED has to stand in its section. RULES.md has a row for each variant of the enums of ROWS, and
-for each limit. The index of examples/ names each job. Prints what is missing, and ends with status 1 where anything is.
+for each limit. The index of examples/ names each job. The version of the command line stands in VERSIONS, the
+manual page has each command and flag of the help, and PROVED.md the toolchain's line, where `rt` is there to tell
+it. Prints what is missing, and ends with status 1 where anything is.
 """
 import pathlib
 import re
+import shutil
+import subprocess
 import sys
 
 TOP = pathlib.Path(__file__).resolve().parent.parent
@@ -35,6 +39,9 @@ ROWS = {
     "Faults of a text": ("crush_text/src/fault.rt", "TextFaultKind"),
     "Faults of a job": ("crush_script/src/fault.rt", "JobFault"),
 }
+# Where the version stands that the command line tells.
+COMMAND_LINE = "crates/crush_options/src/command_line.rt"
+VERSIONS = {"CHANGELOG.md": "## {}\n", "docs/crushedit.1": '"crushedit {}"', "docs/FORMATS.md": "`crushedit {}`"}
 WORDS_OF_TEXTS = {"FORMATS.md", "OPERATING.md", "DECISIONS.md", "README.md"}
 
 
@@ -139,6 +146,33 @@ def example_faults():
             yield f"{job.name} isn't named"
 
 
+def version_faults():
+    """Where another version stands than the one that the command line tells, and whether the toolchain's line is told."""
+    version = re.search(r'\.version\("([^"]+)"\)', (TOP / COMMAND_LINE).read_text()).group(1)
+    for name, form in VERSIONS.items():
+        if form.format(version) not in (TOP / name).read_text():
+            yield f"{name} doesn't have the version {version}"
+    if not re.search(r"(?m)^## (.*)$", (TOP / "CHANGELOG.md").read_text()).group(1) == version:
+        yield f"the newest version of CHANGELOG.md isn't {version}"
+    if shutil.which("rt"):
+        told = subprocess.run(["rt", "version"], capture_output=True, text=True, check=True).stdout
+        line = re.search(r"logic \w+", told).group(0)
+        if f"`{line}`" not in (TOP / "docs/PROVED.md").read_text():
+            yield f"PROVED.md doesn't name the toolchain's {line}"
+
+
+def manual_faults():
+    """Which commands and flags of the help the manual page doesn't have."""
+    source = (TOP / COMMAND_LINE).read_text()
+    manual = re.sub(r"\\f[A-Z]|\\", "", (TOP / "docs/crushedit.1").read_text())
+    commands = re.search(r"(?ms)^Commands.*?\n\n", source).group(0)
+    words = re.findall(r"(?m)^    ([a-z-]+)(?:(?: [A-Z]+)?, ([a-z]+))?", commands)
+    flags = re.findall(r'flag\(alloc, "([a-z-]+)"', source)
+    for word in [word for pair in words for word in pair if word] + [f"--{flag}" for flag in flags]:
+        if not re.search(rf"(?<![a-z-]){word}(?![a-z-])", manual):
+            yield f"crushedit.1 doesn't name {word}"
+
+
 def adding_faults():
     """What is wrong with the lists of files of ADDING.md."""
     sections = {title: quoted(section) for title, section in sections_of("ADDING.md").items()}
@@ -180,6 +214,7 @@ def main():
     faults += [f"RULES.md: {fault}" for fault in rule_faults()]
     faults += [f"ADDING.md: {fault}" for fault in adding_faults()]
     faults += [f"examples/README.md: {fault}" for fault in example_faults()]
+    faults += [*version_faults(), *manual_faults()]
     faults += [f"no page names the must-fail edit {edit}" for edit in sorted(edits - named)]
     for fault in faults:
         print(fault)
