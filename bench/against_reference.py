@@ -3,6 +3,7 @@ compares what both print, byte for byte.
 
     python3 bench/against_reference.py crates/crushedit/out/crushedit 1000 [SEED]
 
+200 jobs of one seed are in the stored run of crush_examples too, which the gate runs: examples/as_tests.py.
 The model is written from docs/ alone. It keeps a map as lists of names and sums weights anew
 whenever it needs one.
 """
@@ -420,13 +421,28 @@ def random_job(dice):
     return job, map.text() + "".join(lines)
 
 
-def main():
-    program, count = sys.argv[1], int(sys.argv[2])
-    seed = int(sys.argv[3]) if len(sys.argv) > 3 else random.randrange(2**32)
+class Dice(random.Random):
+    """Draws by `random` alone, whose numbers of a seed are the same in each version of Python."""
+
+    def randint(self, low, high):
+        return low + int(self.random() * (high - low + 1))
+
+    def choice(self, things):
+        return things[self.randint(0, len(things) - 1)]
+
+    def sample(self, things, count):
+        left = list(things)
+        return [left.pop(self.randint(0, len(left) - 1)) for _ in range(count)]
+
+
+def numbered(count, seed):
+    """The jobs of a seed, each with what is to be printed of it."""
+    return (random_job(Dice(f"{seed} {index}")) for index in range(count))
+
+
+def compare(program, count, seed):
     refusals = {}
-    for index in range(count):
-        dice = random.Random(f"{seed} {index}")
-        job, expected = random_job(dice)
+    for index, (job, expected) in enumerate(numbered(count, seed)):
         run = subprocess.run([program, "--in-turn"], input=job.encode(), capture_output=True)
         if run.stdout.decode() != expected or run.returncode != 0:
             print(job, "\n--- expected\n", expected, "\n--- printed\n", run.stdout.decode(), run.stderr)
@@ -436,6 +452,11 @@ def main():
                 name = line.split()[-2]
                 refusals[name] = refusals.get(name, 0) + 1
     print(f"{count} jobs of seed {seed} are the same; refusals:", refusals)
+
+
+def main():
+    program, count = sys.argv[1], int(sys.argv[2])
+    compare(program, count, int(sys.argv[3]) if len(sys.argv) > 3 else random.randrange(2**32))
 
 
 if __name__ == "__main__":

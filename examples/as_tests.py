@@ -10,17 +10,24 @@ with that operator's section before the others (NAME.OPERATOR.job). Of an exampl
 maps/ that is no refused one, what is written is run again and gives the same map (NAME.again.job), and the
 job's map alone is printed as it is, or, where there is a NAME.map, as that (NAME.alone.job). What a run is
 summed up as is counted here from the history. Each row of a table of refused/ is a job that is refused; these
-are one file, `refused`, in which a record separator stands between two. With --check nothing is written, and the status is 1 where the
-crate has other files or other bytes.
+are one file, `records`, in which a record separator stands between two. Behind them stand jobs of chance, of one
+seed, with what the plain model of bench/against_reference.py prints of them. With --check nothing is written, and
+the status is 1 where the crate has other files or other bytes.
 """
 import pathlib
 import re
 import sys
 
 HERE = pathlib.Path(__file__).resolve().parent
+sys.dont_write_bytecode = True
+sys.path.insert(0, str(HERE.parent / "bench"))
+from against_reference import numbered  # noqa: E402
+
 CRATE = HERE.parent / "crates/crush_examples"
 # What stands between two jobs that are refused: no text and no command has it.
 SEPARATOR = "\x1e"
+# How many jobs of chance there are, and of which seed.
+CHANCE, SEED = 200, 1
 # The words before a job's name, for each run of a job that has more than one.
 MODES = {"each_mode": ["", "--in-turn ", "--in-turn --no-history "]}
 
@@ -123,10 +130,11 @@ def wanted():
         files[CRATE / "data" / name] = text
         lines.append(f"{words}{name}\n")
         stdout.append(printed(f"{words}{name}", out, err))
-    rows = [row for table in sorted((HERE / "refused").glob("*.txt")) for row in refused(table)]
-    assert not any(SEPARATOR in text for text, _ in rows), "a job has the byte that separates jobs"
-    stdout += [printed(f"refused {number}", "", err) for number, (_, err) in enumerate(rows)]
-    files[CRATE / "data/refused"] = SEPARATOR.join(text for text, _ in rows)
+    records = [(text, "", err) for table in sorted((HERE / "refused").glob("*.txt")) for text, err in refused(table)]
+    records += [(text, out, "") for text, out in numbered(CHANCE, SEED)]
+    assert not any(SEPARATOR in text for text, _, _ in records), "a job has the byte that separates jobs"
+    stdout += [printed(f"record {number}", out, err) for number, (_, out, err) in enumerate(records)]
+    files[CRATE / "data/records"] = SEPARATOR.join(text for text, _, _ in records)
     return files | {CRATE / "data/jobs": "".join(lines), CRATE / "stdout": "".join(stdout)}
 
 

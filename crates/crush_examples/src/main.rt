@@ -1,6 +1,6 @@
 //! Runs jobs as the program `crushedit` does, one after the other, and prints of each what is written,
 //! what the run comes to, what standard error is told and the status: first those that `jobs` names,
-//! then those of the file `refused`.
+//! then those of the file `records`.
 #![tactic(auto)]
 
 use crush_options::{Mode, Options, options};
@@ -16,7 +16,7 @@ fn main(rt: HostRuntime) -> io::Result<()> {
     let done = run_lines(&rt, &rt, lines.as_str());
     drop(lines);
     done?;
-    let records = fs::read(&rt, "refused")?;
+    let records = fs::read(&rt, "records")?;
     let done = run_records(&rt, &rt, records.as_slice());
     drop(records);
     done
@@ -33,7 +33,7 @@ fn run_records(
 ) -> io::Result<()> {
     let jobs = records.split(|byte| *byte == RECORD_SEPARATOR);
     for (number, job) in jobs.enumerate() {
-        println!(rt; "> refused {number}")?;
+        println!(rt; "> record {number}")?;
         print_end(rt, &run_record(rt, workers, job))?;
     }
     Ok(())
