@@ -5,13 +5,14 @@
 #   make check     the merge gate: everything from nothing, the edits that must fail, the tests
 #   make install   the program and its manual page below PREFIX, which is /usr/local if nothing is said
 #   make recipe    tries the recipe for operators with the program that was built
+#   make trials    tries that program with jobs of chance, memory that is refused, and streams that fail
 #   make clean     removes what the checks kept
 
 PREFIX = /usr/local
 DESTDIR =
 PROGRAM = crates/crushedit/out/crushedit
 
-.PHONY: all try check install uninstall recipe clean
+.PHONY: all try check install uninstall recipe trials clean
 
 all:
 	cd crates/crushedit && rt run < stdin | cmp - stdout
@@ -35,6 +36,12 @@ uninstall:
 
 recipe: $(PROGRAM)
 	examples/recipe_test.sh $(PROGRAM)
+
+trials: $(PROGRAM)
+	python3 bench/against_reference.py $(PROGRAM) 1000
+	python3 bench/at_once.py $(PROGRAM) 200
+	python3 bench/refused_memory.py $(PROGRAM)
+	python3 bench/streams.py $(PROGRAM)
 
 clean:
 	rm -rf crates/*/out

@@ -1,0 +1,298 @@
+"""Runs crushedit on inputs that are made to take long, and prints how many processor seconds each takes.
+
+    python3 bench/hostile.py crates/crushedit/out/crushedit [--megabytes 1 16] [--limit 60] [--only WORD ..]
+    python3 bench/hostile.py --write FOLDER [--megabytes 1 16] [--only WORD ..]
+
+Each input has at most so many bytes, a megabyte being 1,000,000. Printed are its name, its bytes, the seconds,
+the status and standard error. A run that takes longer than the limit is ended, and `> LIMIT` is printed. The status
+is 1 where another signal ended a run. With --write the inputs are written into the folder and nothing is run.
+"""
+
+import argparse
+import itertools
+import os
+import resource
+import signal
+import subprocess
+import sys
+import tempfile
+
+MOST_DEVICES, MOST_BUCKETS, MOST_CALLS = 65536, 4096, 65536
+TYPES = ["type 0 osd", "type 1 host", "type 2 chassis", "type 3 rack", "type 11 root"]
+OPERATOR = "%operator a"
+
+
+def bytes_of(lines):
+    return sum(len(line) + 1 for line in lines)
+
+
+def filled(lines, size, more, most=MOST_CALLS):
+    """The lines, and of those that `more` makes of a number as many as there is room for."""
+    left, lines = size - bytes_of(lines), list(lines)
+    for number in range(most):
+        line = more(number)
+        left -= len(line) + 1
+        if left < 0:
+            break
+        lines.append(line)
+    return lines
+
+
+def bucket(kind, name, number, items, ids=()):
+    lines = [f"{kind} {name} {{", f"id -{number}", *ids, "alg straw2"]
+    return lines + [f"item {item} weight {weight}" for item, weight in items] + ["}"]
+
+
+def flat(devices, hosts=1, weight=0.5):
+    """A map of devices in so many hosts, and a root with these."""
+    lines = [f"device {number} osd.{number}" for number in range(devices)] + TYPES
+    names = []
+    for host in range(hosts):
+        items = [(f"osd.{number}", weight) for number in range(host, devices, hosts)]
+        names.append((f"h{host}", weight * len(items)))
+        lines += bucket("host", f"h{host}", host + 2, items)
+    return lines + bucket("root", "default", 1, names)
+
+
+def nest(depth=MOST_BUCKETS):
+    """A map of buckets in one another, the innermost of which holds a device."""
+    lines = ["device 0 osd.0"] + TYPES
+    below = "osd.0"
+    for number in range(depth, 0, -1):
+        lines += bucket("rack", f"b{number}", number, [(below, 1)])
+        below = f"b{number}"
+    return lines
+
+
+def long_name(number):
+    """Names that differ in their last bytes alone."""
+    return f"{number:0>255}"
+
+
+def devices_for(size):
+    """How many devices of a flat map take half of so many bytes, with their items."""
+    return min(MOST_DEVICES, size // 2 // 50)
+
+
+def deep_reweights(size):
+    return filled(nest() + [OPERATOR], size, lambda n: f"reweight osd.0 {n % 7}.5")
+
+
+def hundred_deep_reweights(size):
+    return nest() + [OPERATOR] + [f"reweight osd.0 {n % 7}.5" for n in range(100)]
+
+
+def deep_renames(size):
+    return filled(nest() + [OPERATOR], size, lambda n: f"rename-bucket {['b4096 c', 'c b4096'][n % 2]}")
+
+
+def deep_moves(size):
+    """The inner half of a nest goes to another root and back."""
+    lines = nest(MOST_BUCKETS - 1) + bucket("root", "other", MOST_BUCKETS, [])
+    return filled(lines + [OPERATOR], size, lambda n: f"move b2048 {['root=other', 'rack=b2047'][n % 2]}")
+
+
+def deep_absent(size):
+    return filled(nest() + [OPERATOR], size, lambda n: "rm x")
+
+
+def deep_batches(size):
+    return filled(nest() + [OPERATOR], size, lambda n: "begin\ncommit")
+
+
+def deep_pairs_of_edits(size):
+    return filled(nest() + [OPERATOR], size, lambda n: f"begin\nreweight osd.0 {n % 7}\nreweight osd.0 9\ncommit")
+
+
+def deep_swaps(size):
+    """Two nests side by side exchange their items again and again."""
+    half = MOST_BUCKETS // 2
+    lines = ["device 0 osd.0", "device 1 osd.1"] + TYPES
+    for side in range(2):
+        below = f"osd.{side}"
+        for number in range(half - 1, -1, -1):
+            lines += bucket("rack", f"b{side}_{number}", side * half + number + 1, [(below, 1)])
+            below = f"b{side}_{number}"
+    return filled(lines + [OPERATOR], size, lambda n: f"swap-bucket b0_{n % 2000} b1_{n % 2000}")
+
+
+def devices_alone(size):
+    return filled([], size, lambda n: f"device {n} osd.{n}", MOST_DEVICES)
+
+
+def long_names(size):
+    return filled([], size, lambda n: f"device {n} {long_name(n)}", MOST_DEVICES)
+
+
+def long_absent_names(size):
+    lines = filled([], size // 2, lambda n: f"device {n} {long_name(n)}", MOST_DEVICES)
+    return filled(lines + [OPERATOR], size, lambda n: f"rm {long_name(n + 100000)}")
+
+
+def new_buckets(size):
+    return filled(TYPES + [OPERATOR], size, lambda n: f"add-bucket b{n} rack", 32000)
+
+
+def new_devices(size):
+    return filled(flat(1) + [OPERATOR], size, lambda n: f"add osd.{n + 1} 0.5 host=h0", 20000)
+
+
+def flat_batches(size):
+    return filled(flat(2000, 100) + [OPERATOR], size, lambda n: "begin\ncommit")
+
+
+def batches_of_two(size):
+    count = devices_for(size)
+    return filled(flat(count, 100) + [OPERATOR], size,
+                  lambda n: f"begin\nreweight osd.{n % count} {n % 7}\nreweight osd.0 {n % 5}\ncommit")
+
+
+def one_batch(size):
+    count = devices_for(size)
+    lines = filled(flat(count, 100) + [OPERATOR, "begin"], size - 7, lambda n: f"reweight osd.{n % count} {n % 7}")
+    return lines + ["commit"]
+
+
+def removals_at_the_front(size):
+    count = devices_for(size)
+    return filled(flat(count) + [OPERATOR], size, lambda n: f"rm osd.{n}", count)
+
+
+def moves_from_the_front(size):
+    count = devices_for(size)
+    lines = flat(count) + bucket("host", "other", 3, [])
+    return filled(lines + [OPERATOR], size, lambda n: f"move osd.{n} host=other", count)
+
+
+def moves_there_and_back(size):
+    lines = flat(devices_for(size)) + bucket("host", "other", 3, [])
+    return filled(lines + [OPERATOR], size, lambda n: f"move osd.0 host={['other', 'h0'][n % 2]}")
+
+
+def subtrees(size):
+    return filled(flat(devices_for(size), 100) + [OPERATOR], size, lambda n: f"reweight-subtree default {n % 7}")
+
+
+def large_swaps(size):
+    return filled(flat(devices_for(size), 2) + [OPERATOR], size, lambda n: "swap-bucket h0 h1")
+
+
+def take_steps(size):
+    lines = TYPES + [line for n in range(MOST_BUCKETS) for line in bucket("rack", f"b{n}", n + 1, [])]
+    for rule in range(256):
+        steps = [f"step take b{MOST_BUCKETS - 1 - (rule * 64 + n) % 64}" for n in range(64)]
+        rule_lines = [f"rule r{rule} {{", f"id {rule}", "type replicated", *steps, "}"]
+        if bytes_of(lines) + bytes_of(rule_lines) > size:
+            break
+        lines += rule_lines
+    return filled(lines + [OPERATOR], size, lambda n: f"rm b{MOST_BUCKETS - 1 - n % 64}")
+
+
+def pairs_over_types(size):
+    lines = [f"type {number} t{number}" for number in range(256)] + [OPERATOR]
+    return filled(lines, size, lambda n: "move x " + " ".join(f"t{255 - (n + k) % 255}=y{k}" for k in range(16)), 4096)
+
+
+def class_ids(size):
+    def one(number):
+        ids = [f"id -{number * 17 + 2 + k} class c{k}" for k in range(16)]
+        return "\n".join(bucket("rack", f"b{number}", number * 17 + 1, [], ids))
+    return filled(TYPES, size, one, MOST_BUCKETS)
+
+
+def new_buckets_of_class_ids(size):
+    """Ids nearest to -1 belong to classes, so each new bucket looks behind them all."""
+    lines = filled(TYPES, size // 2, lambda n: "\n".join(bucket(
+        "rack", f"b{n}", 100000 + n, [], [f"id -{n * 16 + 1 + k} class c{k}" for k in range(16)])), MOST_BUCKETS // 2)
+    return filled(lines + [OPERATOR], size, lambda n: f"{['add-bucket x rack', 'rm x'][n % 2]}")
+
+
+def sixteen_operators(size):
+    lines = flat(2000, 100)
+    sections = [[f"%operator o{o}"] for o in range(16)]
+    each = (size - bytes_of(lines)) // 16
+    return lines + [line for o, section in enumerate(sections) for line in filled(
+        section, each, lambda n: f"reweight osd.{(n * 7 + o) % 2000} {n % 7}", MOST_CALLS // 16)]
+
+
+def a_comment(size):
+    return ["#" + "x" * (size - 2)]
+
+
+def a_word(size):
+    return ["x" * (size - 1)]
+
+
+def blank_lines(size):
+    return [""] * size
+
+
+def comments_in_a_section(size):
+    return [OPERATOR] + ["#"] * ((size - len(OPERATOR) - 1) // 2)
+
+
+def blanks_in_a_line(size):
+    return [OPERATOR, "rm" + " " * (size - len(OPERATOR) - 5) + "x"]
+
+
+def spaces_of_operators(size):
+    return filled([], size, lambda n: f"%operator o{n}", 10**7)
+
+
+INPUTS = {function.__name__: function for function in (
+    hundred_deep_reweights, deep_reweights, deep_renames, deep_moves, deep_absent, deep_batches, deep_pairs_of_edits,
+    deep_swaps, devices_alone, long_names, long_absent_names, new_buckets, new_devices, flat_batches, batches_of_two,
+    one_batch, removals_at_the_front, moves_from_the_front, moves_there_and_back, subtrees, large_swaps, take_steps,
+    pairs_over_types, class_ids, new_buckets_of_class_ids, sixteen_operators, a_comment, a_word, blank_lines,
+    comments_in_a_section, blanks_in_a_line, spaces_of_operators)}
+
+
+def timed(program, job, limit):
+    """The processor seconds that the job takes, or None past the limit, the status, and standard error."""
+
+    def limited():
+        resource.setrlimit(resource.RLIMIT_CPU, (limit, limit + 1))
+
+    with open(job, "rb") as stdin, tempfile.TemporaryFile() as told:
+        run = subprocess.Popen([program], stdin=stdin, stdout=subprocess.DEVNULL, stderr=told, preexec_fn=limited)
+        _, how, used = os.wait4(run.pid, 0)
+        run.returncode = os.waitstatus_to_exitcode(how)
+        told.seek(0)
+        if run.returncode in (-signal.SIGXCPU, -signal.SIGKILL):
+            return None, 0, ""
+        return used.ru_utime + used.ru_stime, run.returncode, told.read().decode().strip()
+
+
+def main():
+    parser = argparse.ArgumentParser(description=__doc__.splitlines()[0])
+    parser.add_argument("program", nargs="?", help="not with --write")
+    parser.add_argument("--write", metavar="FOLDER")
+    parser.add_argument("--megabytes", type=float, nargs="+", default=[1, 16])
+    parser.add_argument("--limit", type=int, default=60, help="processor seconds that a run may take")
+    parser.add_argument("--only", nargs="+", metavar="WORD", help="inputs whose name has one of these words")
+    options = parser.parse_args()
+    if bool(options.program) == bool(options.write):
+        parser.error("a program or --write FOLDER")
+    killed = False
+    with tempfile.TemporaryDirectory() as own:
+        folder = options.write or own
+        os.makedirs(folder, exist_ok=True)
+        for megabytes, (name, make) in itertools.product(options.megabytes, INPUTS.items()):
+            if options.only and not any(word in name for word in options.only):
+                continue
+            job = os.path.join(folder, f"{name}.{megabytes:g}")
+            with open(job, "w") as out:
+                out.write("\n".join(make(int(megabytes * 1_000_000))) + "\n")
+            if options.write:
+                continue
+            size = os.path.getsize(job)
+            seconds, status, told = timed(os.path.abspath(options.program), job, options.limit)
+            os.remove(job)
+            killed |= status < 0
+            shown = f"> {options.limit}" if seconds is None else f"{seconds:.2f}"
+            print(f"{name:26} {size:>9} {shown:>7} {status:>3} {told}".rstrip(), flush=True)
+    sys.exit(1 if killed else 0)
+
+
+if __name__ == "__main__":
+    main()

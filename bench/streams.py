@@ -1,0 +1,99 @@
+"""Runs crushedit on streams that are closed, full, endless or go away, and looks whether it ends as docs/ say.
+
+    python3 bench/streams.py crates/crushedit/out/crushedit [--table]
+
+Each case is a command of bash, with `$C` for the program, in a folder with `job` (a map with an edit) and
+`large` (a map of 2,000 devices, more than a pipe holds). Of each it tells the status, of what a signal ended
+128 and its number, what standard error got, and how much of its output was written. With --table what comes is
+printed as a table and not judged; else a line for each case that ends otherwise, and status 1 where any does.
+"""
+
+import os
+import subprocess
+import sys
+import tempfile
+
+from make_job import map_text, script
+
+READ, WRITE = "crushedit: read fault", "crushedit: write fault"
+FILE_SIZE = 128 + 25
+# What it is, the command, the status, standard error, and what of the output is written: all, none, or the
+# start of it; of the empty job all are 75 bytes. None where the command sends the output elsewhere.
+CASES = [
+    ("FILE isn't there", "$C missing", 3, READ, "none"),
+    ("FILE is a directory", "$C .", 3, READ, "none"),
+    ("FILE is a link to itself", "ln -s loop loop; $C loop", 3, READ, "none"),
+    ("FILE is the empty word", "$C ''", 3, READ, "none"),
+    ("FILE is `-`, and no such file is there", "$C - < job", 3, READ, "none"),
+    ("FILE is `/dev/stdin`", "$C /dev/stdin < job", 0, "", "all"),
+    ("FILE fails in a read", "$C /proc/self/mem", 3, READ, "none"),
+    ("FILE is a FIFO", "mkfifo f; cat job > f & $C f", 0, "", "all"),
+    ("FILE is a FIFO, and its writer writes nothing", "mkfifo f; : > f & $C f", 0, "", "75"),
+    ("FILE never ends", "$C /dev/zero", 1, "crushedit: TooLong", "none"),
+    ("standard input never ends", "yes '# again' | $C", 1, "crushedit: TooLong", "none"),
+    ("standard input is a directory", "$C < .", 3, READ, "none"),
+    ("standard input is closed", "$C <&-", 3, READ, "none"),
+    ("standard input comes in pieces", "(head -c 100 job; sleep 0.2; tail -c +101 job) | $C", 0, "", "all"),
+    ("the file behind standard input is removed", "cp job gone; exec 3< gone; rm gone; $C <&3", 0, "", "all"),
+    ("standard output is closed", "$C job >&-", 3, WRITE, None),
+    ("standard output is a full disk", "$C job > /dev/full", 3, WRITE, None),
+    ("the reader of standard output goes away", "$C large | true; exit ${PIPESTATUS[0]}", 3, WRITE, None),
+    ("the same behind `head`", "$C large | head -n 1 > line; exit ${PIPESTATUS[0]}", 3, WRITE, None),
+    ("a limit on the size of files", "ulimit -f 1; $C large", FILE_SIZE, "", "start"),
+    ("the same where SIGXFSZ is ignored", "trap '' XFSZ; ulimit -f 1; $C large", 3, WRITE, "start"),
+    ("standard error is closed", "$C missing 2>&-", 3, "", "none"),
+    ("standard error is a full disk", "$C missing 2> /dev/full", 3, "", "none"),
+    ("standard input and output are closed", "$C job <&- >&-", 3, WRITE, None),
+    ("all three are closed", "$C job <&- >&- 2>&-", 3, "", None),
+    ("--help to a full disk", "$C --help > /dev/full", 3, WRITE, None),
+    ("--version to a full disk", "$C --version > /dev/full", 3, WRITE, None),
+    ("--help to a closed output", "$C --help >&-", 3, WRITE, None),
+]
+
+
+def written(out, whole):
+    if not out:
+        return "none"
+    if out in whole:
+        return "all"
+    return "start" if any(text.startswith(out) for text in whole) else str(len(out))
+
+
+def ending(program, folder, command):
+    """The status, standard error and standard output of a case, in a folder of its own."""
+    with tempfile.TemporaryDirectory(dir=folder) as case:
+        for name in ("job", "large"):
+            os.link(os.path.join(folder, name), os.path.join(case, name))
+        with open(os.path.join(folder, "out"), "wb") as out:
+            run = subprocess.run(["bash", "-c", command], cwd=case, env={**os.environ, "C": program},
+                                 stdin=subprocess.DEVNULL, stdout=out, stderr=subprocess.PIPE, timeout=60,
+                                 restore_signals=True)
+        with open(os.path.join(folder, "out"), "rb") as out:
+            status = run.returncode if run.returncode >= 0 else 128 - run.returncode
+            return status, run.stderr.decode().strip(), out.read()
+
+
+def main():
+    program, as_table = os.path.abspath(sys.argv[1]), "--table" in sys.argv
+    failed = False
+    with tempfile.TemporaryDirectory() as folder:
+        whole = []
+        for name, devices in (("job", 3), ("large", 2000)):
+            with open(os.path.join(folder, name), "w") as out:
+                out.write(map_text(devices) + script(devices, 1))
+            whole.append(subprocess.run([program, out.name], capture_output=True, check=True).stdout)
+        for name, command, *due in CASES:
+            status, told, out = ending(program, folder, command)
+            got = [status, told, written(out, whole) if due[2] is not None else None]
+            if as_table:
+                print(f"| {name} | {status} | {f'`{told}`' if told else ''} | {got[2] or ''} |")
+            elif got != due:
+                failed = True
+                print(f"{name}: {got} and not {due}: {command}")
+    if not as_table:
+        print(f"{len(CASES)} cases of streams: {'some end otherwise' if failed else 'each ends as docs/ say'}")
+    sys.exit(1 if failed else 0)
+
+
+if __name__ == "__main__":
+    main()
