@@ -13,6 +13,7 @@ for each limit. The index of examples/ names each job. The version of the comman
 manual page has each command and flag of the help, and PROVED.md the toolchain's line, where `rt` is there to tell
 it. Prints what is missing, and ends with status 1 where anything is.
 """
+import os
 import pathlib
 import re
 import shutil
@@ -45,10 +46,16 @@ VERSIONS = {"CHANGELOG.md": "## {}\n", "docs/crushedit.1": '"crushedit {}"', "do
 WORDS_OF_TEXTS = {"FORMATS.md", "OPERATING.md", "DECISIONS.md", "README.md"}
 
 
+def files_below(top):
+    """The files and folders but for those that rt and git keep, which may be hundreds of thousands."""
+    for folder, folders, files in os.walk(top):
+        folders[:] = sorted(set(folders) - {"out", ".git"})
+        for name in sorted(folders + files):
+            yield pathlib.Path(folder) / name
+
+
 def crate_files():
-    for path in sorted((TOP / "crates").rglob("*")):
-        if "out" not in path.parts and path.suffix in {".rt", ".antt", ".edit"}:
-            yield path
+    return [path for path in sorted(files_below(TOP / "crates")) if path.suffix in {".rt", ".antt", ".edit"}]
 
 
 def known_words():
@@ -186,7 +193,7 @@ def main():
     words = known_words()
     changed = {path.stem: changed_file(path) for path in crate_files() if path.suffix == ".edit"}
     edits = set(changed)
-    files = {str(path.relative_to(TOP)) for path in TOP.rglob("*") if ".git" not in path.parts}
+    files = {str(path.relative_to(TOP)) for path in files_below(TOP)}
     faults, named = [], set()
     for page in PAGES:
         text = re.sub(r"```.*?```", "", page.read_text(), flags=re.S)
