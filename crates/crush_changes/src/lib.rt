@@ -8,6 +8,7 @@
 //! | [`attach`], [`rename`] | an item put last into a bucket, memory for it, another name |
 //! | [`detach`] | an item taken out with all that is below it |
 //! | [`swap`] | two buckets that exchange their names and items |
+//! | [`item`] | one item, read |
 //! | [`fit`] | the walk that tests the sums above one item; the total |
 //! | [`moved`], [`swap_fit`] | the same tests where an item moves, and where two are exchanged |
 #![tactic(auto)]
@@ -16,6 +17,7 @@ pub mod attach;
 pub mod change;
 pub mod detach;
 pub mod fit;
+pub mod item;
 pub mod moved;
 pub mod rename;
 pub mod subtree;

@@ -5,6 +5,7 @@ use Rattle.std.proofs.lemmas.List.{map-append, take_more}
 use Rattle.crush_table.specs.Items.{HeaderData, Items, none, device, bucket}
 use Rattle.crush_table.specs.Forest.{ForestData, rows_of, IsSound, OnlyDevices, join}
 use Rattle.crush_table.specs.Stands.{Stands}
+use Rattle.crush_nodes.specs.Copies.{IsPushed}
 use Rattle.crush_nodes.specs.Ops.{without_capacity}
 use Rattle.crush_nodes.specs.Room.{bucket_room, count, room}
 use Rattle.crush_nodes.specs.Seen.{items_of}
@@ -42,6 +43,19 @@ bucket_room-full b h w m k full below = omega (arith, full_room (h.id == b) m (c
 pub bucket_room-copied : {A : _} (b : ℕ) (more ms : List (Node A)) (y : Node A) → more ≡ ms ++ y ∷ [] → bucket_room b (items_of ms) ≡ 0 → bucket_room b (items_of (y ∷ [])) ≡ 0 → bucket_room b (items_of more) ≡ 0
 bucket_room-copied b more ms y written before one =
     ap (λ z. bucket_room b (items_of z)) written ∙ ap (bucket_room b) (items_of-append ms (y ∷ [])) ∙ omega (arith, bucket_room-join b (items_of ms) (items_of (y ∷ [])), before, one)
+
+-- COPIED: a node more, which is a copy of another, without room
+pub record Copied {A : _} (old new : List (Node A)) (x : Node A) : Type 0 where
+  pub seen : Items
+  pub pushed : IsPushed old new seen
+  pub same : without_capacity seen ≡ without_capacity (items_of (x ∷ []))
+  pub full : (b : ℕ) → bucket_room b seen ≡ 0
+
+pub copied_same : {A : _} (old new ns : List (Node A)) (i : ℕ) (x : Node A) → Copied old new x → i < length ns → x ≡ get_or ns i x → without_capacity (items_of old) ≡ without_capacity (items_of (take i ns)) → without_capacity (items_of new) ≡ without_capacity (items_of (take (i + 1) ns))
+copied_same old new ns i x copy lt at before = without_capacity-copied new old ns i copy.pushed.node x lt at copy.pushed.last before (ap without_capacity copy.pushed.item ∙ copy.same)
+
+pub copied_full : {A : _} (old new : List (Node A)) (x : Node A) → Copied old new x → (b : ℕ) → bucket_room b (items_of old) ≡ 0 → bucket_room b (items_of new) ≡ 0
+copied_full old new x copy b before = bucket_room-copied b new old copy.pushed.node copy.pushed.last before (ap (bucket_room b) copy.pushed.item ∙ copy.full b)
 
 -- a forest has no room that has memory for its items alone
 pub room-full : (f : ForestData) → f.root_capacity ≡ count f.roots → f.unplaced_capacity ≡ count f.unplaced → ((b : ℕ) → bucket_room b f.roots ≡ 0) → ((b : ℕ) → bucket_room b f.unplaced ≡ 0) → (p : Place) → room f p ≡ 0

@@ -4,6 +4,7 @@ pub mod CopyLaws
 pub mod CountLaws
 pub mod Ends
 pub mod FormLaws
+pub mod GuideRows
 pub mod HoldLaws
 pub mod IdSteps
 pub mod Joins
@@ -13,6 +14,8 @@ pub mod LastSteps
 pub mod LeftLaws
 pub mod NodeLaws
 pub mod Options
+pub mod PathLaws
+pub mod PathSteps
 pub mod ReadLaws
 pub mod RoomLaws
 pub mod RoomSteps

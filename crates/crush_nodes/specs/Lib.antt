@@ -1,8 +1,11 @@
 pub mod Apart
 pub mod Attachable
+pub mod Copies
 pub mod Falls
+pub mod Guides
 pub mod Held
 pub mod Ops
+pub mod Paths
 pub mod Room
 pub mod Search
 pub mod Seen

@@ -1,7 +1,11 @@
 //! Copies of a forest.
+//!
+//! As many calls stand on the stack as buckets in one another, so what a call needs beside the
+//! items below is done by calls that have returned before.
 
-ghost use Rattle.std.specs.Prelude.{◌≡◌, ℕ, ◌∷◌, [], map, IfOk, vec_capacity};
-ghost use Rattle.crush_table.specs.Items.{bucket, none};
+ghost use Rattle.std.specs.Prelude.{◌≡◌, ℕ, ◌<◌, ◌+◌, ◌∷◌, [], map, IfOk, OnOk, vec_len, vec_capacity};
+ghost use Rattle.crush_table.specs.Items.{bucket, device, none};
+ghost use Rattle.crush_nodes.specs.Copies.{IsPushed};
 ghost use Rattle.crush_nodes.specs.Ops.{without_capacity};
 ghost use Rattle.crush_nodes.specs.Room.{bucket_room, count};
 ghost use Rattle.crush_nodes.specs.Seen.{shadow_data, header_data, items_of, leaf_data};
@@ -22,18 +26,54 @@ pub fn copy_items<A: Allocator + Clone>(
 {
     let mut copies = Vec::with_capacity(alloc.clone()?, items.len())?;
     for node in items {
-        let copy = match node {
-            Node::Device(leaf) => Node::Device(copy_leaf(alloc, leaf)?),
+        match node {
+            Node::Device(leaf) => push_leaf(&mut copies, alloc, leaf)?,
             Node::Bucket(bucket) => {
                 let bucket: &Bucket<A> = bucket;
-                let header = copy_header(alloc, &bucket.header)?;
                 let below = copy_items(alloc, bucket.items.as_slice())?;
-                bucket_of_parts(alloc, header, bucket.weight, below)?
+                push_bucket(&mut copies, alloc, bucket, below)?;
             }
-        };
-        copies.push_reserved(copy);
+        }
     }
     Ok(copies)
+}
+
+/// Puts a copy of a device last.
+#[inline(never)]
+fn push_leaf<A: Allocator + Clone>(
+    copies: &mut Vec<Node<A>, A>,
+    alloc: &A,
+    leaf: &Leaf<A>,
+) -> Result<(), AllocError>
+    requires { vec_len copies.old < vec_capacity copies.old }
+    ensures pushed { OnOk result
+        (IsPushed copies.old.items copies.new.items (device (leaf_data leaf.now) none)) }
+    ensures len { OnOk result (vec_len copies.new ≡ vec_len copies.old + 1) }
+    ensures capacity { OnOk result (vec_capacity copies.new ≡ vec_capacity copies.old) }
+{
+    let leaf = copy_leaf(alloc, leaf)?;
+    copies.push_reserved(Node::Device(leaf));
+    Ok(())
+}
+
+/// Puts a copy of a bucket last, with the copies of its items.
+#[inline(never)]
+fn push_bucket<A: Allocator + Clone>(
+    copies: &mut Vec<Node<A>, A>,
+    alloc: &A,
+    from: &Bucket<A>,
+    below: Vec<Node<A>, A>,
+) -> Result<(), AllocError>
+    requires { vec_len copies.old < vec_capacity copies.old }
+    ensures pushed { OnOk result (IsPushed copies.old.items copies.new.items
+        (bucket from.now.header from.now.weight (vec_capacity below) (items_of below.items) none)) }
+    ensures len { OnOk result (vec_len copies.new ≡ vec_len copies.old + 1) }
+    ensures capacity { OnOk result (vec_capacity copies.new ≡ vec_capacity copies.old) }
+{
+    let header = copy_header(alloc, &from.header)?;
+    let copy = bucket_of_parts(alloc, header, from.weight, below)?;
+    copies.push_reserved(copy);
+    Ok(())
 }
 
 /// A bucket of these parts.

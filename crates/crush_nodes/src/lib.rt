@@ -9,6 +9,7 @@
 //! | [`view`] | what a read tells of an item |
 //! | [`search`] | an item by its id or name, the items of a bucket, ids that are used, counts |
 //! | [`child`], [`way`] | which item to enter on the way down to another |
+//! | [`guide`], [`path`] | where items stand, told from outside, and the way down by it |
 //! | [`hold`] | an item that is put into a bucket before both stand in a forest |
 //! | [`sums`], [`stored`] | sums of weights, and whether buckets store them |
 //! | [`form`], [`apart`], [`attachable`] | whether an item can come to a forest |
@@ -20,8 +21,10 @@ pub mod attachable;
 pub mod child;
 pub mod copy;
 pub mod form;
+pub mod guide;
 pub mod hold;
 pub mod node;
+pub mod path;
 pub mod place;
 pub mod same;
 pub mod search;

@@ -1,14 +1,15 @@
-use Rattle.std.proofs.Common.{◌≡◌, ℕ, ◌∷◌, [], ap, sym, ◌∙◌, arith}
-use Rattle.std.specs.Prelude.{vec_capacity}
+use Rattle.std.proofs.Common.{◌≡◌, ℕ, ◌+◌, ◌∷◌, [], ap, sym, subst, refl, ◌∙◌, arith}
+use Rattle.std.specs.Prelude.{vec_len, vec_capacity}
 use Rattle.crush_table.specs.Items.{BucketData, size_of, none, device, bucket}
+use Rattle.crush_nodes.specs.Copies.{IsPushed}
 use Rattle.crush_nodes.specs.Ops.{without_capacity}
 use Rattle.crush_nodes.specs.Room.{bucket_room}
-use Rattle.crush_nodes.specs.Seen.{header_data, items_of}
-use Rattle.crush_nodes.proofs.CopyLaws.{without_capacity-copied, bucket_room-full, bucket_room-copied}
+use Rattle.crush_nodes.specs.Seen.{leaf_data, items_of}
+use Rattle.crush_nodes.proofs.CopyLaws.{Copied, copied_same, copied_full, bucket_room-full}
 use Rattle.crush_nodes.proofs.Steps.{kids_smaller, count-items_of}
 use Rattle.crush_nodes.proofs.Ends.{all_taken}
 use Rattle.crush_nodes.proofs.copy.+copy_items.Goals as goal
-use Rattle.crush_nodes.proofs.copy.+copy_items.Goals.{in-Device+in_ok-copy_leaf-in-Device, in-Bucket+in_ok-header-in-Bucket+in_ok-below-in-Bucket+in_ok-copy-in-Bucket}
+use Rattle.crush_nodes.proofs.copy.+copy_items.Goals.{in-Device+in_ok-push_leaf-in-Device, in-Bucket+in_ok-below-in-Bucket+in_ok-push_bucket-in-Bucket}
 
 pub copy_items-requires : goal.copy_items-requires
 copy_items-requires g t c κs within =
@@ -19,30 +20,42 @@ copy_items-requires g t c κs within =
 pub loop-node-preserved : goal.loop-node-preserved
 loop-node-preserved g t c =
     let x = c.node-item.result in
-    let y = c.match-node.copy in
-    let one : without_capacity (items_of (y ∷ [])) ≡ without_capacity (items_of (x ∷ [])) = elim c.match-node.branch [
-      | in-Device+in_ok-copy_leaf-in-Device w ↦
-          ap (λ z. without_capacity (items_of (z ∷ []))) w.copy-is ∙ ap (λ d. device d none) w.in_ok-copy_leaf-in-Device.ensures ∙ sym (ap (λ z. without_capacity (items_of (z ∷ []))) w.in-Device.is)
-      | in-Bucket+in_ok-header-in-Bucket+in_ok-below-in-Bucket+in_ok-copy-in-Bucket w ↦
-          let v = w.in-Bucket.bucket.value in
-          let seen : _ ≡ v = w.bucket.view_is ∙ w.deref-bucket.ensures in
-          let header : header_data w.in_ok-header-in-Bucket.header ≡ v.header = w.in_ok-header-in-Bucket.ensures ∙ ap (λ (d : BucketData). d.header) seen in
-          let kids : without_capacity (items_of w.in_ok-below-in-Bucket.below.items) ≡ without_capacity v.kids = w.in_ok-below-in-Bucket.ensures.same ∙ ap (λ z. without_capacity (items_of z)) w.as_slice.ensures.value ∙ ap (λ (d : BucketData). without_capacity d.kids) seen in
-          ap (λ z. without_capacity (items_of (z ∷ []))) w.copy-is ∙ ap without_capacity w.in_ok-copy-in-Bucket.ensures ∙ (λ j. bucket (header j) ((seen j).weight) 0 (kids j) none) ∙ sym (ap (λ z. without_capacity (items_of (z ∷ []))) w.in-Bucket.is)
-    ] in
-    let no_room : (b : ℕ) → bucket_room b (items_of (y ∷ [])) ≡ 0 = λ b. elim c.match-node.branch [
-      | in-Device+in_ok-copy_leaf-in-Device w ↦ ap (λ z. bucket_room b (items_of (z ∷ []))) w.copy-is
-      | in-Bucket+in_ok-header-in-Bucket+in_ok-below-in-Bucket+in_ok-copy-in-Bucket w ↦
+    let old = c.loop-node.copies in
+    let new = c.match-node.copies in
+    let copy : Copied old.items new.items x = elim c.match-node.branch [
+      | in-Device+in_ok-push_leaf-in-Device w ↦ record {
+        seen = device (leaf_data w.in-Device.leaf) none;
+        pushed = subst (λ z. IsPushed old.items z.items (device (leaf_data w.in-Device.leaf) none)) (sym w.copies-is) w.in_ok-push_leaf-in-Device.ensures.pushed;
+        same = sym (ap (λ z. without_capacity (items_of (z ∷ []))) w.in-Device.is);
+        full = λ b. refl;
+      }
+      | in-Bucket+in_ok-below-in-Bucket+in_ok-push_bucket-in-Bucket w ↦
           let below = w.in_ok-below-in-Bucket.below in
-          ap (λ z. bucket_room b (items_of (z ∷ []))) w.copy-is ∙ ap (bucket_room b) w.in_ok-copy-in-Bucket.ensures
-          ∙ bucket_room-full b (header_data w.in_ok-header-in-Bucket.header) w.in-Bucket.bucket.value.weight (vec_capacity below) (items_of below.items) w.in_ok-below-in-Bucket.ensures.full (w.in_ok-below-in-Bucket.ensures.rooms b)
+          let v = w.in-Bucket.bucket.value in
+          let from : BucketData = w.deref-bucket.result.now in
+          let is : from ≡ v = w.deref-bucket.ensures in
+          let seen : _ ≡ v = w.bucket.view_is ∙ is in
+          let kids : without_capacity (items_of below.items) ≡ without_capacity v.kids = w.in_ok-below-in-Bucket.ensures.same ∙ ap (λ z. without_capacity (items_of z)) w.as_slice.ensures.value ∙ ap (λ (d : BucketData). without_capacity d.kids) seen in
+          record {
+            seen = bucket from.header from.weight (vec_capacity below) (items_of below.items) none;
+            pushed = subst (λ z. IsPushed old.items z.items (bucket from.header from.weight (vec_capacity below) (items_of below.items) none)) (sym w.copies-is) w.in_ok-push_bucket-in-Bucket.ensures.pushed;
+            same = (λ j. bucket ((is j).header) ((is j).weight) 0 (kids j) none) ∙ sym (ap (λ z. without_capacity (items_of (z ∷ []))) w.in-Bucket.is);
+            full = λ b. bucket_room-full b from.header from.weight (vec_capacity below) (items_of below.items) w.in_ok-below-in-Bucket.ensures.full (w.in_ok-below-in-Bucket.ensures.rooms b);
+          }
+    ] in
+    let len : vec_len new ≡ vec_len old + 1 = elim c.match-node.branch [
+      | in-Device+in_ok-push_leaf-in-Device w ↦ ap vec_len w.copies-is ∙ w.in_ok-push_leaf-in-Device.ensures.len
+      | in-Bucket+in_ok-below-in-Bucket+in_ok-push_bucket-in-Bucket w ↦ ap vec_len w.copies-is ∙ w.in_ok-push_bucket-in-Bucket.ensures.len
+    ] in
+    let capacity : vec_capacity new ≡ vec_capacity old = elim c.match-node.branch [
+      | in-Device+in_ok-push_leaf-in-Device w ↦ ap vec_capacity w.copies-is ∙ w.in_ok-push_leaf-in-Device.ensures.capacity
+      | in-Bucket+in_ok-below-in-Bucket+in_ok-push_bucket-in-Bucket w ↦ ap vec_capacity w.copies-is ∙ w.in_ok-push_bucket-in-Bucket.ensures.capacity
     ] in
     record {
-      room = omega (arith, c.push_reserved.ensures.capacity, c.loop-node.invariant.room);
-      count = omega (arith, c.push_reserved.ensures.len, c.loop-node.invariant.count);
-      same = without_capacity-copied c.push_reserved.new.self.items c.loop-node.copies.items c.args.items.now c.loop-node.node-index y x
-          c.loop-node-test.true c.node-item.is c.push_reserved.ensures.items c.loop-node.invariant.same one;
-      rooms = λ b. bucket_room-copied b c.push_reserved.new.self.items c.loop-node.copies.items y c.push_reserved.ensures.items (c.loop-node.invariant.rooms b) (no_room b);
+      room = omega (arith, capacity, c.loop-node.invariant.room);
+      count = omega (arith, len, c.loop-node.invariant.count);
+      same = copied_same old.items new.items c.args.items.now c.loop-node.node-index x copy c.loop-node-test.true c.node-item.is c.loop-node.invariant.same;
+      rooms = λ b. copied_full old.items new.items x copy b (c.loop-node.invariant.rooms b);
     }
 
 pub returns : goal.returns

@@ -1,0 +1,11 @@
+-- What a copy adds to the copies before it.
+use Rattle.std.specs.Prelude.{◌≡◌, List, [], ◌∷◌, ◌++◌}
+use Rattle.crush_table.specs.Items.{Items}
+use Rattle.crush_nodes.specs.Seen.{items_of}
+use Rattle.crush_nodes.specs.declared.node.Node.{Node}
+
+-- PUSHED: one node more, at the end, that is seen as these items
+pub record IsPushed {A : _} (old new : List (Node A)) (x : Items) : Type 0 where
+  pub node : Node A
+  pub last : new ≡ old ++ node ∷ []
+  pub item : items_of (node ∷ []) ≡ x
