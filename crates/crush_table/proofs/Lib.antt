@@ -12,6 +12,7 @@ pub mod Kept
 pub mod KidSums
 pub mod Marked
 pub mod Moved
+pub mod NameColumn
 pub mod Numbered
 pub mod Parted
 pub mod Passing
