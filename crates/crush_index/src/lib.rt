@@ -1,0 +1,17 @@
+//! Look-ups beside a hierarchy, each the function that its table is.
+//!
+//! A forest finds an item by a search through its boxes. What is kept here finds it in one step:
+//!
+//! - [`Names`]: the id of each name.
+//! - [`Hashing`]: how keys are hashed, by keys that are drawn anew for each run, or plainly.
+//!
+//! What an index tells is said as a function of the table, of each name and each id, also of those
+//! that no row has. So two indexes that tell the same are one, and no order of entries, no memory
+//! and no hash is seen by a contract.
+#![tactic(auto)]
+
+mod hashing;
+mod names;
+
+pub use hashing::Hashing;
+pub use names::Names;
