@@ -1,2 +1,5 @@
 pub mod Hashed
+pub mod NamesLaw
 pub mod NamesTold
+pub mod PlacesLaw
+pub mod PlacesTold

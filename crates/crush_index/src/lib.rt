@@ -3,7 +3,10 @@
 //! A forest finds an item by a search through its boxes. What is kept here finds it in one step:
 //!
 //! - [`Names`]: the id of each name.
+//! - [`Places`]: where each item stands. It is a guide to a forest.
 //! - [`Hashing`]: how keys are hashed, by keys that are drawn anew for each run, or plainly.
+//!
+//! [`law`] says that both follow the table, as contracts of functions that do nothing.
 //!
 //! What an index tells is said as a function of the table, of each name and each id, also of those
 //! that no row has. So two indexes that tell the same are one, and no order of entries, no memory
@@ -11,7 +14,10 @@
 #![tactic(auto)]
 
 mod hashing;
+pub mod law;
 mod names;
+mod places;
 
 pub use hashing::Hashing;
 pub use names::Names;
+pub use places::Places;

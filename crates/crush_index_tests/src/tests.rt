@@ -1,0 +1,3 @@
+//! What is told of names and places as items come, change and go.
+
+mod names;
