@@ -3,3 +3,5 @@ pub mod NamesLaw
 pub mod NamesTold
 pub mod PlacesLaw
 pub mod PlacesTold
+pub mod UsedLaw
+pub mod UsedTold

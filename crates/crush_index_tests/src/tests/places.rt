@@ -61,20 +61,24 @@ fn places_come_and_go(rt: HostRuntime) {
     drop(places);
 }
 
-/// Takes osd.0 out and puts osd.2 below the root, where it is there.
-fn change(places: &mut Places) -> bool {
-    let (Some(gone), Some(moved), Some(spot)) = (device(0), device(2), below(1, 1)) else {
-        return false;
-    };
-    if places.spot(moved).is_none() {
+/// Puts an item elsewhere, where it is there.
+fn put(places: &mut Places, id: &ItemId, spot: Spot) -> bool {
+    if places.spot(*id).is_none() {
         return false;
     }
-    places.remove(gone);
-    if places.spot(moved).is_none() {
-        return false;
-    }
-    places.put(moved, spot);
+    places.put(*id, spot);
     true
+}
+
+/// Takes osd.0 out and puts osd.2 below the root.
+fn change(places: &mut Places) -> bool {
+    if let Some(gone) = device(0) {
+        places.remove(gone);
+    }
+    match (device(2), below(1, 1)) {
+        (Some(moved), Some(spot)) => put(places, &moved, spot),
+        _ => false,
+    }
 }
 
 #[test]
