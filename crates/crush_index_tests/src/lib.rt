@@ -1,4 +1,4 @@
-//! Tests of the index: each call once, with the names and places of a small hierarchy.
+//! Tests of the index: each call once, with the names, places and ids of a small hierarchy.
 #![tactic(auto)]
 
 #[cfg(test)]
