@@ -12,6 +12,7 @@ pub mod Kept
 pub mod KidSums
 pub mod Marked
 pub mod Moved
+pub mod NameColumn
 pub mod Numbered
 pub mod Parted
 pub mod Passing
@@ -19,6 +20,7 @@ pub mod Relocated
 pub mod Removed
 pub mod Renamed
 pub mod Reorder
+pub mod RowOf
 pub mod Same
 pub mod Stands
 pub mod Summed
@@ -28,5 +30,6 @@ pub mod Tested
 pub mod TooHeavy
 pub mod TooMany
 pub mod Unlawful
+pub mod UsedColumn
 pub mod Weighs
 pub mod Worked

@@ -1,0 +1,3 @@
+pub mod PlaceColumn
+pub mod UsedBits
+pub mod WordBits

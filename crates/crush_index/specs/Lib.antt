@@ -1,0 +1,7 @@
+pub mod Hashed
+pub mod NamesLaw
+pub mod NamesTold
+pub mod PlacesLaw
+pub mod PlacesTold
+pub mod UsedLaw
+pub mod UsedTold

@@ -1,0 +1,43 @@
+-- An index of used ids that is told of a change of the table tells those of the table after it.
+use Rattle.std.specs.Prelude.{◌≡◌, ℕ, List, [], ◌∷◌, ◌++◌, Some, Bool, false, ◌||◌, if◌then◌else◌, map}
+use Rattle.crush_units.specs.declared.id.ItemId.{ItemId}
+use Rattle.crush_table.specs.Items.{ShadowData}
+use Rattle.crush_table.specs.Table.{Row, row_of, member, bucket_ids}
+use Rattle.crush_table.specs.Lawful.{Lawful}
+use Rattle.crush_table.specs.Same.{Same}
+use Rattle.crush_table.specs.Columns.{set_weights, set_name, without_row, swap_buckets}
+use Rattle.crush_index.specs.declared.used.UsedIds.{UsedIds}
+use Rattle.crush_index.specs.UsedTold.{used_told, AreUsedIn}
+
+-- the ids that one row uses: a bucket its own and those of its class ids
+abbrev pub uses : Row → List ℕ
+uses r = bucket_ids r.id ++ map (λ (c : ShadowData). c.id) r.class_ids
+
+-- the used ids of a table are those of each that is the same
+abbrev pub UsedOfSame : Type 0
+UsedOfSame = (used : UsedIds) (t u : List Row) → Same t u → AreUsedIn t used → AreUsedIn u used
+
+-- weights, names and an exchange of two buckets are nothing to used ids
+abbrev pub UsedOfWeights : Type 0
+UsedOfWeights =
+    (used : UsedIds) (t : List Row) (which : Row → Bool) (w : ℕ) → AreUsedIn t used → AreUsedIn (set_weights which w t) used
+
+abbrev pub UsedOfNames : Type 0
+UsedOfNames =
+    (used : UsedIds) (t : List Row) (i : ItemId) (name : List ℕ) → AreUsedIn t used → AreUsedIn (set_name i name t) used
+
+abbrev pub UsedOfSwap : Type 0
+UsedOfSwap =
+    (used : UsedIds) (t : List Row) (a b : ℕ) → AreUsedIn t used → AreUsedIn (swap_buckets a b t) used
+
+-- a row comes last, and the ids that it uses with it
+abbrev pub UsedFollowRow : Type 0
+UsedFollowRow =
+    (old new : UsedIds) (t : List Row) (r : Row) → AreUsedIn t old → ((k : ℕ) → used_told new k ≡ (used_told old k || member k (uses r)))
+    → AreUsedIn (t ++ r ∷ []) new
+
+-- an item's row goes, and the ids that it used with it
+abbrev pub UsedFollowWithout : Type 0
+UsedFollowWithout =
+    (old new : UsedIds) (t : List Row) (i : ItemId) (r : Row) → Lawful t → AreUsedIn t old → row_of t i ≡ Some r
+    → ((k : ℕ) → used_told new k ≡ (if member k (uses r) then false else used_told old k)) → AreUsedIn (without_row i t) new

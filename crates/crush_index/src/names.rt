@@ -1,0 +1,80 @@
+//! The ids of names.
+
+ghost use Rattle.std.specs.Prelude.{◌≡◌, true, false, Some, None, OnOk, OnErr, List, ℕ, ◌++◌, ◌∷◌, [], bytes_eq};
+ghost use Rattle.crush_table.specs.Table.{Row, is_named, name_of};
+ghost use Rattle.crush_index.specs.NamesTold.{id_told, TellsSame, TellsOne, TellsTwo};
+
+use crate::hashing::Hashing;
+use crush_units::{ItemId, Name};
+use indexmap::IndexMap;
+use std::alloc::{AllocError, Global};
+
+/// The id of each name. It has names of its own, in the machine's memory.
+#[derive(Drop)]
+pub struct Names {
+    ids: IndexMap<Name<Global>, ItemId, Hashing>,
+}
+
+impl Names {
+    /// No names. It takes no memory.
+    pub fn new(alloc: Global, hashing: Hashing) -> Names
+        ensures { (n : List ℕ) → id_told result n ≡ None }
+    {
+        Names {
+            ids: IndexMap::with_hasher(alloc, hashing),
+        }
+    }
+
+    /// The id of a name, given by its bytes: `None` where no item has it.
+    pub fn id_of(&self, name: &[u8]) -> Option<ItemId>
+        ensures { result ≡ id_told self.now name.now }
+    {
+        match self.ids.get(name) {
+            Some(id) => Some(*id),
+            None => None,
+        }
+    }
+
+    /// The name of an item that comes. An Err is want of memory, and nothing has changed then.
+    pub fn insert(&mut self, name: Name<Global>, id: ItemId) -> Result<(), AllocError>
+        ensures ok { OnOk result (TellsOne self.old self.new name (Some id)) }
+        ensures err { OnErr result (TellsSame self.old self.new) }
+    {
+        self.ids.insert(name, id)?;
+        Ok(())
+    }
+
+    /// The name of an item that has gone. Where it isn't there nothing changes.
+    pub fn remove(&mut self, name: &[u8])
+        ensures { TellsOne self.old self.new name.now None }
+    {
+        self.ids.swap_remove(name);
+    }
+
+    /// Another name for the item that has the first one. An Err is want of memory, and nothing has
+    /// changed then.
+    pub fn rename(&mut self, from: &[u8], to: Name<Global>, id: ItemId) -> Result<(), AllocError>
+        requires there { id_told self.old from.now ≡ Some id }
+        requires free { id_told self.old to ≡ None }
+        ensures ok { OnOk result (TellsTwo self.old self.new to (Some id) from.now None) }
+        ensures err { OnErr result (TellsSame self.old self.new) }
+    {
+        self.ids.insert(to, id)?;
+        self.ids.swap_remove(from);
+        Ok(())
+    }
+
+    /// Two items that exchange their names. It takes no memory.
+    pub fn exchange(&mut self, a: &[u8], b: &[u8], first: ItemId, second: ItemId)
+        requires first { id_told self.old a.now ≡ Some first }
+        requires second { id_told self.old b.now ≡ Some second }
+        ensures { TellsTwo self.old self.new a.now (Some second) b.now (Some first) }
+    {
+        if let Some(id) = self.ids.get_mut(b) {
+            *id = first;
+        }
+        if let Some(id) = self.ids.get_mut(a) {
+            *id = second;
+        }
+    }
+}
