@@ -36,7 +36,7 @@ pub(crate) fn update<A: Allocator + Clone>(
     check_device(forest, setting, device, name, weight, at)?;
     let to = destination_of(forest, setting, at)?;
     if is_held(forest, ItemId::Device(device), &to) {
-        return Ok(reweight(forest, name, weight)?);
+        return reweight(forest, name, weight);
     }
     place_device(forest, device, name, weight, &to)
 }

@@ -8,7 +8,8 @@ ghost use Rattle.crush_tree.specs.Sameness.{IsSameForest};
 ghost use Rattle.crush_edits.specs.declared.refusal.Refusal.{Refusal as DeclaredRefusal};
 ghost use Rattle.crush_edits.specs.Answer.{refused};
 ghost use Rattle.crush_edits.specs.Batch.{batch, batch_refused};
-ghost use Rattle.crush_edits.specs.Edit.{edit, takes_memory};
+ghost use Rattle.crush_edits.specs.Edit.{edit, takes_memory, sets_weights};
+ghost use Rattle.crush_apply.specs.Answered.{KeepsRooms};
 ghost use Rattle.crush_apply.specs.Batched.{IsBatchDone};
 ghost use Rattle.crush_edits.specs.Outcome.{IsDone, IsChange};
 
@@ -37,6 +38,8 @@ impl<A: Allocator> CrushMap<A> {
             → (t : List Row) → Stands self.old.forest t
             → IsChange (edit self.old.setting t asked.now) }
         ensures memory { result ≡ Err EditFault.OutOfMemory → takes_memory asked.now ≡ true }
+        ensures rooms { sets_weights asked.now ≡ true
+            → KeepsRooms self.old.forest self.new.forest }
         ensures unchanged { (r : DeclaredRefusal) → result ≡ Err (EditFault.Refused r)
             → self.new ≡ self.old }
         ensures still { IfOk result (λ d. d.changed ≡ false → self.new ≡ self.old) }
