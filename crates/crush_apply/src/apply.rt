@@ -20,7 +20,8 @@ use crate::relocate::relocate;
 use crate::remove::remove;
 use crate::rename::rename;
 use crate::reweight::reweight;
-use crate::subtree::reweight_subtree;
+use crate::reweight_subtree::reweight_subtree;
+use crate::route::Arrival;
 use crate::swap::swap;
 use crate::update::update;
 use crush_edits::{Done, Edit, EditFault, Setting};
@@ -117,19 +118,43 @@ fn make<A: Allocator + Clone>(
             name,
             weight,
             at,
-        } => insert(forest, setting, *device, name, *weight, at),
+        } => {
+            let arrival = Arrival {
+                device: *device,
+                name,
+                weight: *weight,
+                at,
+            };
+            insert(forest, setting, &arrival)
+        }
         Edit::CreateOrMove {
             device,
             name,
             weight,
             at,
-        } => create_or_move(forest, setting, *device, name, *weight, at),
+        } => {
+            let arrival = Arrival {
+                device: *device,
+                name,
+                weight: *weight,
+                at,
+            };
+            create_or_move(forest, setting, &arrival)
+        }
         Edit::Update {
             device,
             name,
             weight,
             at,
-        } => update(forest, setting, *device, name, *weight, at),
+        } => {
+            let arrival = Arrival {
+                device: *device,
+                name,
+                weight: *weight,
+                at,
+            };
+            update(forest, setting, &arrival)
+        }
         Edit::Move { name, at } => relocate(forest, setting, name, at),
         Edit::Swap { a, b } => swap(forest, a, b),
         Edit::Reweight { name, weight } => reweight(forest, name, *weight),
