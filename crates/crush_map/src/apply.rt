@@ -24,8 +24,8 @@ impl<A: Allocator> CrushMap<A> {
     /// Where several refusals hold, the one of least number is told, and the map is as before, as
     /// it is where the edit changes nothing. Want of memory is told only of an edit that takes
     /// memory, where nothing speaks against it and the map would be another after it: so never of
-    /// new weights, of an exchange or of a removal. The map then has what it had, and perhaps room
-    /// for more.
+    /// new weights, of an exchange or of a removal. The map then has what it had. New weights leave
+    /// each place the room that it has, whatever is answered.
     pub fn apply(&mut self, asked: &Edit) -> Result<Done, EditFault>
     where
         A: Clone,
