@@ -1,6 +1,6 @@
 -- What is answered, by the way in which a call ends.
 use Rattle.std.proofs.Common.{◌≡◌, ℕ, Bool, true, false, List, ap, sym, subst, ◌∙◌, refl}
-use Rattle.std.specs.Prelude.{not, length, Result, Ok, Err, IsErrAnd, IfOk, IfErr, OnErr}
+use Rattle.std.specs.Prelude.{not, length, Result, Ok, Err, IsErrAnd}
 use Rattle.crush_table.specs.Table.{Row}
 use Rattle.crush_table.specs.Forest.{ForestData}
 use Rattle.crush_table.specs.Stands.{Stands}
@@ -14,7 +14,6 @@ use Rattle.crush_edits.specs.declared.refusal.Refusal.TheVariants.{NoRoom, SumTo
 use Rattle.crush_edits.specs.declared.refusal.Done.{Done}
 use Rattle.crush_edits.specs.declared.refusal.EditFault.{EditFault}
 use Rattle.crush_edits.specs.declared.refusal.EditFault.TheVariants.{Refused, OutOfMemory}
-use Rattle.crush_edits.specs.Setting.{SettingData}
 use Rattle.crush_edits.specs.Answer.{After, Answer, refused, done, kept}
 use Rattle.crush_edits.specs.Changed.{same_table}
 use Rattle.crush_edits.specs.Outcome.{IsDone, IsChange}
@@ -22,7 +21,7 @@ use Rattle.crush_edits.specs.Placing.{put_after}
 use Rattle.crush_edits.specs.Put.{put}
 use Rattle.crush_edits.specs.Stops.{fresh_stops}
 use Rattle.crush_edits.proofs.Changes.{table_refl}
-use Rattle.crush_apply.specs.Answered.{AnswersAs, told, last_answer}
+use Rattle.crush_apply.specs.Answered.{AnswersAs, last_answer}
 use Rattle.crush_apply.specs.Destination.{DestinationData, Leads}
 use Rattle.crush_apply.proofs.Refused.{same_refusal, no_want, no_refusal}
 
@@ -57,24 +56,6 @@ when_lacking a f g (Err e) h same changes = record {
   still = tt;
   kept = same;
 }
-
--- done or refused, and never for want of memory
-pub when_told : (a b : List Row → Answer) (f g : ForestData) (x : Result Done Refusal) → ((t : List Row) → Stands f t → a t ≡ b t)
-    → IfOk x (λ d. (t : List Row) → Stands f t → IsDone (Stands g) (b t) d) → IfErr x (λ r. (t : List Row) → Stands f t → b t ≡ refused r)
-    → IfOk x (λ d. d.changed ≡ false → g ≡ f) → OnErr x (g ≡ f) → AnswersAs a f g (told x)
-when_told a b f g (Ok d) same made never still stays = when_done a f g d still (λ t st. subst (λ z. IsDone (Stands g) z d) (sym (same t st)) (made t st))
-when_told a b f g (Err r) same made never still stays = when_refused a f g r (Err (Refused r)) refl stays (λ t st. same t st ∙ never t st)
-
-pub told_never_lacks : (x : Result Done Refusal) → told x ≡ Err OutOfMemory → ⊥
-told_never_lacks (Ok d) is = absurd cc
-told_never_lacks (Err r) is = absurd cc
-
--- the same with any setting
-pub when_told_by : (s : SettingData) (a : List Row → Answer) (b : SettingData → List Row → Answer) (f g : ForestData) (x : Result Done Refusal) → ((t : List Row) → Stands f t → a t ≡ b s t)
-    → IfOk x (λ d. (s : SettingData) (t : List Row) → Stands f t → IsDone (Stands g) (b s t) d) → IfErr x (λ r. (s : SettingData) (t : List Row) → Stands f t → b s t ≡ refused r)
-    → IfOk x (λ d. d.changed ≡ false → g ≡ f) → OnErr x (g ≡ f) → AnswersAs a f g (told x)
-when_told_by s a b f g (Ok d) same made never still stays = when_told a (b s) f g (Ok d) same (made s) tt still stays
-when_told_by s a b f g (Err r) same made never still stays = when_told a (b s) f g (Err r) same tt (never s) tt stays
 
 -- what the table answers alike
 pub when_same : (a b : List Row → Answer) (f g : ForestData) (x : Result Done EditFault) → ((t : List Row) → Stands f t → a t ≡ b t) → AnswersAs b f g x → AnswersAs a f g x

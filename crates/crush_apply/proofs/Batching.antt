@@ -1,6 +1,6 @@
 -- A batch, edit by edit.
-use Rattle.std.proofs.Common.{◌≡◌, ℕ, Bool, List, ◌∷◌, ap, ◌∙◌}
-use Rattle.std.specs.Prelude.{Result, Err}
+use Rattle.std.proofs.Common.{◌≡◌, ℕ, Bool, List, ◌∷◌, ap, sym, ◌∙◌}
+use Rattle.std.specs.Prelude.{Result, Ok, Err, IsErrAnd}
 use Rattle.crush_table.specs.Table.{Row}
 use Rattle.crush_edits.specs.declared.refusal.Refusal.{Refusal}
 use Rattle.crush_edits.specs.declared.refusal.Dones.{Dones}
@@ -15,6 +15,11 @@ use Rattle.crush_edits.specs.Batch.{batch_refused, with_done, and_then, batch, b
 -- index and refusal of a fault are those of one that is equal
 pub fault_parts : {X : Type 0} (k index : ℕ) (q r : Refusal) → ◌≡◌ {A = Result X BatchFault} (Err (RefusedAt k q)) (Err (RefusedAt index r)) → (k ≡ index) × (q ≡ r)
 fault_parts k index q r h = let one : RefusedAt k q ≡ RefusedAt index r = cc in (cc, cc)
+
+-- a fault that is passed on is the one that was told
+pub passed_fault : {X : Type 0} (e f : BatchFault) (x : Result X BatchFault) → IsErrAnd x (λ z. z ≡ e) → x ≡ Err f → ◌≡◌ {A = Result X BatchFault} (Err e) (Err f)
+passed_fault e f (Ok d) h is = elim h [ ]
+passed_fault e f (Err z) h is = let one : z ≡ f = cc in ap Err (sym h ∙ one)
 
 -- the next edit is refused, and so the batch
 pub stops_at : (s : SettingData) (t u : List Row) (es left rest : List Edit) (d : Dones) (e : Edit) (q : Refusal) → batch s t es ≡ batch_from s left d u → left ≡ e ∷ rest → edit s u e ≡ refused q → batch s t es ≡ batch_refused d.edits q

@@ -10,7 +10,7 @@ use Rattle.crush_edits.specs.Stops.{StopData}
 use Rattle.crush_edits.specs.Put.{NewData, with_ids, new_header}
 use Rattle.crush_edits.specs.Boxes.{boxes}
 use Rattle.crush_edits.proofs.Boxes.{boxes-more, weight_sum-boxes}
-use Rattle.crush_apply.specs.declared.route.Stop.{Stop}
+use Rattle.crush_apply.specs.declared.route.stops.Stop.{Stop}
 use Rattle.crush_apply.specs.Stopped.{pair_name, stop_data, stops_data}
 
 -- a pair with a name is there

@@ -27,7 +27,7 @@ use Rattle.crush_edits.specs.Stops.{StopData, is_fresh, fresh_stops, receiver}
 use Rattle.crush_edits.proofs.Boxes.{rows-empty}
 use Rattle.crush_edits.proofs.Routes.{receiver_there, route_next}
 use Rattle.crush_edits.proofs.Tails.{none_new}
-use Rattle.crush_apply.specs.declared.route.Stop.{Stop}
+use Rattle.crush_apply.specs.declared.route.stops.Stop.{Stop}
 use Rattle.crush_apply.specs.Placed.{place_at, numbered, new_boxes}
 use Rattle.crush_apply.specs.Destination.{DestinationData, Leads}
 use Rattle.crush_apply.specs.Stopped.{stop_data, stops_data}

@@ -13,7 +13,7 @@ use Rattle.crush_edits.specs.declared.refusal.Refusal.TheVariants.{NotABucket, W
 use Rattle.crush_edits.specs.Answer.{first_refusal, is_a_device, meets}
 use Rattle.crush_edits.specs.Located.{end_tests}
 use Rattle.crush_edits.specs.Stops.{StopData, is_fresh, fresh_stops, end_stop, number_of}
-use Rattle.crush_apply.specs.declared.route.Stop.{Stop}
+use Rattle.crush_apply.specs.declared.route.stops.Stop.{Stop}
 use Rattle.crush_apply.specs.Stopped.{pair_name, stop_data, stops_data}
 use Rattle.crush_apply.specs.Destination.{item_tests, EndsAt}
 

@@ -8,7 +8,7 @@ use Rattle.std.proofs.lemmas.List.Elements.{All-cons, All-append, All-take, All-
 use Rattle.crush_edits.specs.declared.location.Pair.{Pair}
 use Rattle.crush_edits.specs.Stops.{StopData, insert_stop, with_stop, stops}
 use Rattle.crush_edits.specs.Setting.{SettingData, kind_number}
-use Rattle.crush_apply.specs.declared.route.Stop.{Stop}
+use Rattle.crush_apply.specs.declared.route.stops.Stop.{Stop}
 use Rattle.crush_apply.specs.Stopped.{pair_name, stop_data, stops_data, IsPairOf, put_stop}
 
 -- the name of a pair, by its index

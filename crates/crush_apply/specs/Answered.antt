@@ -1,8 +1,10 @@
 -- What a call answers of an edit, beside what the table answers.
-use Rattle.std.specs.Prelude.{◌≡◌, false, List, [], ◌∷◌, Option, Result, Ok, Err, IfOk, OnErr}
+use Rattle.std.specs.Prelude.{◌≡◌, false, List, [], ◌∷◌, Option, Result, Err, IfOk, OnErr}
 use Rattle.crush_table.specs.Table.{Row}
 use Rattle.crush_table.specs.Forest.{ForestData}
 use Rattle.crush_table.specs.Stands.{Stands}
+use Rattle.crush_nodes.specs.Room.{room}
+use Rattle.crush_nodes.specs.declared.place.Place.{Place}
 use Rattle.crush_tree.specs.Sameness.{IsSameForest}
 use Rattle.crush_edits.specs.declared.refusal.Refusal.{Refusal}
 use Rattle.crush_edits.specs.declared.refusal.Done.{Done}
@@ -20,10 +22,9 @@ pub record AnswersAs (a : List Row → Answer) (f g : ForestData) (x : Result Do
   pub still : IfOk x (λ d. d.changed ≡ false → g ≡ f)
   pub kept : OnErr x (IsSameForest g f)
 
--- what is told where memory can't lack
-abbrev pub told : Result Done Refusal → Result Done EditFault
-told (Ok d) = Ok d
-told (Err r) = Err (Refused r)
+-- each place has the room in g that it had in f
+abbrev pub KeepsRooms : ForestData → ForestData → Type 0
+KeepsRooms f g = (p : Place) → room g p ≡ room f p
 
 -- the refusal of the table after, if there is one
 abbrev pub last_refusal : After → Option Refusal

@@ -3,7 +3,7 @@ use Rattle.std.specs.Prelude.{ℕ, zero, suc, ◌<◌, List, [], ◌∷◌, map,
 use Rattle.std.specs.List.{position_or_len}
 use Rattle.crush_edits.specs.declared.location.Pair.{Pair}
 use Rattle.crush_edits.specs.Stops.{StopData}
-use Rattle.crush_apply.specs.declared.route.Stop.{Stop}
+use Rattle.crush_apply.specs.declared.route.stops.Stop.{Stop}
 
 -- the name of a pair of a location, by its index from 0; none past the end
 abbrev pub pair_name : List Pair → ℕ → List ℕ

@@ -10,7 +10,7 @@ ghost use Rattle.crush_edits.specs.Fits.{Fits};
 ghost use Rattle.crush_apply.specs.Alone.{CanAddBucket};
 ghost use Rattle.crush_apply.specs.Answered.{AnswersAs};
 
-use crate::chain::empty_bucket;
+use crate::route::empty_bucket;
 use crush_edits::{Done, EditFault, Refusal, Setting};
 use crush_tree::{Forest, Place};
 use crush_units::limits::MOST_BUCKETS;

@@ -7,11 +7,11 @@ ghost use Rattle.crush_table.specs.Stands.{Stands};
 ghost use Rattle.crush_tree.specs.Sameness.{IsSameForest};
 ghost use Rattle.crush_edits.specs.declared.refusal.Refusal.{Refusal as DeclaredRefusal};
 ghost use Rattle.crush_edits.specs.Answer.{refused};
-ghost use Rattle.crush_edits.specs.Edit.{edit, takes_memory};
+ghost use Rattle.crush_edits.specs.Edit.{edit, takes_memory, sets_weights};
 ghost use Rattle.crush_edits.specs.Fits.{Fits};
 ghost use Rattle.crush_edits.specs.LawEdit.{IsEdit};
 ghost use Rattle.crush_edits.specs.Outcome.{IsDone, IsChange};
-ghost use Rattle.crush_apply.specs.Answered.{AnswersAs, told};
+ghost use Rattle.crush_apply.specs.Answered.{AnswersAs, KeepsRooms};
 
 use crate::add_bucket::add_bucket;
 use crate::create_or_move::create_or_move;
@@ -20,10 +20,11 @@ use crate::relocate::relocate;
 use crate::remove::remove;
 use crate::rename::rename;
 use crate::reweight::reweight;
-use crate::subtree::reweight_subtree;
+use crate::reweight_subtree::reweight_subtree;
+use crate::route::Arrival;
 use crate::swap::swap;
 use crate::update::update;
-use crush_edits::{Done, Edit, EditFault, Refusal, Setting};
+use crush_edits::{Done, Edit, EditFault, Setting};
 use crush_tree::Forest;
 use std::alloc::Allocator;
 
@@ -48,6 +49,7 @@ pub fn apply_edit<A: Allocator + Clone>(
         → (t : List Row) → Stands forest.old t
         → IsChange (edit setting.now t asked.now) }
     ensures memory { result ≡ Err EditFault.OutOfMemory → takes_memory asked.now ≡ true }
+    ensures rooms { sets_weights asked.now ≡ true → KeepsRooms forest.old forest.new }
     ensures unchanged { (r : DeclaredRefusal) → result ≡ Err (EditFault.Refused r)
         → forest.new ≡ forest.old }
     ensures still { IfOk result (λ d. d.changed ≡ false → forest.new ≡ forest.old) }
@@ -108,6 +110,7 @@ fn make<A: Allocator + Clone>(
     requires { Fits setting.now (rows_of forest.old) }
     ensures made { AnswersAs (λ t. edit setting.now t asked.now) forest.old forest.new result }
     ensures memory { result ≡ Err EditFault.OutOfMemory → takes_memory asked.now ≡ true }
+    ensures rooms { sets_weights asked.now ≡ true → KeepsRooms forest.old forest.new }
 {
     match asked {
         Edit::Insert {
@@ -115,35 +118,49 @@ fn make<A: Allocator + Clone>(
             name,
             weight,
             at,
-        } => insert(forest, setting, *device, name, *weight, at),
+        } => {
+            let arrival = Arrival {
+                device: *device,
+                name,
+                weight: *weight,
+                at,
+            };
+            insert(forest, setting, &arrival)
+        }
         Edit::CreateOrMove {
             device,
             name,
             weight,
             at,
-        } => create_or_move(forest, setting, *device, name, *weight, at),
+        } => {
+            let arrival = Arrival {
+                device: *device,
+                name,
+                weight: *weight,
+                at,
+            };
+            create_or_move(forest, setting, &arrival)
+        }
         Edit::Update {
             device,
             name,
             weight,
             at,
-        } => update(forest, setting, *device, name, *weight, at),
+        } => {
+            let arrival = Arrival {
+                device: *device,
+                name,
+                weight: *weight,
+                at,
+            };
+            update(forest, setting, &arrival)
+        }
         Edit::Move { name, at } => relocate(forest, setting, name, at),
-        Edit::Swap { a, b } => told(swap(forest, a, b)),
-        Edit::Reweight { name, weight } => told(reweight(forest, name, *weight)),
-        Edit::ReweightSubtree { name, weight } => told(reweight_subtree(forest, name, *weight)),
-        Edit::Remove { name } => told(remove(forest, setting, name)),
+        Edit::Swap { a, b } => swap(forest, a, b),
+        Edit::Reweight { name, weight } => reweight(forest, name, *weight),
+        Edit::ReweightSubtree { name, weight } => reweight_subtree(forest, name, *weight),
+        Edit::Remove { name } => remove(forest, setting, name),
         Edit::AddBucket { name, kind } => add_bucket(forest, setting, name, kind),
         Edit::Rename { from, to } => rename(forest, from, to),
-    }
-}
-
-/// What an edit answers that never lacks memory.
-fn told(made: Result<Done, Refusal>) -> Result<Done, EditFault>
-    ensures { result ≡ told made }
-{
-    match made {
-        Ok(done) => Ok(done),
-        Err(refusal) => Err(EditFault::Refused(refusal)),
     }
 }

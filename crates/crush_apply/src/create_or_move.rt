@@ -11,13 +11,11 @@ ghost use Rattle.crush_edits.specs.Fits.{Fits};
 ghost use Rattle.crush_edits.specs.Placing.{kept_weight};
 ghost use Rattle.crush_apply.specs.Answered.{AnswersAs};
 
-use crate::destination::{destination_of, is_held};
-use crate::located::check_device;
-use crate::place::place_device;
-use crush_edits::{Done, EditFault, Location, Setting};
+use crate::route::{Arrival, check_device, destination_of, is_held, place_device};
+use crush_edits::{Done, EditFault, Setting};
 use crush_tree::Forest;
-use crush_units::{DeviceId, ItemId, Name, Weight};
-use std::alloc::{Allocator, Global};
+use crush_units::{DeviceId, ItemId, Weight};
+use std::alloc::Allocator;
 
 /// The own weight of a device that stands in a bucket, else the given one, of up to 2147483647
 /// units as well.
@@ -44,24 +42,22 @@ fn kept_weight<A: Allocator>(forest: &Forest<A>, device: DeviceId, weight: Weigh
 pub(crate) fn create_or_move<A: Allocator + Clone>(
     forest: &mut Forest<A>,
     setting: &Setting,
-    device: DeviceId,
-    name: &Name<Global>,
-    weight: Weight,
-    at: &Location,
+    arrival: &Arrival<'_>,
 ) -> Result<Done, EditFault>
     requires { Fits setting.now (rows_of forest.old) }
-    ensures { AnswersAs (λ t. edit setting.now t (CreateOrMove device name.now weight at.now))
-        forest.old forest.new result }
+    ensures { AnswersAs (λ t. edit setting.now t (CreateOrMove arrival.now.device arrival.now.name.now
+        arrival.now.weight arrival.now.at.now)) forest.old forest.new result }
 {
     forest.recall_invariant();
-    check_device(forest, setting, device, name, weight, at)?;
-    let to = destination_of(forest, setting, at)?;
-    if is_held(forest, ItemId::Device(device), &to) {
+    check_device(forest, setting, arrival)?;
+    let to = destination_of(forest, setting, arrival.at)?;
+    if is_held(forest, ItemId::Device(arrival.device), &to) {
         return Ok(Done {
             changed: false,
             made: 0,
         });
     }
-    let weight = kept_weight(forest, device, weight);
-    place_device(forest, device, name, weight, &to)
+    let weight = kept_weight(forest, arrival.device, arrival.weight);
+    let kept = Arrival { weight, ..*arrival };
+    place_device(forest, &kept, &to)
 }

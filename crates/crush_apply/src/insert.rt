@@ -6,13 +6,11 @@ ghost use Rattle.crush_edits.specs.Edit.{edit};
 ghost use Rattle.crush_edits.specs.Fits.{Fits};
 ghost use Rattle.crush_apply.specs.Answered.{AnswersAs};
 
-use crate::destination::destination_of;
-use crate::located::check_device;
-use crate::place::place_device;
-use crush_edits::{Done, EditFault, Location, Refusal, Setting};
+use crate::route::{Arrival, check_device, destination_of, place_device};
+use crush_edits::{Done, EditFault, Refusal, Setting};
 use crush_tree::Forest;
-use crush_units::{DeviceId, ItemId, Name, Weight};
-use std::alloc::{Allocator, Global};
+use crush_units::ItemId;
+use std::alloc::Allocator;
 
 /// Puts a device that stands in no bucket at the end of a location's route, with the weight, and
 /// makes the device where its id isn't there; or tells why it isn't put.
@@ -21,20 +19,17 @@ use std::alloc::{Allocator, Global};
 pub(crate) fn insert<A: Allocator + Clone>(
     forest: &mut Forest<A>,
     setting: &Setting,
-    device: DeviceId,
-    name: &Name<Global>,
-    weight: Weight,
-    at: &Location,
+    arrival: &Arrival<'_>,
 ) -> Result<Done, EditFault>
     requires { Fits setting.now (rows_of forest.old) }
-    ensures { AnswersAs (λ t. edit setting.now t (Insert device name.now weight at.now))
-        forest.old forest.new result }
+    ensures { AnswersAs (λ t. edit setting.now t (Insert arrival.now.device arrival.now.name.now
+        arrival.now.weight arrival.now.at.now)) forest.old forest.new result }
 {
     forest.recall_invariant();
-    check_device(forest, setting, device, name, weight, at)?;
-    if forest.parent(ItemId::Device(device)).is_some() {
+    check_device(forest, setting, arrival)?;
+    if forest.parent(ItemId::Device(arrival.device)).is_some() {
         return Err(EditFault::Refused(Refusal::AlreadyPlaced));
     }
-    let to = destination_of(forest, setting, at)?;
-    place_device(forest, device, name, weight, &to)
+    let to = destination_of(forest, setting, arrival.at)?;
+    place_device(forest, arrival, &to)
 }

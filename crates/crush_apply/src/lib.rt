@@ -5,20 +5,14 @@
 mod add_bucket;
 mod apply;
 mod batch;
-mod chain;
 mod create_or_move;
-mod destination;
-mod fits;
 mod insert;
-mod located;
-mod place;
-mod put;
 mod relocate;
 mod remove;
 mod rename;
 mod reweight;
+mod reweight_subtree;
 mod route;
-mod subtree;
 mod swap;
 mod update;
 

@@ -1,16 +1,15 @@
 //! A device, or a bucket without items, that is taken out.
 
-ghost use Rattle.std.specs.Prelude.{◌≡◌, false, List, Some, IfOk, IfErr, OnErr};
+ghost use Rattle.std.specs.Prelude.{◌≡◌, ◌≢◌, List, Some, IfOk, IfErr, Err};
 ghost use Rattle.crush_table.specs.Table.{Row};
 ghost use Rattle.crush_table.specs.Stands.{Stands};
 ghost use Rattle.crush_edits.specs.declared.edit.Edit.TheVariants.{Remove};
-ghost use Rattle.crush_edits.specs.Answer.{refused};
 ghost use Rattle.crush_edits.specs.Edit.{edit, refusal};
 ghost use Rattle.crush_edits.specs.Making.{holds_items};
-ghost use Rattle.crush_edits.specs.Outcome.{IsDone};
 ghost use Rattle.crush_apply.specs.Alone.{CanRemove};
+ghost use Rattle.crush_apply.specs.Answered.{AnswersAs};
 
-use crush_edits::{Done, Refusal, Setting};
+use crush_edits::{Done, EditFault, Refusal, Setting};
 use crush_tree::Forest;
 use crush_units::{BucketId, ItemId, Name};
 use std::alloc::{Allocator, Global};
@@ -56,13 +55,10 @@ pub(crate) fn remove<A: Allocator>(
     forest: &mut Forest<A>,
     setting: &Setting,
     name: &Name<Global>,
-) -> Result<Done, Refusal>
-    ensures done { IfOk result (λ d. (t : List Row) → Stands forest.old t
-        → IsDone (Stands forest.new) (edit setting.now t (Remove name.now)) d) }
-    ensures refused { IfErr result (λ r. (t : List Row) → Stands forest.old t
-        → edit setting.now t (Remove name.now) ≡ refused r) }
-    ensures still { IfOk result (λ d. d.changed ≡ false → forest.new ≡ forest.old) }
-    ensures kept { OnErr result (forest.new ≡ forest.old) }
+) -> Result<Done, EditFault>
+    ensures answers { AnswersAs (λ t. edit setting.now t (Remove name.now))
+        forest.old forest.new result }
+    ensures memory { result ≢ Err EditFault.OutOfMemory }
 {
     forest.recall_invariant();
     let id = check_remove(forest, setting, name)?;

@@ -1,16 +1,15 @@
 //! A new weight for one device.
 
-ghost use Rattle.std.specs.Prelude.{◌≡◌, false, List, IfOk, IfErr, OnErr};
+ghost use Rattle.std.specs.Prelude.{◌≡◌, ◌≢◌, List, Some, IfOk, IfErr, Err};
 ghost use Rattle.crush_table.specs.Table.{Row};
 ghost use Rattle.crush_table.specs.Stands.{Stands};
 ghost use Rattle.crush_edits.specs.Setting.{SettingData};
 ghost use Rattle.crush_edits.specs.declared.edit.Edit.TheVariants.{Reweight};
-ghost use Rattle.crush_edits.specs.Answer.{refused};
 ghost use Rattle.crush_edits.specs.Edit.{edit, refusal};
-ghost use Rattle.crush_edits.specs.Outcome.{IsDone};
+ghost use Rattle.crush_apply.specs.Answered.{AnswersAs, KeepsRooms};
 ghost use Rattle.crush_apply.specs.Weighed.{CanReweight};
 
-use crush_edits::{Done, Refusal};
+use crush_edits::{Done, EditFault, Refusal};
 use crush_tree::Forest;
 use crush_units::{DeviceId, ItemId, Name, Weight};
 use std::alloc::{Allocator, Global};
@@ -50,13 +49,11 @@ pub(crate) fn reweight<A: Allocator>(
     forest: &mut Forest<A>,
     name: &Name<Global>,
     weight: Weight,
-) -> Result<Done, Refusal>
-    ensures done { IfOk result (λ d. (s : SettingData) (t : List Row) → Stands forest.old t
-        → IsDone (Stands forest.new) (edit s t (Reweight name.now weight)) d) }
-    ensures refused { IfErr result (λ r. (s : SettingData) (t : List Row) → Stands forest.old t
-        → edit s t (Reweight name.now weight) ≡ refused r) }
-    ensures still { IfOk result (λ d. d.changed ≡ false → forest.new ≡ forest.old) }
-    ensures kept { OnErr result (forest.new ≡ forest.old) }
+) -> Result<Done, EditFault>
+    ensures answers { (s : SettingData) → AnswersAs (λ t. edit s t (Reweight name.now weight))
+        forest.old forest.new result }
+    ensures memory { result ≢ Err EditFault.OutOfMemory }
+    ensures rooms { KeepsRooms forest.old forest.new }
 {
     forest.recall_invariant();
     let device = check_reweight(forest, name, weight)?;

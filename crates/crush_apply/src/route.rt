@@ -1,139 +1,32 @@
-//! Where a location leads.
+//! The end of a location's route: where it leads, what refuses an item there, and how an item comes
+//! to it.
 
-ghost use Rattle.std.specs.Prelude.{◌≡◌, ◌+◌, ◌<◌, ◌≤◌, List, Some, All, IfOk, IfErr, length};
-ghost use Rattle.arrayvec.specs.ArrayVec.{array_vec_len};
-ghost use Rattle.std.specs.Prelude.{nat_le};
-ghost use Rattle.std.specs.List.{position_or_len};
-ghost use Rattle.crush_table.specs.Table.{Row};
-ghost use Rattle.crush_table.specs.Stands.{Stands};
-ghost use Rattle.crush_edits.specs.Answer.{first_refusal};
-ghost use Rattle.crush_edits.specs.Located.{end_tests};
-ghost use Rattle.crush_edits.specs.Stops.{stops};
-ghost use Rattle.crush_apply.specs.declared.route.Stop.{Stop};
-ghost use Rattle.crush_apply.specs.Stopped.{pair_name, stops_data, IsPairOf, put_stop};
-ghost use Rattle.crush_apply.specs.Destination.{EndsAt};
+mod arrive;
+mod destination;
+mod new_buckets;
+mod put;
+mod refusals;
+mod room;
+mod stops;
 
-use crate::located::check_end;
-use arrayvec::ArrayVec;
-use crush_edits::{Location, Pair, Refusal, Setting};
-use crush_tree::Forest;
-use crush_units::limits::MOST_PAIRS;
-use crush_units::{BucketId, Name, TypeId};
-use std::alloc::{Allocator, Global};
-use std::marker::Model;
+pub(crate) use arrive::{place_device, place_item};
+use crush_edits::Location;
+use crush_units::{DeviceId, Name, Weight};
+pub(crate) use destination::{destination_of, is_held, is_loop};
+pub(crate) use new_buckets::empty_bucket;
+pub(crate) use refusals::{check_device, check_location};
+use std::alloc::Global;
 
-/// A pair of a location with its type's number: the number, and where among the pairs it stands.
-#[derive(Clone, Copy, Debug, PartialEq, Eq)]
-pub(crate) struct Stop {
-    /// The number of the pair's type.
-    pub(crate) kind: TypeId,
-    /// The index of the pair in the location, from 0.
-    pub(crate) pair: usize,
-}
-
-impl Default for Stop {
-    /// What fills a place that isn't used.
-    fn default() -> Stop {
-        Stop {
-            kind: TypeId::new(0),
-            pair: 0,
-        }
-    }
-}
-
-/// The stops of a location, by ascending type number: at most 16. Contracts see their list.
-#[derive(Drop)]
-pub(crate) struct Route {
-    stops: ArrayVec<Stop, MOST_PAIRS>,
-}
-
-impl Model for Route {
-    ghost use Rattle.std.specs.Prelude.{List};
-    ghost use Rattle.crush_apply.specs.declared.route.Stop.{Stop};
-
-    ghost Value = { List Stop };
-
-    ghost view = { λ route. route.stops.items };
-}
-
-impl Route {
-    /// The stops, the one of the least type number first.
-    pub(crate) fn stops(&self) -> &[Stop]
-        ensures value { result.now ≡ self.now }
-        ensures few { length result.now ≤ MOST_PAIRS }
-    {
-        self.stops.as_slice()
-    }
-}
-
-/// The stops of a location. A pair of a type that the setting doesn't have gives none.
-pub(crate) fn route_of(setting: &Setting, at: &Location) -> Route
-    ensures stops { stops_data at.now result ≡ stops setting.now at.now }
-    ensures pairs { All (IsPairOf at.now) result }
-{
-    let pairs = at.pairs();
-    let mut stops = ArrayVec::new();
-    for (index, pair) in pairs.iter().enumerate() {
-        if let Some(kind) = setting.kind_number(pair.kind.as_bytes()) {
-            put_stop(&mut stops, Stop { kind, pair: index });
-        }
-    }
-    Route { stops }
-}
-
-/// Puts a stop before the first of no lesser type number.
-fn put_stop(stops: &mut ArrayVec<Stop, MOST_PAIRS>, stop: Stop)
-    requires { array_vec_len stops.old < MOST_PAIRS }
-    ensures put { stops.new.items ≡ put_stop stop stops.old.items }
-    ensures len { array_vec_len stops.new ≡ array_vec_len stops.old + 1 }
-{
-    let place = place_of(stops.as_slice(), stop.kind);
-    stops.insert(place, stop);
-}
-
-/// The index of the first stop of no lesser type number, or how many stops there are.
-fn place_of(stops: &[Stop], kind: TypeId) -> usize
-    ensures value { result ≡ position_or_len (λ (q : Stop). nat_le kind q.kind) stops.now }
-    ensures within { result ≤ length stops.now }
-{
-    for (k, stop) in stops.iter().enumerate() {
-        if kind.number() <= stop.kind.number() {
-            return k;
-        }
-    }
-    stops.len()
-}
-
-/// The bucket name of a stop.
-pub(crate) fn stop_name<'a>(at: &'a Location, stop: &Stop) -> &'a Name<Global>
-    requires { IsPairOf at.now stop.now }
-    ensures { result.now ≡ pair_name at.now stop.now.pair }
-{
-    let pairs = at.pairs();
-    let pair: &Pair = &pairs[stop.pair];
-    &pair.name
-}
-
-/// Where a route ends: how many stops come before the first whose bucket is there, and that bucket.
-/// Where none is there, all of them come before it, and there is no bucket. An Err tells why no item
-/// can come there.
-pub(crate) fn route_end<A: Allocator>(
-    forest: &Forest<A>,
-    at: &Location,
-    stops: &[Stop],
-) -> Result<(usize, Option<BucketId>), Refusal>
-    requires { All (IsPairOf at.now) stops.now }
-    ensures ends { IfOk result (λ end. (t : List Row) → Stands forest.now t
-        → EndsAt t (stops_data at.now stops.now) end.0 end.1) }
-    ensures within { IfOk result (λ end. end.0 ≤ length stops.now) }
-    ensures refused { IfErr result (λ r. (t : List Row) → Stands forest.now t
-        → first_refusal (end_tests t (stops_data at.now stops.now)) ≡ Some r) }
-{
-    for (k, stop) in stops.iter().enumerate() {
-        if let Some(id) = forest.id_of(stop_name(at, stop).as_str()) {
-            let bucket = check_end(forest, stop.kind, id)?;
-            return Ok((k, Some(bucket)));
-        }
-    }
-    Ok((stops.len(), None))
+/// A device that is to come, as an edit names it: its id and name, the weight that it is to have,
+/// and the location at whose end.
+#[derive(Clone, Copy)]
+pub(crate) struct Arrival<'a> {
+    /// Its id.
+    pub(crate) device: DeviceId,
+    /// Its name.
+    pub(crate) name: &'a Name<Global>,
+    /// The weight that it is to have.
+    pub(crate) weight: Weight,
+    /// The location.
+    pub(crate) at: &'a Location,
 }

@@ -1,16 +1,15 @@
 //! Two buckets that exchange their items and names.
 
-ghost use Rattle.std.specs.Prelude.{◌≡◌, false, List, Some, IfOk, IfErr, OnErr};
+ghost use Rattle.std.specs.Prelude.{◌≡◌, ◌≢◌, List, Some, IfOk, IfErr, Err};
 ghost use Rattle.crush_table.specs.Table.{Row};
 ghost use Rattle.crush_table.specs.Stands.{Stands};
 ghost use Rattle.crush_edits.specs.Setting.{SettingData};
 ghost use Rattle.crush_edits.specs.declared.edit.Edit.TheVariants.{Swap};
-ghost use Rattle.crush_edits.specs.Answer.{refused};
 ghost use Rattle.crush_edits.specs.Edit.{edit, refusal};
-ghost use Rattle.crush_edits.specs.Outcome.{IsDone};
 ghost use Rattle.crush_apply.specs.Alone.{CanSwap};
+ghost use Rattle.crush_apply.specs.Answered.{AnswersAs};
 
-use crush_edits::{Done, Refusal};
+use crush_edits::{Done, EditFault, Refusal};
 use crush_tree::Forest;
 use crush_units::{BucketId, ItemId, Name};
 use std::alloc::{Allocator, Global};
@@ -56,13 +55,10 @@ pub(crate) fn swap<A: Allocator>(
     forest: &mut Forest<A>,
     a: &Name<Global>,
     b: &Name<Global>,
-) -> Result<Done, Refusal>
-    ensures done { IfOk result (λ d. (s : SettingData) (t : List Row) → Stands forest.old t
-        → IsDone (Stands forest.new) (edit s t (Swap a.now b.now)) d) }
-    ensures refused { IfErr result (λ r. (s : SettingData) (t : List Row) → Stands forest.old t
-        → edit s t (Swap a.now b.now) ≡ refused r) }
-    ensures still { IfOk result (λ d. d.changed ≡ false → forest.new ≡ forest.old) }
-    ensures kept { OnErr result (forest.new ≡ forest.old) }
+) -> Result<Done, EditFault>
+    ensures answers { (s : SettingData) → AnswersAs (λ t. edit s t (Swap a.now b.now))
+        forest.old forest.new result }
+    ensures memory { result ≢ Err EditFault.OutOfMemory }
 {
     forest.recall_invariant();
     let (first, second) = check_swap(forest, a, b)?;

@@ -6,14 +6,12 @@ ghost use Rattle.crush_edits.specs.Edit.{edit};
 ghost use Rattle.crush_edits.specs.Fits.{Fits};
 ghost use Rattle.crush_apply.specs.Answered.{AnswersAs};
 
-use crate::destination::{destination_of, is_held};
-use crate::located::check_device;
-use crate::place::place_device;
 use crate::reweight::reweight;
-use crush_edits::{Done, EditFault, Location, Setting};
+use crate::route::{Arrival, check_device, destination_of, is_held, place_device};
+use crush_edits::{Done, EditFault, Setting};
 use crush_tree::Forest;
-use crush_units::{DeviceId, ItemId, Name, Weight};
-use std::alloc::{Allocator, Global};
+use crush_units::ItemId;
+use std::alloc::Allocator;
 
 /// Sets the weight of a device that the bucket of the location's lowest pair holds. Else puts the
 /// device at the end of the location's route with the weight, and makes it where its id isn't
@@ -23,20 +21,17 @@ use std::alloc::{Allocator, Global};
 pub(crate) fn update<A: Allocator + Clone>(
     forest: &mut Forest<A>,
     setting: &Setting,
-    device: DeviceId,
-    name: &Name<Global>,
-    weight: Weight,
-    at: &Location,
+    arrival: &Arrival<'_>,
 ) -> Result<Done, EditFault>
     requires { Fits setting.now (rows_of forest.old) }
-    ensures { AnswersAs (λ t. edit setting.now t (Update device name.now weight at.now))
-        forest.old forest.new result }
+    ensures { AnswersAs (λ t. edit setting.now t (Update arrival.now.device arrival.now.name.now
+        arrival.now.weight arrival.now.at.now)) forest.old forest.new result }
 {
     forest.recall_invariant();
-    check_device(forest, setting, device, name, weight, at)?;
-    let to = destination_of(forest, setting, at)?;
-    if is_held(forest, ItemId::Device(device), &to) {
-        return Ok(reweight(forest, name, weight)?);
+    check_device(forest, setting, arrival)?;
+    let to = destination_of(forest, setting, arrival.at)?;
+    if is_held(forest, ItemId::Device(arrival.device), &to) {
+        return reweight(forest, arrival.name, arrival.weight);
     }
-    place_device(forest, device, name, weight, &to)
+    place_device(forest, arrival, &to)
 }

@@ -5,6 +5,7 @@ pub mod Changes
 pub mod Differ
 pub mod Edits
 pub mod FitLaws
+pub mod Full
 pub mod Lawfuls
 pub mod Made
 pub mod Order

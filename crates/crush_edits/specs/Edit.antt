@@ -57,3 +57,16 @@ takes_memory (Update d n w l) = true
 takes_memory (Move n l) = true
 takes_memory (AddBucket n kind) = true
 takes_memory (Rename from to) = true
+
+-- whether the edit sets weights alone, of devices that stay where they are
+abbrev pub sets_weights : Edit → Bool
+sets_weights (Reweight n w) = true
+sets_weights (ReweightSubtree n w) = true
+sets_weights (Swap m n) = false
+sets_weights (Remove n) = false
+sets_weights (Insert d n w l) = false
+sets_weights (CreateOrMove d n w l) = false
+sets_weights (Update d n w l) = false
+sets_weights (Move n l) = false
+sets_weights (AddBucket n kind) = false
+sets_weights (Rename from to) = false

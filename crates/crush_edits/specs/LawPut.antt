@@ -1,5 +1,5 @@
 -- Laws of items that are put at the end of a route, each for every lawful table.
-use Rattle.std.specs.Prelude.{◌≡◌, ◌+◌, ◌≤◌, ◌++◌, [], ℕ, List, Some, None, IfSome, true, false, length, bytes_eq}
+use Rattle.std.specs.Prelude.{◌≡◌, ◌+◌, ◌<◌, ◌≤◌, ◌++◌, [], ℕ, List, Some, None, IfSome, true, false, length, bytes_eq}
 use Rattle.std.specs.List.{count_by}
 use Rattle.crush_units.specs.declared.id.ItemId.{ItemId}
 use Rattle.crush_units.specs.declared.id.ItemId.TheVariants.{Device, Bucket}
@@ -21,7 +21,12 @@ use Rattle.crush_edits.specs.Placing.{edited_device}
 use Rattle.crush_edits.specs.Setting.{SettingData}
 use Rattle.crush_edits.specs.Fits.{HasKind, Fits}
 use Rattle.crush_edits.specs.LawRoute.{rows_made}
-use Rattle.crush_units.specs.declared.limits.TheConstants.{HEAVIEST_DEVICE}
+use Rattle.crush_units.specs.declared.limits.TheConstants.{HEAVIEST_DEVICE, MOST_BUCKETS, MOST_DEVICES}
+use Rattle.crush_edits.specs.declared.edit.Edit.TheVariants.{Insert}
+use Rattle.crush_edits.specs.declared.refusal.Refusal.TheVariants.{NoRoom}
+use Rattle.crush_edits.specs.Answer.{first_refusal}
+use Rattle.crush_edits.specs.Edit.{refusal}
+use Rattle.crush_edits.specs.Located.{device_tests, end_tests}
 
 -- the same with items in the lowest of them
 abbrev pub route_boxes : ℕ → Items → List Row → List StopData → Items
@@ -125,3 +130,12 @@ RoomForNew = (t : List Row) (ps : List StopData) (r : Row) (w : ℕ) → Lawful 
 -- a device that wasn't there, put: there is room for the new buckets too
 abbrev pub RoomForNewDevice : Type 0
 RoomForNewDevice = (t : List Row) (ps : List StopData) (d : LeafData) → Lawful t → IsRoute t ps → is_there t (Device d.id) ≡ false → has_too_many (put t (device_row None d) ps) ≡ false → has_too_many (t ++ rows_made t ps) ≡ false
+
+-- NO ROOM, where no other test holds: beside 65,536 devices for another, and for a device whose route makes more buckets than 4,096
+abbrev pub FullOfDevices : Type 0
+FullOfDevices = (s : SettingData) (t : List Row) (d : ℕ) (n : List ℕ) (w : ℕ) (l : List Pair) → Lawful t → IsRoute t (stops s l) → is_there t (Device d) ≡ false
+    → first_refusal (device_tests s t d n w l) ≡ None → first_refusal (end_tests t (stops s l)) ≡ None → MOST_DEVICES ≤ device_count t → refusal s t (Insert d n w l) ≡ Some NoRoom
+
+abbrev pub FullOfBuckets : Type 0
+FullOfBuckets = (s : SettingData) (t : List Row) (d : ℕ) (n : List ℕ) (w : ℕ) (l : List Pair) → Lawful t → IsRoute t (stops s l) → is_there t (Device d) ≡ false
+    → first_refusal (device_tests s t d n w l) ≡ None → first_refusal (end_tests t (stops s l)) ≡ None → MOST_BUCKETS < bucket_count t + length (fresh_stops t (stops s l)) → refusal s t (Insert d n w l) ≡ Some NoRoom

@@ -8,7 +8,8 @@ ghost use Rattle.crush_tree.specs.Sameness.{IsSameForest};
 ghost use Rattle.crush_edits.specs.declared.refusal.Refusal.{Refusal as DeclaredRefusal};
 ghost use Rattle.crush_edits.specs.Answer.{refused};
 ghost use Rattle.crush_edits.specs.Batch.{batch, batch_refused};
-ghost use Rattle.crush_edits.specs.Edit.{edit, takes_memory};
+ghost use Rattle.crush_edits.specs.Edit.{edit, takes_memory, sets_weights};
+ghost use Rattle.crush_apply.specs.Answered.{KeepsRooms};
 ghost use Rattle.crush_apply.specs.Batched.{IsBatchDone};
 ghost use Rattle.crush_edits.specs.Outcome.{IsDone, IsChange};
 
@@ -23,8 +24,8 @@ impl<A: Allocator> CrushMap<A> {
     /// Where several refusals hold, the one of least number is told, and the map is as before, as
     /// it is where the edit changes nothing. Want of memory is told only of an edit that takes
     /// memory, where nothing speaks against it and the map would be another after it: so never of
-    /// new weights, of an exchange or of a removal. The map then has what it had, and perhaps room
-    /// for more.
+    /// new weights, of an exchange or of a removal. The map then has what it had. New weights leave
+    /// each place the room that it has, whatever is answered.
     pub fn apply(&mut self, asked: &Edit) -> Result<Done, EditFault>
     where
         A: Clone,
@@ -37,6 +38,8 @@ impl<A: Allocator> CrushMap<A> {
             → (t : List Row) → Stands self.old.forest t
             → IsChange (edit self.old.setting t asked.now) }
         ensures memory { result ≡ Err EditFault.OutOfMemory → takes_memory asked.now ≡ true }
+        ensures rooms { sets_weights asked.now ≡ true
+            → KeepsRooms self.old.forest self.new.forest }
         ensures unchanged { (r : DeclaredRefusal) → result ≡ Err (EditFault.Refused r)
             → self.new ≡ self.old }
         ensures still { IfOk result (λ d. d.changed ≡ false → self.new ≡ self.old) }

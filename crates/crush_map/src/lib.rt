@@ -12,5 +12,6 @@ pub use crush_edits::{
     BatchFault, Done, Dones, Edit, EditFault, KeptRule, KeptStep, Location, LocationFault, Pair,
     Refusal, Rule, Setting, Step, is_reserved,
 };
+pub use crush_tree::Counts;
 pub use fault::{BuildFault, RuleFault, RulePart};
 pub use map::CrushMap;

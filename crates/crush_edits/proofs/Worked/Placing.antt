@@ -59,6 +59,18 @@ add_twice = refl
 move_unplaced : shown (edit example_setting table_with_spare (Move (codes "osd.9") (host (codes "h2") ∷ []))) ≡ yes true 0 (line 1 (codes "default") (Bucket 2 ∷ (Bucket 3 ∷ [])) 163840 ∷ (line 2 (codes "h1") (Device 0 ∷ (Device 1 ∷ [])) 131072 ∷ (line 3 (codes "h2") (Device 2 ∷ (Device 9 ∷ [])) 32768 ∷ [])))
 move_unplaced = refl
 
+-- one that is declared and stands in no bucket comes with the given weight, and not with its own of 0: `create-or-move osd.9 1.5 host=h2`
+create_or_move_unplaced : shown (edit example_setting table_with_spare (CreateOrMove 9 (codes "osd.9") 98304 (host (codes "h2") ∷ []))) ≡ yes true 0 (line 1 (codes "default") (Bucket 2 ∷ (Bucket 3 ∷ [])) 262144 ∷ (line 2 (codes "h1") (Device 0 ∷ (Device 1 ∷ [])) 131072 ∷ (line 3 (codes "h2") (Device 2 ∷ (Device 9 ∷ [])) 131072 ∷ [])))
+create_or_move_unplaced = refl
+
+-- `set osd.9 1 host=h2`
+set_unplaced : shown (edit example_setting table_with_spare (Update 9 (codes "osd.9") 65536 (host (codes "h2") ∷ []))) ≡ yes true 0 (line 1 (codes "default") (Bucket 2 ∷ (Bucket 3 ∷ [])) 229376 ∷ (line 2 (codes "h1") (Device 0 ∷ (Device 1 ∷ [])) 131072 ∷ (line 3 (codes "h2") (Device 2 ∷ (Device 9 ∷ [])) 98304 ∷ [])))
+set_unplaced = refl
+
+-- `add osd.9 1 host=h1`
+add_unplaced : shown (edit example_setting table_with_spare (Insert 9 (codes "osd.9") 65536 (host (codes "h1") ∷ []))) ≡ yes true 0 (line 1 (codes "default") (Bucket 2 ∷ (Bucket 3 ∷ [])) 229376 ∷ (line 2 (codes "h1") (Device 0 ∷ (Device 1 ∷ (Device 9 ∷ []))) 196608 ∷ (line 3 (codes "h2") (Device 2 ∷ []) 32768 ∷ [])))
+add_unplaced = refl
+
 -- the weight of a device that is held is set in its place: `set osd.1 3 host=h1`, twice
 set_held : shown (edit example_setting example_table (Update 1 (codes "osd.1") 196608 (host (codes "h1") ∷ []))) ≡ yes true 0 (line 1 (codes "default") (Bucket 2 ∷ (Bucket 3 ∷ [])) 294912 ∷ (line 2 (codes "h1") (Device 0 ∷ (Device 1 ∷ [])) 262144 ∷ (line 3 (codes "h2") (Device 2 ∷ []) 32768 ∷ [])))
 set_held = refl

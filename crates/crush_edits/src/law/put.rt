@@ -1,6 +1,6 @@
 //! Laws of items that are put at the end of a route.
 
-ghost use Rattle.crush_edits.specs.LawPut.{RoomForNew, RoomForNewDevice, PutMoves, PutMovesDevice, PutsNew, PutTakes, PutsBoxed, PutsBoxedDevice, PutsBoxedNew, PutKeepsLawful, PutNewKeepsLawful, PutCounts, PutNewCounts, PutChanges, PutNewChanges, PutFits, NoneNew, PutMovesOnly, NextStays, FormStays, EditedIsOwn};
+ghost use Rattle.crush_edits.specs.LawPut.{RoomForNew, RoomForNewDevice, PutMoves, PutMovesDevice, PutsNew, PutTakes, PutsBoxed, PutsBoxedDevice, PutsBoxedNew, PutKeepsLawful, PutNewKeepsLawful, PutCounts, PutNewCounts, PutChanges, PutNewChanges, PutFits, NoneNew, PutMovesOnly, NextStays, FormStays, EditedIsOwn, FullOfDevices, FullOfBuckets};
 
 /// What comes of attaching the new buckets and of an item that is taken out and attached in the
 /// lowest, in either order, is the table with the item put; sums are tested on the new buckets that
@@ -43,4 +43,11 @@ pub fn steps_fit_together()
 pub fn puts_make_another_table()
     ensures there { PutChanges }
     ensures new { PutNewChanges }
+{}
+
+/// A device that isn't there is refused for want of room alone beside 65,536 devices, and where its
+/// route makes more buckets than 4,096.
+pub fn full_tables_refuse()
+    ensures devices { FullOfDevices }
+    ensures buckets { FullOfBuckets }
 {}

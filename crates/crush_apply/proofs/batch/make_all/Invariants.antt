@@ -1,8 +1,8 @@
-use Rattle.std.specs.Prelude.{drop}
+use Rattle.std.specs.Prelude.{◌≡◌, drop}
 use Rattle.crush_table.specs.Forest.{rows_of}
 use Rattle.crush_edits.specs.Fits.{Fits}
 use Rattle.crush_apply.specs.Batched.{IsBegun, AreDone}
 use Rattle.crush_apply.proofs.batch.make_all.Given as goal
 
 abbrev pub invariant-loop-asked : goal.invariant-loop-asked
-invariant-loop-asked g l = IsBegun l.setting l.edits l.fn.forest (drop l.asked-index l.edits) l.dones l.forest × Fits l.setting (rows_of l.forest) × AreDone l.asked-index l.dones
+invariant-loop-asked g l = IsBegun l.setting l.edits l.fn.forest (drop l.asked-index l.edits) l.dones l.forest × Fits l.setting (rows_of l.forest) × AreDone l.asked-index l.dones × (l.asked-index ≡ 0 → l.forest ≡ l.fn.forest)

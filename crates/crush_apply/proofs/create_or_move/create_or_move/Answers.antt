@@ -15,35 +15,35 @@ use Rattle.crush_apply.proofs.create_or_move.create_or_move.Goals as goal
 pub returns-in_err-check_device : goal.returns-in_err-check_device
 returns-in_err-check_device g c =
     let s = c.args.setting.now in
-    let d = c.args.device in
-    let n = c.args.name.now in
-    let w = c.args.weight in
-    let l = c.args.at.now in
+    let d = c.args.arrival.now.device in
+    let n = c.args.arrival.now.name.now in
+    let w = c.args.arrival.now.weight in
+    let l = c.args.arrival.now.at.now in
     when_refused _ _ _ _ _ c.from_residual.ensures.1 refl
     (λ t st. refused_edit s t (CreateOrMove d n w l) _ (put_device s t d n w l _ (after_create_or_move s t d n w l) (c.in_err-check_device.ensures.refused t st)))
 
 pub destination_of-requires-clause-located : goal.destination_of-requires-clause-located
 destination_of-requires-clause-located g c =
     let f = c.args.forest.now in
-    located c.args.setting.now (rows_of f) c.args.device c.args.name.now c.args.weight c.args.at.now (c.in_ok-check_device.ensures.passes (rows_of f) (stands_for_rows f c.recall_invariant.ensures))
+    located c.args.setting.now (rows_of f) c.args.arrival.now.device c.args.arrival.now.name.now c.args.arrival.now.weight c.args.arrival.now.at.now (c.in_ok-check_device.ensures.passes (rows_of f) (stands_for_rows f c.recall_invariant.ensures))
 
 pub returns-in_err-to : goal.returns-in_err-to
 returns-in_err-to g c =
     let s = c.args.setting.now in
-    let d = c.args.device in
-    let n = c.args.name.now in
-    let w = c.args.weight in
-    let l = c.args.at.now in
+    let d = c.args.arrival.now.device in
+    let n = c.args.arrival.now.name.now in
+    let w = c.args.arrival.now.weight in
+    let l = c.args.arrival.now.at.now in
     when_refused _ _ _ _ _ c.from_residual-in_err-to.ensures.1 refl
     (λ t st. refused_edit s t (CreateOrMove d n w l) _ (put_end s t d n w l _ (after_create_or_move s t d n w l) (c.in_ok-check_device.ensures.passes t st) (c.in_err-to.ensures.refused t st)))
 
 pub returns-then-is_held : goal.returns-then-is_held
 returns-then-is_held g c =
     let s = c.args.setting.now in
-    let d = c.args.device in
-    let n = c.args.name.now in
-    let w = c.args.weight in
-    let l = c.args.at.now in
+    let d = c.args.arrival.now.device in
+    let n = c.args.arrival.now.name.now in
+    let w = c.args.arrival.now.weight in
+    let l = c.args.arrival.now.at.now in
     when_still _ _ _
     (λ t st.
     let there : held t (Device d) (stops s l) ≡ true = ap (held t (Device d)) (sym c.in_ok-to.ensures.stops) ∙ sym (c.is_held.ensures t st (c.in_ok-to.ensures.leads t st)) ∙ c.if-is_held.true in
@@ -53,11 +53,11 @@ pub kept_weight-weight-requires : goal.kept_weight-weight-requires
 kept_weight-weight-requires g c =
     let f = c.args.forest.now in
     let st = stands_for_rows f c.recall_invariant.ensures in
-    (can_come c.args.setting.now (rows_of f) c.args.device c.args.name.now c.args.weight c.args.at.now c.in_ok-to.to (c.in_ok-check_device.ensures.passes (rows_of f) st) c.in_ok-to.ensures.stops (c.in_ok-to.ensures.leads (rows_of f) st)).weight
+    (can_come c.args.setting.now (rows_of f) c.args.arrival.now.device c.args.arrival.now.name.now c.args.arrival.now.weight c.args.arrival.now.at.now c.in_ok-to.to (c.in_ok-check_device.ensures.passes (rows_of f) st) c.in_ok-to.ensures.stops (c.in_ok-to.ensures.leads (rows_of f) st)).weight
 
 pub place_device-requires-clause-can : goal.place_device-requires-clause-can
 place_device-requires-clause-can g c = λ t st.
-    let can = can_come c.args.setting.now t c.args.device c.args.name.now c.args.weight c.args.at.now c.in_ok-to.to (c.in_ok-check_device.ensures.passes t st) c.in_ok-to.ensures.stops (c.in_ok-to.ensures.leads t st) in
+    let can = can_come c.args.setting.now t c.args.arrival.now.device c.args.arrival.now.name.now c.args.arrival.now.weight c.args.arrival.now.at.now c.in_ok-to.to (c.in_ok-check_device.ensures.passes t st) c.in_ok-to.ensures.stops (c.in_ok-to.ensures.leads t st) in
     record { leads = can.leads; own = can.own; other = can.other; weight = c.kept_weight-weight.ensures.light }
 
 pub place_device-requires-clause-free : goal.place_device-requires-clause-free
@@ -66,10 +66,10 @@ place_device-requires-clause-free g c = λ t st. sym (c.is_held.ensures t st (c.
 pub returns : goal.returns
 returns g c =
     let s = c.args.setting.now in
-    let d = c.args.device in
-    let n = c.args.name.now in
-    let w = c.args.weight in
-    let l = c.args.at.now in
+    let d = c.args.arrival.now.device in
+    let n = c.args.arrival.now.name.now in
+    let w = c.args.arrival.now.weight in
+    let l = c.args.arrival.now.at.now in
     when_same _ _ _ _ _
     (λ t st.
     let free : held t (Device d) (stops s l) ≡ false = ap (held t (Device d)) (sym c.in_ok-to.ensures.stops) ∙ sym (c.is_held.ensures t st (c.in_ok-to.ensures.leads t st)) ∙ c.if-is_held.false in

@@ -17,20 +17,20 @@ use Rattle.crush_apply.proofs.insert.insert.Goals as goal
 pub returns-in_err-check_device : goal.returns-in_err-check_device
 returns-in_err-check_device g c =
     let s = c.args.setting.now in
-    let d = c.args.device in
-    let n = c.args.name.now in
-    let w = c.args.weight in
-    let l = c.args.at.now in
+    let d = c.args.arrival.now.device in
+    let n = c.args.arrival.now.name.now in
+    let w = c.args.arrival.now.weight in
+    let l = c.args.arrival.now.at.now in
     when_refused _ _ _ _ _ c.from_residual.ensures.1 refl
     (λ t st. refused_edit s t (Insert d n w l) _ (insert_device s t d n w l _ (after_insert s t d n w l) (c.in_err-check_device.ensures.refused t st)))
 
 pub returns-then-is_some : goal.returns-then-is_some
 returns-then-is_some g c =
     let s = c.args.setting.now in
-    let d = c.args.device in
-    let n = c.args.name.now in
-    let w = c.args.weight in
-    let l = c.args.at.now in
+    let d = c.args.arrival.now.device in
+    let n = c.args.arrival.now.name.now in
+    let w = c.args.arrival.now.weight in
+    let l = c.args.arrival.now.at.now in
     when_refused _ _ _ AlreadyPlaced _ refl refl
     (λ t st.
     let placed : is_placed t (Device d) ≡ true = sym (c.is_some.ensures ∙ ap is_some (c.parent.ensures t st)) ∙ c.if-is_some.true in
@@ -39,15 +39,15 @@ returns-then-is_some g c =
 pub destination_of-requires-clause-located : goal.destination_of-requires-clause-located
 destination_of-requires-clause-located g c =
     let f = c.args.forest.now in
-    located c.args.setting.now (rows_of f) c.args.device c.args.name.now c.args.weight c.args.at.now (c.in_ok-check_device.ensures.passes (rows_of f) (stands_for_rows f c.recall_invariant.ensures))
+    located c.args.setting.now (rows_of f) c.args.arrival.now.device c.args.arrival.now.name.now c.args.arrival.now.weight c.args.arrival.now.at.now (c.in_ok-check_device.ensures.passes (rows_of f) (stands_for_rows f c.recall_invariant.ensures))
 
 pub returns-in_err-to : goal.returns-in_err-to
 returns-in_err-to g c =
     let s = c.args.setting.now in
-    let d = c.args.device in
-    let n = c.args.name.now in
-    let w = c.args.weight in
-    let l = c.args.at.now in
+    let d = c.args.arrival.now.device in
+    let n = c.args.arrival.now.name.now in
+    let w = c.args.arrival.now.weight in
+    let l = c.args.arrival.now.at.now in
     when_refused _ _ _ _ _ c.from_residual-in_err-to.ensures.1 refl
     (λ t st.
     let free : is_placed t (Device d) ≡ false = sym (c.is_some.ensures ∙ ap is_some (c.parent.ensures t st)) ∙ c.if-is_some.false in
@@ -55,19 +55,19 @@ returns-in_err-to g c =
 
 pub place_device-requires-clause-can : goal.place_device-requires-clause-can
 place_device-requires-clause-can g c = λ t st.
-    can_come c.args.setting.now t c.args.device c.args.name.now c.args.weight c.args.at.now c.in_ok-to.to (c.in_ok-check_device.ensures.passes t st) c.in_ok-to.ensures.stops (c.in_ok-to.ensures.leads t st)
+    can_come c.args.setting.now t c.args.arrival.now.device c.args.arrival.now.name.now c.args.arrival.now.weight c.args.arrival.now.at.now c.in_ok-to.to (c.in_ok-check_device.ensures.passes t st) c.in_ok-to.ensures.stops (c.in_ok-to.ensures.leads t st)
 
 pub place_device-requires-clause-free : goal.place_device-requires-clause-free
 place_device-requires-clause-free g c = λ t st.
-    unplaced_free t (Device c.args.device) c.in_ok-to.to.stops (sym (c.is_some.ensures ∙ ap is_some (c.parent.ensures t st)) ∙ c.if-is_some.false)
+    unplaced_free t (Device c.args.arrival.now.device) c.in_ok-to.to.stops (sym (c.is_some.ensures ∙ ap is_some (c.parent.ensures t st)) ∙ c.if-is_some.false)
 
 pub returns : goal.returns
 returns g c =
     let s = c.args.setting.now in
-    let d = c.args.device in
-    let n = c.args.name.now in
-    let w = c.args.weight in
-    let l = c.args.at.now in
+    let d = c.args.arrival.now.device in
+    let n = c.args.arrival.now.name.now in
+    let w = c.args.arrival.now.weight in
+    let l = c.args.arrival.now.at.now in
     when_same _ _ _ _ _
     (λ t st.
     let free : is_placed t (Device d) ≡ false = sym (c.is_some.ensures ∙ ap is_some (c.parent.ensures t st)) ∙ c.if-is_some.false in

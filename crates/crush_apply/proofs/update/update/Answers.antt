@@ -1,15 +1,13 @@
-use Rattle.std.proofs.Common.{◌≡◌, true, false, ap, sym, subst, ◌∙◌, refl}
+use Rattle.std.proofs.Common.{◌≡◌, true, false, ap, sym, ◌∙◌, refl}
 use Rattle.crush_units.specs.declared.id.ItemId.TheVariants.{Device}
 use Rattle.crush_table.specs.Forest.{rows_of}
-use Rattle.crush_table.specs.Stands.{Stands}
 use Rattle.crush_table.proofs.Stands.{stands_for_rows}
 use Rattle.crush_edits.specs.declared.edit.Edit.TheVariants.{Update}
 use Rattle.crush_edits.specs.Placing.{put_after, edited_device, after_update}
 use Rattle.crush_edits.specs.Put.{held}
 use Rattle.crush_edits.specs.Stops.{stops}
 use Rattle.crush_apply.specs.Answered.{last_answer}
-use Rattle.crush_edits.specs.Outcome.{IsDone}
-use Rattle.crush_apply.proofs.Answered.{when_done, when_refused, when_same}
+use Rattle.crush_apply.proofs.Answered.{when_refused, when_same}
 use Rattle.crush_apply.proofs.Updates.{held_update}
 use Rattle.crush_apply.proofs.Asked.{put_device, put_end, put_last, update_answer, located, can_come}
 use Rattle.crush_apply.proofs.Weights.{refused_edit}
@@ -18,59 +16,45 @@ use Rattle.crush_apply.proofs.update.update.Goals as goal
 pub returns-in_err-check_device : goal.returns-in_err-check_device
 returns-in_err-check_device g c =
     let s = c.args.setting.now in
-    let d = c.args.device in
-    let n = c.args.name.now in
-    let w = c.args.weight in
-    let l = c.args.at.now in
+    let d = c.args.arrival.now.device in
+    let n = c.args.arrival.now.name.now in
+    let w = c.args.arrival.now.weight in
+    let l = c.args.arrival.now.at.now in
     when_refused _ _ _ _ _ c.from_residual.ensures.1 refl
     (λ t st. refused_edit s t (Update d n w l) _ (put_device s t d n w l _ (after_update s t d n w l) (c.in_err-check_device.ensures.refused t st)))
 
 pub destination_of-requires-clause-located : goal.destination_of-requires-clause-located
 destination_of-requires-clause-located g c =
     let f = c.args.forest.now in
-    located c.args.setting.now (rows_of f) c.args.device c.args.name.now c.args.weight c.args.at.now (c.in_ok-check_device.ensures.passes (rows_of f) (stands_for_rows f c.recall_invariant.ensures))
+    located c.args.setting.now (rows_of f) c.args.arrival.now.device c.args.arrival.now.name.now c.args.arrival.now.weight c.args.arrival.now.at.now (c.in_ok-check_device.ensures.passes (rows_of f) (stands_for_rows f c.recall_invariant.ensures))
 
 pub returns-in_err-to : goal.returns-in_err-to
 returns-in_err-to g c =
     let s = c.args.setting.now in
-    let d = c.args.device in
-    let n = c.args.name.now in
-    let w = c.args.weight in
-    let l = c.args.at.now in
+    let d = c.args.arrival.now.device in
+    let n = c.args.arrival.now.name.now in
+    let w = c.args.arrival.now.weight in
+    let l = c.args.arrival.now.at.now in
     when_refused _ _ _ _ _ c.from_residual-in_err-to.ensures.1 refl
     (λ t st. refused_edit s t (Update d n w l) _ (put_end s t d n w l _ (after_update s t d n w l) (c.in_ok-check_device.ensures.passes t st) (c.in_err-to.ensures.refused t st)))
-
-pub returns-in_err-reweight : goal.returns-in_err-reweight
-returns-in_err-reweight g c =
-    let s = c.args.setting.now in
-    let d = c.args.device in
-    let n = c.args.name.now in
-    let w = c.args.weight in
-    let l = c.args.at.now in
-    when_refused _ _ _ _ _ c.from_residual-in_err-reweight.ensures.1 c.in_err-reweight.ensures.kept
-    (λ t st.
-    let can = can_come s t d n w l c.in_ok-to.to (c.in_ok-check_device.ensures.passes t st) c.in_ok-to.ensures.stops (c.in_ok-to.ensures.leads t st) in
-    let there : held t (Device d) (stops s l) ≡ true = ap (held t (Device d)) (sym c.in_ok-to.ensures.stops) ∙ sym (c.is_held.ensures t st (c.in_ok-to.ensures.leads t st)) ∙ c.if-is_held.true in
-    let is_weight = held_update s t d n w l st.lawful (λ a. put_last s t d n w l a (c.in_ok-check_device.ensures.passes t st) (c.in_ok-to.ensures.passes t st)) can.own can.weight there in
-    is_weight ∙ c.in_err-reweight.ensures.refused s t st)
 
 pub returns-then-is_held : goal.returns-then-is_held
 returns-then-is_held g c =
     let s = c.args.setting.now in
-    let d = c.args.device in
-    let n = c.args.name.now in
-    let w = c.args.weight in
-    let l = c.args.at.now in
-    when_done _ _ _ _ c.in_ok-reweight.ensures.still
+    let d = c.args.arrival.now.device in
+    let n = c.args.arrival.now.name.now in
+    let w = c.args.arrival.now.weight in
+    let l = c.args.arrival.now.at.now in
+    when_same _ _ _ _ _
     (λ t st.
     let can = can_come s t d n w l c.in_ok-to.to (c.in_ok-check_device.ensures.passes t st) c.in_ok-to.ensures.stops (c.in_ok-to.ensures.leads t st) in
     let there : held t (Device d) (stops s l) ≡ true = ap (held t (Device d)) (sym c.in_ok-to.ensures.stops) ∙ sym (c.is_held.ensures t st (c.in_ok-to.ensures.leads t st)) ∙ c.if-is_held.true in
-    let is_weight = held_update s t d n w l st.lawful (λ a. put_last s t d n w l a (c.in_ok-check_device.ensures.passes t st) (c.in_ok-to.ensures.passes t st)) can.own can.weight there in
-    subst (λ a. IsDone (Stands c.reweight.new.forest) a c.in_ok-reweight.field-0) (sym is_weight) (c.in_ok-reweight.ensures.done s t st))
+    held_update s t d n w l st.lawful (λ a. put_last s t d n w l a (c.in_ok-check_device.ensures.passes t st) (c.in_ok-to.ensures.passes t st)) can.own can.weight there)
+    (c.reweight.ensures.answers s)
 
 pub place_device-requires-clause-can : goal.place_device-requires-clause-can
 place_device-requires-clause-can g c = λ t st.
-    can_come c.args.setting.now t c.args.device c.args.name.now c.args.weight c.args.at.now c.in_ok-to.to (c.in_ok-check_device.ensures.passes t st) c.in_ok-to.ensures.stops (c.in_ok-to.ensures.leads t st)
+    can_come c.args.setting.now t c.args.arrival.now.device c.args.arrival.now.name.now c.args.arrival.now.weight c.args.arrival.now.at.now c.in_ok-to.to (c.in_ok-check_device.ensures.passes t st) c.in_ok-to.ensures.stops (c.in_ok-to.ensures.leads t st)
 
 pub place_device-requires-clause-free : goal.place_device-requires-clause-free
 place_device-requires-clause-free g c = λ t st. sym (c.is_held.ensures t st (c.in_ok-to.ensures.leads t st)) ∙ c.if-is_held.false
@@ -78,10 +62,10 @@ place_device-requires-clause-free g c = λ t st. sym (c.is_held.ensures t st (c.
 pub returns : goal.returns
 returns g c =
     let s = c.args.setting.now in
-    let d = c.args.device in
-    let n = c.args.name.now in
-    let w = c.args.weight in
-    let l = c.args.at.now in
+    let d = c.args.arrival.now.device in
+    let n = c.args.arrival.now.name.now in
+    let w = c.args.arrival.now.weight in
+    let l = c.args.arrival.now.at.now in
     when_same _ _ _ _ _
     (λ t st.
     let free : held t (Device d) (stops s l) ≡ false = ap (held t (Device d)) (sym c.in_ok-to.ensures.stops) ∙ sym (c.is_held.ensures t st (c.in_ok-to.ensures.leads t st)) ∙ c.if-is_held.false in

@@ -1,0 +1,9 @@
+use Rattle.std.proofs.Common.{◌≡◌, drop}
+use Rattle.std.specs.Prelude.{map}
+use Rattle.crush_edits.specs.declared.location.Pair.{Pair}
+use Rattle.crush_edits.specs.Located.{has_twice}
+use Rattle.crush_apply.proofs.route.refusals.has_bucket_twice.Given as goal
+
+-- what is left decides
+abbrev pub invariant-loop-k : goal.invariant-loop-k
+invariant-loop-k l = has_twice (map (λ (p : Pair). p.name) l.pairs) ≡ has_twice (map (λ (p : Pair). p.name) (drop l.k l.pairs))

@@ -1,0 +1,9 @@
+use Rattle.std.proofs.Common.{List}
+use Rattle.crush_table.specs.Table.{Row}
+use Rattle.crush_table.specs.Stands.{Stands}
+use Rattle.crush_apply.proofs.Ends.{Left}
+use Rattle.crush_apply.proofs.route.stops.route_end.Given as goal
+
+-- what is left decides
+abbrev pub invariant-loop-k : goal.invariant-loop-k
+invariant-loop-k g l = (t : List Row) → Stands l.forest t → Left t l.at l.stops l.k

@@ -1,0 +1,134 @@
+//! The end of each edit with a location: an item comes to its destination, where there is room and
+//! all sums stay in range.
+
+ghost use Rattle.std.specs.Prelude.{◌≡◌, List, None, false, IfOk};
+ghost use Rattle.crush_units.specs.declared.id.ItemId.TheVariants.{Device};
+ghost use Rattle.crush_table.specs.Stands.{Stands};
+ghost use Rattle.crush_table.specs.Table.{Row, row_of, is_there};
+ghost use Rattle.crush_nodes.specs.Seen.{leaf_data};
+ghost use Rattle.crush_edits.specs.Answer.{on_some};
+ghost use Rattle.crush_edits.specs.Placing.{put_after, edited_device};
+ghost use Rattle.crush_edits.specs.Put.{held};
+ghost use Rattle.crush_apply.specs.Answered.{AnswersAs, last_answer};
+ghost use Rattle.crush_apply.specs.Coming.{CanMove, CanCome};
+
+use crate::route::Arrival;
+use crate::route::destination::Destination;
+use crate::route::put::{put_device, put_item, put_new};
+use crate::route::room::{
+    fits_put_device, fits_put_item, fits_put_new, lacks_room, lacks_room_for_new,
+};
+use crush_edits::{Done, EditFault, Refusal};
+use crush_tree::{Forest, Leaf};
+use crush_units::ItemId;
+use std::alloc::{AllocError, Allocator};
+
+/// Puts an item that is there, with all that is below it, at the destination, or tells why it isn't
+/// put.
+///
+/// All memory is taken before the item moves. Where it lacks, the items are as before.
+pub(crate) fn place_item<A: Allocator + Clone>(
+    forest: &mut Forest<A>,
+    id: ItemId,
+    to: &Destination,
+) -> Result<Done, EditFault>
+    requires can { (t : List Row) → Stands forest.old t → CanMove t id to.now }
+    requires free { (t : List Row) → Stands forest.old t → held t id to.now.stops ≡ false }
+    ensures { AnswersAs (λ t. last_answer t
+        (on_some t (row_of t id) (λ r. put_after t r to.now.stops)))
+        forest.old forest.new result }
+{
+    let id = &id;
+    if lacks_room(forest, to) {
+        return Err(EditFault::Refused(Refusal::NoRoom));
+    }
+    if !fits_put_item(forest, *id, to) {
+        return Err(EditFault::Refused(Refusal::SumTooLarge));
+    }
+    put_item(forest, *id, to)?;
+    Ok(Done {
+        changed: true,
+        made: to.fresh() as u16,
+    })
+}
+
+/// Puts a device with its new weight at the destination, and makes it where it isn't there, or tells
+/// why it isn't put. It keeps its class; a new one has none.
+///
+/// All memory is taken before the device moves. Where it lacks, the items are as before.
+pub(crate) fn place_device<A: Allocator + Clone>(
+    forest: &mut Forest<A>,
+    arrival: &Arrival<'_>,
+    to: &Destination,
+) -> Result<Done, EditFault>
+    requires can { (t : List Row) → Stands forest.old t → CanCome t arrival.now.device
+        arrival.now.name.now arrival.now.weight to.now }
+    requires free { (t : List Row) → Stands forest.old t
+        → held t (Device arrival.now.device) to.now.stops ≡ false }
+    ensures { AnswersAs (λ t. last_answer t
+        (put_after t (edited_device t arrival.now.device arrival.now.name.now arrival.now.weight)
+        to.now.stops))
+        forest.old forest.new result }
+{
+    forest.recall_invariant();
+    if forest.kind(ItemId::Device(arrival.device)).is_none() {
+        return place_new(forest, arrival, to);
+    }
+    if lacks_room(forest, to) {
+        return Err(EditFault::Refused(Refusal::NoRoom));
+    }
+    if !fits_put_device(forest, arrival.device, arrival.weight, to) {
+        return Err(EditFault::Refused(Refusal::SumTooLarge));
+    }
+    put_device(forest, arrival.device, arrival.weight, to)?;
+    Ok(Done {
+        changed: true,
+        made: to.fresh() as u16,
+    })
+}
+
+/// Makes a device that isn't there at the destination, or tells why it isn't made.
+fn place_new<A: Allocator + Clone>(
+    forest: &mut Forest<A>,
+    arrival: &Arrival<'_>,
+    to: &Destination,
+) -> Result<Done, EditFault>
+    requires can { (t : List Row) → Stands forest.old t → CanCome t arrival.now.device
+        arrival.now.name.now arrival.now.weight to.now }
+    requires free { (t : List Row) → Stands forest.old t
+        → held t (Device arrival.now.device) to.now.stops ≡ false }
+    requires gone { (t : List Row) → Stands forest.old t → is_there t (Device arrival.now.device) ≡ false }
+    ensures { AnswersAs (λ t. last_answer t
+        (put_after t (edited_device t arrival.now.device arrival.now.name.now arrival.now.weight)
+        to.now.stops))
+        forest.old forest.new result }
+{
+    forest.recall_invariant();
+    let _number = arrival.device.number();
+    let _text = arrival.name.as_str();
+    if lacks_room_for_new(forest, to) {
+        return Err(EditFault::Refused(Refusal::NoRoom));
+    }
+    if !fits_put_new(forest, arrival.weight, to) {
+        return Err(EditFault::Refused(Refusal::SumTooLarge));
+    }
+    let leaf = new_leaf(forest.allocator(), arrival)?;
+    put_new(forest, leaf, to)?;
+    Ok(Done {
+        changed: true,
+        made: to.fresh() as u16,
+    })
+}
+
+/// A device without a class, its name in memory of the allocator.
+fn new_leaf<A: Allocator + Clone>(alloc: &A, arrival: &Arrival<'_>) -> Result<Leaf<A>, AllocError>
+    ensures { IfOk result (λ leaf. leaf_data leaf
+        ≡ record { id = arrival.now.device; name = arrival.now.name.now; weight = arrival.now.weight; class = None }) }
+{
+    Ok(Leaf {
+        id: arrival.device,
+        name: arrival.name.try_copy(alloc.clone()?)?,
+        weight: arrival.weight,
+        class: None,
+    })
+}

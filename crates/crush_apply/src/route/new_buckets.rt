@@ -1,0 +1,95 @@
+//! New buckets, one in the next.
+
+ghost use Rattle.std.specs.Prelude.{◌≡◌, ◌<◌, ◌∷◌, [], length, IfOk, All};
+ghost use Rattle.crush_table.specs.Items.{none, bucket};
+ghost use Rattle.crush_nodes.specs.Seen.{items_of, header_data};
+ghost use Rattle.crush_edits.specs.Put.{with_ids, new_header};
+ghost use Rattle.crush_edits.specs.Boxes.{boxes};
+ghost use Rattle.crush_edits.specs.New.{IsStop};
+ghost use Rattle.crush_apply.specs.Stopped.{stop_data, stops_data};
+
+use crate::route::stops::Stop;
+use crush_edits::Location;
+use crush_tree::{Header, Node};
+use crush_units::{Alg, BucketId, Name, TypeId};
+use std::alloc::{AllocError, Allocator, Global};
+
+/// A bucket without items, with room for one, in memory of the allocator.
+pub(crate) fn empty_bucket<A: Allocator + Clone>(
+    alloc: &A,
+    id: BucketId,
+    kind: TypeId,
+    name: &Name<Global>,
+) -> Result<Node<A>, AllocError>
+    ensures { IfOk result (λ node. items_of (node ∷ []) ≡ bucket
+        (new_header (record { id = id; kind = kind; name = name.now })) 0 1 none none) }
+{
+    let items = alloc.clone()?;
+    let header = new_header(alloc, id, kind, name)?;
+    match Node::bucket(items, header) {
+        Ok(node) => Ok(node),
+        Err(_) => Err(AllocError),
+    }
+}
+
+/// What is said of a new bucket, in memory of the allocator.
+fn new_header<A: Allocator + Clone>(
+    alloc: &A,
+    id: BucketId,
+    kind: TypeId,
+    name: &Name<Global>,
+) -> Result<Header<A>, AllocError>
+    ensures { IfOk result (λ header. header_data header
+        ≡ new_header (record { id = id; kind = kind; name = name.now })) }
+{
+    let class_ids = alloc.clone()?;
+    let name = name.try_copy(alloc.clone()?)?;
+    Ok(Header {
+        id,
+        kind,
+        name,
+        alg: Alg::Straw2,
+        class_ids: Vec::new(class_ids),
+    })
+}
+
+/// The new bucket of a stop.
+fn new_bucket<A: Allocator + Clone>(
+    alloc: &A,
+    id: BucketId,
+    at: &Location,
+    stop: Stop,
+) -> Result<Node<A>, AllocError>
+    requires { IsStop (stop_data at.now stop) }
+    ensures { IfOk result (λ node. items_of (node ∷ []) ≡ bucket (new_header (record {
+      id = id;
+      kind = stop.kind;
+      name = (stop_data at.now stop).name;
+    })) 0 1 none none) }
+{
+    let pair = &at.pairs()[stop.pair];
+    empty_bucket(alloc, id, stop.kind, &pair.name)
+}
+
+/// The new buckets of stops, the lowest first, as one item: each in the next, and the lowest with
+/// room for one item. They weigh nothing. An Err is want of memory.
+pub(crate) fn new_buckets<A: Allocator + Clone>(
+    alloc: &A,
+    ids: &[BucketId],
+    at: &Location,
+    stops: &[Stop],
+) -> Result<Node<A>, AllocError>
+    requires some { 0 < length stops.now }
+    requires as_many { length ids.now ≡ length stops.now }
+    requires forms { All IsStop (stops_data at.now stops.now) }
+    ensures { IfOk result (λ node. items_of (node ∷ [])
+        ≡ boxes 1 none (with_ids ids.now (stops_data at.now stops.now))) }
+{
+    let mut node = new_bucket(alloc, ids[0], at, stops[0])?;
+    for k in 1..stops.len() {
+        let mut above = new_bucket(alloc, ids[k], at, stops[k])?;
+        above.hold(node);
+        node = above;
+    }
+    Ok(node)
+}

@@ -1,0 +1,203 @@
+//! What refuses an edit for its location, for the device that is to come, or for what ends the
+//! route.
+
+ghost use Rattle.std.specs.Prelude.{◌≡◌, ◌==◌, List, None, Some, IfOk, IfErr, OnOk, map, bytes_eq, not};
+ghost use Rattle.std.specs.List.{list_any};
+ghost use Rattle.crush_units.specs.declared.id.ItemId.TheVariants.{Device, Bucket};
+ghost use Rattle.crush_units.specs.Id.{same_id};
+ghost use Rattle.crush_table.specs.Table.{Row, id_named, kind_of, name_of};
+ghost use Rattle.crush_table.specs.Stands.{Stands};
+ghost use Rattle.crush_edits.specs.declared.location.Pair.{Pair};
+ghost use Rattle.crush_edits.specs.Answer.{first_refusal, meets};
+ghost use Rattle.crush_edits.specs.Located.{has_twice, is_type_zero, is_bad_location, has_no_kind, names_it, is_taken, location_tests, device_tests};
+ghost use Rattle.crush_apply.specs.Destination.{item_tests};
+
+use crate::route::Arrival;
+use crush_edits::{Location, Pair, Refusal, Setting};
+use crush_tree::Forest;
+use crush_units::{BucketId, DeviceId, ItemId, Name, TypeId};
+use std::alloc::{Allocator, Global};
+
+/// Refuses a location that can't be an edit's: a type name or a bucket name stands twice in it, a
+/// type isn't known or is type 0, or there is no pair.
+pub(crate) fn check_location(setting: &Setting, at: &Location) -> Result<(), Refusal>
+    ensures passes { OnOk result (first_refusal (location_tests setting.now at.now) ≡ None) }
+    ensures refused { IfErr result
+        (λ r. first_refusal (location_tests setting.now at.now) ≡ Some r) }
+{
+    let pairs = at.pairs();
+    if is_bad(setting, pairs) {
+        return Err(Refusal::BadLocation);
+    }
+    if has_unknown_type(setting, pairs) {
+        return Err(Refusal::NoSuchType);
+    }
+    if pairs.is_empty() {
+        return Err(Refusal::NoPlace);
+    }
+    Ok(())
+}
+
+/// Refuses a device that can't come to a location, before its route is looked at: a bucket of the
+/// location has its name, the location can't be an edit's, no device has the weight, or the name is
+/// another item's or the id is there with another name.
+pub(crate) fn check_device<A: Allocator>(
+    forest: &Forest<A>,
+    setting: &Setting,
+    arrival: &Arrival<'_>,
+) -> Result<(), Refusal>
+    ensures passes { OnOk result ((t : List Row) → Stands forest.now t
+        → first_refusal (device_tests setting.now t arrival.now.device arrival.now.name.now
+        arrival.now.weight arrival.now.at.now) ≡ None) }
+    ensures refused { IfErr result (λ r. (t : List Row) → Stands forest.now t
+        → first_refusal (device_tests setting.now t arrival.now.device arrival.now.name.now
+        arrival.now.weight arrival.now.at.now) ≡ Some r) }
+{
+    if names_bucket(arrival.at.pairs(), arrival.name) {
+        return Err(Refusal::BadName);
+    }
+    check_location(setting, arrival.at)?;
+    if !arrival.weight.is_device_weight() {
+        return Err(Refusal::WeightTooLarge);
+    }
+    if is_taken(forest, arrival.device, arrival.name) {
+        return Err(Refusal::NameTaken);
+    }
+    Ok(())
+}
+
+/// The bucket that ends a route at a pair of this type, or why no item can come there: the pair's
+/// name is that of a device, or of a bucket of another type.
+pub(crate) fn check_end<A: Allocator>(
+    forest: &Forest<A>,
+    kind: TypeId,
+    id: ItemId,
+) -> Result<BucketId, Refusal>
+    ensures passes { IfOk result (λ b. (t : List Row) → Stands forest.now t
+        → first_refusal (item_tests t kind (Bucket b)) ≡ None) }
+    ensures bucket { IfOk result (λ b. id ≡ Bucket b) }
+    ensures refused { IfErr result (λ r. (t : List Row) → Stands forest.now t
+        → first_refusal (item_tests t kind id) ≡ Some r) }
+{
+    let ItemId::Bucket(bucket) = id else {
+        return Err(Refusal::NotABucket);
+    };
+    if is_of_other_type(forest, id, kind) {
+        return Err(Refusal::WrongType);
+    }
+    Ok(bucket)
+}
+
+/// Whether a type name or a bucket name stands twice, or the name of type 0 stands there as a type
+/// name.
+fn is_bad(setting: &Setting, pairs: &[Pair]) -> bool
+    ensures { result ≡ is_bad_location setting.now pairs.now }
+{
+    has_type_twice(pairs) || has_bucket_twice(pairs) || has_type_zero(setting, pairs)
+}
+
+/// Whether a type name stands twice.
+fn has_type_twice(pairs: &[Pair]) -> bool
+    ensures { result ≡ has_twice (map (λ (p : Pair). p.kind) pairs.now) }
+{
+    for (k, pair) in pairs.iter().enumerate() {
+        let later = &pairs[k + 1..];
+        if names_type(later, &pair.kind) {
+            return true;
+        }
+    }
+    false
+}
+
+/// Whether a bucket name stands twice.
+fn has_bucket_twice(pairs: &[Pair]) -> bool
+    ensures { result ≡ has_twice (map (λ (p : Pair). p.name) pairs.now) }
+{
+    for (k, pair) in pairs.iter().enumerate() {
+        let later = &pairs[k + 1..];
+        if names_bucket(later, &pair.name) {
+            return true;
+        }
+    }
+    false
+}
+
+/// Whether a pair has the type name.
+fn names_type(pairs: &[Pair], name: &Name<Global>) -> bool
+    ensures { result ≡ list_any (λ (p : Pair). bytes_eq p.kind name.now) pairs.now }
+{
+    pairs.iter().any(|pair| pair.kind == *name)
+}
+
+/// Whether a pair has the bucket name.
+fn names_bucket(pairs: &[Pair], name: &Name<Global>) -> bool
+    ensures { result ≡ names_it pairs.now name.now }
+{
+    pairs.iter().any(|pair| pair.name == *name)
+}
+
+/// Whether the type of a pair is type 0.
+fn has_type_zero(setting: &Setting, pairs: &[Pair]) -> bool
+    ensures { result ≡ list_any (is_type_zero setting.now) pairs.now }
+{
+    pairs.iter().any(|pair| is_type_zero(setting, pair))
+}
+
+/// Whether the pair's type is type 0.
+fn is_type_zero(setting: &Setting, pair: &Pair) -> bool
+    ensures { result ≡ is_type_zero setting.now pair.now }
+{
+    match setting.kind_number(pair.kind.as_bytes()) {
+        Some(kind) => kind.number() == 0,
+        None => false,
+    }
+}
+
+/// Whether the setting lacks a type of the pairs.
+fn has_unknown_type(setting: &Setting, pairs: &[Pair]) -> bool
+    ensures { result ≡ has_no_kind setting.now pairs.now }
+{
+    pairs
+        .iter()
+        .any(|pair| setting.kind_number(pair.kind.as_bytes()).is_none())
+}
+
+/// Whether the name belongs to another item, or the device is there with another name.
+fn is_taken<A: Allocator>(forest: &Forest<A>, device: DeviceId, name: &Name<Global>) -> bool
+    ensures { (t : List Row) → Stands forest.now t → result ≡ is_taken t (Device device) name.now }
+{
+    is_name_of_other(forest, device, name) || has_other_name(forest, device, name)
+}
+
+/// Whether the name belongs to an item that isn't the device.
+fn is_name_of_other<A: Allocator>(forest: &Forest<A>, device: DeviceId, name: &Name<Global>) -> bool
+    ensures { (t : List Row) → Stands forest.now t
+        → result ≡ meets (λ j. not (same_id j (Device device))) (id_named t name.now) }
+{
+    match forest.id_of(name.as_str()) {
+        Some(other) => !other.is_same(ItemId::Device(device)),
+        None => false,
+    }
+}
+
+/// Whether the device is there with another name.
+fn has_other_name<A: Allocator>(forest: &Forest<A>, device: DeviceId, name: &Name<Global>) -> bool
+    ensures { (t : List Row) → Stands forest.now t
+        → result ≡ meets (λ m. not (bytes_eq m name.now)) (name_of t (Device device)) }
+{
+    match forest.name(ItemId::Device(device)) {
+        Some(own) => own != name.as_str(),
+        None => false,
+    }
+}
+
+/// Whether the item is there with another type.
+fn is_of_other_type<A: Allocator>(forest: &Forest<A>, id: ItemId, kind: TypeId) -> bool
+    ensures { (t : List Row) → Stands forest.now t
+        → result ≡ meets (λ k. not (k == kind)) (kind_of t id) }
+{
+    match forest.kind(id) {
+        Some(own) => own.number() != kind.number(),
+        None => false,
+    }
+}

@@ -1,0 +1,97 @@
+//! Whether an item can come to a destination: whether there is room for it and for the new buckets,
+//! and whether all sums stay in range.
+
+ghost use Rattle.std.specs.Prelude.{◌≡◌, ℕ, ◌≤◌, List, Some, None, false, not};
+ghost use Rattle.crush_units.specs.declared.id.ItemId.TheVariants.{Device};
+ghost use Rattle.crush_units.specs.declared.limits.TheConstants.{HEAVIEST_DEVICE};
+ghost use Rattle.crush_table.specs.Items.{LeafData};
+ghost use Rattle.crush_table.specs.ItemRows.{device_row};
+ghost use Rattle.crush_table.specs.Lawful.{has_too_many, is_too_heavy};
+ghost use Rattle.crush_table.specs.Stands.{Stands};
+ghost use Rattle.crush_table.specs.Table.{Row, row_of, is_there};
+ghost use Rattle.crush_edits.specs.Put.{put};
+ghost use Rattle.crush_apply.specs.Coming.{CanMove};
+ghost use Rattle.crush_apply.specs.Destination.{Leads};
+
+use crate::route::destination::Destination;
+use crush_tree::Forest;
+use crush_units::limits::{MOST_BUCKETS, MOST_DEVICES};
+use crush_units::{DeviceId, ItemId, Weight};
+use std::alloc::Allocator;
+
+/// Whether there would be too many buckets where an item that is there comes to the
+/// destination.
+pub(crate) fn lacks_room<A: Allocator>(forest: &Forest<A>, to: &Destination) -> bool
+    ensures { (t : List Row) (r : Row) → Stands forest.now t → Leads t to.now
+        → row_of t r.id ≡ Some r → (w : ℕ)
+        → result ≡ has_too_many (put t (record r { weight = w }) to.now.stops) }
+{
+    forest.recall_invariant();
+    forest.counts().buckets as usize + to.fresh() > MOST_BUCKETS as usize
+}
+
+/// Whether there would be too many buckets or devices where a device that isn't there comes to
+/// the destination.
+pub(crate) fn lacks_room_for_new<A: Allocator>(forest: &Forest<A>, to: &Destination) -> bool
+    ensures { (t : List Row) (d : LeafData) → Stands forest.now t → Leads t to.now
+        → is_there t (Device d.id) ≡ false
+        → result ≡ has_too_many (put t (device_row None d) to.now.stops) }
+{
+    forest.recall_invariant();
+    let counts = forest.counts();
+    let fresh = to.fresh();
+    counts.devices >= MOST_DEVICES || counts.buckets as usize + fresh > MOST_BUCKETS as usize
+}
+
+/// Whether all sums stay in range where an item that is there, with all that is below it, comes to
+/// the destination, as it is.
+pub(crate) fn fits_put_item<A: Allocator>(forest: &Forest<A>, id: ItemId, to: &Destination) -> bool
+    requires { (t : List Row) → Stands forest.now t → CanMove t id to.now }
+    ensures { (t : List Row) (r : Row) → Stands forest.now t → row_of t id ≡ Some r
+        → has_too_many (put t r to.now.stops) ≡ false
+        → result ≡ not (is_too_heavy (put t r to.now.stops)) }
+{
+    forest.recall_invariant();
+    let id = &id;
+    forest.recall_part(*id);
+    let Some(weight) = forest.weight(*id) else {
+        unreachable!()
+    };
+    forest.fits_move(*id, to.place(), weight)
+}
+
+/// Whether all sums stay in range where a device that is there comes to the destination with this
+/// weight, of up to 2147483647 units.
+pub(crate) fn fits_put_device<A: Allocator>(
+    forest: &Forest<A>,
+    device: DeviceId,
+    weight: Weight,
+    to: &Destination,
+) -> bool
+    requires can { (t : List Row) → Stands forest.now t → CanMove t (Device device) to.now }
+    requires weight { weight ≤ HEAVIEST_DEVICE }
+    ensures { (t : List Row) (r : Row) → Stands forest.now t → row_of t (Device device) ≡ Some r
+        → has_too_many (put t (record r { weight = weight }) to.now.stops) ≡ false
+        → result ≡ not (is_too_heavy (put t (record r { weight = weight }) to.now.stops)) }
+{
+    forest.recall_invariant();
+    forest.recall_part(ItemId::Device(device));
+    forest.fits_move(ItemId::Device(device), to.place(), weight)
+}
+
+/// Whether all sums stay in range where a device that isn't there comes to the destination with
+/// this weight, of up to 2147483647 units.
+pub(crate) fn fits_put_new<A: Allocator>(
+    forest: &Forest<A>,
+    weight: Weight,
+    to: &Destination,
+) -> bool
+    requires leads { (t : List Row) → Stands forest.now t → Leads t to.now }
+    requires weight { weight ≤ HEAVIEST_DEVICE }
+    ensures { (t : List Row) (d : LeafData) → Stands forest.now t
+        → is_there t (Device d.id) ≡ false → d.weight ≡ weight
+        → result ≡ not (is_too_heavy (put t (device_row None d) to.now.stops)) }
+{
+    forest.recall_invariant();
+    forest.fits_attach(to.place(), weight)
+}
