@@ -1,5 +1,5 @@
 -- The first word of a statement, and the end of the text in its place.
-use Rattle.std.proofs.Common.{◌≡◌, ℕ, Bool, true, false, List, Ok, Err, refl, sym, ap, ◌∙◌}
+use Rattle.std.proofs.Common.{◌≡◌, ℕ, Bool, true, false, List, Ok, Err, refl, sym, ap, subst, ◌∙◌, inr}
 use Rattle.crush_map.specs.Built.{Draft}
 use Rattle.crush_bytes.specs.Words.{Text, first as first_word, stopped, ended, bad}
 use Rattle.crush_text.specs.declared.fault.TextFaultKind.TheVariants.{BadWord}
@@ -9,9 +9,10 @@ use Rattle.crush_text.specs.Role.{opening}
 use Rattle.crush_text.specs.Form.{at}
 use Rattle.crush_text.specs.Grammar.{statement, lines}
 use Rattle.crush_text.specs.Tests.{word_for}
-use Rattle.crush_text.specs.Flow.{◌>>=◌, between, placed, run, outcome}
-use Rattle.crush_text.specs.Reads.{and_rest, next_at, word_at, line_at, then_on, behind}
-use Rattle.crush_text.proofs.LineByLine.{word_goes}
+use Rattle.crush_text.specs.Flow.{◌>>=◌, between, placed, arrive, step, run, outcome, Reaches}
+use Rattle.crush_text.specs.Reads.{and_rest, next_at, word_at, line_at, then_on, behind, Leads}
+use Rattle.crush_text.proofs.LineByLine.{word_goes, line_goes}
+use Rattle.crush_text.proofs.Weighed.{told_ok}
 
 -- a word in this place is the first one of a statement
 first_goes : (d : Draft) (late : Bool) (t rest : Text) (place : ℕ) (text : List ℕ) → t ≡ first_word place text rest
@@ -27,6 +28,19 @@ first_goes d late t rest place text is = ap (outcome (between (at (behind late) 
 pub opening_ok : (d : Draft) (late : Bool) (t rest : Text) (place : ℕ) (text : List ℕ) (o : Opening) → t ≡ first_word place text rest → Ok o ≡ placed place (word_for d (opening late) text)
     → outcome (between (at (behind late) d)) t ≡ then_on (line_at d (statement d o) rest)
 opening_ok d late t rest place text o is e = first_goes d late t rest place text is ∙ ap (λ q. then_on ((q >>= and_rest rest) >>= λ x. line_at d (statement d x.0) x.1)) (sym e)
+
+-- which leads on to the statement
+pub opening_leads : (d : Draft) (late : Bool) (t rest : Text) (place : ℕ) (text : List ℕ) (o : Opening) → t ≡ first_word place text rest → Ok o ≡ placed place (word_for d (opening late) text)
+    → Leads (between (at (behind late) d)) t (arrive d rest.words (statement d o)) rest
+unfolding outcome step
+opening_leads d late t rest place text o is e = record {
+  same = opening_ok d late t rest place text o is e ∙ sym (line_goes d (statement d o) rest.words rest.stop);
+  reaches = λ p h. subst (λ (u : Text). Reaches p (between (at (behind late) d)) u.words) (sym is) (by_mode late (told_ok place o (word_for d (opening late) text) e) p h);
+}
+  where
+    by_mode : (b : Bool) → word_for d (opening b) text ≡ Ok o → (p : ℕ) → Reaches p (arrive d rest.words (statement d o)) rest.words → Reaches p (between (at (behind b) d)) (first_word place text rest).words
+    by_mode true e p h = (_, ap (λ j. j >>= λ v. Ok (arrive d rest.words (statement d v))) e, inr h)
+    by_mode false e p h = (_, ap (λ j. j >>= λ v. Ok (arrive d rest.words (statement d v))) e, inr h)
 
 -- a fault of that word is the fault of all
 pub opening_err : (d : Draft) (late : Bool) (t rest : Text) (place : ℕ) (text : List ℕ) (f : TextFault) → t ≡ first_word place text rest → Err f ≡ placed place (word_for d (opening late) text)

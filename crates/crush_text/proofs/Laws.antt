@@ -1,6 +1,6 @@
 -- What is read of a text is what its words spell, and what isn't read is its one flaw.
-use Rattle.std.proofs.Common.{◌≡◌, ℕ, ◌<◌, Bool, true, false, cond, List, [], ◌∷◌, ◌++◌, Result, Ok, Err, refl, sym, ap, subst, ◌∙◌, arith}
-use Rattle.std.proofs.lemmas.List.{append-nil}
+use Rattle.std.proofs.Common.{◌≡◌, ℕ, ◌<◌, Bool, true, false, cond, List, [], ◌∷◌, ◌++◌, Result, Ok, Err, refl, sym, ap, subst, ◌∙◌, arith, inl, inr}
+use Rattle.std.proofs.lemmas.List.{append-nil, append_assoc}
 use Rattle.std.specs.Prelude.{◌==◌}
 use Rattle.crush_map.specs.Built.{Draft}
 use Rattle.crush_bytes.specs.Words.{Word, Stop, ended, bad, Text}
@@ -13,9 +13,10 @@ use Rattle.crush_text.specs.Form.{Form, done, word, optional, ahead}
 use Rattle.crush_text.specs.Grammar.{next}
 use Rattle.crush_text.specs.Tests.{tests, word_for}
 use Rattle.crush_text.specs.Rows.{IsFault, IsRight}
-use Rattle.crush_text.specs.Flow.{State, between, amid, ◌>>=◌, arrive, take, step, placed, unfinished, stop_at, run, outcome, is_idle}
+use Rattle.crush_text.specs.Flow.{State, between, amid, ◌>>=◌, arrive, take, step, placed, unfinished, stop_at, run, outcome, is_idle, Reaches}
 use Rattle.crush_text.specs.Document.{SpellsForm, SpellsNext, Spell, IsWhole, start, IsDocument}
-use Rattle.crush_text.specs.Flaw.{FaultyForm, FaultyNext, IsFaulty, IsFlaw}
+use Rattle.crush_text.specs.Flaw.{FaultyForm, FaultyNext, IsFaulty, IsFlaw, IsWant}
+use Rattle.crush_text.specs.Want.{IsRightUpTo}
 use Rattle.crush_text.proofs.Judged.{fires, first_fires, none_fires}
 use Rattle.crush_text.proofs.TheTable.{in_order, told}
 
@@ -174,6 +175,35 @@ faulty_run (amid d g) [] (ended p) f h = ap (λ x. Err x) (sym h.0)
 faulty_run s [] (bad p) f h = ap (λ x. Err x) (sym h)
 faulty_run s (w ∷ ws) stop f h = ap (λ j. placed w.place j >>= λ x. run x ws stop) (faulty_step s w.text ws f.kind h.0) ∙ ap (λ p. Err (record { kind = f.kind; place = p })) (sym h.1)
 
+-- the words up to a place that is reached
+record ReadUpTo (s : State) (ws : List Word) (place : ℕ) : Type 0 where
+  pub before : List Word
+  pub last : Word
+  pub next : List Word
+  pub all : ws ≡ before ++ last ∷ next
+  pub so_far : State
+  pub spelled : Spell s (before ++ last ∷ []) next so_far
+  pub here : place ≡ last.place
+
+up_to : (ws : List Word) (s : State) (place : ℕ) → Reaches place s ws → ReadUpTo s ws place
+up_to [] s place h = absurd h
+up_to (w ∷ ws) s place (m, e, inl here) = record { before = []; last = w; next = ws; all = refl; so_far = m; spelled = (m, step_ok s w.text ws m e, refl); here = here }
+up_to (w ∷ ws) s place (m, e, inr h) =
+    let t = up_to ws m place h in
+    record {
+      before = w ∷ t.before;
+      last = t.last;
+      next = t.next;
+      all = ap (λ (l : List Word). w ∷ l) t.all;
+      so_far = t.so_far;
+      spelled = (m, subst (λ (l : List Word). SpellsNext s w.text l m) (t.all ∙ sym (append_assoc t.before (t.last ∷ []) t.next)) (step_ok s w.text ws m e), t.spelled);
+      here = t.here;
+    }
+
+-- are right
+pub right_up_to : (t : Text) (place : ℕ) → Reaches place start t.words → IsRightUpTo t place
+right_up_to t place h = let k = up_to t.words start place h in record { before = k.before; last = k.last; next = k.next; all = k.all; so_far = k.so_far; spelled = k.spelled; here = k.here }
+
 -- THE LAWS
 -- the text may end where it ended
 whole_stop : (m : State) (stop : Stop) (d : Draft) → stop_at m stop ≡ Ok d → IsWhole m d × ((p : ℕ) × (stop ≡ ended p))
@@ -214,3 +244,23 @@ flaw_of t f e = let k = tells t.words start t.stop (Err f) e in record { before 
 pub fault_of : (t : Text) (f : TextFault) → IsFlaw t f → outcome start t ≡ Err f
 unfolding outcome
 fault_of t f h = ap (λ (l : List Word). run start l t.stop) h.all ∙ spelled_run h.before h.next start h.so_far t.stop h.spelled ∙ faulty_run h.so_far h.next t.stop f h.fault
+
+-- no word is at fault for want of memory
+no_want_of : (d : Draft) (g : Form) (w : List ℕ) → FaultyForm OutOfMemory d g w → ⊥
+no_want_of d (word r more) w h = h.0
+no_want_of d (done p) w h = absurd cc
+no_want_of d (optional k x y) w h = absurd cc
+no_want_of d (ahead k x y) w h = absurd cc
+
+-- and so no flaw is one
+pub no_want : (t : Text) (f : TextFault) → IsFlaw t f → IsWant f → ⊥
+no_want t f h want = by_it h.so_far h.next t.stop h.fault
+  where
+    by_form : (s : State) (w : List ℕ) → FaultyNext OutOfMemory s w → ⊥
+    by_form (between p) w e = no_want_of p.draft (next p) w e
+    by_form (amid d g) w e = no_want_of d g w e
+
+    by_it : (s : State) (others : List Word) (stop : Stop) → IsFaulty s others stop f → ⊥
+    by_it s [] (ended p) e = let k : Ended ≡ OutOfMemory = sym (ap (λ (x : TextFault). x.kind) e.0) ∙ want in absurd cc
+    by_it s [] (bad p) e = let k : BadWord ≡ OutOfMemory = sym (ap (λ (x : TextFault). x.kind) e) ∙ want in absurd cc
+    by_it s (w ∷ ws) stop e = by_form s w.text (subst (λ (k : TextFaultKind). FaultyNext k s w.text) want e.0)

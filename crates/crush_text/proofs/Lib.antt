@@ -3,6 +3,7 @@ pub mod Judged
 pub mod Laws
 pub mod LineByLine
 pub mod LineEnds
+pub mod Reached
 pub mod Reserved
 pub mod Steps
 pub mod TheTable

@@ -1,8 +1,7 @@
 -- What comes of a line and of the text behind it.
-use Rattle.std.proofs.Common.{◌≡◌, Bool, true, false, cond, List, [], ◌∷◌, Result, Ok, Err, refl, sym, ap, ◌∙◌, inl, inr}
+use Rattle.std.proofs.Common.{◌≡◌, ◌⊎◌, Bool, true, false, cond, List, [], ◌∷◌, Result, Ok, Err, refl, sym, ap, ◌∙◌, inl, inr}
 use Rattle.std.specs.Prelude.{drop}
 use Rattle.crush_map.specs.Built.{Draft}
-use Rattle.crush_map.specs.Building.{BuilderData}
 use Rattle.crush_bytes.specs.Words.{Word, Stop, ended, bad, Text, begins_with_key}
 use Rattle.crush_text.specs.declared.fault.TextFaultKind.{TextFaultKind}
 use Rattle.crush_text.specs.declared.fault.TextFaultKind.TheVariants.{Ended}
@@ -12,7 +11,7 @@ use Rattle.crush_text.specs.Form.{Mode, first, at, Form, done, word, optional, a
 use Rattle.crush_text.specs.Grammar.{lines}
 use Rattle.crush_text.specs.Tests.{word_for}
 use Rattle.crush_text.specs.Flow.{◌>>=◌, placed, between, amid, arrive, step, is_idle, run, outcome}
-use Rattle.crush_text.specs.Reads.{next_at, word_at, and_rest, line_at, then_on, Fails, ReadsOn}
+use Rattle.crush_text.specs.Reads.{next_at, word_at, and_rest, line_at, then_on}
 
 -- one of two forms goes on
 either_goes : (b : Bool) (d : Draft) (f g : Form) (t : Text) → run (arrive d t.words f) t.words t.stop ≡ then_on (line_at d f t) → run (arrive d t.words g) t.words t.stop ≡ then_on (line_at d g t)
@@ -21,7 +20,7 @@ either_goes true d f g t x y = x
 either_goes false d f g t x y = y
 
 -- a line, and what is behind it
-line_goes : (d : Draft) (f : Form) (ws : List Word) (stop : Stop) → run (arrive d ws f) ws stop ≡ then_on (line_at d f (record { words = ws; stop = stop }))
+pub line_goes : (d : Draft) (f : Form) (ws : List Word) (stop : Stop) → run (arrive d ws f) ws stop ≡ then_on (line_at d f (record { words = ws; stop = stop }))
 unfolding outcome run step line_at word_at next_at
 line_goes d (done p) ws stop = refl
 line_goes d (word r more) [] (ended p) = refl
@@ -55,17 +54,7 @@ pub word_goes : (m : Mode) (d : Draft) (w : Word) (ws : List Word) (stop : Stop)
 unfolding outcome run step
 word_goes m d w ws stop = ap (λ s. run s (w ∷ ws) stop) (sym (begins_so d m (w ∷ ws))) ∙ line_goes d (lines d m) (w ∷ ws) stop
 
--- a fault of the line is the fault of all
-pub fails_all : {Y Z : Type 0} (f : TextFault) (all : Result Y TextFault) (line : Result Z TextFault) (on : Z → Result Y TextFault) → all ≡ (line >>= on) → Fails f line → Fails f all
-fails_all f all line on e (inl h) = inl h
-fails_all f all line on e (inr h) = inr (e ∙ ap (λ y. y >>= on) h)
-
 -- a fault of what is the same is the fault of all
-pub fails_so : {Y : Type 0} (f : TextFault) (all mid : Result Y TextFault) → all ≡ mid → Fails f mid → Fails f all
-fails_so f all mid e (inl h) = inl h
+pub fails_so : {A Y : Type 0} (f : TextFault) (all mid : Result Y TextFault) → all ≡ mid → ⊥ ⊎ (mid ≡ Err f) → A ⊎ (all ≡ Err f)
+fails_so f all mid e (inl h) = absurd h
 fails_so f all mid e (inr h) = inr (e ∙ h)
-
--- a call that goes on where another ended
-pub goes_on : (m : Mode) (r : Result (Unit {0}) TextFault) (b : BuilderData) (rest : Text) (all mid : Result Draft TextFault) → all ≡ mid → ReadsOn m r b rest mid → ReadsOn m r b rest all
-goes_on m (Ok x) b rest all mid e h = (h.0, h.1, e ∙ h.2)
-goes_on m (Err f) b rest all mid e h = fails_so f all mid e h

@@ -1,35 +1,32 @@
 -- Lines word by word, and what the builder's call at the end of a line leaves.
-use Rattle.std.proofs.Common.{◌≡◌, ℕ, Bool, true, false, List, [], ◌∷◌, Result, Ok, Err, Some, None, refl, sym, ap, ◌∙◌, inl, inr}
+use Rattle.std.proofs.Common.{◌≡◌, ◌⊎◌, ℕ, Bool, true, false, List, [], ◌∷◌, Result, Ok, Err, Some, refl, sym, ap, ◌∙◌, inr}
 use Rattle.std.specs.Prelude.{codes, if◌then◌else◌}
-use Rattle.crush_units.specs.declared.alg.Alg.{Alg}
-use Rattle.crush_map.specs.Built.{Draft, nothing, with_kind, with_tunable, with_device, with_class_id, with_alg}
+use Rattle.crush_map.specs.Built.{Draft, nothing, with_kind, with_tunable, with_device, with_class_id}
 use Rattle.crush_map.specs.Building.{BuilderData, IsDraft}
 use Rattle.crush_bytes.specs.Words.{Word, Text, begins, is_brace_word}
 use Rattle.crush_units.specs.declared.limits.TheConstants.{LARGEST_TUNABLE}
 use Rattle.crush_text.specs.declared.fault.TextFaultKind.TheVariants.{Unexpected}
 use Rattle.crush_text.specs.declared.fault.TextFault.{TextFault}
-use Rattle.crush_text.specs.Role.{Role, El, value, key, any_word, number, tunable_name, type_number, type_name, device_id, new_name, bucket_id, id_class, algorithm}
-use Rattle.crush_text.specs.Form.{first, numbered, filling, at, Form, word, optional}
-use Rattle.crush_text.specs.Grammar.{tunable_line, type_line, device_line, device_class, class_id_line, alg_line}
+use Rattle.crush_text.specs.Role.{Role, El, value, key, any_word, number, tunable_name, type_number, type_name, device_id, new_name, bucket_id, id_class}
+use Rattle.crush_text.specs.Form.{first, numbered, at, Form, done, word, optional}
+use Rattle.crush_text.specs.Grammar.{tunable_line, type_line, device_line, device_class, class_id_line}
 use Rattle.crush_text.specs.Tests.{Test, ◌when◌, a_word, tests, unless, word_for}
 use Rattle.crush_text.specs.Flow.{◌>>=◌, placed}
-use Rattle.crush_text.specs.Reads.{Fails, IsIdle, and_rest, next_at, word_at, line_at}
+use Rattle.crush_text.specs.Reads.{IsIdle, and_rest, next_at, word_at, line_at}
 
 -- what leaves the pending part alone leaves the builder between two statements
 pub still_idle : (old new : BuilderData) (d e : Draft) → old.pending ≡ nothing → IsDraft old d → IsDraft new e → e.pending ≡ d.pending → IsIdle new
 still_idle old new d e idle before after same = record { part = after.pending ∙ same ∙ sym before.pending ∙ idle; some = (e, after) }
 
 -- where there is no word, none is read for any role
-pub next_fails : (d : Draft) (r : Role) (t : Text) (f : TextFault) → Fails f (next_at t) → Fails f (word_at d r t)
+pub next_fails : (d : Draft) (r : Role) (t : Text) (f : TextFault) → next_at t ≡ Err f → word_at d r t ≡ Err f
 unfolding word_at
-next_fails d r t f (inl h) = inl h
-next_fails d r t f (inr h) = inr (ap (λ q. q >>= λ x. placed x.0.place (word_for d r x.0.text) >>= and_rest x.1) h)
+next_fails d r t f h = ap (λ q. q >>= λ x. placed x.0.place (word_for d r x.0.text) >>= and_rest x.1) h
 
 -- where any word but a brace is at fault, so is the word of each role that judges such words further
-pub operand_fails : (d : Draft) (r : Role) (t : Text) (f : TextFault) → ((w : List ℕ) → (more : List Test) × (tests d r w ≡ a_word w more)) → Fails f (word_at d any_word t) → Fails f (word_at d r t)
+pub operand_fails : (d : Draft) (r : Role) (t : Text) (f : TextFault) → ((w : List ℕ) → (more : List Test) × (tests d r w ≡ a_word w more)) → word_at d any_word t ≡ Err f → word_at d r t ≡ Err f
 unfolding word_at
-operand_fails d r t f words (inl h) = inl h
-operand_fails d r t f words (inr h) = inr (by_word (next_at t) h)
+operand_fails d r t f words h = by_word (next_at t) h
   where
     by_brace : (b : Bool) (w : Word) (rest : Text) (more : List Test) → (placed w.place (unless ((Unexpected when b) ∷ []) w.text) >>= and_rest rest) ≡ Err f → (placed w.place (unless ((Unexpected when b) ∷ more) (value d r w.text)) >>= and_rest rest) ≡ Err f
     by_brace true w rest more e = let k : record { kind = Unexpected; place = w.place } ≡ f = cc in ap (λ (x : TextFault). Err x) k
@@ -41,10 +38,12 @@ operand_fails d r t f words (inr h) = inr (by_word (next_at t) h)
         ap (λ ts. placed x.0.place (unless ts (value d r x.0.text)) >>= and_rest x.1) j.1 ∙ by_brace (is_brace_word x.0.text) x.0 x.1 j.0 e
 
 -- a line whose first word is at fault
-pub word_fails : (d : Draft) (r : Role) (more : El r → Form) (t : Text) (f : TextFault) → Fails f (word_at d r t) → Fails f (line_at d (word r more) t)
+pub word_err : (d : Draft) (r : Role) (more : El r → Form) (t : Text) (f : TextFault) → word_at d r t ≡ Err f → line_at d (word r more) t ≡ Err f
 unfolding line_at
-word_fails d r more t f (inl h) = inl h
-word_fails d r more t f (inr h) = inr (ap (λ q. q >>= λ x. line_at d (more x.0) x.1) h)
+word_err d r more t f h = ap (λ q. q >>= λ x. line_at d (more x.0) x.1) h
+
+pub word_fails : {A : Type 0} (d : Draft) (r : Role) (more : El r → Form) (t : Text) (f : TextFault) → word_at d r t ≡ Err f → A ⊎ (line_at d (word r more) t ≡ Err f)
+word_fails d r more t f h = inr (word_err d r more t f h)
 
 -- a line that goes on behind its first word
 pub word_reads : (d : Draft) (r : Role) (more : El r → Form) (v : El r) (t rest : Text) → word_at d r t ≡ Ok (v, rest) → line_at d (word r more) t ≡ line_at d (more v) rest
@@ -71,28 +70,12 @@ pub device_reads : (d : Draft) (n : ℕ) (x : List ℕ) (t t1 t2 : Text) → wor
 unfolding line_at
 device_reads d n x t t1 t2 a b = rw (a, b) refl
 
--- with its class
-pub class_reads : (d : Draft) (n : ℕ) (x c : List ℕ) (t t1 t2 : Text) → true ≡ begins (codes "class") t → word_at d (key (codes "class")) t ≡ Ok (tt, t1) → word_at d any_word t1 ≡ Ok (c, t2) → line_at d (device_class d n x) t ≡ Ok (at first (with_device d n x (Some c)), t2)
+-- with its class, behind the key
+pub class_reads : (d : Draft) (n : ℕ) (x c : List ℕ) (t rest : Text) → word_at d any_word t ≡ Ok (c, rest) → line_at d (word any_word (λ y. done (at first (with_device d n x (Some y))))) t ≡ Ok (at first (with_device d n x (Some c)), rest)
 unfolding line_at
-class_reads d n x c t t1 t2 e a b = rw (← e, a, b) refl
-
--- and without one
-pub no_class_reads : (d : Draft) (n : ℕ) (x : List ℕ) (t : Text) → false ≡ begins (codes "class") t → line_at d (device_class d n x) t ≡ Ok (at first (with_device d n x None), t)
-unfolding line_at
-no_class_reads d n x t e = rw (← e) refl
+class_reads d n x c t rest is = ap (λ q. q >>= λ y. Ok (at first (with_device d n x (Some y.0)), y.1)) is
 
 -- the line of a class id
 pub class_id_reads : (d : Draft) (b : ℕ) (c : List ℕ) (t t1 t2 t3 : Text) → word_at d bucket_id t ≡ Ok (b, t1) → word_at d (key (codes "class")) t1 ≡ Ok (tt, t2) → word_at d id_class t2 ≡ Ok (c, t3) → line_at d (class_id_line d) t ≡ Ok (at numbered (with_class_id d b c), t3)
 unfolding line_at
 class_id_reads d b c t t1 t2 t3 x y z = rw (x, y, z) refl
-
--- the line of an algorithm with its hash
-pub hash_reads : (d : Draft) (a : Alg) (z : ℕ) (t t1 t2 t3 : Text) → word_at d algorithm t ≡ Ok (a, t1) → true ≡ begins (codes "hash") t1 → word_at d (key (codes "hash")) t1 ≡ Ok (tt, t2) → word_at d (number 0) t2 ≡ Ok (z, t3)
-    → line_at d (alg_line d) t ≡ Ok (at (filling false) (with_alg d a), t3)
-unfolding line_at
-hash_reads d a z t t1 t2 t3 x e y w = rw (x, ← e, y, w) refl
-
--- and without one
-pub no_hash_reads : (d : Draft) (a : Alg) (t t1 : Text) → word_at d algorithm t ≡ Ok (a, t1) → false ≡ begins (codes "hash") t1 → line_at d (alg_line d) t ≡ Ok (at (filling false) (with_alg d a), t1)
-unfolding line_at
-no_hash_reads d a t t1 x e = rw (x, ← e) refl

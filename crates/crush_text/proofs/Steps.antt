@@ -1,5 +1,5 @@
 -- The lines of class ids and of rules, word by word.
-use Rattle.std.proofs.Common.{◌≡◌, ◌+◌, ◌<◌, arith, None, false, ℕ, Bool, List, [], ◌∷◌, ◌++◌, length, map, Result, Ok, Err, refl, sym, ap, ◌∙◌, inl, inr}
+use Rattle.std.proofs.Common.{◌≡◌, ◌+◌, ◌<◌, arith, None, false, ℕ, Bool, List, [], ◌∷◌, ◌++◌, length, map, Result, Ok, Err, refl, sym, ap, ◌∙◌, inl, inr, true, subst, ◌⊎◌}
 use Rattle.std.specs.Prelude.{Some, codes, nat_le, Option, IfOk, IfErr}
 use Rattle.crush_map.specs.declared.fault.BuildFault.{BuildFault}
 use Rattle.crush_map.specs.declared.fault.RulePart.TheVariants.{Step as AtStep}
@@ -12,31 +12,42 @@ use Rattle.crush_edits.specs.declared.rule.Rule.{Rule}
 use Rattle.crush_units.specs.declared.limits.TheConstants.{MOST_STEPS}
 use Rattle.crush_map.specs.Building.{BuilderData, IsDraft}
 use Rattle.crush_map.specs.Rules.{kept_step, kept_rule, has_rule_name, has_rule_id, step_fault, word_fault, steps_fault, or_later}
-use Rattle.crush_text.specs.declared.fault.TextFaultKind.TheVariants.{OutOfMemory}
 use Rattle.crush_text.specs.Room.{IsFreeRule, IsHead}
 use Rattle.crush_bytes.specs.Words.{Text}
 use Rattle.crush_text.specs.declared.fault.TextFault.{TextFault}
 use Rattle.crush_text.specs.Role.{StepWord, key, any_word, id_or_alg, rule_name, rule_id_key, rule_id, step_or_end, step_word}
-use Rattle.crush_text.specs.Form.{numbered, ruled, at, Progress, done, word}
+use Rattle.crush_text.specs.Form.{numbered, ruled, at, Progress, Form, done, word}
 use Rattle.crush_text.specs.Grammar.{id_or_alg_line, new_rule, rule_line, sizes, step_behind, step_or_brace, lines}
-use Rattle.crush_text.specs.Flow.{◌>>=◌}
-use Rattle.crush_text.specs.Reads.{Gives, word_at, line_at}
-
--- what a function returned is what reading gives, where that is the same
-pub gives_so : {X Y : Type 0} (view : X → Y) (r : Result X TextFault) (all mid : Result Y TextFault) → all ≡ mid → Gives view r mid → Gives view r all
-gives_so view (Ok x) all mid e h = e ∙ h
-gives_so view (Err f) all mid e (inl h) = inl h
-gives_so view (Err f) all mid e (inr h) = inr (e ∙ h)
+use Rattle.crush_text.specs.Flow.{◌>>=◌, arrive, Reaches}
+use Rattle.crush_text.specs.Flaw.{IsWant}
+use Rattle.crush_text.specs.Reads.{Gives, GivesLine, FailsIn, StoodAt, word_at, line_at}
+use Rattle.crush_text.proofs.Reached.{reaches_word, reaches_on}
 
 -- a step goes on as its first word says
 pub step_goes : (d : Draft) (r : RuleData) (w : StepWord) (t rest : Text) → word_at d step_word t ≡ Ok (w, rest) → line_at d (word step_word (step_behind d r)) t ≡ line_at d (step_behind d r w) rest
 unfolding line_at
 step_goes d r w t rest is = ap (λ q. q >>= λ x. line_at d (step_behind d r x.0) x.1) is
 
+-- and a function that reads on gives what the step gives
+pub step_gives : {X : Type 0} (view : X → Progress × Text) (x : Result X TextFault) (d : Draft) (r : RuleData) (w : StepWord) (t rest : Text) → word_at d step_word t ≡ Ok (w, rest) → GivesLine view x d (step_behind d r w) rest → GivesLine view x d (word step_word (step_behind d r)) t
+step_gives view (Ok x) d r w t rest is h = step_goes d r w t rest is ∙ h
+step_gives view (Err f) d r w t rest is (inl h) = inl (h.0, reaches_on d step_word (step_behind d r) w t rest f.place is h.1)
+step_gives view (Err f) d r w t rest is (inr h) = inr (step_goes d r w t rest is ∙ h)
+
+-- what needs no memory gives what the line gives
+pub gives_line : {X : Type 0} (view : X → Progress × Text) (x : Result X TextFault) (d : Draft) (g : Form) (t : Text) → Gives view x (line_at d g t) → GivesLine view x d g t
+gives_line view (Ok x) d g t h = h
+gives_line view (Err f) d g t h = inr h
+
 -- a class id or the algorithm, as the first word says
 pub id_or_alg_goes : (d : Draft) (more : Bool) (t rest : Text) → word_at d id_or_alg t ≡ Ok (more, rest) → line_at d (lines d numbered) t ≡ line_at d (id_or_alg_line d more) rest
 unfolding line_at
 id_or_alg_goes d more t rest is = ap (λ q. q >>= λ x. line_at d (id_or_alg_line d x.0) x.1) is
+
+-- and a fault behind that word
+pub id_or_alg_fails : (f : TextFault) (d : Draft) (more : Bool) (t rest : Text) → word_at d id_or_alg t ≡ Ok (more, rest) → FailsIn f d (id_or_alg_line d more) rest → FailsIn f d (lines d numbered) t
+id_or_alg_fails f d more t rest is (inl h) = inl (h.0, reaches_on d id_or_alg (id_or_alg_line d) more t rest f.place is h.1)
+id_or_alg_fails f d more t rest is (inr h) = inr (id_or_alg_goes d more t rest is ∙ h)
 
 -- a line that is done
 pub done_reads : (d : Draft) (p : Progress) (t : Text) → line_at d (done p) t ≡ Ok (p, t)
@@ -49,10 +60,30 @@ pub head_goes : (d : Draft) (x : List ℕ) (n : ℕ) (k : List ℕ) (t t1 t2 t3 
 unfolding line_at
 head_goes d x n k t t1 t2 t3 t4 t5 t6 a b c e f h = rw (a, b, c, e, f, h) refl
 
+-- the name of a rule and the word behind `type` are reached
+pub kind_reached : (d : Draft) (x : List ℕ) (n : ℕ) (k : List ℕ) (t t1 t2 t3 t4 t5 t6 : Text) (p : ℕ) → word_at d rule_name t ≡ Ok (x, t1) → word_at d (key (codes "{")) t1 ≡ Ok (tt, t2) → word_at d rule_id_key t2 ≡ Ok (tt, t3)
+    → word_at d rule_id t3 ≡ Ok (n, t4) → word_at d (key (codes "type")) t4 ≡ Ok (tt, t5) → word_at d any_word t5 ≡ Ok (k, t6) → StoodAt t5 t6 p → Reaches p (arrive d t.words (rule_line d)) t.words
+kind_reached d x n k t t1 t2 t3 t4 t5 t6 p a b c e f h is =
+    reaches_on d rule_name _ x t t1 p a
+    (reaches_on d (key (codes "{")) _ tt t1 t2 p b
+    (reaches_on d rule_id_key _ tt t2 t3 p c
+    (reaches_on d rule_id (λ m. word (key (codes "type")) (λ _. word any_word (λ y. sizes d x m y))) n t3 t4 p e
+    (reaches_on d (key (codes "type")) (λ _. word any_word (λ y. sizes d x n y)) tt t4 t5 p f
+    (reaches_word d any_word (λ y. sizes d x n y) k t5 t6 t6 p h is)))))
+
 -- a step or the brace, as the first word says
 pub step_or_end_goes : (d : Draft) (r : RuleData) (n : ℕ) (more : Bool) (t rest : Text) → n ≡ length r.steps → word_at d (step_or_end n) t ≡ Ok (more, rest) → line_at d (lines d (ruled r)) t ≡ line_at d (step_or_brace d r more) rest
 unfolding line_at
 step_or_end_goes d r n more t rest e is = ap (λ (m : ℕ). word_at d (step_or_end m) t >>= λ x. line_at d (step_or_brace d r x.0) x.1) (sym e) ∙ ap (λ q. q >>= λ x. line_at d (step_or_brace d r x.0) x.1) is
+
+-- and a fault of a step behind that word
+pub step_fails : (f : TextFault) (d : Draft) (r : RuleData) (n : ℕ) (t rest : Text) → n ≡ length r.steps → word_at d (step_or_end n) t ≡ Ok (true, rest) → FailsIn f d (word step_word (step_behind d r)) rest → FailsIn f d (lines d (ruled r)) t
+step_fails f d r n t rest e is (inl h) = inl (h.0, reaches_on d (step_or_end (length r.steps)) (step_or_brace d r) true t rest f.place (subst (λ (m : ℕ). word_at d (step_or_end m) t ≡ Ok (true, rest)) e is) h.1)
+step_fails f d r n t rest e is (inr h) = inr (step_or_end_goes d r n true t rest e is ∙ h)
+
+-- that word is reached
+pub step_or_end_reached : (d : Draft) (r : RuleData) (n : ℕ) (more : Bool) (t rest : Text) (p : ℕ) → n ≡ length r.steps → word_at d (step_or_end n) t ≡ Ok (more, rest) → StoodAt t rest p → Reaches p (arrive d t.words (lines d (ruled r))) t.words
+step_or_end_reached d r n more t rest p e is at_it = reaches_word d (step_or_end (length r.steps)) (step_or_brace d r) more t rest rest p (subst (λ (m : ℕ). word_at d (step_or_end m) t ≡ Ok (more, rest)) e is) at_it
 
 -- one more step, as it is kept
 pub steps_kept : (d : Draft) (old new : List Step) (s : Step) → new ≡ old ++ s ∷ [] → map (kept_step d) old ++ kept_step d s ∷ [] ≡ map (kept_step d) new
@@ -63,10 +94,12 @@ kept_head : (d : Draft) (x : List ℕ) (n : ℕ) (k : List ℕ) (least most : Op
 kept_head d x n k least most r h = rw (h.name, h.id, h.kind, h.min_size, h.max_size, h.steps) refl
 
 -- which is what its words say
-pub head_made : (d : Draft) (x : List ℕ) (n : ℕ) (k : List ℕ) (least most : Option ℕ) (r : Result Rule TextFault) (t : Text) (all : Result (Progress × Text) TextFault) → all ≡ line_at d (done (at (ruled (new_rule x n k least most)) d)) t
-    → IfOk r (IsHead x n k least most) → IfErr r (λ f. f.kind ≡ OutOfMemory) → Gives (λ q. (at (ruled (kept_rule d q)) d, t)) r all
-head_made d x n k least most (Ok r) t all e h m = e ∙ done_reads d _ t ∙ ap (λ v. Ok (at (ruled v) d, t)) (sym (kept_head d x n k least most r h))
-head_made d x n k least most (Err f) t all e h m = inl m
+pub head_made : (d : Draft) (x : List ℕ) (n : ℕ) (k : List ℕ) (least most : Option ℕ) (r : Result Rule TextFault) (t u : Text) (a b : ℕ) → line_at d (rule_line d) t ≡ line_at d (done (at (ruled (new_rule x n k least most)) d)) u
+    → Reaches a (arrive d t.words (rule_line d)) t.words → Reaches b (arrive d t.words (rule_line d)) t.words → IfOk r (IsHead x n k least most) → IfErr r (λ f. IsWant f × ((f.place ≡ a) ⊎ (f.place ≡ b)))
+    → GivesLine (λ q. (at (ruled (kept_rule d q)) d, u)) r d (rule_line d) t
+head_made d x n k least most (Ok r) t u a b e ra rb h m = e ∙ done_reads d _ u ∙ ap (λ v. Ok (at (ruled v) d, u)) (sym (kept_head d x n k least most r h))
+head_made d x n k least most (Err f) t u a b e ra rb h (w, inl q) = inl (w, subst (λ (p : ℕ). Reaches p (arrive d t.words (rule_line d)) t.words) (sym q) ra)
+head_made d x n k least most (Err f) t u a b e ra rb h (w, inr q) = inl (w, subst (λ (p : ℕ). Reaches p (arrive d t.words (rule_line d)) t.words) (sym q) rb)
 
 -- and is free where its name and its id are
 pub head_free : (b : BuilderData) (x : List ℕ) (n : ℕ) (k : List ℕ) (least most : Option ℕ) (r : Result Rule TextFault) → IfOk r (IsHead x n k least most)

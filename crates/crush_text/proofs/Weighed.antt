@@ -1,5 +1,5 @@
 -- An item of a bucket, with a weight or without: its words, and what comes of its line.
-use Rattle.std.proofs.Common.{◌≡◌, ℕ, Bool, true, false, cond, List, [], ◌∷◌, Option, None, Result, Ok, Err, refl, sym, ap, ◌∙◌, inl, inr}
+use Rattle.std.proofs.Common.{◌≡◌, ℕ, Bool, true, false, cond, List, [], ◌∷◌, Option, None, Result, Ok, Err, refl, sym, ap, subst, ◌∙◌, inl, inr}
 use Rattle.std.specs.Prelude.{not, codes, is_some, Some, if◌then◌else◌}
 use Rattle.std.specs.Option.{ok_or}
 use Rattle.crush_units.specs.declared.id.ItemId.{ItemId}
@@ -14,12 +14,13 @@ use Rattle.crush_bytes.specs.Words.{Word, Stop, ended, bad, Text, is_brace_word,
 use Rattle.crush_text.specs.declared.fault.TextFaultKind.{TextFaultKind}
 use Rattle.crush_text.specs.declared.fault.TextFaultKind.TheVariants.{Unexpected, BadWeight, UnknownItem, SecondParent, SumTooLarge}
 use Rattle.crush_text.specs.declared.fault.TextFault.{TextFault}
-use Rattle.crush_text.specs.Role.{item_of, units, key, item, lone_item, item_or_end, weight}
-use Rattle.crush_text.specs.Form.{filling, Progress, at, done, word}
+use Rattle.crush_text.specs.Role.{Role, El, item_of, units, key, item, lone_item, item_or_end, weight}
+use Rattle.crush_text.specs.Form.{filling, at, Form, done, word}
 use Rattle.crush_text.specs.Grammar.{item_weight, weighed_item, weightless_item, item_line, item_or_brace, lines}
 use Rattle.crush_text.specs.Tests.{is_weight_for, word_for}
-use Rattle.crush_text.specs.Flow.{◌>>=◌, placed}
-use Rattle.crush_text.specs.Reads.{own_weight, unless_heavy, and_rest, next_of, next_at, word_at, line_at, Fails, Adds, Reads}
+use Rattle.crush_text.specs.Flow.{◌>>=◌, placed, arrive, Reaches}
+use Rattle.crush_text.specs.Reads.{own_weight, unless_heavy, and_rest, next_of, next_at, word_at, line_at, FailsIn, Adds, Reads}
+use Rattle.crush_text.proofs.Reached.{reaches_word, reaches_on, key_taken}
 
 -- what comes of a weight that was told, with the item in its bucket
 abbrev with_weight : Draft → ItemId → Result ℕ TextFaultKind → Result ℕ TextFaultKind
@@ -50,7 +51,7 @@ lone_then d w = by_tests (is_brace_word w) (not (is_some (item_named d w))) (is_
     by_tests false false false = refl
 
 -- what was told at a place without a fault was told so
-told_ok : {A : Type 0} (p : ℕ) (x : A) (r : Result A TextFaultKind) → Ok x ≡ placed p r → r ≡ Ok x
+pub told_ok : {A : Type 0} (p : ℕ) (x : A) (r : Result A TextFaultKind) → Ok x ≡ placed p r → r ≡ Ok x
 told_ok {A = A} p x (Ok y) e = let k : x ≡ y = cc in ap (λ (z : A). Ok z) (sym k)
 told_ok p x (Err f) e = absurd cc
 
@@ -79,10 +80,9 @@ past_word t rest w e = by_words t.words t.stop e
     by_words (v ∷ ws) stop e = let k : (let x : Word × Text = (v, record { words = ws; stop = stop }) in x) ≡ (w, rest) = cc in ap (λ (x : Word × Text). x.1) k
 
 -- where there is none, a line that begins with a word has none
-form_err : (d : Draft) (r : _) (more : _) (t : Text) (f : TextFault) → Fails f (next_at t) → Fails f (line_at d (word r more) t)
+form_err : (d : Draft) (r : _) (more : _) (t : Text) (f : TextFault) → next_at t ≡ Err f → line_at d (word r more) t ≡ Err f
 unfolding line_at word_at
-form_err d r more t f (inl h) = inl h
-form_err d r more t f (inr h) = inr (ap (λ q. (q >>= λ x. placed x.0.place (word_for d r x.0.text) >>= and_rest x.1) >>= λ x. line_at d (more x.0) x.1) h)
+form_err d r more t f h = ap (λ q. (q >>= λ x. placed x.0.place (word_for d r x.0.text) >>= and_rest x.1) >>= λ x. line_at d (more x.0) x.1) h
 
 -- a line that begins with a word goes on as that word says
 form_goes : (d : Draft) (r : _) (more : _) (t rest : Text) (w : Word) → next_at t ≡ Ok (w, rest) → line_at d (word r more) t ≡ (placed w.place (word_for d r w.text) >>= λ x. line_at d (more x) rest)
@@ -92,6 +92,11 @@ form_goes d r more t rest w n = ap (λ q. (q >>= λ x. placed x.0.place (word_fo
     by_it : (q : Result _ TextFault) → ((q >>= and_rest rest) >>= λ x. line_at d (more x.0) x.1) ≡ (q >>= λ x. line_at d (more x) rest)
     by_it (Ok x) = refl
     by_it (Err f) = refl
+
+-- a word's value, by the word
+value_at : (d : Draft) (r : Role) (v : El r) (t rest : Text) (w : Word) → next_at t ≡ Ok (w, rest) → Ok v ≡ placed w.place (word_for d r w.text) → word_at d r t ≡ Ok (v, rest)
+unfolding word_at
+value_at d r v t rest w n e = ap (λ q. q >>= λ x. placed x.0.place (word_for d r x.0.text) >>= and_rest x.1) n ∙ ap (λ q. q >>= and_rest rest) (sym e)
 
 -- which of the two lines of an item it is
 item_is : (d : Draft) (t : Text) (b : Bool) → begins (codes "weight") (past t) ≡ b → line_at d (item_line d) t ≡ (if b then line_at d (weighed_item d) t else line_at d (weightless_item d) t)
@@ -103,24 +108,22 @@ behind_name : (t rest : Text) (w : Word) (b : Bool) → next_at t ≡ Ok (w, res
 behind_name t rest w b n e = ap (begins (codes "weight")) (past_word t rest w n) ∙ sym e
 
 -- a fault of both lines is that of the item's
-both_err : (d : Draft) (t : Text) (f : TextFault) → Fails f (line_at d (weighed_item d) t) → Fails f (line_at d (weightless_item d) t) → Fails f (line_at d (item_line d) t)
-both_err d t f (inl h) y = inl h
-both_err d t f x (inl h) = inl h
-both_err d t f (inr x) (inr y) = inr (by_it (begins (codes "weight") (past t)) refl)
+both_err : (d : Draft) (t : Text) (f : TextFault) → line_at d (weighed_item d) t ≡ Err f → line_at d (weightless_item d) t ≡ Err f → line_at d (item_line d) t ≡ Err f
+both_err d t f x y = by_it (begins (codes "weight") (past t)) refl
   where
     by_it : (b : Bool) → begins (codes "weight") (past t) ≡ b → line_at d (item_line d) t ≡ Err f
     by_it true e = item_is d t true e ∙ x
     by_it false e = item_is d t false e ∙ y
 
 -- THE LINE of an item, behind its first word: no name comes
-pub item_err : (d : Draft) (t : Text) (f : TextFault) → Fails f (next_at t) → Fails f (line_at d (item_line d) t)
-item_err d t f h = both_err d t f (form_err d item _ t f h) (form_err d lone_item _ t f h)
+pub item_err : (d : Draft) (t : Text) (f : TextFault) → next_at t ≡ Err f → FailsIn f d (item_line d) t
+item_err d t f h = inr (both_err d t f (form_err d item _ t f h) (form_err d lone_item _ t f h))
 
 -- a name that is at fault
-pub item_fault : (d : Draft) (t rest : Text) (w : Word) (f : TextFault) → next_at t ≡ Ok (w, rest) → Err f ≡ placed w.place (word_for d item w.text) → Fails f (line_at d (item_line d) t)
-item_fault d t rest w f n e = both_err d t f
-    (inr (form_goes d item (λ j. word (key (codes "weight")) (λ _. item_weight d j)) t rest w n ∙ ap (λ q. q >>= λ i. line_at d (word (key (codes "weight")) (λ _. item_weight d i)) rest) (sym e)))
-    (inr (form_goes d lone_item (λ j. done (at (filling true) (with_item d j None))) t rest w n ∙ ap (λ q. placed w.place q >>= λ i. line_at d (done (at (filling true) (with_item d i None))) rest) (lone_then d w.text)
+pub item_fault : (d : Draft) (t rest : Text) (w : Word) (f : TextFault) → next_at t ≡ Ok (w, rest) → Err f ≡ placed w.place (word_for d item w.text) → FailsIn f d (item_line d) t
+item_fault d t rest w f n e = inr (both_err d t f
+    (form_goes d item (λ j. word (key (codes "weight")) (λ _. item_weight d j)) t rest w n ∙ ap (λ q. q >>= λ i. line_at d (word (key (codes "weight")) (λ _. item_weight d i)) rest) (sym e))
+    (form_goes d lone_item (λ j. done (at (filling true) (with_item d j None))) t rest w n ∙ ap (λ q. placed w.place q >>= λ i. line_at d (done (at (filling true) (with_item d i None))) rest) (lone_then d w.text)
     ∙ ap (λ q. q >>= λ i. line_at d (done (at (filling true) (with_item d i None))) rest) (told_err w.place f (word_for d item w.text) _ e)))
 
 -- `weight` follows the name
@@ -129,53 +132,63 @@ weighed_goes : (d : Draft) (t rest : Text) (w : Word) (i : ItemId) → next_at t
 weighed_goes d t rest w i n b e =
     item_is d t true (behind_name t rest w true n b) ∙ form_goes d item (λ j. word (key (codes "weight")) (λ _. item_weight d j)) t rest w n ∙ ap (λ q. q >>= λ j. line_at d (word (key (codes "weight")) (λ _. item_weight d j)) rest) (sym e)
 
--- and is at fault
-pub weight_key_err : (d : Draft) (t rest : Text) (w : Word) (i : ItemId) (f : TextFault) → next_at t ≡ Ok (w, rest) → true ≡ begins (codes "weight") rest → Ok i ≡ placed w.place (word_for d item w.text)
-    → Fails f (word_at d (key (codes "weight")) rest) → Fails f (line_at d (item_line d) t)
-unfolding line_at
-weight_key_err d t rest w i f n b e (inl h) = inl h
-weight_key_err d t rest w i f n b e (inr h) = inr (weighed_goes d t rest w i n b e ∙ ap (λ q. q >>= λ x. line_at d (item_weight d i) x.1) h)
+-- the words of the weight of an item whose name was read are reached as it is
+reaches_weight : (d : Draft) (t rest : Text) (w : Word) (i : ItemId) (p : ℕ) → next_at t ≡ Ok (w, rest) → true ≡ begins (codes "weight") rest → Ok i ≡ placed w.place (word_for d item w.text)
+    → Reaches p (arrive d (past rest).words (item_weight d i)) (past rest).words → Reaches p (arrive d t.words (item_line d)) t.words
+reaches_weight d t rest w i p n b e h =
+    subst (λ (c : Bool). Reaches p (if c then arrive d t.words (weighed_item d) else arrive d t.words (weightless_item d)) t.words) (sym (behind_name t rest w true n b))
+    (reaches_on d item (λ j. word (key (codes "weight")) (λ _. item_weight d j)) i t rest p (value_at d item i t rest w n e)
+    (reaches_on d (key (codes "weight")) (λ _. item_weight d i) tt rest (past rest) p (key_taken d (codes "weight") rest b) h))
 
--- or isn't
-pub weight_key_goes : (d : Draft) (t rest two : Text) (w : Word) (i : ItemId) → next_at t ≡ Ok (w, rest) → true ≡ begins (codes "weight") rest → Ok i ≡ placed w.place (word_for d item w.text)
-    → word_at d (key (codes "weight")) rest ≡ Ok (tt, two) → line_at d (item_line d) t ≡ line_at d (item_weight d i) two
+-- a weight that was read is the item's
+pub weighed_reads : (d : Draft) (t rest two : Text) (w : Word) (i : ItemId) (r : Result (Unit {0}) TextFault) (b : BuilderData) (u : Text) → next_at t ≡ Ok (w, rest) → true ≡ begins (codes "weight") rest → two ≡ past rest
+    → Ok i ≡ placed w.place (word_for d item w.text) → Reads (filling true) r b u d (item_weight d i) two → Reads (filling true) r b u d (item_line d) t
 unfolding line_at
-weight_key_goes d t rest two w i n b e h = weighed_goes d t rest w i n b e ∙ ap (λ q. q >>= λ x. line_at d (item_weight d i) x.1) h
+weighed_reads d t rest two w i r b u n k is e h = by_it r (subst (λ (x : Text). Reads (filling true) r b u d (item_weight d i) x) is h)
+  where
+    goes : line_at d (item_line d) t ≡ line_at d (item_weight d i) (past rest)
+    goes = weighed_goes d t rest w i n k e ∙ ap (λ q. q >>= λ x. line_at d (item_weight d i) x.1) (key_taken d (codes "weight") rest k)
 
--- what was read of the line behind a part of it was read of the line
-pub reads_so : (m : _) (r : Result (Unit {0}) TextFault) (b : BuilderData) (rest : Text) (all mid : Result (Progress × Text) TextFault) → all ≡ mid → Reads m r b rest mid → Reads m r b rest all
-reads_so m (Ok x) b rest all mid e h = (h.0, h.1, e ∙ h.2)
-reads_so m (Err f) b rest all mid e (inl h) = inl h
-reads_so m (Err f) b rest all mid e (inr h) = inr (e ∙ h)
+    by_it : (q : Result (Unit {0}) TextFault) → Reads (filling true) q b u d (item_weight d i) (past rest) → Reads (filling true) q b u d (item_line d) t
+    by_it (Ok x) h = (h.0, h.1, goes ∙ h.2)
+    by_it (Err f) (inl h) = inl (h.0, reaches_weight d t rest w i f.place n k e h.1)
+    by_it (Err f) (inr h) = inr (goes ∙ h)
 
 -- an item that was put into the bucket ends its line
-added : (d : Draft) (i : ItemId) (w : Option ℕ) (p : ℕ) (rest : Text) (r : Result (Unit {0}) TextFault) (b : BuilderData) → Adds r b (with_item d i w) (placed p (unless_heavy (with_item d i w)))
-    → Reads (filling true) r b rest (placed p (unless_heavy (with_item d i w)) >>= λ e. Ok (at (filling true) e, rest))
-added d i w p rest (Ok x) b h = (with_item d i w, h.0, ap (λ q. q >>= λ e. Ok (at (filling true) e, rest)) h.1)
-added d i w p rest (Err f) b (inl h) = inl h
-added d i w p rest (Err f) b (inr h) = inr (ap (λ q. q >>= λ e. Ok (at (filling true) e, rest)) h)
+added : (d : Draft) (i : ItemId) (w : Option ℕ) (p : ℕ) (rest : Text) (r : Result (Unit {0}) TextFault) (b : BuilderData) (g : Form) (t : Text) → line_at d g t ≡ (placed p (unless_heavy (with_item d i w)) >>= λ e. Ok (at (filling true) e, rest))
+    → (is_too_heavy (with_item d i w).table ≡ false → Reaches p (arrive d t.words g) t.words) → Adds r b (with_item d i w) p (unless_heavy (with_item d i w)) → Reads (filling true) r b rest d g t
+added d i w p rest (Ok x) b g t e reached h = (with_item d i w, h.0, e ∙ ap (λ q. placed p q >>= λ y. Ok (at (filling true) y, rest)) h.1)
+added d i w p rest (Err f) b g t e reached (inl h) = inl (h.0, subst (λ (q : ℕ). Reaches q (arrive d t.words g) t.words) (sym h.1) (reached h.2))
+added d i w p rest (Err f) b g t e reached (inr h) = inr (e ∙ ap (λ q. q >>= λ y. Ok (at (filling true) y, rest)) h)
 
 -- an item without a weight
-pub lone_reads : (d : Draft) (t rest : Text) (w : Word) (i : ItemId) (r : Result (Unit {0}) TextFault) (b : BuilderData) → next_at t ≡ Ok (w, rest) → false ≡ begins (codes "weight") rest → Ok i ≡ placed w.place (word_for d item w.text)
-    → Adds r b (with_item d i None) (placed w.place (unless_heavy (with_item d i None))) → Reads (filling true) r b rest (line_at d (item_line d) t)
+pub lone_reads : (d : Draft) (t rest two : Text) (w : Word) (i : ItemId) (r : Result (Unit {0}) TextFault) (b : BuilderData) → next_at t ≡ Ok (w, rest) → false ≡ begins (codes "weight") rest → two ≡ rest → Ok i ≡ placed w.place (word_for d item w.text)
+    → Adds r b (with_item d i None) w.place (unless_heavy (with_item d i None)) → Reads (filling true) r b two d (item_line d) t
 unfolding line_at
-lone_reads d t rest w i r b n none e h =
-    reads_so (filling true) r b rest (line_at d (item_line d) t) _
+lone_reads d t rest two w i r b n none same e h = subst (λ (u : Text). Reads (filling true) r b u d (item_line d) t) (sym same) (
+    added d i None w.place rest r b (item_line d) t
     (item_is d t false (behind_name t rest w false n none) ∙ form_goes d lone_item (λ j. done (at (filling true) (with_item d j None))) t rest w n
     ∙ ap (λ q. placed w.place q >>= λ j. line_at d (done (at (filling true) (with_item d j None))) rest) (lone_then d w.text ∙ ap (without_weight d) (told_ok w.place i (word_for d item w.text) e))
     ∙ by_it (is_too_heavy (with_item d i None).table))
-    (added d i None w.place rest r b h)
+    reached h)
   where
     by_it : (c : Bool) → (placed w.place (if c then Err SumTooLarge else Ok i) >>= λ j. line_at d (done (at (filling true) (with_item d j None))) rest) ≡ (placed w.place (if c then Err SumTooLarge else Ok (with_item d i None)) >>= λ e. Ok (at (filling true) e, rest))
     by_it true = refl
     by_it false = refl
 
+    reached : is_too_heavy (with_item d i None).table ≡ false → Reaches w.place (arrive d t.words (item_line d)) t.words
+    reached light =
+        let told : Ok i ≡ placed w.place (word_for d lone_item w.text) =
+        ap (λ c. placed w.place (if c then Err SumTooLarge else Ok i)) (sym light) ∙ ap (λ q. placed w.place q) (sym (lone_then d w.text ∙ ap (without_weight d) (told_ok w.place i (word_for d item w.text) e))) in
+        subst (λ (c : Bool). Reaches w.place (if c then arrive d t.words (weighed_item d) else arrive d t.words (weightless_item d)) t.words) (sym (behind_name t rest w false n none))
+        (reaches_word d lone_item (λ j. done (at (filling true) (with_item d j None))) i t rest rest w.place (value_at d lone_item i t rest w n told) (w.text, n))
+
 -- THE WEIGHT of an item: none comes
-pub weight_err : (d : Draft) (i : ItemId) (t : Text) (f : TextFault) → Fails f (next_at t) → Fails f (line_at d (item_weight d i) t)
-weight_err d i t f h = form_err d (weight i) _ t f h
+pub weight_err : (d : Draft) (i : ItemId) (t : Text) (f : TextFault) → next_at t ≡ Err f → FailsIn f d (item_weight d i) t
+weight_err d i t f h = inr (form_err d (weight i) _ t f h)
 
 -- one that is at fault
-pub weight_fault : (d : Draft) (i : ItemId) (t rest : Text) (w : Word) (f : TextFault) → next_at t ≡ Ok (w, rest) → Err f ≡ placed w.place (own_weight d i w.text) → Fails f (line_at d (item_weight d i) t)
+pub weight_fault : (d : Draft) (i : ItemId) (t rest : Text) (w : Word) (f : TextFault) → next_at t ≡ Ok (w, rest) → Err f ≡ placed w.place (own_weight d i w.text) → FailsIn f d (item_weight d i) t
 weight_fault d i t rest w f n e = inr (
     form_goes d (weight i) (λ x. done (at (filling true) (with_item d i (Some x)))) t rest w n ∙ ap (λ q. placed w.place q >>= λ x. line_at d (done (at (filling true) (with_item d i (Some x)))) rest) (own_then d i w.text)
     ∙ ap (λ q. q >>= λ x. line_at d (done (at (filling true) (with_item d i (Some x)))) rest) (told_err w.place f (own_weight d i w.text) _ e)
@@ -183,20 +196,31 @@ weight_fault d i t rest w f n e = inr (
 
 -- one with which the item is put into the bucket
 pub weight_reads : (d : Draft) (i : ItemId) (t rest : Text) (w : Word) (x : ℕ) (r : Result (Unit {0}) TextFault) (b : BuilderData) → next_at t ≡ Ok (w, rest) → Ok x ≡ placed w.place (own_weight d i w.text)
-    → Adds r b (with_item d i (Some x)) (placed w.place (unless_heavy (with_item d i (Some x)))) → Reads (filling true) r b rest (line_at d (item_weight d i) t)
+    → Adds r b (with_item d i (Some x)) w.place (unless_heavy (with_item d i (Some x))) → Reads (filling true) r b rest d (item_weight d i) t
 unfolding line_at
 weight_reads d i t rest w x r b n e h =
-    reads_so (filling true) r b rest (line_at d (item_weight d i) t) _
+    added d i (Some x) w.place rest r b (item_weight d i) t
     (form_goes d (weight i) (λ x. done (at (filling true) (with_item d i (Some x)))) t rest w n
     ∙ ap (λ q. placed w.place q >>= λ y. line_at d (done (at (filling true) (with_item d i (Some y)))) rest) (own_then d i w.text ∙ ap (with_weight d i) (told_ok w.place x (own_weight d i w.text) e))
     ∙ by_it (is_too_heavy (with_item d i (Some x)).table))
-    (added d i (Some x) w.place rest r b h)
+    reached h
   where
     by_it : (c : Bool) → (placed w.place (if c then Err SumTooLarge else Ok x) >>= λ y. line_at d (done (at (filling true) (with_item d i (Some y)))) rest) ≡ (placed w.place (if c then Err SumTooLarge else Ok (with_item d i (Some x))) >>= λ e. Ok (at (filling true) e, rest))
     by_it true = refl
     by_it false = refl
 
+    reached : is_too_heavy (with_item d i (Some x)).table ≡ false → Reaches w.place (arrive d t.words (item_weight d i)) t.words
+    reached light =
+        let told : Ok x ≡ placed w.place (word_for d (weight i) w.text) =
+        ap (λ c. placed w.place (if c then Err SumTooLarge else Ok x)) (sym light) ∙ ap (λ q. placed w.place q) (sym (own_then d i w.text ∙ ap (with_weight d i) (told_ok w.place x (own_weight d i w.text) e))) in
+        reaches_word d (weight i) (λ y. done (at (filling true) (with_item d i (Some y)))) x t rest rest w.place (value_at d (weight i) x t rest w n told) (w.text, n)
+
 -- a line of the items by its first word
 pub item_or_end_goes : (d : Draft) (any more : Bool) (t rest : Text) → word_at d (item_or_end any) t ≡ Ok (more, rest) → line_at d (lines d (filling any)) t ≡ line_at d (item_or_brace d more) rest
 unfolding line_at
 item_or_end_goes d any more t rest is = ap (λ q. q >>= λ x. line_at d (item_or_brace d x.0) x.1) is
+
+-- and a fault behind that word
+pub item_or_end_fails : (f : TextFault) (d : Draft) (any more : Bool) (t rest : Text) → word_at d (item_or_end any) t ≡ Ok (more, rest) → FailsIn f d (item_or_brace d more) rest → FailsIn f d (lines d (filling any)) t
+item_or_end_fails f d any more t rest is (inl h) = inl (h.0, reaches_on d (item_or_end any) (item_or_brace d) more t rest f.place is h.1)
+item_or_end_fails f d any more t rest is (inr h) = inr (item_or_end_goes d any more t rest is ∙ h)

@@ -1,5 +1,5 @@
 -- Word by word: what comes of each, and of them all.
-use Rattle.std.specs.Prelude.{ℕ, Bool, true, false, List, [], ◌∷◌, drop, Result, Ok, Err, if◌then◌else◌}
+use Rattle.std.specs.Prelude.{◌≡◌, ◌⊎◌, ℕ, Bool, true, false, List, [], ◌∷◌, drop, Result, Ok, Err, if◌then◌else◌}
 use Rattle.crush_map.specs.Built.{Draft}
 use Rattle.crush_bytes.specs.Words.{Word, Stop, ended, bad, Text, begins_with_key}
 use Rattle.crush_text.specs.declared.fault.TextFaultKind.{TextFaultKind}
@@ -71,3 +71,8 @@ run s (w ∷ ws) stop = placed w.place (step s w.text ws) >>= λ m. run m ws sto
 -- what comes of the rest of a text
 unfoldable pub outcome : State → Text → Result Draft TextFault
 outcome s t = run s t.words t.stop
+
+-- words without a fault lead up to the one at this place, which has none either
+abbrev pub Reaches : ℕ → State → List Word → Type 0
+Reaches place s [] = ⊥
+Reaches place s (w ∷ ws) = (m : State) × (step s w.text ws ≡ Ok m) × ((place ≡ w.place) ⊎ Reaches place m ws)

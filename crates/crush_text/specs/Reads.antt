@@ -10,7 +10,7 @@ use Rattle.crush_map.specs.Built.{Draft, Pending, nothing, add_rule}
 use Rattle.crush_map.specs.Building.{BuilderData, IsDraft, is_numbered, is_filling}
 use Rattle.crush_map.specs.Rules.{kept_step}
 use Rattle.crush_text.specs.declared.fault.TextFaultKind.{TextFaultKind}
-use Rattle.crush_text.specs.declared.fault.TextFaultKind.TheVariants.{BadWord, Ended, SumTooLarge, OutOfMemory}
+use Rattle.crush_text.specs.declared.fault.TextFaultKind.TheVariants.{BadWord, Ended, SumTooLarge}
 use Rattle.crush_text.specs.declared.fault.TextFault.{TextFault}
 use Rattle.crush_bytes.specs.Words.{Word, Stop, ended, bad, Text, begins, past}
 use Rattle.crush_text.specs.declared.reader.word.PlacedWord.{PlacedWord}
@@ -23,7 +23,8 @@ use Rattle.crush_text.specs.Role.{Role, El, units, key, number, StepWord, takes,
 use Rattle.crush_text.specs.Form.{Mode, first, second, numbered, filling, ruled, Progress, at, Form, done, word, optional, ahead}
 use Rattle.crush_text.specs.Tests.{unless, weight_tests, word_for}
 use Rattle.crush_text.specs.Grammar.{with_step}
-use Rattle.crush_text.specs.Flow.{◌>>=◌, placed, between, outcome}
+use Rattle.crush_text.specs.Flow.{State, ◌>>=◌, placed, between, arrive, outcome, Reaches}
+use Rattle.crush_text.specs.Flaw.{IsWant}
 
 -- a value, and the rest of the text
 abbrev pub and_rest : {A : Type 0} → Text → A → Result (A × Text) TextFault
@@ -77,30 +78,48 @@ first_of_step (steps.Choose leaf) = chooses leaf
 first_of_step (steps.Set w) = sets w.text.now
 first_of_step steps.Emit = emits
 
--- and it has the form of what it sets
-abbrev pub IsFirstOfStep : FirstOfStep → Type 0
-IsFirstOfStep steps.Take = Unit {0}
-IsFirstOfStep (steps.Choose leaf) = Unit {0}
-IsFirstOfStep (steps.Set w) = IsName w.text.now × (starts_with nat_eq w.text.now (codes "set_") ≡ true)
-IsFirstOfStep steps.Emit = Unit {0}
-
 -- a rule with one more step, as a map keeps it
 abbrev pub behind_step : Draft → RuleData → Step → Progress
 behind_step d r s = at (ruled (with_step r (kept_step d s))) d
 
--- a fault is that of reading, unless memory was refused
-abbrev pub Fails : {Y : Type 0} → TextFault → Result Y TextFault → Type 0
-Fails f read = (f.kind ≡ OutOfMemory) ⊎ (read ≡ Err f)
-
 -- what a function returned is what reading gives
 abbrev pub Gives : {X Y : Type 0} → (X → Y) → Result X TextFault → Result Y TextFault → Type 0
 Gives view (Ok x) read = read ≡ Ok (view x)
-Gives view (Err f) read = Fails f read
+Gives view (Err f) read = read ≡ Err f
 
 -- or the rest of a line is what reading gives
 abbrev pub GivesOn : {X Y : Type 0} → (X → Result Y TextFault) → Result X TextFault → Result Y TextFault → Type 0
 GivesOn go (Ok x) read = read ≡ go x
-GivesOn go (Err f) read = Fails f read
+GivesOn go (Err f) read = read ≡ Err f
+
+-- the word that was read stood here
+abbrev pub StoodAt : Text → Text → ℕ → Type 0
+StoodAt old new place = (text : List ℕ) × (next_at old ≡ Ok (record { place = place; text = text }, new))
+
+-- the first word of a step has the form of what it sets, and its place
+abbrev pub IsFirstOfStep : Text → Text → FirstOfStep → Type 0
+IsFirstOfStep old new steps.Take = Unit {0}
+IsFirstOfStep old new (steps.Choose leaf) = Unit {0}
+IsFirstOfStep old new (steps.Set w) = IsName w.text.now × (starts_with nat_eq w.text.now (codes "set_") ≡ true) × StoodAt old new w.place
+IsFirstOfStep old new steps.Emit = Unit {0}
+
+-- words lead on: what comes of the rest is what comes of all, and a place that is reached from there is reached
+pub record Leads (s : State) (old : Text) (m : State) (new : Text) : Type 0 where
+  pub same : outcome s old ≡ outcome m new
+  pub reaches : (place : ℕ) → Reaches place m new.words → Reaches place s old.words
+
+-- a fault is that of reading, or memory was refused at a word that has none
+abbrev pub Fails : TextFault → State → Text → Type 0
+Fails f s t = (IsWant f × Reaches f.place s t.words) ⊎ (outcome s t ≡ Err f)
+
+-- the same of a line
+abbrev pub FailsIn : TextFault → Draft → Form → Text → Type 0
+FailsIn f d g t = (IsWant f × Reaches f.place (arrive d t.words g) t.words) ⊎ (line_at d g t ≡ Err f)
+
+-- what a function returned is what the line gives
+abbrev pub GivesLine : {X : Type 0} → (X → Progress × Text) → Result X TextFault → Draft → Form → Text → Type 0
+GivesLine view (Ok x) d g t = line_at d g t ≡ Ok (view x)
+GivesLine view (Err f) d g t = FailsIn f d g t
 
 -- a word that was read
 abbrev pub word_of : PlacedWord → Word
@@ -117,14 +136,14 @@ pub record IsAmid (test : Pending → Bool) (b : BuilderData) : Type 0 where
   pub some : (d : Draft) × IsDraft b d
 
 -- a line was read, behind which lines of this kind may come
-abbrev pub Reads : Mode → Result (Unit {0}) TextFault → BuilderData → Text → Result (Progress × Text) TextFault → Type 0
-Reads m (Ok x) builder rest line = (e : Draft) × IsDraft builder e × (line ≡ Ok (at m e, rest))
-Reads m (Err f) builder rest line = Fails f line
+abbrev pub Reads : Mode → Result (Unit {0}) TextFault → BuilderData → Text → Draft → Form → Text → Type 0
+Reads m (Ok x) builder rest d g t = (e : Draft) × IsDraft builder e × (line_at d g t ≡ Ok (at m e, rest))
+Reads m (Err f) builder rest d g t = FailsIn f d g t
 
 -- behind which lines of one kind or another may come, by what it was
-abbrev pub ReadsLine : (Bool → Mode) → Result Bool TextFault → BuilderData → Text → Result (Progress × Text) TextFault → Type 0
-ReadsLine mode (Ok more) builder rest line = (e : Draft) × IsDraft builder e × (line ≡ Ok (at (mode more) e, rest))
-ReadsLine mode (Err f) builder rest line = Fails f line
+abbrev pub ReadsLine : (Bool → Mode) → Result Bool TextFault → BuilderData → Text → Draft → Form → Text → Type 0
+ReadsLine mode (Ok more) builder rest d g t = (e : Draft) × IsDraft builder e × (line_at d g t ≡ Ok (at (mode more) e, rest))
+ReadsLine mode (Err f) builder rest d g t = FailsIn f d g t
 
 -- a class id was read, or the algorithm
 abbrev pub behind_id : Bool → Mode
@@ -144,45 +163,45 @@ abbrev pub IsBehindItem : Bool → BuilderData → Type 0
 IsBehindItem true b = IsAmid is_filling b
 IsBehindItem false b = IsIdle b
 
--- an item is added, and the map is what was to come of it
-abbrev pub Adds : Result (Unit {0}) TextFault → BuilderData → Draft → Result Draft TextFault → Type 0
-Adds (Ok x) builder e read = IsDraft builder e × (read ≡ Ok e)
-Adds (Err f) builder e read = Fails f read
+-- an item is added by a line that ends with the word at this place, and the map is what was to come of it
+abbrev pub Adds : Result (Unit {0}) TextFault → BuilderData → Draft → ℕ → Result Draft TextFaultKind → Type 0
+Adds (Ok x) builder e place read = IsDraft builder e × (read ≡ Ok e)
+Adds (Err f) builder e place read = (IsWant f × (f.place ≡ place) × (is_too_heavy e.table ≡ false)) ⊎ (placed place read ≡ Err f)
 
--- lines were read: what comes of the rest is what came of all
-abbrev pub ReadsOn : Mode → Result (Unit {0}) TextFault → BuilderData → Text → Result Draft TextFault → Type 0
-ReadsOn m (Ok x) builder rest all = (e : Draft) × IsDraft builder e × (all ≡ outcome (between (at m e)) rest)
-ReadsOn m (Err f) builder rest all = Fails f all
+-- lines were read, behind which lines of this kind may come
+abbrev pub ReadsOn : Mode → Result (Unit {0}) TextFault → BuilderData → Text → State → Text → Type 0
+ReadsOn m (Ok x) builder rest s t = (e : Draft) × IsDraft builder e × Leads s t (between (at m e)) rest
+ReadsOn m (Err f) builder rest s t = Fails f s t
 
--- a step of a rule was read, with which it is this one, or its brace
-abbrev pub ReadsStep : Result (Option ℕ) TextFault → Draft → RuleData → Text → Result (Progress × Text) TextFault → Type 0
-ReadsStep (Ok None) d r rest line = line ≡ Ok (at (ruled r) d, rest)
-ReadsStep (Ok (Some place)) d r rest line = line ≡ Ok (at second (add_rule d r), rest)
-ReadsStep (Err f) d r rest line = Fails f line
+-- a step of a rule was read, with which it is this one, or its brace at a place
+abbrev pub ReadsStep : Result (Option ℕ) TextFault → Draft → RuleData → Text → Form → Text → Type 0
+ReadsStep (Ok None) d r rest g t = line_at d g t ≡ Ok (at (ruled r) d, rest)
+ReadsStep (Ok (Some place)) d r rest g t = (line_at d g t ≡ Ok (at second (add_rule d r), rest)) × Reaches place (arrive d t.words g) t.words
+ReadsStep (Err f) d r rest g t = FailsIn f d g t
 
--- all steps of a rule were read, with which it is this one, and its brace
-abbrev pub ReadsSteps : Result ℕ TextFault → Draft → RuleData → Text → Result Draft TextFault → Type 0
-ReadsSteps (Ok place) d r rest all = all ≡ outcome (between (at second (add_rule d r))) rest
-ReadsSteps (Err f) d r rest all = Fails f all
+-- all steps of a rule were read, with which it is this one, and its brace at a place
+abbrev pub ReadsSteps : Result ℕ TextFault → Draft → RuleData → Text → State → Text → Type 0
+ReadsSteps (Ok place) d r rest s t = Leads s t (between (at second (add_rule d r))) rest × Reaches place s t.words
+ReadsSteps (Err f) d r rest s t = Fails f s t
 
 -- a statement was read, behind which only buckets and rules may come, or all may
 abbrev pub behind : Bool → Mode
 behind late = if late then second else first
 
-abbrev pub ReadsTo : Result Bool TextFault → BuilderData → Text → Result Draft TextFault → Type 0
-ReadsTo (Ok late) builder rest all = (e : Draft) × IsDraft builder e × (all ≡ outcome (between (at (behind late) e)) rest)
-ReadsTo (Err f) builder rest all = Fails f all
+abbrev pub ReadsTo : Result Bool TextFault → BuilderData → Text → State → Text → Type 0
+ReadsTo (Ok late) builder rest s t = (e : Draft) × IsDraft builder e × Leads s t (between (at (behind late) e)) rest
+ReadsTo (Err f) builder rest s t = Fails f s t
 
 -- or the text is whole
-abbrev pub ReadsNext : Result (Option Bool) TextFault → BuilderData → Text → Result Draft TextFault → Type 0
-ReadsNext (Ok None) builder rest all = (e : Draft) × IsDraft builder e × (all ≡ Ok e)
-ReadsNext (Ok (Some late)) builder rest all = (e : Draft) × IsDraft builder e × (all ≡ outcome (between (at (behind late) e)) rest)
-ReadsNext (Err f) builder rest all = Fails f all
+abbrev pub ReadsNext : Result (Option Bool) TextFault → BuilderData → Text → State → Text → Type 0
+ReadsNext (Ok None) builder rest s t = (e : Draft) × IsDraft builder e × (outcome s t ≡ Ok e)
+ReadsNext (Ok (Some late)) builder rest s t = (e : Draft) × IsDraft builder e × Leads s t (between (at (behind late) e)) rest
+ReadsNext (Err f) builder rest s t = Fails f s t
 
 -- statements were read to the end of the text
-abbrev pub ReadsAll : Result (Unit {0}) TextFault → BuilderData → Result Draft TextFault → Type 0
-ReadsAll (Ok x) builder all = (e : Draft) × IsDraft builder e × (all ≡ Ok e)
-ReadsAll (Err f) builder all = Fails f all
+abbrev pub ReadsAll : Result (Unit {0}) TextFault → BuilderData → State → Text → Type 0
+ReadsAll (Ok x) builder s t = (e : Draft) × IsDraft builder e × (outcome s t ≡ Ok e)
+ReadsAll (Err f) builder s t = Fails f s t
 
 -- a first word that opens a bucket is the name of its type
 abbrev pub IsKnown : Draft → Opening → List ℕ → Type 0

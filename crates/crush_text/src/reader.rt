@@ -9,6 +9,7 @@ ghost use Rattle.crush_map.specs.Built.{Draft};
 ghost use Rattle.crush_map.specs.Building.{IsDraft};
 ghost use Rattle.crush_text.specs.Document.{IsMapText};
 ghost use Rattle.crush_text.specs.Flaw.{IsWant, IsFlawOrWant};
+ghost use Rattle.crush_text.specs.Want.{IsToldInTime};
 
 mod bucket;
 mod device;
@@ -49,6 +50,9 @@ pub fn read_map(alloc: Global, text: &[u8]) -> Result<(CrushMap<Global>, u32), T
 
     // Where none is read the text has a flaw, which is told.
     ensures flaw { IfErr result (IsFlawOrWant text.now) }
+
+    // Want of memory is told at a word that is right, as all before it, or at 0 before the first.
+    ensures want { IfErr result (IsToldInTime text.now) }
 {
     read_map_in(alloc, alloc, text)
 }
@@ -74,6 +78,9 @@ pub fn read_map_in<A: Allocator + Clone>(
 
     // Where none is read the text has a flaw, which is told.
     ensures flaw { IfErr result (IsFlawOrWant text.now) }
+
+    // Want of memory is told at a word that is right, as all before it, or at 0 before the first.
+    ensures want { IfErr result (IsToldInTime text.now) }
 {
     let mut reader = Reader::new(text);
     let Ok(mut builder) = MapBuilder::new(machine, alloc) else {

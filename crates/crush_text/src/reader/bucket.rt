@@ -1,6 +1,6 @@
 //! The first lines of a bucket.
 
-ghost use Rattle.std.specs.Prelude.{◌≡◌, ◌≤◌, ◌<◌, length, true, false, IfOk, OnOk, Some, None, drop, if◌then◌else◌, ℕ};
+ghost use Rattle.std.specs.Prelude.{◌≡◌, ◌≤◌, ◌<◌, length, true, false, IfOk, OnOk, Some, None, drop, if◌then◌else◌, ℕ, Ok};
 ghost use Rattle.std.specs.Str.Parse.{digits_value};
 ghost use Rattle.crush_units.specs.Name.{IsName};
 ghost use Rattle.crush_edits.specs.Setting.{kind_number};
@@ -10,10 +10,10 @@ ghost use Rattle.crush_text.specs.Forms.{is_negative};
 ghost use Rattle.crush_text.specs.Role.{bucket_id, id_or_alg, id_class, algorithm};
 ghost use Rattle.crush_text.specs.Form.{second, begun, numbered, filling, at};
 ghost use Rattle.crush_text.specs.Grammar.{bucket_line, id_line, class_id_line, alg_line, lines};
-ghost use Rattle.crush_text.specs.Flow.{between, outcome};
+ghost use Rattle.crush_text.specs.Flow.{between, arrive};
 ghost use Rattle.crush_text.specs.declared.opening.Opening.TheVariants.{Bucket};
 ghost use Rattle.crush_text.specs.Room.{HasRoom};
-ghost use Rattle.crush_text.specs.Reads.{IsIdle, IsAmid, IsBehindId, behind_id, Gives, Reads, ReadsLine, ReadsOn, then_on, word_at, line_at};
+ghost use Rattle.crush_text.specs.Reads.{IsIdle, IsAmid, IsBehindId, behind_id, Gives, Reads, ReadsLine, ReadsOn, StoodAt, word_at, next_at, word_of};
 
 use crate::fault::{TextFault, TextFaultKind};
 use crate::reader::items::read_items;
@@ -39,7 +39,7 @@ pub(crate) fn read_bucket<A: Allocator + Clone>(
     ensures reads { (d : Draft) (k : ℕ) → IsDraft builder.old d
         → kind_number d.setting kind.now ≡ Some k
         → ReadsOn second result builder.new reader.new
-        (then_on (line_at d (bucket_line d k) reader.old)) }
+        (arrive d reader.old.words (bucket_line d k)) reader.old }
     ensures shorter { OnOk result (length reader.new.words ≤ length reader.old.words) }
 {
     read_name(reader, builder, kind)?;
@@ -61,7 +61,7 @@ fn read_name<A: Allocator + Clone>(
     ensures begun { OnOk result (IsAmid is_begun builder.new) }
     ensures reads { (d : Draft) (k : ℕ) → IsDraft builder.old d
         → kind_number d.setting kind.now ≡ Some k
-        → Reads begun result builder.new reader.new (line_at d (bucket_line d k) reader.old) }
+        → Reads begun result builder.new reader.new d (bucket_line d k) reader.old }
     ensures shorter { OnOk result (length reader.new.words ≤ length reader.old.words) }
 {
     let name = read_new_name(reader, builder)?;
@@ -80,7 +80,7 @@ fn read_id<A: Allocator>(
     requires begun { IsAmid is_begun builder.old }
     ensures numbered { OnOk result (IsAmid is_numbered builder.new) }
     ensures reads { (d : Draft) → IsDraft builder.old d
-        → Reads numbered result builder.new reader.new (line_at d (id_line d) reader.old) }
+        → Reads numbered result builder.new reader.new d (id_line d) reader.old }
     ensures shorter { OnOk result (length reader.new.words ≤ length reader.old.words) }
 {
     read_key(reader, b"{")?;
@@ -101,7 +101,7 @@ fn read_class_ids<A: Allocator + Clone>(
     ensures filling { OnOk result (IsAmid is_filling builder.new) }
     ensures reads { (d : Draft) → IsDraft builder.old d
         → ReadsOn (filling false) result builder.new reader.new
-        (outcome (between (at numbered d)) reader.old) }
+        (between (at numbered d)) reader.old }
     ensures shorter { OnOk result (length reader.new.words ≤ length reader.old.words) }
 {
     'ids: loop {
@@ -121,8 +121,7 @@ fn read_id_line<A: Allocator + Clone>(
     requires numbered { IsAmid is_numbered builder.old }
     ensures after { IfOk result (λ more. IsBehindId more builder.new) }
     ensures reads { (d : Draft) → IsDraft builder.old d
-        → ReadsLine behind_id result builder.new reader.new
-        (line_at d (lines d numbered) reader.old) }
+        → ReadsLine behind_id result builder.new reader.new d (lines d numbered) reader.old }
     ensures shorter { OnOk result (length reader.new.words < length reader.old.words) }
 {
     let more = read_id_or_alg(reader, builder)?;
@@ -144,7 +143,7 @@ fn read_class_id<A: Allocator + Clone>(
     requires room { (d : Draft) → IsDraft builder.old d → is_full_of_class_ids d ≡ false }
     ensures numbered { OnOk result (IsAmid is_numbered builder.new) }
     ensures reads { (d : Draft) → IsDraft builder.old d
-        → Reads numbered result builder.new reader.new (line_at d (class_id_line d) reader.old) }
+        → Reads numbered result builder.new reader.new d (class_id_line d) reader.old }
     ensures shorter { OnOk result (length reader.new.words ≤ length reader.old.words) }
 {
     let id = read_bucket_id(reader, builder)?;
@@ -165,12 +164,11 @@ fn read_alg<A: Allocator + Clone>(
     requires numbered { IsAmid is_numbered builder.old }
     ensures filling { OnOk result (IsAmid is_filling builder.new) }
     ensures reads { (d : Draft) → IsDraft builder.old d
-        → Reads (filling false) result builder.new reader.new (line_at d (alg_line d) reader.old) }
+        → Reads (filling false) result builder.new reader.new d (alg_line d) reader.old }
     ensures shorter { OnOk result (length reader.new.words ≤ length reader.old.words) }
 {
     let (alg, place) = read_algorithm(reader)?;
-    if reader.is_next(b"hash") {
-        read_key(reader, b"hash")?;
+    if reader.take_key(b"hash") {
         read_number(reader, 0)?;
     }
     let Ok(()) = builder.alg(alg) else {
@@ -248,6 +246,7 @@ fn read_id_class<'a, A: Allocator>(
 ) -> Result<PlacedWord<'a>, TextFault>
     ensures gives { (d : Draft) → IsDraft builder.now d
         → Gives (λ x. (x.text.now, reader.new)) result (word_at d id_class reader.old) }
+    ensures next { IfOk result (λ x. next_at reader.old ≡ Ok (word_of x, reader.new)) }
     ensures named { IfOk result (λ x. IsName x.text.now) }
     ensures free { IfOk result (λ x. (d : Draft) → IsDraft builder.now d
         → has_class d x.text.now ≡ false) }
@@ -265,6 +264,7 @@ fn read_id_class<'a, A: Allocator>(
 fn read_algorithm(reader: &mut Reader<'_>) -> Result<(Alg, usize), TextFault>
     ensures gives { (d : Draft)
         → Gives (λ x. (x.0, reader.new)) result (word_at d algorithm reader.old) }
+    ensures stood { IfOk result (λ x. StoodAt reader.old reader.new x.1) }
     ensures shorter { OnOk result (length reader.new.words < length reader.old.words) }
 {
     let word = read_word(reader)?;

@@ -8,10 +8,10 @@ ghost use Rattle.crush_units.specs.declared.id.ItemId.TheVariants.{Device};
 ghost use Rattle.crush_text.specs.Role.{device_id};
 ghost use Rattle.crush_text.specs.Form.{first};
 ghost use Rattle.crush_text.specs.Grammar.{device_line};
-ghost use Rattle.crush_text.specs.Reads.{IsIdle, Gives, Reads, word_at, line_at};
+ghost use Rattle.crush_text.specs.Reads.{IsIdle, Gives, Reads, word_at};
 
 use crate::fault::{TextFault, TextFaultKind};
-use crate::reader::roles::{read_key, read_new_name, read_word};
+use crate::reader::roles::{read_new_name, read_word};
 use crush_bytes::Reader;
 use crush_bytes::number::number_up_to;
 use crush_map::MapBuilder;
@@ -29,13 +29,12 @@ pub(crate) fn read_device<A: Allocator + Clone>(
     requires room { (d : Draft) → IsDraft builder.old d → is_full_of_devices d ≡ false }
     ensures idle { OnOk result (IsIdle builder.new) }
     ensures reads { (d : Draft) → IsDraft builder.old d
-        → Reads first result builder.new reader.new (line_at d (device_line d) reader.old) }
+        → Reads first result builder.new reader.new d (device_line d) reader.old }
     ensures shorter { OnOk result (length reader.new.words ≤ length reader.old.words) }
 {
     let id = read_device_id(reader, builder)?;
     let name = read_new_name(reader, builder)?;
-    if reader.is_next(b"class") {
-        read_key(reader, b"class")?;
+    if reader.take_key(b"class") {
         let class = read_word(reader)?;
         return match builder.device_unchecked(id, name.text, Some(class.text)) {
             Ok(()) => Ok(()),

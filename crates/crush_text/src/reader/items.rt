@@ -7,13 +7,12 @@ ghost use Rattle.crush_map.specs.Faults.{is_closed, is_heavy_device};
 ghost use Rattle.crush_text.specs.Role.{item_or_end, item};
 ghost use Rattle.crush_text.specs.Form.{second, filling, at};
 ghost use Rattle.crush_text.specs.Grammar.{item_line, item_weight, lines};
-ghost use Rattle.crush_text.specs.Flow.{between, outcome, placed};
+ghost use Rattle.crush_text.specs.Flow.{between, placed};
 ghost use Rattle.crush_text.specs.Tests.{word_for};
 ghost use Rattle.crush_text.specs.Room.{IsFreeItem};
-ghost use Rattle.crush_text.specs.Reads.{IsIdle, IsAmid, IsBehindItem, behind_item, Gives, Reads, ReadsLine, ReadsOn, Adds, own_weight, unless_heavy, word_at, line_at};
+ghost use Rattle.crush_text.specs.Reads.{IsIdle, IsAmid, IsBehindItem, behind_item, Gives, Reads, ReadsLine, ReadsOn, Adds, own_weight, unless_heavy, word_at};
 
 use crate::fault::{TextFault, TextFaultKind};
-use crate::reader::roles::read_key;
 use crate::reader::word::{PlacedWord, next_word};
 use crush_bytes::Reader;
 use crush_map::{BuildFault, MapBuilder};
@@ -29,7 +28,7 @@ pub(crate) fn read_items<A: Allocator>(
     ensures idle { OnOk result (IsIdle builder.new) }
     ensures reads { (d : Draft) → IsDraft builder.old d
         → ReadsOn second result builder.new reader.new
-        (outcome (between (at (filling false) d)) reader.old) }
+        (between (at (filling false) d)) reader.old }
     ensures shorter { OnOk result (length reader.new.words ≤ length reader.old.words) }
 {
     let mut any = false;
@@ -53,7 +52,7 @@ fn read_item_line<A: Allocator>(
     ensures after { IfOk result (λ more. IsBehindItem more builder.new) }
     ensures reads { (d : Draft) → IsDraft builder.old d
         → ReadsLine behind_item result builder.new reader.new
-        (line_at d (lines d (filling any)) reader.old) }
+        d (lines d (filling any)) reader.old }
     ensures shorter { OnOk result (length reader.new.words < length reader.old.words) }
 {
     let more = read_item_or_end(reader, any)?;
@@ -73,13 +72,12 @@ fn read_item<A: Allocator>(
     requires filling { IsAmid is_filling builder.old }
     ensures filling { OnOk result (IsAmid is_filling builder.new) }
     ensures reads { (d : Draft) → IsDraft builder.old d
-        → Reads (filling true) result builder.new reader.new (line_at d (item_line d) reader.old) }
+        → Reads (filling true) result builder.new reader.new d (item_line d) reader.old }
     ensures shorter { OnOk result (length reader.new.words ≤ length reader.old.words) }
 {
     let name = next_word(reader)?;
     let item = free_item(name, builder)?;
-    if reader.is_next(b"weight") {
-        read_key(reader, b"weight")?;
+    if reader.take_key(b"weight") {
         return read_weight(reader, builder, item);
     }
     add_item(name, item, None, builder)
@@ -95,8 +93,7 @@ fn read_weight<A: Allocator>(
     requires free { (d : Draft) → IsDraft builder.old d → IsFreeItem d item }
     ensures filling { OnOk result (IsAmid is_filling builder.new) }
     ensures reads { (d : Draft) → IsDraft builder.old d
-        → Reads (filling true) result builder.new reader.new
-        (line_at d (item_weight d item) reader.old) }
+        → Reads (filling true) result builder.new reader.new d (item_weight d item) reader.old }
     ensures shorter { OnOk result (length reader.new.words ≤ length reader.old.words) }
 {
     let word = next_word(reader)?;
@@ -116,8 +113,8 @@ fn add_item<A: Allocator>(
     requires light { is_heavy_device item weight ≡ false }
     ensures filling { OnOk result (IsAmid is_filling builder.new) }
     ensures adds { (d : Draft) → IsDraft builder.old d
-        → Adds result builder.new (with_item d item weight)
-        (placed word.entry.place (unless_heavy (with_item d item weight))) }
+        → Adds result builder.new (with_item d item weight) word.entry.place
+        (unless_heavy (with_item d item weight)) }
 {
     match builder.item(item, weight) {
         Ok(()) => Ok(()),

@@ -6,7 +6,7 @@ ghost use Rattle.crush_bytes.specs.Words.{is_brace_word};
 ghost use Rattle.crush_map.specs.Built.{Draft};
 ghost use Rattle.crush_map.specs.Building.{IsDraft, has_name};
 ghost use Rattle.crush_text.specs.Role.{key, any_word, number, new_name};
-ghost use Rattle.crush_text.specs.Reads.{Gives, next_at, word_at, word_of};
+ghost use Rattle.crush_text.specs.Reads.{Gives, word_at, next_at, word_of};
 
 use crate::fault::{TextFault, TextFaultKind};
 use crate::reader::word::{PlacedWord, next_word};
@@ -70,6 +70,7 @@ pub(crate) fn read_new_name<'a, A: Allocator>(
 ) -> Result<PlacedWord<'a>, TextFault>
     ensures gives { (d : Draft) → IsDraft builder.now d
         → Gives (λ x. (x.text.now, reader.new)) result (word_at d new_name reader.old) }
+    ensures next { IfOk result (λ x. next_at reader.old ≡ Ok (word_of x, reader.new)) }
     ensures named { IfOk result (λ x. IsName x.text.now) }
     ensures free { IfOk result (λ x. (d : Draft) → IsDraft builder.now d
         → has_name d x.text.now ≡ false) }

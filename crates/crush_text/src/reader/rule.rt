@@ -1,6 +1,6 @@
 //! The lines of a rule.
 
-ghost use Rattle.std.specs.Prelude.{◌≡◌, ◌≤◌, ◌<◌, length, map, true, false, None, Some, IfOk, IfErr, IfSome, OnOk, Option, ℕ};
+ghost use Rattle.std.specs.Prelude.{◌≡◌, ◌⊎◌, ◌≤◌, ◌<◌, length, map, true, false, None, Some, IfOk, IfErr, IfSome, OnOk, Option, ℕ, Ok};
 ghost use Rattle.crush_units.specs.Name.{IsName};
 ghost use Rattle.crush_map.specs.Built.{Draft};
 ghost use Rattle.crush_map.specs.Building.{IsDraft};
@@ -8,12 +8,13 @@ ghost use Rattle.crush_map.specs.Rules.{IsRuleForm, kept_rule, has_rule_name, ha
 ghost use Rattle.crush_units.specs.declared.limits.TheConstants.{LARGEST_RULE_NUMBER};
 ghost use Rattle.crush_units.specs.declared.limits.TheConstants.{MOST_STEPS};
 ghost use Rattle.crush_text.specs.declared.fault.TextFaultKind.TheVariants.{OutOfMemory};
+ghost use Rattle.crush_text.specs.Flaw.{IsWant};
 ghost use Rattle.crush_text.specs.Room.{IsFreeRule, IsHead};
 ghost use Rattle.crush_text.specs.Role.{rule_name, rule_id_key, rule_id, step_or_end};
 ghost use Rattle.crush_text.specs.Form.{Form, second, ruled, at};
 ghost use Rattle.crush_text.specs.Grammar.{rule_line, lines};
-ghost use Rattle.crush_text.specs.Flow.{between, outcome};
-ghost use Rattle.crush_text.specs.Reads.{IsIdle, Gives, GivesOn, ReadsOn, ReadsSteps, ReadsStep, number_behind, is_step, then_on, word_at, line_at};
+ghost use Rattle.crush_text.specs.Flow.{between, arrive};
+ghost use Rattle.crush_text.specs.Reads.{IsIdle, Gives, GivesLine, GivesOn, ReadsOn, ReadsSteps, ReadsStep, number_behind, is_step, word_at, line_at, next_at, word_of};
 
 use crate::fault::{TextFault, TextFaultKind};
 use crate::reader::roles::{read_key, read_number, read_word};
@@ -36,7 +37,7 @@ pub(crate) fn read_rule<A: Allocator>(
     ensures idle { OnOk result (IsIdle builder.new) }
     ensures reads { (d : Draft) → IsDraft builder.old d
         → ReadsOn second result builder.new reader.new
-        (then_on (line_at d (rule_line d) reader.old)) }
+        (arrive d reader.old.words (rule_line d)) reader.old }
     ensures shorter { OnOk result (length reader.new.words ≤ length reader.old.words) }
 {
     let mut rule = read_head(reader, builder, machine)?;
@@ -70,8 +71,8 @@ fn read_head<A: Allocator>(
 ) -> Result<Rule, TextFault>
     ensures form { IfOk result IsRuleForm }
     ensures gives { (d : Draft) → IsDraft builder.now d
-        → Gives (λ r. (at (ruled (kept_rule d r)) d, reader.new)) result
-        (line_at d (rule_line d) reader.old) }
+        → GivesLine (λ r. (at (ruled (kept_rule d r)) d, reader.new)) result
+        d (rule_line d) reader.old }
     ensures free { IfOk result (λ r. (d : Draft) → IsDraft builder.now d → IsFreeRule d r) }
     ensures shorter { OnOk result (length reader.new.words ≤ length reader.old.words) }
 {
@@ -103,7 +104,8 @@ fn own_head(
     ensures form { IfOk result IsRuleForm }
     ensures head { IfOk result
         (IsHead name.entry.text.now id kind.entry.text.now min_size max_size) }
-    ensures memory { IfErr result (λ f. f.kind ≡ OutOfMemory) }
+    ensures memory { IfErr result
+        (λ f. IsWant f × ((f.place ≡ name.entry.place) ⊎ (f.place ≡ kind.entry.place))) }
 {
     let name = name.own_name(machine)?;
     let kind = kind.own_name(machine)?;
@@ -126,10 +128,9 @@ fn read_size(reader: &mut Reader<'_>, size: &[u8]) -> Result<Option<u32>, TextFa
         (line_at d (number_behind size.now more) reader.old) }
     ensures shorter { OnOk result (length reader.new.words ≤ length reader.old.words) }
 {
-    if !reader.is_next(size) {
+    if !reader.take_key(size) {
         return Ok(None);
     }
-    read_key(reader, size)?;
     let number = read_number(reader, LARGEST_RULE_NUMBER)?;
     Ok(Some(number))
 }
@@ -147,7 +148,7 @@ fn read_steps<A: Allocator>(
     ensures free { OnOk result ((d : Draft) → IsDraft builder.now d → IsFreeRule d rule.new) }
     ensures reads { (d : Draft) → IsDraft builder.now d
         → ReadsSteps result d (kept_rule d rule.new) reader.new
-        (outcome (between (at (ruled (kept_rule d rule.old)) d)) reader.old) }
+        (between (at (ruled (kept_rule d rule.old)) d)) reader.old }
     ensures shorter { OnOk result (length reader.new.words ≤ length reader.old.words) }
 {
     'steps: loop {
@@ -173,7 +174,7 @@ fn read_step_line<A: Allocator>(
     ensures free { OnOk result ((d : Draft) → IsDraft builder.now d → IsFreeRule d rule.new) }
     ensures reads { (d : Draft) → IsDraft builder.now d
         → ReadsStep result d (kept_rule d rule.new) reader.new
-        (line_at d (lines d (ruled (kept_rule d rule.old))) reader.old) }
+        (lines d (ruled (kept_rule d rule.old))) reader.old }
     ensures shorter { OnOk result (length reader.new.words < length reader.old.words) }
 {
     let word = read_step_or_end(reader, &rule.steps)?;
@@ -196,6 +197,7 @@ fn read_step_or_end<'a>(
     ensures gives { (d : Draft)
         → Gives (λ x. (is_step x.text.now, reader.new)) result
         (word_at d (step_or_end (length steps.now)) reader.old) }
+    ensures next { IfOk result (λ x. next_at reader.old ≡ Ok (word_of x, reader.new)) }
     ensures room { IfOk result (λ x. is_step x.text.now ≡ true → length steps.now < MOST_STEPS) }
     ensures shorter { OnOk result (length reader.new.words < length reader.old.words) }
 {
@@ -226,6 +228,7 @@ fn read_rule_name<'a, A: Allocator>(
 ) -> Result<PlacedWord<'a>, TextFault>
     ensures gives { (d : Draft) → IsDraft builder.now d
         → Gives (λ x. (x.text.now, reader.new)) result (word_at d rule_name reader.old) }
+    ensures next { IfOk result (λ x. next_at reader.old ≡ Ok (word_of x, reader.new)) }
     ensures named { IfOk result (λ x. IsName x.text.now) }
     ensures free { IfOk result (λ x. (d : Draft) → IsDraft builder.now d
         → has_rule_name d.setting x.text.now ≡ false) }

@@ -1,17 +1,16 @@
 //! Statements, one after the other.
 
-ghost use Rattle.std.specs.Prelude.{◌≡◌, ◌≤◌, Result, Ok, Err, false, if◌then◌else◌, length, OnOk, IfOk, codes};
+ghost use Rattle.std.specs.Prelude.{◌≡◌, ◌≤◌, Ok, Err, false, if◌then◌else◌, length, OnOk, IfOk, codes};
 ghost use Rattle.crush_map.specs.Built.{Draft};
 ghost use Rattle.crush_map.specs.Building.{IsDraft};
-ghost use Rattle.crush_text.specs.declared.fault.TextFault.{TextFault as DeclaredFault};
 ghost use Rattle.crush_text.specs.declared.fault.TextFaultKind.TheVariants.{TooMany};
 ghost use Rattle.crush_text.specs.Role.{opening};
 ghost use Rattle.crush_text.specs.Form.{first, at};
 ghost use Rattle.crush_text.specs.Grammar.{statement};
 ghost use Rattle.crush_text.specs.Tests.{is_out_of_place, comes_first, word_for};
-ghost use Rattle.crush_text.specs.Flow.{between, outcome, placed};
+ghost use Rattle.crush_text.specs.Flow.{between, arrive, placed};
 ghost use Rattle.crush_text.specs.Room.{HasRoom};
-ghost use Rattle.crush_text.specs.Reads.{IsIdle, IsKnown, Shortens, behind, ReadsTo, ReadsNext, ReadsAll, then_on, line_at};
+ghost use Rattle.crush_text.specs.Reads.{IsIdle, IsKnown, Shortens, behind, ReadsTo, ReadsNext, ReadsAll};
 
 use crate::fault::{TextFault, TextFaultKind};
 use crate::opening::Opening;
@@ -34,7 +33,7 @@ pub(crate) fn read_statements<A: Allocator + Clone>(
     requires { IsIdle builder.old }
     ensures idle { OnOk result (IsIdle builder.new) }
     ensures reads { (d : Draft) → IsDraft builder.old d
-        → ReadsAll result builder.new (outcome (between (at first d)) reader.old) }
+        → ReadsAll result builder.new (between (at first d)) reader.old }
 {
     let mut late = false;
     'statements: loop {
@@ -57,8 +56,7 @@ fn read_next<A: Allocator + Clone>(
     requires { IsIdle builder.old }
     ensures idle { OnOk result (IsIdle builder.new) }
     ensures reads { (d : Draft) → IsDraft builder.old d
-        → ReadsNext result builder.new reader.new
-        (outcome (between (at (behind late) d)) reader.old) }
+        → ReadsNext result builder.new reader.new (between (at (behind late) d)) reader.old }
     ensures shorter { Shortens result reader.old reader.new }
 {
     match reader.next() {
@@ -88,9 +86,9 @@ fn read_statement<A: Allocator + Clone>(
         → IsKnown d opening word.now }
     requires room { (d : Draft) → IsDraft builder.old d → HasRoom d opening }
     ensures idle { OnOk result (IsIdle builder.new) }
-    ensures reads { (d : Draft) (all : Result Draft DeclaredFault) → IsDraft builder.old d
-        → all ≡ then_on (line_at d (statement d opening) reader.old)
-        → ReadsTo result builder.new reader.new all }
+    ensures reads { (d : Draft) → IsDraft builder.old d
+        → ReadsTo result builder.new reader.new
+        (arrive d reader.old.words (statement d opening)) reader.old }
     ensures shorter { OnOk result (length reader.new.words ≤ length reader.old.words) }
 {
     match opening {

@@ -1,6 +1,6 @@
 //! The steps of a rule.
 
-ghost use Rattle.std.specs.Prelude.{◌≡◌, ◌≤◌, ◌<◌, length, IfOk, OnOk, nat_eq, true, Some, None, is_some, if◌then◌else◌, codes};
+ghost use Rattle.std.specs.Prelude.{◌≡◌, ◌≤◌, ◌<◌, length, IfOk, OnOk, nat_eq, true, Some, None, is_some, if◌then◌else◌, codes, Ok};
 ghost use Rattle.std.specs.List.{starts_with};
 ghost use Rattle.crush_units.specs.Name.{IsName};
 ghost use Rattle.crush_edits.specs.Setting.{RuleData, kind_number};
@@ -12,7 +12,7 @@ ghost use Rattle.crush_text.specs.Forms.{is_signed, signed_value};
 ghost use Rattle.crush_text.specs.Role.{step_word, taken_bucket, step_order, step_count, step_type};
 ghost use Rattle.crush_text.specs.Form.{word};
 ghost use Rattle.crush_text.specs.Grammar.{step_behind, take_step, choose_step, set_step};
-ghost use Rattle.crush_text.specs.Reads.{Gives, behind_step, first_of_step, IsFirstOfStep, word_at, line_at};
+ghost use Rattle.crush_text.specs.Reads.{Gives, GivesLine, behind_step, first_of_step, IsFirstOfStep, word_at, line_at, next_at, word_of};
 
 use crate::fault::{TextFault, TextFaultKind};
 use crate::reader::roles::{read_key, read_number, read_word};
@@ -20,6 +20,7 @@ use crate::reader::word::{PlacedWord, next_word};
 use crush_bytes::Reader;
 use crush_bytes::number::number_up_to;
 use crush_map::{MapBuilder, Step};
+use crush_units::Name;
 use crush_units::limits::{FARTHEST_COUNT, LARGEST_COUNT, LARGEST_RULE_NUMBER};
 use std::alloc::{Allocator, Global};
 
@@ -48,8 +49,8 @@ pub(crate) fn read_step<A: Allocator>(
 ) -> Result<Step, TextFault>
     ensures form { IfOk result IsStepForm }
     ensures gives { (d : Draft) (r : RuleData) → IsDraft builder.now d
-        → Gives (λ s. (behind_step d r s, reader.new)) result
-        (line_at d (word step_word (step_behind d r)) reader.old) }
+        → GivesLine (λ s. (behind_step d r s, reader.new)) result
+        d (word step_word (step_behind d r)) reader.old }
     ensures free { IfOk result (λ s. (d : Draft) → IsDraft builder.now d
         → word_fault d s ≡ None) }
     ensures shorter { OnOk result (length reader.new.words ≤ length reader.old.words) }
@@ -57,7 +58,10 @@ pub(crate) fn read_step<A: Allocator>(
     match read_first(reader)? {
         FirstOfStep::Take => read_take(reader, builder, machine),
         FirstOfStep::Choose { leaf } => read_choose(reader, builder, machine, leaf),
-        FirstOfStep::Set(word) => read_set(reader, machine, word),
+        FirstOfStep::Set(word) => {
+            let name = word.own_name(machine)?;
+            read_set(reader, name)
+        }
         FirstOfStep::Emit => Ok(Step::Emit),
     }
 }
@@ -71,18 +75,17 @@ fn read_take<A: Allocator>(
 ) -> Result<Step, TextFault>
     ensures form { IfOk result IsStepForm }
     ensures gives { (d : Draft) (r : RuleData) → IsDraft builder.now d
-        → Gives (λ s. (behind_step d r s, reader.new)) result
-        (line_at d (take_step d r) reader.old) }
+        → GivesLine (λ s. (behind_step d r s, reader.new)) result
+        d (take_step d r) reader.old }
     ensures free { IfOk result (λ s. (d : Draft) → IsDraft builder.now d
         → word_fault d s ≡ None) }
     ensures shorter { OnOk result (length reader.new.words ≤ length reader.old.words) }
 {
     let bucket = read_taken_bucket(reader, builder)?;
     let bucket = bucket.own_name(machine)?;
-    if !reader.is_next(b"class") {
+    if !reader.take_key(b"class") {
         return Ok(Step::Take(bucket, None));
     }
-    read_key(reader, b"class")?;
     let class = read_word(reader)?;
     let class = class.own_name(machine)?;
     Ok(Step::Take(bucket, Some(class)))
@@ -98,8 +101,8 @@ fn read_choose<A: Allocator>(
 ) -> Result<Step, TextFault>
     ensures form { IfOk result IsStepForm }
     ensures gives { (d : Draft) (r : RuleData) → IsDraft builder.now d
-        → Gives (λ s. (behind_step d r s, reader.new)) result
-        (line_at d (choose_step d r leaf) reader.old) }
+        → GivesLine (λ s. (behind_step d r s, reader.new)) result
+        d (choose_step d r leaf) reader.old }
     ensures free { IfOk result (λ s. (d : Draft) → IsDraft builder.now d
         → word_fault d s ≡ None) }
     ensures shorter { OnOk result (length reader.new.words ≤ length reader.old.words) }
@@ -119,23 +122,17 @@ fn read_choose<A: Allocator>(
 
 /// The value that a step sets, behind the word for what it sets.
 #[tactic(auto, unfolding(crate::specs::Reads::line_at))]
-fn read_set(
-    reader: &mut Reader<'_>,
-    machine: Global,
-    word: PlacedWord<'_>,
-) -> Result<Step, TextFault>
-    requires sets { starts_with nat_eq word.text.now (codes "set_") ≡ true }
-    requires name { IsName word.text.now }
+fn read_set(reader: &mut Reader<'_>, name: Name<Global>) -> Result<Step, TextFault>
+    requires sets { starts_with nat_eq name (codes "set_") ≡ true }
     ensures form { IfOk result IsStepForm }
     ensures gives { (d : Draft) (r : RuleData)
         → Gives (λ s. (behind_step d r s, reader.new)) result
-        (line_at d (set_step d r word.entry.text.now) reader.old) }
+        (line_at d (set_step d r name) reader.old) }
     ensures free { IfOk result (λ s. (d : Draft) → word_fault d s ≡ None) }
     ensures shorter { OnOk result (length reader.new.words ≤ length reader.old.words) }
 {
-    let word = word.own_name(machine)?;
     let value = read_number(reader, LARGEST_RULE_NUMBER)?;
-    Ok(Step::Set(word, value))
+    Ok(Step::Set(name, value))
 }
 
 /// The first word of a step. Steps of the rules for multiple failures aren't read.
@@ -143,7 +140,7 @@ fn read_set(
 fn read_first<'a>(reader: &mut Reader<'a>) -> Result<FirstOfStep<'a>, TextFault>
     ensures gives { (d : Draft)
         → Gives (λ x. (first_of_step x, reader.new)) result (word_at d step_word reader.old) }
-    ensures form { IfOk result IsFirstOfStep }
+    ensures form { IfOk result (IsFirstOfStep reader.old reader.new) }
     ensures shorter { OnOk result (length reader.new.words < length reader.old.words) }
 {
     let word = next_word(reader)?;
@@ -180,6 +177,7 @@ fn read_taken_bucket<'a, A: Allocator>(
     ensures gives { (d : Draft) → IsDraft builder.now d
         → Gives (λ x. (taken_number (bucket_named d x.text.now), reader.new)) result
         (word_at d taken_bucket reader.old) }
+    ensures next { IfOk result (λ x. next_at reader.old ≡ Ok (word_of x, reader.new)) }
     ensures named { IfOk result (λ x. IsName x.text.now) }
     ensures there { IfOk result (λ x. (d : Draft) → IsDraft builder.now d
         → is_some (bucket_named d x.text.now) ≡ true) }
@@ -247,6 +245,7 @@ fn read_type<'a, A: Allocator>(
 ) -> Result<PlacedWord<'a>, TextFault>
     ensures gives { (d : Draft) → IsDraft builder.now d
         → Gives (λ x. (x.text.now, reader.new)) result (word_at d step_type reader.old) }
+    ensures next { IfOk result (λ x. next_at reader.old ≡ Ok (word_of x, reader.new)) }
     ensures named { IfOk result (λ x. IsName x.text.now) }
     ensures there { IfOk result (λ x. (d : Draft) → IsDraft builder.now d
         → is_some (kind_number d.setting x.text.now) ≡ true) }

@@ -1,13 +1,13 @@
 //! The line of a tunable.
 
-ghost use Rattle.std.specs.Prelude.{◌≡◌, ◌≤◌, ◌<◌, length, false, IfOk, OnOk};
+ghost use Rattle.std.specs.Prelude.{◌≡◌, ◌≤◌, ◌<◌, length, false, IfOk, OnOk, Ok};
 ghost use Rattle.crush_units.specs.Name.{IsName};
 ghost use Rattle.crush_map.specs.Built.{Draft};
 ghost use Rattle.crush_map.specs.Building.{IsDraft, has_tunable, is_full_of_tunables};
 ghost use Rattle.crush_text.specs.Role.{tunable_name};
 ghost use Rattle.crush_text.specs.Form.{first};
 ghost use Rattle.crush_text.specs.Grammar.{tunable_line};
-ghost use Rattle.crush_text.specs.Reads.{IsIdle, Gives, Reads, word_at, line_at};
+ghost use Rattle.crush_text.specs.Reads.{IsIdle, Gives, Reads, word_at, next_at, word_of};
 
 use crate::fault::{TextFault, TextFaultKind};
 use crate::reader::roles::{read_number, read_word};
@@ -27,7 +27,7 @@ pub(crate) fn read_tunable<A: Allocator>(
     requires room { (d : Draft) → IsDraft builder.old d → is_full_of_tunables d ≡ false }
     ensures idle { OnOk result (IsIdle builder.new) }
     ensures reads { (d : Draft) → IsDraft builder.old d
-        → Reads first result builder.new reader.new (line_at d (tunable_line d) reader.old) }
+        → Reads first result builder.new reader.new d (tunable_line d) reader.old }
     ensures shorter { OnOk result (length reader.new.words ≤ length reader.old.words) }
 {
     let name = read_name(reader, builder)?;
@@ -46,6 +46,7 @@ fn read_name<'a, A: Allocator>(
 ) -> Result<PlacedWord<'a>, TextFault>
     ensures gives { (d : Draft) → IsDraft builder.now d
         → Gives (λ x. (x.text.now, reader.new)) result (word_at d tunable_name reader.old) }
+    ensures next { IfOk result (λ x. next_at reader.old ≡ Ok (word_of x, reader.new)) }
     ensures named { IfOk result (λ x. IsName x.text.now) }
     ensures free { IfOk result (λ x. (d : Draft) → IsDraft builder.now d
         → has_tunable d.setting x.text.now ≡ false) }

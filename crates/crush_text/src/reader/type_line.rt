@@ -1,6 +1,6 @@
 //! The line of a type.
 
-ghost use Rattle.std.specs.Prelude.{◌≡◌, ◌≤◌, ◌<◌, length, false, IfOk, OnOk};
+ghost use Rattle.std.specs.Prelude.{◌≡◌, ◌≤◌, ◌<◌, length, false, IfOk, OnOk, Ok};
 ghost use Rattle.crush_units.specs.Name.{IsName};
 ghost use Rattle.crush_edits.specs.Fits.{is_reserved as is_reserved_name};
 ghost use Rattle.crush_map.specs.Built.{Draft};
@@ -8,7 +8,7 @@ ghost use Rattle.crush_map.specs.Building.{IsDraft, has_kind_number, has_kind_na
 ghost use Rattle.crush_text.specs.Role.{type_number, type_name};
 ghost use Rattle.crush_text.specs.Form.{first};
 ghost use Rattle.crush_text.specs.Grammar.{type_line};
-ghost use Rattle.crush_text.specs.Reads.{IsIdle, Gives, Reads, word_at, line_at};
+ghost use Rattle.crush_text.specs.Reads.{IsIdle, Gives, Reads, word_at, next_at, word_of};
 
 use crate::fault::{TextFault, TextFaultKind};
 use crate::reader::roles::read_word;
@@ -30,7 +30,7 @@ pub(crate) fn read_type<A: Allocator>(
     requires room { (d : Draft) → IsDraft builder.old d → is_full_of_kinds d ≡ false }
     ensures idle { OnOk result (IsIdle builder.new) }
     ensures reads { (d : Draft) → IsDraft builder.old d
-        → Reads first result builder.new reader.new (line_at d (type_line d) reader.old) }
+        → Reads first result builder.new reader.new d (type_line d) reader.old }
     ensures shorter { OnOk result (length reader.new.words ≤ length reader.old.words) }
 {
     let number = read_type_number(reader, builder)?;
@@ -73,6 +73,7 @@ fn read_type_name<'a, A: Allocator>(
 ) -> Result<PlacedWord<'a>, TextFault>
     ensures gives { (d : Draft) → IsDraft builder.now d
         → Gives (λ x. (x.text.now, reader.new)) result (word_at d (type_name number) reader.old) }
+    ensures next { IfOk result (λ x. next_at reader.old ≡ Ok (word_of x, reader.new)) }
     ensures named { IfOk result (λ x. IsName x.text.now) }
     ensures form { IfOk result (λ x. 0 < number → is_reserved_name x.text.now ≡ false) }
     ensures free { IfOk result (λ x. (d : Draft) → IsDraft builder.now d

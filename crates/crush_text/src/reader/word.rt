@@ -79,7 +79,8 @@ impl<'a> PlacedWord<'a> {
     pub(crate) fn own_name(self, machine: Global) -> Result<Name<Global>, TextFault>
         requires { IsName self.text.now }
         ensures name { IfOk result (λ name. name ≡ self.entry.text.now) }
-        ensures memory { IfErr result (λ f. f.kind ≡ OutOfMemory) }
+        ensures memory { IfErr result
+            (λ f. f ≡ record { kind = OutOfMemory; place = self.entry.place }) }
     {
         match Name::read(machine, self.text) {
             Ok(name) => Ok(name),

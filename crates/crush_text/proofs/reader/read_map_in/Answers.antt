@@ -5,7 +5,7 @@ use Rattle.crush_table.specs.Stands.{Stands}
 use Rattle.crush_edits.specs.Setting.{SettingData}
 use Rattle.crush_map.specs.Built.{empty_draft}
 use Rattle.crush_text.specs.Document.{IsMapText}
-use Rattle.crush_text.proofs.Whole.{is_flaw, no_map, is_map, only_map}
+use Rattle.crush_text.proofs.Whole.{in_time, is_flaw, no_map, is_map, only_map}
 use Rattle.crush_text.proofs.reader.read_map_in.Goals as goal
 
 pub returns-in_err-read_statements-clause-only : goal.returns-in_err-read_statements-clause-only
@@ -17,6 +17,11 @@ pub returns-in_err-read_statements-clause-flaw : goal.returns-in_err-read_statem
 returns-in_err-read_statements-clause-flaw g c =
     let p = err_from_is_err_and c.from_residual.result c.from_residual.ensures.1 in
     rw (p.1, p.2) (is_flaw c.args.text.now c.new-reader.result c.new-reader.ensures _ (c.in_err-read_statements.ensures.reads empty_draft c.in-Ok.ensures))
+
+pub returns-in_err-read_statements-clause-want : goal.returns-in_err-read_statements-clause-want
+returns-in_err-read_statements-clause-want g c =
+    let p = err_from_is_err_and c.from_residual.result c.from_residual.ensures.1 in
+    rw (p.1, p.2) (in_time c.args.text.now c.new-reader.result c.new-reader.ensures _ (c.in_err-read_statements.ensures.reads empty_draft c.in-Ok.ensures))
 
 pub returns-clause-map : goal.returns-clause-map
 returns-clause-map g c =

@@ -1,17 +1,17 @@
 -- The class ids so far, and what comes of the rest.
-use Rattle.std.proofs.Common.{◌≡◌, ◌≤◌, length}
+use Rattle.std.proofs.Common.{◌≤◌, length}
 use Rattle.crush_map.specs.Built.{Draft}
 use Rattle.crush_map.specs.Building.{IsDraft, is_numbered}
 use Rattle.crush_text.specs.Form.{numbered, at}
-use Rattle.crush_text.specs.Flow.{between, outcome}
-use Rattle.crush_text.specs.Reads.{IsAmid}
+use Rattle.crush_text.specs.Flow.{between}
+use Rattle.crush_text.specs.Reads.{IsAmid, Leads}
 use Rattle.crush_text.proofs.reader.bucket.read_class_ids.Given as goal
 
 abbrev pub invariant-ids : goal.invariant-ids
 invariant-ids g l = record {
   part : IsAmid is_numbered l.builder;
   shorter : length l.reader.words ≤ length l.fn.reader.words;
-  reads : (d : Draft) → IsDraft l.fn.builder d → (e : Draft) × IsDraft l.builder e × (outcome (between (at numbered d)) l.fn.reader ≡ outcome (between (at numbered e)) l.reader);
+  reads : (d : Draft) → IsDraft l.fn.builder d → (e : Draft) × IsDraft l.builder e × Leads (between (at numbered d)) l.fn.reader (between (at numbered e)) l.reader;
 }
 
 abbrev pub decreases-ids : goal.decreases-ids

@@ -1,6 +1,7 @@
 -- One more class id, or the algorithm.
-use Rattle.std.proofs.Common.{◌∙◌, ap, Bool, Ok}
-use Rattle.crush_text.proofs.Steps.{id_or_alg_goes}
+use Rattle.std.proofs.Common.{◌∙◌, ap, Bool, true, false, Ok}
+use Rattle.std.proofs.lemmas.Result.{err_from_is_err_and}
+use Rattle.crush_text.proofs.Steps.{id_or_alg_goes, id_or_alg_fails}
 use Rattle.crush_text.proofs.reader.bucket.read_id_line.Goals as goal
 
 pub returns-then-not-more-clause-reads : goal.returns-then-not-more-clause-reads
@@ -15,3 +16,13 @@ returns-clause-reads g c = λ d h.
 
 pub read_class_id-requires-clause-room : goal.read_class_id-requires-clause-room
 read_class_id-requires-clause-room g c = λ d h. c.in_ok-more.ensures.room d h c.if-not-more.false
+
+pub returns-in_err-read_alg-clause-reads : goal.returns-in_err-read_alg-clause-reads
+returns-in_err-read_alg-clause-reads g c = λ d h.
+    let p = err_from_is_err_and c.from_residual-in_err-read_alg.result c.from_residual-in_err-read_alg.ensures.1 in
+    rw (p.1, p.2) (id_or_alg_fails _ d false _ _ (c.in_ok-more.ensures.gives d h ∙ ap (λ (b : Bool). Ok (b, c.read_id_or_alg.new.reader)) c.if-not-more.true) (c.in_err-read_alg.ensures.reads d h))
+
+pub returns-in_err-read_class_id-clause-reads : goal.returns-in_err-read_class_id-clause-reads
+returns-in_err-read_class_id-clause-reads g c = λ d h.
+    let p = err_from_is_err_and c.from_residual-in_err-read_class_id.result c.from_residual-in_err-read_class_id.ensures.1 in
+    rw (p.1, p.2) (id_or_alg_fails _ d true _ _ (c.in_ok-more.ensures.gives d h ∙ ap (λ (b : Bool). Ok (b, c.read_id_or_alg.new.reader)) c.if-not-more.false) (c.in_err-read_class_id.ensures.reads d h))

@@ -1,17 +1,17 @@
 -- The lines so far, and what comes of the rest.
-use Rattle.std.proofs.Common.{◌≡◌, ◌≤◌, false, length}
+use Rattle.std.proofs.Common.{◌≤◌, false, length}
 use Rattle.crush_map.specs.Built.{Draft}
 use Rattle.crush_map.specs.Building.{IsDraft, is_filling}
 use Rattle.crush_text.specs.Form.{filling, at}
-use Rattle.crush_text.specs.Flow.{between, outcome}
-use Rattle.crush_text.specs.Reads.{IsAmid}
+use Rattle.crush_text.specs.Flow.{between}
+use Rattle.crush_text.specs.Reads.{IsAmid, Leads}
 use Rattle.crush_text.proofs.reader.items.read_items.Given as goal
 
 abbrev pub invariant-items : goal.invariant-items
 invariant-items g l = record {
   part : IsAmid is_filling l.builder;
   shorter : length l.reader.words ≤ length l.fn.reader.words;
-  reads : (d : Draft) → IsDraft l.fn.builder d → (e : Draft) × IsDraft l.builder e × (outcome (between (at (filling false) d)) l.fn.reader ≡ outcome (between (at (filling l.any) e)) l.reader);
+  reads : (d : Draft) → IsDraft l.fn.builder d → (e : Draft) × IsDraft l.builder e × Leads (between (at (filling false) d)) l.fn.reader (between (at (filling l.any) e)) l.reader;
 }
 
 abbrev pub decreases-items : goal.decreases-items

@@ -1,22 +1,26 @@
 -- The steps one after the other, up to the brace.
-use Rattle.std.proofs.Common.{◌∙◌, ap, arith, refl, subst, ℕ, Option, Ok}
+use Rattle.std.proofs.Common.{arith, refl, subst, ℕ, Option, Ok}
 use Rattle.std.proofs.lemmas.Result.{err_from_is_err_and}
 use Rattle.crush_map.specs.Rules.{kept_rule}
 use Rattle.crush_text.specs.Form.{ruled}
 use Rattle.crush_text.specs.Grammar.{lines}
-use Rattle.crush_text.specs.Reads.{ReadsStep, then_on, line_at}
-use Rattle.crush_text.proofs.LineByLine.{fails_all, next_goes}
+use Rattle.crush_text.specs.Reads.{ReadsStep}
+use Rattle.crush_text.proofs.Reached.{line_leads, next_leads, leads_then, fails_then, fails_line}
 use Rattle.crush_text.proofs.reader.rule.read_steps.Goals as goal
 
 pub returns-in_err-end-clause-reads : goal.returns-in_err-end-clause-reads
 returns-in_err-end-clause-reads g c = λ d h.
     let p = err_from_is_err_and c.from_residual.result c.from_residual.ensures.1 in
-    rw (p.1, p.2) (fails_all _ _ _ _ (c.steps.invariant.reads d h ∙ next_goes _ d _ refl) (c.in_err-end.ensures.reads d h))
+    rw (p.1, p.2) (
+    fails_then _ _ _ _ _ (leads_then _ _ _ _ _ _ (c.steps.invariant.reads d h) (next_leads (ruled (kept_rule d c.steps.rule)) d _ refl))
+    (fails_line _ d (lines d (ruled (kept_rule d c.steps.rule))) _ (c.in_err-end.ensures.reads d h))
+    )
 
 pub returns-in-Some-clause-reads : goal.returns-in-Some-clause-reads
 returns-in-Some-clause-reads g c = λ d h.
-    let k = subst (λ (o : Option ℕ). ReadsStep (Ok o) d (kept_rule d c.read_step_line.new.rule) c.read_step_line.new.reader (line_at d (lines d (ruled (kept_rule d c.steps.rule))) c.steps.reader)) c.in-Some.is (c.in_ok-end.ensures.reads d h) in
-    c.steps.invariant.reads d h ∙ next_goes (ruled (kept_rule d c.steps.rule)) d c.steps.reader refl ∙ ap then_on k
+    let k = subst (λ (o : Option ℕ). ReadsStep (Ok o) d (kept_rule d c.read_step_line.new.rule) c.read_step_line.new.reader (lines d (ruled (kept_rule d c.steps.rule))) c.steps.reader) c.in-Some.is (c.in_ok-end.ensures.reads d h) in
+    let so_far = leads_then _ _ _ _ _ _ (c.steps.invariant.reads d h) (next_leads (ruled (kept_rule d c.steps.rule)) d _ refl) in
+    (leads_then _ _ _ _ _ _ so_far (line_leads d (lines d (ruled (kept_rule d c.steps.rule))) _ _ _ k.0), so_far.reaches _ k.1)
 
 pub steps-preserved : goal.steps-preserved
 steps-preserved g c = record {
@@ -24,6 +28,7 @@ steps-preserved g c = record {
   free = c.in_ok-end.ensures.free;
   shorter = omega (arith, c.steps.invariant.shorter, c.in_ok-end.ensures.shorter);
   reads = λ d h.
-      let k = subst (λ (o : Option ℕ). ReadsStep (Ok o) d (kept_rule d c.read_step_line.new.rule) c.read_step_line.new.reader (line_at d (lines d (ruled (kept_rule d c.steps.rule))) c.steps.reader)) c.in-None.is (c.in_ok-end.ensures.reads d h) in
-      c.steps.invariant.reads d h ∙ next_goes (ruled (kept_rule d c.steps.rule)) d c.steps.reader refl ∙ ap then_on k;
+      let k = subst (λ (o : Option ℕ). ReadsStep (Ok o) d (kept_rule d c.read_step_line.new.rule) c.read_step_line.new.reader (lines d (ruled (kept_rule d c.steps.rule))) c.steps.reader) c.in-None.is (c.in_ok-end.ensures.reads d h) in
+      let so_far = leads_then _ _ _ _ _ _ (c.steps.invariant.reads d h) (next_leads (ruled (kept_rule d c.steps.rule)) d _ refl) in
+      leads_then _ _ _ _ _ _ so_far (line_leads d (lines d (ruled (kept_rule d c.steps.rule))) _ _ _ k);
 }

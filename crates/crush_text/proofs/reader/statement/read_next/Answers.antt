@@ -1,7 +1,8 @@
 -- What a statement's first word opens, and what comes of the statement.
 use Rattle.std.proofs.Common.{inr}
 use Rattle.std.proofs.lemmas.Result.{err_from_is_err_and}
-use Rattle.crush_text.proofs.FirstWords.{opening_ok, opening_err, opening_end, opening_bad}
+use Rattle.crush_text.proofs.Reached.{leads_then, fails_then}
+use Rattle.crush_text.proofs.FirstWords.{opening_leads, opening_err, opening_end, opening_bad}
 use Rattle.crush_text.proofs.reader.statement.read_next.Goals as goal
 
 pub returns-in_err-opening-in-Word-clause-reads : goal.returns-in_err-opening-in-Word-clause-reads
@@ -12,11 +13,12 @@ returns-in_err-opening-in-Word-clause-reads g c = λ d h.
 pub returns-in_err-late-in-Word-clause-reads : goal.returns-in_err-late-in-Word-clause-reads
 returns-in_err-late-in-Word-clause-reads g c = λ d h.
     let p = err_from_is_err_and c.from_residual-in_err-late-in-Word.result c.from_residual-in_err-late-in-Word.ensures.1 in
-    rw (p.1, p.2) (c.in_err-late-in-Word.ensures.reads d _ h (opening_ok d c.args.late c.args.reader.now c.next.new.self c.in-Word.place c.in-Word.text.now c.in_ok-opening-in-Word.opening c.in-Word.ensures.nexts (c.in_ok-opening-in-Word.ensures.opens d h)))
+    rw (p.1, p.2) (fails_then _ _ _ _ _ (opening_leads d c.args.late c.args.reader.now c.next.new.self c.in-Word.place c.in-Word.text.now c.in_ok-opening-in-Word.opening c.in-Word.ensures.nexts (c.in_ok-opening-in-Word.ensures.opens d h)) (c.in_err-late-in-Word.ensures.reads d h))
 
 pub returns-in_ok-late-in-Word-clause-reads : goal.returns-in_ok-late-in-Word-clause-reads
 returns-in_ok-late-in-Word-clause-reads g c = λ d h.
-    c.in_ok-late-in-Word.ensures.reads d _ h (opening_ok d c.args.late c.args.reader.now c.next.new.self c.in-Word.place c.in-Word.text.now c.in_ok-opening-in-Word.opening c.in-Word.ensures.nexts (c.in_ok-opening-in-Word.ensures.opens d h))
+    let k = c.in_ok-late-in-Word.ensures.reads d h in
+    (k.0, k.1, leads_then _ _ _ _ _ _ (opening_leads d c.args.late c.args.reader.now c.next.new.self c.in-Word.place c.in-Word.text.now c.in_ok-opening-in-Word.opening c.in-Word.ensures.nexts (c.in_ok-opening-in-Word.ensures.opens d h)) k.2)
 
 pub returns-in-End-clause-reads : goal.returns-in-End-clause-reads
 returns-in-End-clause-reads g c = λ d h. (d, h, opening_end d c.args.late c.args.reader.now c.in-End.place c.in-End.ensures.nexts.0)

@@ -3,9 +3,9 @@ use Rattle.std.proofs.Common.{◌≡◌, ◌∙◌, refl, subst, Bool, Option, S
 use Rattle.std.specs.Prelude.{Ok}
 use Rattle.std.proofs.lemmas.Result.{err_from_is_err_and}
 use Rattle.crush_text.specs.Form.{at}
-use Rattle.crush_text.specs.Flow.{between, outcome}
+use Rattle.crush_text.specs.Flow.{between}
 use Rattle.crush_text.specs.Reads.{ReadsNext, Shortens, behind}
-use Rattle.crush_text.proofs.LineByLine.{fails_so}
+use Rattle.crush_text.proofs.Reached.{leads_then, fails_then}
 use Rattle.crush_text.proofs.reader.statement.read_statements.Goals as goal
 
 pub statements-preserved : goal.statements-preserved
@@ -13,15 +13,15 @@ statements-preserved g c = record {
   idle = c.in_ok-more.ensures.idle;
   reads = λ d h.
       let s = c.statements.invariant.reads d h in
-      let k = subst (λ (o : Option Bool). ReadsNext (Ok o) c.read_next.new.builder c.read_next.new.reader (outcome (between (at (behind c.statements.late) s.0)) c.statements.reader)) c.in-Some.is (c.in_ok-more.ensures.reads s.0 s.1) in
-      (k.0, k.1, s.2 ∙ k.2);
+      let k = subst (λ (o : Option Bool). ReadsNext (Ok o) c.read_next.new.builder c.read_next.new.reader (between (at (behind c.statements.late) s.0)) c.statements.reader) c.in-Some.is (c.in_ok-more.ensures.reads s.0 s.1) in
+      (k.0, k.1, leads_then _ _ _ _ _ _ s.2 k.2);
 }
 
 pub returns-in_err-more-clause-reads : goal.returns-in_err-more-clause-reads
 returns-in_err-more-clause-reads g c = λ d h.
     let s = c.statements.invariant.reads d h in
     let p = err_from_is_err_and c.from_residual.result c.from_residual.ensures.1 in
-    rw (p.1, p.2) (fails_so _ _ _ s.2 (c.in_err-more.ensures.reads s.0 s.1))
+    rw (p.1, p.2) (fails_then _ _ _ _ _ s.2 (c.in_err-more.ensures.reads s.0 s.1))
 
 pub statements-smaller : goal.statements-smaller
 statements-smaller g c = subst (λ (o : Option Bool). Shortens (Ok o) c.statements.reader c.read_next.new.reader) c.in-Some.is c.in_ok-more.ensures.shorter
@@ -38,5 +38,5 @@ pub returns-in_default-clause-reads : goal.returns-in_default-clause-reads
 returns-in_default-clause-reads g c = λ d h.
     let s = c.statements.invariant.reads d h in
     let none = none_there _ c.in_default.not-Some in
-    let k = subst (λ (o : Option Bool). ReadsNext (Ok o) c.read_next.new.builder c.read_next.new.reader (outcome (between (at (behind c.statements.late) s.0)) c.statements.reader)) none (c.in_ok-more.ensures.reads s.0 s.1) in
-    (k.0, k.1, s.2 ∙ k.2)
+    let k = subst (λ (o : Option Bool). ReadsNext (Ok o) c.read_next.new.builder c.read_next.new.reader (between (at (behind c.statements.late) s.0)) c.statements.reader) none (c.in_ok-more.ensures.reads s.0 s.1) in
+    (k.0, k.1, s.2.same ∙ k.2)

@@ -1,16 +1,16 @@
 -- The statements so far, and what comes of the rest.
-use Rattle.std.proofs.Common.{◌≡◌, length}
+use Rattle.std.proofs.Common.{length}
 use Rattle.crush_map.specs.Built.{Draft}
 use Rattle.crush_map.specs.Building.{IsDraft}
 use Rattle.crush_text.specs.Form.{first, at}
-use Rattle.crush_text.specs.Flow.{between, outcome}
-use Rattle.crush_text.specs.Reads.{IsIdle, behind}
+use Rattle.crush_text.specs.Flow.{between}
+use Rattle.crush_text.specs.Reads.{IsIdle, behind, Leads}
 use Rattle.crush_text.proofs.reader.statement.read_statements.Given as goal
 
 abbrev pub invariant-statements : goal.invariant-statements
 invariant-statements g l = record {
   idle : IsIdle l.builder;
-  reads : (d : Draft) → IsDraft l.fn.builder d → (e : Draft) × IsDraft l.builder e × (outcome (between (at first d)) l.fn.reader ≡ outcome (between (at (behind l.late) e)) l.reader);
+  reads : (d : Draft) → IsDraft l.fn.builder d → (e : Draft) × IsDraft l.builder e × Leads (between (at first d)) l.fn.reader (between (at (behind l.late) e)) l.reader;
 }
 
 abbrev pub decreases-statements : goal.decreases-statements

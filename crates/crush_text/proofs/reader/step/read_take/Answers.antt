@@ -1,8 +1,15 @@
 -- The bucket that a step takes, and its class, word by word.
-use Rattle.std.proofs.Common.{sym, ◌∙◌}
+use Rattle.std.proofs.Common.{Bool, None, sym, ap, ◌∙◌, inl}
+use Rattle.std.specs.Prelude.{if◌then◌else◌}
+use Rattle.crush_bytes.specs.Words.{past}
 use Rattle.std.proofs.lemmas.Result.{err_from_is_err_and}
+use Rattle.crush_edits.specs.Setting.{take}
+use Rattle.crush_map.specs.Rules.{bucket_named, taken_number}
+use Rattle.crush_text.specs.Grammar.{step_done}
 use Rattle.crush_text.proofs.LineByLine.{fails_so}
-use Rattle.crush_text.proofs.LineEnds.{word_fails, word_reads, part_reads}
+use Rattle.crush_text.proofs.LineEnds.{word_fails, word_reads}
+use Rattle.crush_text.proofs.Reached.{part_taken, want_here, reaches_word, reaches_on, reaches_taken}
+use Rattle.crush_text.proofs.Steps.{done_reads}
 use Rattle.crush_text.proofs.reader.step.read_take.Goals as goal
 
 pub returns-in_err-bucket-clause-gives : goal.returns-in_err-bucket-clause-gives
@@ -10,12 +17,25 @@ returns-in_err-bucket-clause-gives g c = λ d r h.
     let p = err_from_is_err_and c.from_residual.result c.from_residual.ensures.1 in
     rw (p.1, p.2) (word_fails d _ _ _ _ (c.in_err-bucket.ensures.gives d h))
 
-pub returns-in_err-read_key-clause-gives : goal.returns-in_err-read_key-clause-gives
-returns-in_err-read_key-clause-gives g c = λ d r h.
-    let p = err_from_is_err_and c.from_residual-in_err-read_key.result c.from_residual-in_err-read_key.ensures.1 in
-    rw (p.1, p.2) (fails_so _ _ _ (word_reads d _ _ _ _ _ (c.in_ok-bucket.ensures.gives d h) ∙ part_reads d _ _ _ _ _ (sym c.if-not-is_next.false ∙ c.is_next.ensures)) (word_fails d _ _ _ _ (c.in_err-read_key.ensures.gives d)))
-
 pub returns-in_err-class-clause-gives : goal.returns-in_err-class-clause-gives
 returns-in_err-class-clause-gives g c = λ d r h.
     let p = err_from_is_err_and c.from_residual-in_err-class.result c.from_residual-in_err-class.ensures.1 in
-    rw (p.1, p.2) (fails_so _ _ _ (word_reads d _ _ _ _ _ (c.in_ok-bucket.ensures.gives d h) ∙ part_reads d _ _ _ _ _ (sym c.if-not-is_next.false ∙ c.is_next.ensures) ∙ word_reads d _ _ _ _ _ (c.in_ok-read_key.ensures.gives d)) (word_fails d _ _ _ _ (c.in_err-class.ensures.gives d)))
+    rw (p.1, p.2) (fails_so _ _ _ (word_reads d _ _ _ _ _ (c.in_ok-bucket.ensures.gives d h) ∙ part_taken d _ _ _ _ _ _ (sym c.if-not-take_key.false ∙ c.take_key.ensures.answer) (c.take_key.ensures.rest ∙ ap (λ (b : Bool). if b then past c.read_taken_bucket.new.reader else c.read_taken_bucket.new.reader) c.if-not-take_key.false)) (word_fails d _ _ _ _ (c.in_err-class.ensures.gives d)))
+
+pub returns-in_err-bucket-2-clause-gives : goal.returns-in_err-bucket-2-clause-gives
+returns-in_err-bucket-2-clause-gives g c = λ d r h.
+    let p = err_from_is_err_and c.from_residual-in_err-bucket-2.result c.from_residual-in_err-bucket-2.ensures.1 in
+    rw (p.1, p.2) (inl (want_here _ _ _ _ c.in_err-bucket-2.ensures.memory (reaches_word d _ _ _ _ _ _ _ (c.in_ok-bucket.ensures.gives d h) (_, c.in_ok-bucket.ensures.next))))
+
+pub returns-in_err-class-2-clause-gives : goal.returns-in_err-class-2-clause-gives
+returns-in_err-class-2-clause-gives g c = λ d r h.
+    let p = err_from_is_err_and c.from_residual-in_err-class-2.result c.from_residual-in_err-class-2.ensures.1 in
+    rw (p.1, p.2) (
+    inl (want_here _ _ _ _ c.in_err-class-2.ensures.memory
+    (reaches_on d _ _ _ _ _ _ (c.in_ok-bucket.ensures.gives d h)
+    (reaches_taken d _ _ (step_done d r (take (taken_number (bucket_named d c.in_ok-bucket.bucket.text.now)) None)) _ _ _ _ (sym c.if-not-take_key.false ∙ c.take_key.ensures.answer) (c.take_key.ensures.rest ∙ ap (λ (b : Bool). if b then past c.read_taken_bucket.new.reader else c.read_taken_bucket.new.reader) c.if-not-take_key.false) (reaches_word d _ _ _ _ _ _ _ (c.in_ok-class.ensures.gives d) (_, c.in_ok-class.ensures.next)))))
+    )
+
+pub returns-clause-gives : goal.returns-clause-gives
+returns-clause-gives g c = λ d r h.
+    rw (c.in_ok-bucket-2.ensures.name, c.in_ok-class-2.ensures.name) (word_reads d _ _ _ _ _ (c.in_ok-bucket.ensures.gives d h) ∙ part_taken d _ _ _ _ _ _ (sym c.if-not-take_key.false ∙ c.take_key.ensures.answer) (c.take_key.ensures.rest ∙ ap (λ (b : Bool). if b then past c.read_taken_bucket.new.reader else c.read_taken_bucket.new.reader) c.if-not-take_key.false) ∙ word_reads d _ _ _ _ _ (c.in_ok-class.ensures.gives d) ∙ done_reads d _ _)

@@ -1,11 +1,11 @@
 -- A tunable's line word by word, and what the builder refuses is want of memory.
-use Rattle.std.proofs.Common.{refl, ap, inl}
+use Rattle.std.proofs.Common.{refl, inl}
 use Rattle.std.proofs.lemmas.Result.{err_from_is_err_and}
 use Rattle.crush_map.specs.Built.{with_tunable}
 use Rattle.crush_map.specs.declared.fault.BuildFault.TheVariants.{DuplicateName, TooMany}
-use Rattle.crush_text.specs.declared.fault.TextFault.{TextFault}
 use Rattle.crush_text.proofs.LineByLine.{fails_so}
 use Rattle.crush_text.proofs.LineEnds.{still_idle, word_fails, word_reads, tunable_reads}
+use Rattle.crush_text.proofs.Reached.{want_here, reaches_word}
 use Rattle.crush_text.proofs.Wants.{want_of_two}
 use Rattle.crush_text.proofs.reader.tunable.read_tunable.Goals as goal
 
@@ -24,7 +24,8 @@ returns-in-Ok-clause-reads g c = λ d h.
     (with_tunable d _ _, (c.in-Ok.ensures.ok d h).1, tunable_reads d _ _ _ _ _ (c.in_ok-name.ensures.gives d h) (c.in_ok-value.ensures.gives d))
 
 pub returns-in-Err-clause-reads : goal.returns-in-Err-clause-reads
-returns-in-Err-clause-reads g c = λ d h. inl (ap (λ (f : TextFault). f.kind) c.want.ensures)
+returns-in-Err-clause-reads g c = λ d h.
+    inl (want_here _ _ _ _ c.want.ensures (reaches_word d _ _ _ _ _ _ _ (c.in_ok-name.ensures.gives d h) (_, c.in_ok-name.ensures.next)))
 
 pub returns-in_err-name-clause-reads : goal.returns-in_err-name-clause-reads
 returns-in_err-name-clause-reads g c = λ d h.

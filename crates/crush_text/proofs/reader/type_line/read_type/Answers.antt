@@ -1,11 +1,11 @@
 -- A type's line word by word, and what the builder refuses is want of memory.
-use Rattle.std.proofs.Common.{refl, ap, inl}
+use Rattle.std.proofs.Common.{refl, inl}
 use Rattle.std.proofs.lemmas.Result.{err_from_is_err_and}
 use Rattle.crush_map.specs.Built.{with_kind}
 use Rattle.crush_map.specs.declared.fault.BuildFault.TheVariants.{DuplicateId, DuplicateName, TooMany}
-use Rattle.crush_text.specs.declared.fault.TextFault.{TextFault}
 use Rattle.crush_text.proofs.LineByLine.{fails_so}
 use Rattle.crush_text.proofs.LineEnds.{still_idle, word_fails, word_reads, type_reads}
+use Rattle.crush_text.proofs.Reached.{want_here, reaches_word, reaches_on}
 use Rattle.crush_text.proofs.Wants.{want_of_three}
 use Rattle.crush_text.proofs.reader.type_line.read_type.Goals as goal
 
@@ -37,4 +37,5 @@ returns-in-Ok-clause-reads g c = λ d h.
     (with_kind d _ _, (c.in-Ok.ensures.ok d h).1, type_reads d _ _ _ _ _ (c.in_ok-number.ensures.gives d h) (c.in_ok-name.ensures.gives d h))
 
 pub returns-in-Err-clause-reads : goal.returns-in-Err-clause-reads
-returns-in-Err-clause-reads g c = λ d h. inl (ap (λ (f : TextFault). f.kind) c.want.ensures)
+returns-in-Err-clause-reads g c = λ d h.
+    inl (want_here _ _ _ _ c.want.ensures (reaches_on d _ _ _ _ _ _ (c.in_ok-number.ensures.gives d h) (reaches_word d _ _ _ _ _ _ _ (c.in_ok-name.ensures.gives d h) (_, c.in_ok-name.ensures.next))))
