@@ -73,11 +73,11 @@ form_alike d (done p) w vs ws u e h = h
 form_alike d (optional k f g) w vs ws u e h = h
 form_alike d (ahead k f g) w vs ws u e h = h
 
-leads_alike : (s : State) (w : List ℕ) (vs ws : List Word) (u : State) → texts vs ≡ texts ws → Leads s w vs u → Leads s w ws u
+pub leads_alike : (s : State) (w : List ℕ) (vs ws : List Word) (u : State) → texts vs ≡ texts ws → Leads s w vs u → Leads s w ws u
 leads_alike (between p) w vs ws u e h = form_alike p.draft _ w vs ws u e h
 leads_alike (amid d f) w vs ws u e h = form_alike d f w vs ws u e h
 
-plain_texts : (ts : List (List ℕ)) → texts (plain ts) ≡ ts
+pub plain_texts : (ts : List (List ℕ)) → texts (plain ts) ≡ ts
 plain_texts [] = refl
 plain_texts (t ∷ ts) = ap (λ l. t ∷ l) (plain_texts ts)
 
@@ -192,7 +192,7 @@ abbrev pub idle : Bool → Mode
 idle late = if late then second else first
 
 -- a bucket's type, its name and its id
-opens_bucket : (late : Bool) (d : Draft) (k : ℕ) (kind : List ℕ) (rest : List Word) → 0 < number_of d kind → opened d kind ≡ openings.Bucket k → Leads (between (at (idle late) d)) kind rest (amid d (bucket_line d k))
+pub opens_bucket : (late : Bool) (d : Draft) (k : ℕ) (kind : List ℕ) (rest : List Word) → 0 < number_of d kind → opened d kind ≡ openings.Bucket k → Leads (between (at (idle late) d)) kind rest (amid d (bucket_line d k))
 opens_bucket true d k kind rest some is = (inr (inr some), ap (λ o. arrive d rest (statement d o)) (sym is))
 opens_bucket false d k kind rest some is = (inr (inr some), ap (λ o. arrive d rest (statement d o)) (sym is))
 

@@ -64,7 +64,7 @@ least_goes d x n k (Some v) rest h other l = (
 abbrev type_form : Draft → List ℕ → ℕ → Form
 type_form d x n = word (key (codes "type")) (λ _. word any_word (λ k. sizes d x n k))
 
-opens_rule : (late : Bool) (d : Draft) (rest : List Word) → Leads (between (at (idle late) d)) (codes "rule") rest (amid d (rule_line d))
+pub opens_rule : (late : Bool) (d : Draft) (rest : List Word) → Leads (between (at (idle late) d)) (codes "rule") rest (amid d (rule_line d))
 opens_rule true d rest = (inr (inl refl), refl)
 opens_rule false d rest = (inr (inl refl), refl)
 
@@ -236,7 +236,7 @@ differ w k h g = by_test (bytes_eq w k) refl
     by_test true e = absurd (let none : true ≡ false = sym h ∙ ap (λ x. starts_with nat_eq x (codes "set_")) ((bytes_eq-Decides w k).0 e) ∙ g in cc)
     by_test false e = e
 
-set_said : (w : List ℕ) → starts_with nat_eq w (codes "set_") ≡ true → step_said w ≡ sets w
+pub set_said : (w : List ℕ) → starts_with nat_eq w (codes "set_") ≡ true → step_said w ≡ sets w
 set_said w h = rw (differ w (codes "take") h refl, differ w (codes "choose") h refl, differ w (codes "chooseleaf") h refl, differ w (codes "emit") h refl) refl
 
 pub set_goes : (d : Draft) (r : RuleData) (x : List ℕ) (v : ℕ) (others : List (List ℕ)) → starts_with nat_eq x (codes "set_") ≡ true → v ≤ 2147483647 → IsLawfulState (between (at (ruled (with_step r (set x v))) d))

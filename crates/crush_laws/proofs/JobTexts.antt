@@ -19,11 +19,11 @@ use Rattle.crush_calls.specs.Script.{ScriptData}
 use Rattle.crush_calls.specs.History.{table_after, turns}
 use Rattle.crush_calls.specs.HistoryText.{names_of}
 use Rattle.crush_calls.specs.LawRun.{IsCall}
-use Rattle.crush_calls.proofs.RunLaws.{turns_calls, turns_keep}
+use Rattle.crush_calls.proofs.RunLaws.{history_keeps, turns_calls, turns_keep}
 use Rattle.crush_script.specs.Lines.{map_part}
 use Rattle.crush_script.specs.Words.{is_plain, device_named}
 use Rattle.crush_script.specs.Printed.{IsPlacing, IsSaid}
-use Rattle.crush_laws.specs.Written.{IsNamed, IsNamedCall, JobsStayLawful, JobTextsAreReadBack, JobMapsAreReadBack}
+use Rattle.crush_laws.specs.Written.{IsNamed, IsNamedCall, JobsStayLawful, JobTextsAreReadBack, JobMapsAreReadBack, HistoryTextsAreReadBack}
 use Rattle.crush_laws.proofs.HistoryComments.{written_is_read_back}
 use Rattle.crush_script.proofs.SaidJobs.{IsSaidCall, IsSaidScript, job_said}
 
@@ -98,3 +98,8 @@ pub job_maps_are_read_back : JobMapsAreReadBack
 job_maps_are_read_back bytes job is =
     let keeps = jobs_stay_lawful bytes job is in
     printed_texts_read_back buckets_are_built job.setting (table_after job.setting job.table (turns job.setting job.table job.scripts)) keeps.lawful keeps.fits
+
+pub history_texts_are_read_back : HistoryTextsAreReadBack
+history_texts_are_read_back s t names h lawful fits named said calls =
+    let keeps = history_keeps s t h (record { lawful = lawful; fits = fits }) calls in
+    written_is_read_back s (table_after s t h) names 1 h keeps.lawful keeps.fits named said

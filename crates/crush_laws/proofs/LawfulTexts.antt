@@ -170,7 +170,7 @@ begins_step d w h = by_it (bytes_eq w (codes "take")) (bytes_eq w (codes "choose
         inr (inr (inr (inr (not_false (starts_with nat_eq w (codes "set_")) (λ none. h Unexpected (other_word w _ ha, (other_word w _ hb, other_word w _ hc), other_word w _ he, none, λ e. h LeftOut e))))))
 
 -- a word without a fault is of the form of what it is for
-is_for : (d : Draft) (r : Role) (w : List ℕ) → IsRight d r w → IsFor d r w
+pub is_for : (d : Draft) (r : Role) (w : List ℕ) → IsRight d r w → IsFor d r w
 is_for d (key k) w h = same_word w k (h Unexpected)
 is_for d any_word w h = tt
 is_for d (number most) w h = not_false _ (h BadNumber)

@@ -16,6 +16,7 @@ pub mod EarlierBuckets
 pub mod EarlierLines
 pub mod EarlierSettings
 pub mod EarlierTables
+pub mod ExampleDocument
 pub mod FinalTexts
 pub mod HistoryComments
 pub mod JobTexts
@@ -24,5 +25,14 @@ pub mod Lawful
 pub mod LawfulTexts
 pub mod OneOfBoth
 pub mod PrintedAgain
+pub mod Read
+pub mod ReadLines
+pub mod ReadParts
+pub mod ReadRest
+pub mod ReadSteps
 pub mod Ruled
 pub mod Shapes
+pub mod Spelled
+pub mod SpelledBuckets
+pub mod SpelledLines
+pub mod SpelledRules

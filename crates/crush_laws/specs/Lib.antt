@@ -1,5 +1,9 @@
 pub mod Admitted
+pub mod Document
+pub mod Example
 pub mod Final
 pub mod MapOrFlaw
+pub mod Meaning
 pub mod ReadingBack
+pub mod Spells
 pub mod Written

@@ -2,6 +2,7 @@
 use Rattle.std.specs.Prelude.{◌≡◌, ℕ, ◌==◌, Bool, true, false, not, ◌&&◌, List, [], ◌∷◌, ◌++◌, map}
 use Rattle.crush_table.specs.Table.{Row}
 use Rattle.crush_table.specs.Lawful.{Lawful}
+use Rattle.crush_table.specs.Reordered.{IsReordered}
 use Rattle.crush_table.specs.Same.{Same}
 use Rattle.crush_edits.specs.Setting.{KindData, SettingData}
 use Rattle.crush_edits.specs.Fits.{Fits}
@@ -15,6 +16,16 @@ printed_kind s n = record { number = n; name = kind_text s n }
 -- the setting with its types by ascending number; tunables and rules stay as they are
 abbrev pub in_order : SettingData → SettingData
 in_order s = record s { kinds = map (printed_kind s) (kind_numbers s) }
+
+-- two settings are the same but for the order of their types
+pub record SameSetting (s r : SettingData) : Type 0 where
+  pub kinds : IsReordered s.kinds r.kinds
+  pub tunables : s.tunables ≡ r.tunables
+  pub rules : s.rules ≡ r.rules
+
+-- a setting that fits is the same with its types in order
+abbrev pub InOrderIsTheSame : Type 0
+InOrderIsTheSame = (s : SettingData) (t : List Row) → Fits s t → SameSetting s (in_order s)
 
 -- the bytes are the text of a map with this setting and the same table, in which each written weight of a bucket is its sum
 pub record IsReadAs (bytes : List ℕ) (s : SettingData) (t : List Row) : Type 0 where

@@ -14,6 +14,7 @@ use Rattle.crush_laws.specs.ReadingBack.{in_order, IsReadAs, AreCommentLines}
 use Rattle.crush_calls.specs.declared.call.Call.{Call}
 use Rattle.crush_calls.specs.declared.call.Call.TheVariants.{One, Batch}
 use Rattle.crush_calls.specs.History.{EntryData, table_after, turns}
+use Rattle.crush_calls.specs.LawRun.{IsCall}
 use Rattle.crush_calls.specs.HistoryText.{entries_text, names_of}
 use Rattle.crush_script.specs.Job.{JobData, IsJob}
 use Rattle.crush_script.specs.JobText.{job_text}
@@ -49,6 +50,11 @@ HistoryLinesAreComments = (names : List (List ℕ)) (number : ℕ) (h : List Ent
 abbrev pub WhatIsWrittenIsReadBack : Type 0
 WhatIsWrittenIsReadBack = (s : SettingData) (t : List Row) (names : List (List ℕ)) (number : ℕ) (h : List EntryData) → Lawful t → Fits s t
     → All IsName names → IsNamedHistory h → IsReadAs (map_text s t ++ entries_text names number h) (in_order s) t
+
+-- THE TEXT OF ANY HISTORY: the map after it, and its lines, are read back as that map
+abbrev pub HistoryTextsAreReadBack : Type 0
+HistoryTextsAreReadBack = (s : SettingData) (t : List Row) (names : List (List ℕ)) (h : List EntryData) → Lawful t → Fits s t
+    → All IsName names → IsNamedHistory h → All (λ (e : EntryData). IsCall e.call) h → IsReadAs (job_text s t names h) (in_order s) (table_after s t h)
 
 -- THE MAP AFTER A JOB: whatever job bytes are, the table after its run is lawful, and the setting fits it
 abbrev pub JobsStayLawful : Type 0

@@ -1,9 +1,12 @@
-//! Laws of texts: each is one map or has one flaw, and what is printed of a map, or written of a
-//! run, is read back. There is no code here but functions whose contract is a law.
+//! Laws of texts: each is one map or has one flaw, that of a map is a lawful document, and what is
+//! printed of a map, or written of a run, is read back. There is no code here but functions whose
+//! contract is a law.
 #![tactic(auto)]
 
+mod documents;
 mod reading_back;
 mod texts;
 
+pub use documents::a_text_is_a_document;
 pub use reading_back::{what_is_printed_is_read_back, what_is_written_is_read_back};
 pub use texts::a_text_has_one_map_or_one_flaw;

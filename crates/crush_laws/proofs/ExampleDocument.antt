@@ -1,0 +1,44 @@
+-- The small document that was worked by hand.
+use Rattle.std.proofs.Common.{refl, inl, inr}
+use Rattle.std.specs.Prelude.{codes}
+use Rattle.crush_laws.specs.Example.{ExampleIsRight}
+
+pub example_is_right : ExampleIsRight
+example_is_right = record {
+  spelled = (
+    _,
+    (_, (codes "50", (refl, refl), refl), (_, (codes "1", (refl, refl), refl), (_, (codes "11", (refl, refl), refl), (_, (codes "0", _, (refl, refl), refl, refl), (_, (codes "01", _, (refl, refl), refl, refl), refl))))),
+    (
+      _,
+      record {
+        id = codes "-2";
+        behind_id = _;
+        behind_alg = _;
+        behind_hash = _;
+        head = refl;
+        number = (refl, refl);
+        class_ids = (_, (codes "-3", (refl, refl), refl), refl);
+        hash = inr (codes "0", (refl, refl), refl);
+        items = (_, (codes "0.5", refl, refl), (_, refl, refl));
+      },
+      (
+        _,
+        record {
+          id = codes "-1";
+          behind_id = _;
+          behind_alg = _;
+          behind_hash = _;
+          head = refl;
+          number = (refl, refl);
+          class_ids = refl;
+          hash = inl refl;
+          items = (_, (codes "2.0", refl, refl), refl);
+        },
+        refl,
+      ),
+    ),
+  );
+  setting = refl;
+  table = refl;
+  count = refl;
+}

@@ -1,0 +1,64 @@
+-- What was spelled word by word was spelled line by line.
+use Rattle.std.proofs.Common.{◌≡◌, ◌⊎◌, ℕ, zero, suc, true, List, [], ◌∷◌, ◌++◌, refl, sym, subst, inl, inr}
+use Rattle.std.proofs.lemmas.Bool.{cond_both}
+use Rattle.std.specs.Prelude.{drop}
+use Rattle.crush_map.specs.Built.{Draft}
+use Rattle.crush_bytes.specs.Words.{Word, texts, begins_with_key}
+use Rattle.crush_text.specs.Role.{value}
+use Rattle.crush_text.specs.Form.{Progress, Form, done, word, optional, ahead}
+use Rattle.crush_text.specs.Grammar.{next}
+use Rattle.crush_text.specs.Flow.{State, between, amid, arrive, is_idle}
+use Rattle.crush_text.specs.Document.{SpellsForm, Spell, IsWhole}
+use Rattle.crush_text.specs.Rows.{IsRight}
+
+-- A LINE, and the words behind it: each of its words is right, and an optional part is there or isn't
+abbrev pub Line : Draft → Form → List (List ℕ) → List (List ℕ) → Progress → Type 0
+Line d (done q) ws v p = (ws ≡ v) × (q ≡ p)
+Line d (word r more) ws v p = (w : List ℕ) × (us : List (List ℕ)) × (ws ≡ w ∷ us) × IsRight d r w × Line d (more (value d r w)) us v p
+Line d (optional k f g) ws v p = Line d f ws v p ⊎ Line d g ws v p
+Line d (ahead k f g) ws v p = Line d f ws v p ⊎ Line d g ws v p
+
+-- so many LINES to the end of the text
+abbrev pub Lines : ℕ → Progress → List (List ℕ) → Draft → Type 0
+Lines zero p ws e = (ws ≡ []) × (p.draft ≡ e) × (is_idle p.mode ≡ true)
+Lines (suc n) p ws e = (v : List (List ℕ)) × (q : Progress) × Line p.draft (next p) ws v q × Lines n q v e
+
+-- the rest of a line, and others
+abbrev Rest : Draft → Form → List (List ℕ) → Draft → Type 0
+Rest d f ws e = (v : List (List ℕ)) × (q : Progress) × (n : ℕ) × Line d f ws v q × Lines n q v e
+
+abbrev pub LinesFrom : State → List (List ℕ) → Draft → Type 0
+LinesFrom (between p) ws e = (n : ℕ) × Lines n p ws e
+LinesFrom (amid d f) ws e = Rest d f ws e
+
+arrived : (d : Draft) (rest : List Word) (f : Form) (ws : List (List ℕ)) (e : Draft) → LinesFrom (arrive d rest f) ws e → Rest d f ws e
+arrived d rest (done p) ws e h = (ws, p, h.0, (refl, refl), h.1)
+arrived d rest (word r more) ws e h = h
+arrived d rest (optional k f g) ws e h = cond_both (begins_with_key k rest) (arrive d rest f) (arrive d rest g) (λ s. LinesFrom s ws e → Rest d (optional k f g) ws e)
+    (λ _. λ x. let y = arrived d rest f ws e x in (y.0, y.1, y.2, inl y.3, y.4)) (λ _. λ x. let y = arrived d rest g ws e x in (y.0, y.1, y.2, inr y.3, y.4)) h
+arrived d rest (ahead k f g) ws e h = cond_both (begins_with_key k (drop 1 rest)) (arrive d rest f) (arrive d rest g) (λ s. LinesFrom s ws e → Rest d (ahead k f g) ws e)
+    (λ _. λ x. let y = arrived d rest f ws e x in (y.0, y.1, y.2, inl y.3, y.4)) (λ _. λ x. let y = arrived d rest g ws e x in (y.0, y.1, y.2, inr y.3, y.4)) h
+
+-- one more word
+before : (d : Draft) (f : Form) (w : List ℕ) (ws : List (List ℕ)) (rest : List Word) (u : State) (e : Draft) → SpellsForm d f w rest u → LinesFrom u ws e → Rest d f (w ∷ ws) e
+before d (word r more) w ws rest u e h k =
+    let y = arrived d rest (more (value d r w)) ws e (subst (λ (s : State). LinesFrom s ws e) h.1 k) in
+    (y.0, y.1, y.2, (w, ws, refl, h.0, y.3), y.4)
+before d (done p) w ws rest u e h k = absurd h
+before d (optional c f g) w ws rest u e h k = absurd h
+before d (ahead c f g) w ws rest u e h k = absurd h
+
+whole_lines : (s : State) (e : Draft) → IsWhole s e → LinesFrom s [] e
+whole_lines (between p) e h = (0, (refl, h.0, h.1))
+whole_lines (amid d f) e h = absurd h
+
+pub spelled_lines : (s : State) (ws : List Word) (last : State) (e : Draft) → Spell s ws [] last → IsWhole last e → LinesFrom s (texts ws) e
+spelled_lines s [] last e h whole = whole_lines s e (subst (λ (x : State). IsWhole x e) (sym h) whole)
+spelled_lines (between p) (w ∷ ws) last e h whole =
+    let y = before p.draft (next p) w.text (texts ws) (ws ++ []) h.0 e h.1 (spelled_lines h.0 ws last e h.2 whole) in
+    (suc y.2, (y.0, y.1, y.3, y.4))
+spelled_lines (amid d f) (w ∷ ws) last e h whole = before d f w.text (texts ws) (ws ++ []) h.0 e h.1 (spelled_lines h.0 ws last e h.2 whole)
+
+-- what comes of one and the same line
+pub along : (n : ℕ) (p q : Progress) (ws : List (List ℕ)) (e : Draft) → p ≡ q → Lines n q ws e → Lines n p ws e
+along n p q ws e is h = subst (λ (x : Progress). Lines n x ws e) (sym is) h

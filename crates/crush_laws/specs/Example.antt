@@ -1,0 +1,58 @@
+-- A SMALL DOCUMENT, worked by hand: two devices; a host, in which one of them is listed with a weight and one without; and a root,
+-- in which the host is listed with a weight that isn't its sum.
+use Rattle.std.specs.Prelude.{◌≡◌, ℕ, List, [], ◌∷◌, Some, None, codes}
+use Rattle.crush_units.specs.declared.alg.Alg.TheVariants.{Straw2}
+use Rattle.crush_units.specs.declared.id.ItemId.TheVariants.{Device, Bucket}
+use Rattle.crush_table.specs.Table.{Row}
+use Rattle.crush_edits.specs.Setting.{SettingData}
+use Rattle.crush_laws.specs.Document.{Document, tunable, kind, device, bucket}
+use Rattle.crush_laws.specs.Spells.{Spells}
+use Rattle.crush_laws.specs.Meaning.{setting_of, table_of, adjusted}
+
+-- what stands first, and then the host and the root
+abbrev pub example_words : List (List ℕ)
+example_words =
+    codes "tunable" ∷ codes "tries" ∷ codes "50" ∷ codes "type" ∷ codes "1" ∷ codes "host" ∷ codes "type" ∷ codes "11" ∷ codes "root"
+    ∷ codes "device" ∷ codes "0" ∷ codes "osd.0" ∷ codes "class" ∷ codes "ssd" ∷ codes "device" ∷ codes "01" ∷ codes "osd.1"
+    ∷ codes "host" ∷ codes "h1" ∷ codes "{" ∷ codes "id" ∷ codes "-2" ∷ codes "id" ∷ codes "-3" ∷ codes "class" ∷ codes "ssd" ∷ codes "alg" ∷ codes "straw2" ∷ codes "hash" ∷ codes "0"
+    ∷ codes "item" ∷ codes "osd.1" ∷ codes "weight" ∷ codes "0.5" ∷ codes "item" ∷ codes "osd.0" ∷ codes "}"
+    ∷ codes "root" ∷ codes "default" ∷ codes "{" ∷ codes "id" ∷ codes "-1" ∷ codes "alg" ∷ codes "straw2" ∷ codes "item" ∷ codes "h1" ∷ codes "weight" ∷ codes "2.0" ∷ codes "}" ∷ []
+
+abbrev pub example : Document
+example = record {
+  first = tunable (codes "tries") 50 ∷ kind 1 (codes "host") ∷ kind 11 (codes "root") ∷ device 0 (codes "osd.0") (Some (codes "ssd")) ∷ device 1 (codes "osd.1") None ∷ [];
+  second =
+      bucket (record {
+        kind = codes "host";
+        name = codes "h1";
+        id = 2;
+        class_ids = record { id = 3; class = codes "ssd" } ∷ [];
+        alg = Straw2;
+        items = record { name = codes "osd.1"; weight = Some 32768 } ∷ record { name = codes "osd.0"; weight = None } ∷ [];
+      })
+      ∷ bucket (record { kind = codes "root"; name = codes "default"; id = 1; class_ids = []; alg = Straw2; items = record { name = codes "h1"; weight = Some 131072 } ∷ [] })
+      ∷ [];
+}
+
+abbrev pub example_setting : SettingData
+example_setting = record {
+  kinds = record { number = 1; name = codes "host" } ∷ record { number = 11; name = codes "root" } ∷ [];
+  tunables = record { name = codes "tries"; value = 50 } ∷ [];
+  rules = [];
+}
+
+-- the devices stand behind the host, as they are listed, and the host behind the root
+abbrev pub example_table : List Row
+example_table =
+    record { id = Device 1; kind = 0; name = codes "osd.1"; parent = Some 2; weight = 32768; class = None; alg = None; class_ids = [] }
+    ∷ record { id = Device 0; kind = 0; name = codes "osd.0"; parent = Some 2; weight = 65536; class = Some (codes "ssd"); alg = None; class_ids = [] }
+    ∷ record { id = Bucket 1; kind = 11; name = codes "default"; parent = None; weight = 0; class = None; alg = Some Straw2; class_ids = [] }
+    ∷ record { id = Bucket 2; kind = 1; name = codes "h1"; parent = Some 1; weight = 0; class = None; alg = Some Straw2; class_ids = record { id = 3; class = codes "ssd" } ∷ [] }
+    ∷ []
+
+-- the words spell it; it means this setting and this table, and one weight is adjusted
+pub record ExampleIsRight : Type 0 where
+  pub spelled : Spells example_words example
+  pub setting : setting_of example ≡ example_setting
+  pub table : table_of example ≡ example_table
+  pub count : adjusted example ≡ 1
