@@ -1,5 +1,5 @@
 -- What a writer holds after a text was written to it, or a front of it.
-use Rattle.std.specs.Prelude.{◌≡◌, ℕ, List, ◌++◌, Option, Result, Ok, Err}
+use Rattle.std.specs.Prelude.{◌≡◌, ◌<◌, ℕ, List, ◌++◌, Option, Result, Ok, Err, length}
 use Rattle.std.specs.Io.KnownBytes.{Appends}
 use Rattle.crush_bytes.specs.declared.write.WriteFault.{WriteFault}
 use Rattle.crush_bytes.specs.declared.write.WriteFault.TheVariants.{Write, OutOfMemory}
@@ -8,10 +8,14 @@ use Rattle.crush_bytes.specs.declared.write.WriteFault.TheVariants.{Write, OutOf
 abbrev pub AppendsFront : Option (List ℕ) → Option (List ℕ) → List ℕ → Type 0
 AppendsFront old new text = (front : List ℕ) × (rest : List ℕ) × (text ≡ front ++ rest) × Appends old new front
 
--- known bytes grow by the whole text, or after an error by a front of it
+-- known bytes grow by a front of the text that isn't the whole
+abbrev pub AppendsLess : Option (List ℕ) → Option (List ℕ) → List ℕ → Type 0
+AppendsLess old new text = (front : List ℕ) × (rest : List ℕ) × (text ≡ front ++ rest) × (0 < length rest) × Appends old new front
+
+-- known bytes grow by the whole text, or after an error by a front of it that isn't the whole
 abbrev pub Writes : {X E : Type 0} → Result X E → Option (List ℕ) → Option (List ℕ) → List ℕ → Type 0
 Writes (Ok x) old new text = Appends old new text
-Writes (Err e) old new text = AppendsFront old new text
+Writes (Err e) old new text = AppendsLess old new text
 
 -- the number of a fault
 abbrev pub write_fault_number : WriteFault → ℕ

@@ -3,12 +3,12 @@ use Rattle.std.proofs.Common.{◌≡◌, ℕ, List, [], ◌++◌, Option, Result
 use Rattle.std.proofs.lemmas.List.{append-nil}
 use Rattle.std.specs.Io.KnownBytes.{Appends}
 use Rattle.crush_bytes.specs.Writes.{Writes}
-use Rattle.crush_bytes.proofs.Appending.{appends_both, then_front}
+use Rattle.crush_bytes.proofs.Appending.{appends_both, then_less}
 
 -- a text that is written whole, and then another
 pub then_writes : {X E : Type 0} (r : Result X E) (a b c : Option (List ℕ)) (x y : List ℕ) → Appends a b x → Writes r b c y → Writes r a c (x ++ y)
 then_writes (Ok v) a b c x y first second = appends_both a b c x y first second
-then_writes (Err e) a b c x y first second = then_front a b c x y first second
+then_writes (Err e) a b c x y first second = then_less a b c x y first second
 
 -- three parts as one text
 pub three_parts : (x y z : List ℕ) → x ++ (y ++ (z ++ [])) ≡ x ++ y ++ z

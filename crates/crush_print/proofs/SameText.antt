@@ -1,5 +1,5 @@
 -- Tables that are the same, but for the order of their rows, print the same text.
-use Rattle.std.proofs.Common.{◌≡◌, ℕ, zero, suc, List, [], ◌++◌, refl, ap, ◌∙◌}
+use Rattle.std.proofs.Common.{◌≡◌, ◌<◌, ℕ, zero, suc, arith, List, [], ◌++◌, refl, ap, ◌∙◌}
 use Rattle.std.specs.Prelude.{flat_map, length, codes, unwrap_or}
 use Rattle.std.specs.Option.{option_map, option_map_or}
 use Rattle.crush_units.specs.declared.id.ItemId.{ItemId}
@@ -72,3 +72,8 @@ unfolding map_text device_section bucket_section rule_section
 map_text-same s t u l same =
     λ k. tunable_section s ++ (codes "\n# devices\n" ++ device_lines-same s t u l same k) ++ kind_section s ++ (codes "\n# buckets\n" ++ root_texts-same s t u l same k)
     ++ (codes "\n# rules\n" ++ flat_map (λ r. rule_lines-same s t u l same r k) s.rules) ++ codes "\n# end crush map\n"
+
+-- a map's text isn't empty: it begins with its first heading
+pub map_text_is_some : (s : SettingData) (t : List Row) → 0 < length (map_text s t)
+unfolding map_text tunable_section
+map_text_is_some s t = omega arith

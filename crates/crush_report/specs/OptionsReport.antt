@@ -1,6 +1,7 @@
 -- What is told of a command line that asks for no run, and the status.
 use Rattle.std.specs.Prelude.{◌≡◌, ◌⊎◌, ℕ, List, [], Option}
 use Rattle.std.specs.Io.KnownBytes.{Appends, Keeps}
+use Rattle.crush_bytes.specs.Writes.{AppendsLess}
 use Rattle.crush_options.specs.declared.asked.OptionsFault.{OptionsFault}
 use Rattle.crush_options.specs.declared.asked.OptionsFault.TheVariants.{Help, Refused, Memory}
 use Rattle.crush_report.specs.Report.{run_fault}
@@ -24,7 +25,8 @@ options_error (Help text) = run_fault run.Write
 options_error (Refused text) = text.bytes.items
 options_error Memory = run_fault run.Memory
 
--- help that ends with status 0 stands on standard output as a whole, and nothing on standard error
+-- help that ends with status 0 stands on standard output as a whole, and nothing on standard error; with status 3 its whole
+-- doesn't stand there
 abbrev pub IsHelpWhole : OptionsFault → ℕ → Option (List ℕ) → Option (List ℕ) → Option (List ℕ) → Option (List ℕ) → Type 0
-IsHelpWhole (Help text) status out new_out err new_err = status ≡ 0 → Appends out new_out text.bytes.items × Keeps err new_err
+IsHelpWhole (Help text) status out new_out err new_err = (status ≡ 0 → Appends out new_out text.bytes.items × Keeps err new_err) × (status ≡ 3 → AppendsLess out new_out text.bytes.items)
 IsHelpWhole fault status out new_out err new_err = Unit {0}

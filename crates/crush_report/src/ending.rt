@@ -1,6 +1,6 @@
 //! What a run tells on standard error, and the status with which the program ends.
 
-ghost use Rattle.std.specs.Prelude.{◌≡◌};
+ghost use Rattle.std.specs.Prelude.{◌≡◌, IfOk};
 ghost use Rattle.crush_bytes.specs.Writes.{Writes, AppendsFront};
 ghost use Rattle.crush_report.specs.OptionsReport.{IsHelpWhole, IsOptionsStatus, options_error, options_output};
 ghost use Rattle.crush_report.specs.Report.{adjusted_line, line_fault, text_fault, job_fault, run_fault, report_line, status};
@@ -12,6 +12,7 @@ use crush_options::OptionsFault;
 use crush_script::JobFault;
 use crush_text::TextFault;
 use itoa::Buffer;
+use std::alloc::{AllocError, Global};
 use std::io::Write;
 
 /// The line of want of memory, wherever it comes.
@@ -118,6 +119,35 @@ fn write_report<E: Write>(
     }
 }
 
+/// Puts the one line, or what of it standard error takes.
+fn put_report<E: Write>(outcome: &Result<Summary, RunFault>, err: &mut E)
+    ensures { AppendsFront (E.contents err.old) (E.contents err.new)
+        (report_line outcome.now) }
+{
+    let _ = write_report(outcome, err);
+}
+
+/// Puts the bytes, or what of them standard error takes.
+fn put_front<E: Write>(bytes: &[u8], err: &mut E)
+    ensures { AppendsFront (E.contents err.old) (E.contents err.new) bytes.now }
+{
+    let _ = put(err, bytes);
+}
+
+/// The line that [`report`] puts to standard error, line feed and all, or no byte where it puts none.
+pub fn report_line(
+    alloc: Global,
+    outcome: &Result<Summary, RunFault>,
+) -> Result<Vec<u8>, AllocError>
+    ensures { IfOk result (λ line. line.items ≡ report_line outcome.now) }
+{
+    let mut line = Vec::new(alloc);
+    let Ok(()) = write_report(outcome, &mut line) else {
+        return Err(AllocError);
+    };
+    Ok(line)
+}
+
 /// Writes the one line of standard error and answers the status.
 ///
 /// | Status | When | Line |
@@ -134,7 +164,7 @@ pub fn report<E: Write>(outcome: &Result<Summary, RunFault>, err: &mut E) -> u8
     ensures line { AppendsFront (E.contents err.old) (E.contents err.new)
         (report_line outcome.now) }
 {
-    let _ = write_report(outcome, err);
+    put_report(outcome, err);
     match outcome {
         Ok(_) => 0,
         Err(RunFault::Memory | RunFault::Thread) => 4,
@@ -145,8 +175,8 @@ pub fn report<E: Write>(outcome: &Result<Summary, RunFault>, err: &mut E) -> u8
 }
 
 /// Writes the text of a command line that asks for no run, and answers the status: of help, on
-/// standard output, 0 where all of it stands there and else 3; of a refusal, on standard error,
-/// 2; and 4 where there was no memory.
+/// standard output, 0 where all of it stands there, and 3 where a front of it does that isn't the
+/// whole; of a refusal, on standard error, 2; and 4 where there was no memory.
 pub fn tell<W: Write, E: Write>(fault: &OptionsFault, out: &mut W, err: &mut E) -> u8
     ensures status { IsOptionsStatus fault.now result }
     ensures out { AppendsFront (W.contents out.old) (W.contents out.new)
@@ -162,7 +192,7 @@ pub fn tell<W: Write, E: Write>(fault: &OptionsFault, out: &mut W, err: &mut E) 
             Err(_) => report(&Err(RunFault::Write), err),
         },
         OptionsFault::Refused(text) => {
-            let _ = put(err, text.as_bytes());
+            put_front(text.as_bytes(), err);
             2
         }
         OptionsFault::Memory => report(&Err(RunFault::Memory), err),

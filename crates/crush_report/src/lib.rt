@@ -6,6 +6,6 @@ mod ending;
 mod fault;
 mod summary;
 
-pub use ending::{report, tell};
+pub use ending::{report, report_line, tell};
 pub use fault::RunFault;
 pub use summary::Summary;

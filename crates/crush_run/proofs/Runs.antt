@@ -1,9 +1,9 @@
 -- Runs of a job: in turn, at once, and where nothing came of one.
 use Rattle.std.proofs.Common.{◌≡◌, ℕ, zero, suc, ◌<◌, ◌≤◌, ◌==◌, Bool, true, false, List, [], ◌∷◌, ◌++◌, Option, Result, Ok, Err, length, map, filter, nat_lt, refl, sym, ap, subst, ◌∙◌, arith, rules, tests}
 use Rattle.std.specs.Prelude.{IfOk}
-use Rattle.std.proofs.lemmas.List.{append-nil, length-map}
+use Rattle.std.proofs.lemmas.List.{append-nil, length-append, length-map}
 use Rattle.std.proofs.lemmas.List.Elements.{All-nil, All-cons}
-use Rattle.crush_bytes.specs.Writes.{AppendsFront}
+use Rattle.crush_bytes.specs.Writes.{AppendsLess}
 use Rattle.crush_table.specs.Table.{Row}
 use Rattle.crush_edits.specs.Setting.{SettingData}
 use Rattle.crush_map.specs.MapData.{MapData, MapStands}
@@ -16,6 +16,7 @@ use Rattle.crush_calls.specs.History.{EntryData, IsLegal, changes, of_operator, 
 use Rattle.crush_calls.specs.Turns.{calls_at, calls_of}
 use Rattle.crush_calls.specs.HistoryText.{entries_text, names_of}
 use Rattle.crush_print.specs.MapText.{map_text}
+use Rattle.crush_print.proofs.SameText.{map_text_is_some}
 use Rattle.crush_calls.proofs.Histories.{turns_are_history}
 use Rattle.crush_editor.specs.Book.{MakesAll}
 use Rattle.crush_report.specs.declared.fault.RunFault.{RunFault}
@@ -100,16 +101,23 @@ pub outcome_text : (history : Bool) (job : JobData) (s : SettingData) (scripts :
 outcome_text true job s scripts h es setting same entries = λ i. map_text (setting i) (table_after job.setting job.table h) ++ entries_text (names_of (same i)) 1 (entries i)
 outcome_text false job s scripts h es setting same entries = append-nil (map_text s (table_after job.setting job.table h)) ∙ ap (λ (x : SettingData). map_text x (table_after job.setting job.table h)) setting
 
--- a run of which a front was written
+-- no output is empty: it begins with a map's text
+output_is_some : (history : Bool) (job : JobData) (h : List EntryData) → 0 < length (output_of history job h)
+output_is_some true job h =
+    let some = map_text_is_some job.setting (table_after job.setting job.table h) in
+    simp length-append (omega (arith, some))
+output_is_some false job h = map_text_is_some job.setting (table_after job.setting job.table h)
+
+-- a run of which a front was written, and not the whole
 pub ended_by : (mode : Mode) (job : JobData) (r : Result Summary RunFault) (f : RunFault) (old new : Option (List ℕ)) (h : List EntryData) → r ≡ Err f → IsRunOf mode.in_turn job h
-    → AppendsFront old new (output_of mode.history job h) → Ends mode job r old new
-ended_by mode job r f old new h is run front = record { history = h; run = run; writes = rw is front; summary = rw is tt }
+    → AppendsLess old new (output_of mode.history job h) → Ends mode job r old new
+ended_by mode job r f old new h is run less = record { history = h; run = run; writes = rw is less; summary = rw is tt }
 
 -- where nothing was written of a job, nothing is a front of what its turns would have had written
 pub ended_early : (mode : Mode) (job : JobData) (r : Result Summary RunFault) (f : RunFault) (old : Option (List ℕ)) → r ≡ Err f → Ends mode job r old old
 ended_early mode job r f old is =
     let h = turns job.setting job.table job.scripts in
-    record { history = h; run = turns_run mode.in_turn job; writes = nothing_written r f old (output_of mode.history job h) is; summary = rw is tt }
+    record { history = h; run = turns_run mode.in_turn job; writes = nothing_written r f old (output_of mode.history job h) (output_is_some mode.history job h) is; summary = rw is tt }
 
 -- what follows of one promise of a run that was done, and of two
 pub when_ok : {X E : Type 0} (P Q : X → Type 0) (r : Result X E) → ((x : X) → P x → Q x) → IfOk r P → IfOk r Q

@@ -1,8 +1,8 @@
 -- What is known of the bytes of a job is known of all that the reader gave.
-use Rattle.std.proofs.Common.{◌≡◌, ℕ, ◌≤◌, Bool, true, false, cond, List, [], Option, Some, None, Result, Ok, Err, length, take, refl, sym, ap, subst, ◌∙◌, arith}
+use Rattle.std.proofs.Common.{◌≡◌, ℕ, ◌≤◌, ◌<◌, Bool, true, false, cond, List, [], Option, Some, None, Result, Ok, Err, length, take, refl, sym, ap, subst, ◌∙◌, arith}
 use Rattle.std.specs.Prelude.{IfOk, IfErr, IfSome}
 use Rattle.crush_bytes.specs.Writes.{Writes}
-use Rattle.crush_bytes.proofs.Appending.{appends_nothing}
+use Rattle.crush_bytes.proofs.Appending.{nothing_is_less}
 use Rattle.std.proofs.lemmas.List.{take_all, length-take}
 use Rattle.crush_script.specs.Job.{HasJob, IsJob, IsJobFault, JobData}
 use Rattle.crush_script.specs.declared.fault.JobFault.{JobFault}
@@ -52,9 +52,9 @@ job_of_all all bytes xs job e short is_xs is =
     let front : bytes ≡ take 16777217 xs = subst (λ (o : Option (List ℕ)). IfSome o (λ ys. bytes ≡ take 16777217 ys)) is_xs e in
     subst (λ (z : List ℕ). IsJob z job) (sym (all_read bytes xs front short)) is
 
--- after a fault before anything was written, nothing is a front of the output
-pub nothing_written : (r : Result Summary RunFault) (f : RunFault) (old : Option (List ℕ)) (text : List ℕ) → r ≡ Err f → Writes r old old text
-nothing_written r f old text e = rw e ([], text, refl, appends_nothing old)
+-- after a fault before anything was written, nothing is a front of the output, which isn't empty
+pub nothing_written : (r : Result Summary RunFault) (f : RunFault) (old : Option (List ℕ)) (text : List ℕ) → 0 < length text → r ≡ Err f → Writes r old old text
+nothing_written r f old text some e = rw e (nothing_is_less old text some)
 
 -- a fault of the bytes read is one of all bytes
 fault_of_all : (all : Option (List ℕ)) (bytes : List ℕ) (f : JobFault) → IfSome all (λ xs. bytes ≡ take 16777217 xs) → length bytes ≤ 16777216 → IsJobFault bytes f → IfSome all (λ xs. IsJobFault xs f)

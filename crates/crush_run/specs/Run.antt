@@ -33,7 +33,8 @@ output_of history job h =
 abbrev pub summary_of : JobData → List EntryData → Summary
 summary_of job h = record { adjusted = job.adjusted; calls = length h; changes = changes h }
 
--- ENDS: there is a run of the job whose output is written, or after a fault a front of it, and which the summary sums up
+-- ENDS: there is a run of the job whose output is written, or after a fault a front of it that isn't the whole, and which the
+-- summary sums up
 pub record Ends (mode : Mode) (job : JobData) (result : Result Summary RunFault) (old new : Option (List ℕ)) : Type 0 where
   pub history : List EntryData
   pub run : IsRunOf mode.in_turn job history

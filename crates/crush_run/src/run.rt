@@ -136,7 +136,8 @@ fn run_read<H: AllocGlobal + Threads + Wait + Sync, G: Gate + Sync, W: Write>(
 /// the calls come in an order that nothing but their scripts orders. The gate is called before and
 /// after each call.
 ///
-/// After [`RunFault::Write`] a front of the output was written, after any other fault nothing.
+/// After [`RunFault::Write`] a front of the output was written, and never the whole, after any other
+/// fault nothing.
 /// [`RunFault::Job`] says what is wrong with the bytes, and never that memory lacked, which is
 /// [`RunFault::Memory`]; of bytes that are no job it is never told that a write failed, nor that a
 /// thread couldn't be started, which is [`RunFault::Thread`] and never told in turn. The reader is
@@ -152,7 +153,7 @@ pub fn run_job<H: AllocGlobal + Threads + Wait + Sync, G: Gate + Sync, R: Read, 
     ensures job { IfOk result (λ _. IfSome (R.remaining reader.old) HasJob) }
 
     // For whatever job the bytes are, there is a run of it whose output is written, or after a
-    // fault a front of that, and which the summary sums up.
+    // fault a front of that which isn't the whole, and which the summary sums up.
     ensures output { (bytes : List ℕ) (job : JobData) → R.remaining reader.old ≡ Some bytes
         → IsJob bytes job
         → Ends mode job result (W.contents writer.old) (W.contents writer.new) }

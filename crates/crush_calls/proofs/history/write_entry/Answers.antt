@@ -1,17 +1,17 @@
 use Rattle.std.proofs.lemmas.Result.{err_from_is_err_and}
-use Rattle.crush_bytes.proofs.Appending.{front_of_both, then_front}
+use Rattle.crush_bytes.proofs.Appending.{less_of_both, then_less}
 use Rattle.crush_calls.proofs.Writing.{then_writes}
 use Rattle.crush_calls.proofs.history.write_entry.Goals as goal
 
 pub returns-in_err-write_front-clause-writes : goal.returns-in_err-write_front-clause-writes
 returns-in_err-write_front-clause-writes g c =
     let p = err_from_is_err_and c.from_residual.result c.from_residual.ensures.1 in
-    rw p.1 (front_of_both _ _ _ _ c.in_err-write_front.ensures.writes)
+    rw p.1 (less_of_both _ _ _ _ c.in_err-write_front.ensures.writes)
 
 pub returns-in_err-write_call-clause-writes : goal.returns-in_err-write_call-clause-writes
 returns-in_err-write_call-clause-writes g c =
     let p = err_from_is_err_and c.from_residual-in_err-write_call.result c.from_residual-in_err-write_call.ensures.1 in
-    rw p.1 (then_front _ _ _ _ _ c.in_ok-write_front.ensures.writes (front_of_both _ _ _ _ c.in_err-write_call.ensures.writes))
+    rw p.1 (then_less _ _ _ _ _ c.in_ok-write_front.ensures.writes (less_of_both _ _ _ _ c.in_err-write_call.ensures.writes))
 
 pub returns-clause-writes : goal.returns-clause-writes
 returns-clause-writes g c =

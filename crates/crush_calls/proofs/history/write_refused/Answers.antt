@@ -1,5 +1,5 @@
 use Rattle.std.proofs.lemmas.Result.{err_from_is_err_and}
-use Rattle.crush_bytes.proofs.Appending.{front_of_both}
+use Rattle.crush_bytes.proofs.Appending.{less_of_both}
 use Rattle.crush_calls.specs.HistoryText.{line_end}
 use Rattle.crush_calls.proofs.Writing.{then_writes}
 use Rattle.crush_calls.proofs.history.write_refused.Goals as goal
@@ -8,7 +8,7 @@ pub returns-in_err-put-clause-writes : goal.returns-in_err-put-clause-writes
 unfolding line_end
 returns-in_err-put-clause-writes g c =
     let p = err_from_is_err_and c.from_residual.result c.from_residual.ensures.1 in
-    rw p.1 (front_of_both _ _ _ _ c.in_err-put.ensures.writes)
+    rw p.1 (less_of_both _ _ _ _ c.in_err-put.ensures.writes)
 
 pub returns-clause-writes : goal.returns-clause-writes
 unfolding line_end

@@ -1,7 +1,7 @@
 use Rattle.std.proofs.Common.{◌≡◌, ap, sym, subst, ◌∙◌, length}
 use Rattle.std.specs.Io.KnownBytes.{Appends}
 use Rattle.std.proofs.lemmas.Result.{err_from_is_err_and}
-use Rattle.crush_bytes.specs.Writes.{AppendsFront}
+use Rattle.crush_bytes.specs.Writes.{AppendsLess}
 use Rattle.crush_calls.specs.History.{changes}
 use Rattle.crush_calls.specs.Script.{scripts_data}
 use Rattle.crush_run.proofs.Runs.{ended_by, ended_early, outcome_text}
@@ -19,7 +19,7 @@ returns-in_err-write_outcome-clause-ends g c = λ read stands.
     let ran = c.in_ok-closed.ensures.runs read stands.map same in
     let h = c.in_ok-closed.closed.history.items in
     let text = outcome_text c.args.mode.history read c.in_ok-closed.closed.map.setting _ h c.as_slice-entries.result.now ran.stands.setting same c.as_slice-entries.ensures.value in
-    ended_by c.args.mode read _ _ _ _ h p.1 ran.run (subst (AppendsFront _ _) text (c.in_err-write_outcome.ensures.writes _ ran.stands.forest))
+    ended_by c.args.mode read _ _ _ _ h p.1 ran.run (subst (AppendsLess _ _) text (c.in_err-write_outcome.ensures.writes _ ran.stands.forest))
 
 pub returns-in_err-write_outcome-clause-nothing : goal.returns-in_err-write_outcome-clause-nothing
 returns-in_err-write_outcome-clause-nothing g c =
