@@ -8,19 +8,22 @@ use std::io::{self, ErrorKind, Read, Write};
 use std::sync::Wait;
 use std::thread::Threads;
 
-/// Gives at most 16 bytes a read, and answers an error at one of the reads, counted from 0.
+/// Gives at most 16 bytes a read, and answers an error at one of the reads, counted from 0, and at
+/// no other: who asked again would get the rest.
 #[derive(Drop)]
 struct FailingReader<'a> {
     bytes: &'a [u8],
-    reads_left: usize,
+    asked: usize,
+    failing: usize,
 }
 
 impl Read for FailingReader<'_> {
     fn read(&mut self, buf: &mut [u8]) -> io::Result<usize> {
-        if self.reads_left == 0 {
+        let number = self.asked;
+        self.asked = number.saturating_add(1);
+        if number == self.failing {
             return Err(ErrorKind::Other.into());
         }
-        self.reads_left -= 1;
         let most = buf.len().min(self.bytes.len()).min(16);
         let (now, later) = self.bytes.split_at(most);
         buf[..most].copy_from_slice(now);
@@ -29,7 +32,8 @@ impl Read for FailingReader<'_> {
     }
 }
 
-/// Takes at most 7 bytes a write, as long as it has room, and then answers an error or takes none.
+/// Takes at most 7 bytes a write, as long as it has room. The next write it answers by an error or
+/// takes nothing of it, and then it takes whatever comes: who wrote again would get all out.
 #[derive(Drop)]
 struct FailingWriter {
     taken: Vec<u8>,
@@ -40,8 +44,13 @@ struct FailingWriter {
 impl Write for FailingWriter {
     fn write(&mut self, bytes: &[u8]) -> io::Result<usize> {
         let most = bytes.len().min(self.room).min(7);
-        if most == 0 && self.answers_error {
-            return Err(ErrorKind::Other.into());
+        if most == 0 {
+            self.room = usize::MAX;
+            return if self.answers_error {
+                Err(ErrorKind::Other.into())
+            } else {
+                Ok(0)
+            };
         }
         self.room -= most;
         let (now, _) = bytes.split_at(most);
@@ -74,15 +83,12 @@ impl Read for EndlessReader {
 /// What the operator of these jobs commands.
 const SCRIPT: &[u8] = b"%operator a\nreweight osd.2 1.0\n";
 
-/// Whether nothing is written where so many reads of the job are answered.
-fn stops_at(
-    rt: &(impl AllocGlobal + Threads + Wait + Sync),
-    job: &[u8],
-    reads_left: usize,
-) -> bool {
+/// Whether nothing is written where the read of that number fails.
+fn stops_at(rt: &(impl AllocGlobal + Threads + Wait + Sync), job: &[u8], failing: usize) -> bool {
     let mut reader = FailingReader {
         bytes: job,
-        reads_left,
+        asked: 0,
+        failing,
     };
     let mut out = Vec::new(rt.alloc());
     let outcome = run_job(rt, &NoGate, MODE, &mut reader, &mut out);
@@ -94,8 +100,8 @@ fn stops_at(
 #[test]
 fn stops_at_a_failed_read(rt: HostRuntime) {
     let job = joined(&rt, PLAIN, SCRIPT);
-    for reads_left in 0..job.len() / 16 + 1 {
-        assert!(rt; stops_at(&rt, job.as_slice(), reads_left));
+    for failing in 0..job.len() / 16 + 1 {
+        assert!(rt; stops_at(&rt, job.as_slice(), failing));
     }
 }
 

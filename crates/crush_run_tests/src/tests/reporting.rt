@@ -3,7 +3,7 @@
 use crate::tests::is_told;
 use crush_bytes::WriteFault;
 use crush_options::OptionsFault;
-use crush_report::{RunFault, report, tell};
+use crush_report::{RunFault, report, report_line, tell};
 use crush_script::JobFault;
 use std::alloc::AllocError;
 use std::io::{self, ErrorKind, Write};
@@ -30,6 +30,12 @@ fn reports_what_no_run_here_comes_to(rt: HostRuntime) {
             && is_told(&rt, &calls, b"crushedit: line 65579: TooManyCalls\n", 1)
             && is_one_fault()
     );
+}
+
+#[test]
+fn answers_the_line_of_a_run_that_was_not_done(rt: HostRuntime) {
+    let line = report_line(rt.alloc(), &Err(RunFault::Thread)).expect(&rt, "no memory");
+    assert!(rt; line.as_slice() == b"crushedit: no thread\n".as_slice());
 }
 
 /// Answers an error to each write.

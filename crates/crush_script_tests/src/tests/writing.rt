@@ -3,7 +3,8 @@
 use crush_bytes::{WriteFault, put, put_all};
 use std::io::{self, Error, ErrorKind, Write};
 
-/// Takes at most seven bytes at a call. It takes `room` bytes in all, and then fails or takes none.
+/// Takes at most seven bytes at a call. When it has `room` bytes it fails once, or takes none, and
+/// then it takes whatever comes: who wrote again would get all out.
 #[derive(Drop)]
 struct Slow {
     held: Vec<u8>,
@@ -14,8 +15,13 @@ struct Slow {
 impl Write for Slow {
     fn write(&mut self, buf: &[u8]) -> io::Result<usize> {
         let count = buf.len().min(7).min(self.room);
-        if count == 0 && self.fails {
-            return Err(Error::from(ErrorKind::WouldBlock));
+        if count == 0 {
+            self.room = usize::MAX;
+            return if self.fails {
+                Err(Error::from(ErrorKind::WouldBlock))
+            } else {
+                Ok(0)
+            };
         }
         self.held.extend_from_slice(&buf[..count])?;
         self.room -= count;
