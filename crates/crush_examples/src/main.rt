@@ -3,13 +3,12 @@
 //! then those of the file `records`.
 #![tactic(auto)]
 
-use crush_options::{Mode, Options, options};
+use crush_options::{Mode, options};
 use crush_report::{RunFault, Summary, report};
-use crush_run::{NoGate, run_job};
-use std::fs::{self, File};
-use std::io;
+use crush_run::{NoGate, run_job, run_options};
 use std::sync::Wait;
 use std::thread::Threads;
+use std::{fs, io};
 
 fn main(rt: HostRuntime) -> io::Result<()> {
     let lines = fs::read_to_string(&rt, "jobs")?;
@@ -76,26 +75,11 @@ fn run_line(
     let read = options(rt.alloc(), words.as_slice());
     drop(words);
     let outcome = match &read {
-        Ok(options) => run_options(rt, workers, options),
+        Ok(options) => run_options(workers, rt, options, &mut rt.stdin(), &mut rt.stdout()),
         Err(_) => Err(RunFault::Read),
     };
     drop(read);
     outcome
-}
-
-/// Runs the job of the file that is named.
-fn run_options(
-    rt: &HostRuntime,
-    workers: &(impl AllocGlobal + Threads + Wait + Sync),
-    options: &Options,
-) -> Result<Summary, RunFault> {
-    let Some(name) = &options.file else {
-        return Err(RunFault::Read);
-    };
-    let Ok(mut file) = File::open(rt, name.as_str()) else {
-        return Err(RunFault::Read);
-    };
-    run_job(workers, &NoGate, options.mode, &mut file, &mut rt.stdout())
 }
 
 /// Prints what a run comes to, what standard error is told of it, and the status.

@@ -2,17 +2,18 @@
 #![tactic(auto)]
 
 use crush_options::{Options, OptionsFault, options};
-use crush_report::{RunFault, Summary, report, tell};
-use crush_run::{NoGate, run_job};
-use std::fs::File;
+use crush_report::{report, tell};
+use crush_run::run_options;
 use std::io::ErrorKind;
 use std::process::ExitCode;
-use std::sync::Wait;
-use std::thread::Threads;
 
 fn main(rt: HostRuntime) -> ExitCode {
     let status = match read_options(&rt) {
-        Ok(options) => report(&run_options(&rt, &rt, &options), &mut rt.stderr()),
+        Ok(options) => {
+            let (mut input, mut output) = (rt.stdin(), rt.stdout());
+            let outcome = run_options(&rt, &rt, &options, &mut input, &mut output);
+            report(&outcome, &mut rt.stderr())
+        }
         Err(fault) => tell(&fault, &mut rt.stdout(), &mut rt.stderr()),
     };
     ExitCode::from(status)
@@ -38,26 +39,4 @@ fn words_behind_name(rt: &HostRuntime) -> Result<Vec<String>, OptionsFault> {
         }
         Err(_) => Err(OptionsFault::Memory),
     }
-}
-
-/// Runs the job of the file that is named, or else of standard input. A file that can't be opened
-/// is one that can't be read.
-fn run_options(
-    rt: &HostRuntime,
-    workers: &(impl AllocGlobal + Threads + Wait + Sync),
-    options: &Options,
-) -> Result<Summary, RunFault> {
-    let Some(name) = &options.file else {
-        return run_job(
-            workers,
-            &NoGate,
-            options.mode,
-            &mut rt.stdin(),
-            &mut rt.stdout(),
-        );
-    };
-    let Ok(mut file) = File::open(rt, name.as_str()) else {
-        return Err(RunFault::Read);
-    };
-    run_job(workers, &NoGate, options.mode, &mut file, &mut rt.stdout())
 }
