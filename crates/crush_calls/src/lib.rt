@@ -1,5 +1,5 @@
-//! What operators ask of a map and what it answers: calls and replies, scripts of calls, their runs
-//! in turn, and the lines of a history.
+//! What operators ask of a map and what it answers: calls and replies, scripts of calls, what
+//! scripts in turn come to, and the lines of a history.
 #![tactic(auto)]
 
 mod call;
@@ -9,7 +9,6 @@ mod law;
 mod making;
 mod printed;
 mod script;
-mod turns;
 
 pub use call::{Call, Edits, Reply};
 pub use entry::{Entry, Slip, count_changes, is_change};
@@ -17,4 +16,3 @@ pub use history::{history_text, write_entry};
 pub use law::{runs_keep_lawful, turns_are_history};
 pub use making::make_call;
 pub use script::Script;
-pub use turns::run_in_turn;
