@@ -1,0 +1,39 @@
+-- What a thread takes with it crosses threads.
+use denote.RattleType.{RattleType}
+use denote.Param.{param}
+use denote.Param.Send.{IsSend, IsSync, sendable}
+use denote.Param.SendFields.{FieldsHave, declared_send}
+use denote.Ref.{NamedLft}
+use denote.Struct.Field.{shr_ref_field, shr_slice_field}
+use denote.Struct.Tuple.{TupleAt, type_at, parts}
+use mathlib.Core.List.{List, [], ◌∷◌}
+use mir.Syntax.{Sym}
+use Rattle.std.proofs.Crossing.{crosses}
+use Rattle.std.specs.contracts.alloc.Global as Global
+use Rattle.std.specs.declared.sync.ledger.Ledger as Ledger
+use Rattle.crush_calls.specs.contracts.call.Call as Call
+use Rattle.crush_calls.proofs.call.Call.TheSendSync.{the_sync as call_sync}
+use Rattle.crush_editor.specs.declared.locked.Desk as Desk
+use Rattle.crush_editor.specs.contracts.locked.Seat as Seat
+use Rattle.crush_editor.specs.contracts.editor.Editor as Editor
+use Rattle.crush_editor.proofs.locked.Seat.TheSendSync.{the_send as seat_send}
+use Rattle.crush_editor.proofs.Sharing.{editor_sync}
+
+-- memory crosses threads
+alloc_sent : IsSend Global.the_row
+alloc_sent = search (sendable, crosses) depth 20
+
+module _ (N R : RattleType) (g : Desk.Ghosts N.Denot) (l : Ledger.Ghosts N.Denot) (a b c : NamedLft) where
+  -- what a closure owns that works by a seat: the handle, memory, the editor, the seat, and the operator's calls
+  abbrev pub owned : List RattleType
+  owned = (shr_ref_field a (param 1 R) tt).row ∷ Global.the_row ∷ (shr_ref_field b (Editor.the_row (param 0 N) g l) tt).row
+      ∷ Seat.the_row (param 0 N) g l ∷ (shr_slice_field c Call.the_row tt).row ∷ []
+
+  module _ (rt : IsSync (param 1 R)) where
+    -- each of them crosses threads
+    owned_send : FieldsHave IsSend (parts owned)
+    owned_send = (search (rt, sendable), (search (alloc_sent, sendable), (search (editor_sync, sendable), (search (seat_send, sendable), (search (call_sync, sendable), tt)))))
+
+    -- so the closure does
+    pub worker_send : (name : Sym) → IsSend (TupleAt name owned)
+    worker_send name = declared_send (type_at name owned) owned_send
