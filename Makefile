@@ -4,6 +4,7 @@
 #   make try       runs an example without proving anything, and leaves nothing
 #   make check     the merge gate: everything from nothing, the edits that must fail, the tests
 #   make install   the program and its manual page below PREFIX, which is /usr/local if nothing is said
+#   make manual    writes the manual page out of the help, which `make check` compares
 #   make recipe    tries the recipe for operators with the program that was built
 #   make trials    tries that program with jobs of chance, memory that is refused, and streams that fail
 #   make clean     removes what the checks kept
@@ -12,7 +13,7 @@ PREFIX = /usr/local
 DESTDIR =
 PROGRAM = crates/crushedit/out/crushedit
 
-.PHONY: all try check install uninstall recipe trials clean
+.PHONY: all try check install uninstall manual recipe trials clean
 
 all:
 	cd crates/crushedit && rt run < stdin | cmp - stdout
@@ -33,6 +34,9 @@ install: $(PROGRAM)
 
 uninstall:
 	rm -f $(DESTDIR)$(PREFIX)/bin/crushedit $(DESTDIR)$(PREFIX)/share/man/man1/crushedit.1
+
+manual:
+	python3 docs/manual.py
 
 recipe: $(PROGRAM)
 	examples/recipe_test.sh $(PROGRAM)

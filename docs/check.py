@@ -10,8 +10,8 @@ of jobs and of Ceph beside names of the code, only those columns are looked at. 
 files that an addition touches: each has to be there, and each file of src/ and specs/ that names all variants
 of an enum of ADDED has to stand in its section. RULES.md has a row for each variant of the enums of ROWS, and
 for each limit. The index of examples/ names each job. The version of the command line stands in VERSIONS, the
-manual page has each command and flag of the help, and PROVED.md the toolchain's line, where `rt` is there to tell
-it. Prints what is missing, and ends with status 1 where anything is.
+manual page is that of the help (docs/manual.py), and `--version` and PROVED.md name the toolchain, where `rt` is
+there to tell its line. Prints what is missing, and ends with status 1 where anything is.
 """
 import os
 import pathlib
@@ -155,29 +155,26 @@ def example_faults():
 
 def version_faults():
     """Where another version stands than the one that the command line tells, and whether the toolchain's line is told."""
-    version = re.search(r'\.version\("([^"]+)"\)', (TOP / COMMAND_LINE).read_text()).group(1)
+    version, toolchain = re.search(r'VERSION: &str = "(\S+) \((.+)\)"', (TOP / COMMAND_LINE).read_text()).groups()
     for name, form in VERSIONS.items():
         if form.format(version) not in (TOP / name).read_text():
             yield f"{name} doesn't have the version {version}"
     if not re.search(r"(?m)^## (.*)$", (TOP / "CHANGELOG.md").read_text()).group(1) == version:
         yield f"the newest version of CHANGELOG.md isn't {version}"
     if shutil.which("rt"):
-        told = subprocess.run(["rt", "version"], capture_output=True, text=True, check=True).stdout
+        told = subprocess.run(["rt", "version"], capture_output=True, text=True, check=True).stdout.strip()
+        if toolchain != told:
+            yield f"--version tells of the toolchain {toolchain}, and rt version of {told}"
         line = re.search(r"logic \w+", told).group(0)
         if f"`{line}`" not in (TOP / "docs/PROVED.md").read_text():
             yield f"PROVED.md doesn't name the toolchain's {line}"
 
 
 def manual_faults():
-    """Which commands and flags of the help the manual page doesn't have."""
-    source = (TOP / COMMAND_LINE).read_text()
-    manual = re.sub(r"\\f[A-Z]|\\", "", (TOP / "docs/crushedit.1").read_text())
-    commands = re.search(r"(?ms)^Commands.*?\n\n", source).group(0)
-    words = re.findall(r"(?m)^    ([a-z-]+)(?:(?: [A-Z]+)?, ([a-z]+))?", commands)
-    flags = re.findall(r'flag\(alloc, "([a-z-]+)"', source)
-    for word in [word for pair in words for word in pair if word] + [f"--{flag}" for flag in flags]:
-        if not re.search(rf"(?<![a-z-]){word}(?![a-z-])", manual):
-            yield f"crushedit.1 doesn't name {word}"
+    """Whether the manual page is the one that docs/manual.py makes of the help."""
+    command = [sys.executable, "-B", str(TOP / "docs/manual.py"), "--check"]
+    told = subprocess.run(command, capture_output=True, text=True, check=False).stderr
+    yield from told.splitlines()
 
 
 def adding_faults():

@@ -13,45 +13,65 @@ use std::convert::AsStr;
 /// What the program does, in one line.
 const ABOUT: &str = "Edits the hierarchy of a CRUSH map by the scripts of its operators";
 
-/// What the help tells beside the flags.
+/// The version, and the toolchain that it is proved with, as `rt version` tells it.
+const VERSION: &str = "0.1.0 (rattle-kit-13f logic dac8208d650f15bf)";
+
+/// What the help tells beside the flags. `docs/manual.py` makes the manual page of it, so no line
+/// is longer than 80 columns.
 const MORE: &str = "\
-A job is the text of a CRUSH map, in the form of `crushtool --decompile`, and behind it the scripts
-of up to 16 operators, each a line `%operator NAME` and then one command a line:
+A job is the text of a CRUSH map, in the form of `crushtool --decompile`, and
+behind it the scripts of up to 16 operators, each a line `%operator NAME` and
+then one command a line. The line is needed for one operator too. `#` begins a
+comment.
 
     .. the map's text ..
     %operator alice
     add osd.12 1.8 host=node3 rack=r2 root=default
     reweight osd.2 1.0
 
-A PAIR is TYPE=BUCKET, and up to 16 of them are a location. From the lowest type upward, the first
-bucket that is in the map receives; those below it are made, those above it are not looked at.
+The scripts of several operators run at once; with `--in-turn` they run one
+after the other, in the order of the job, so that the output is the same each
+time. A FILE `-` is a file of that name.
 
-Commands, as those of `ceph osd crush`, with weights in Ceph's decimals, 0 to 32767.99998:
-    add osd.N WEIGHT PAIR ..             puts a device that is new, or in no bucket, there
-    set osd.N WEIGHT PAIR ..             the same of any device, and sets its weight
-    create-or-move osd.N WEIGHT PAIR ..  the same, but a placed device keeps its weight
-    move NAME PAIR ..                    puts an item there, with all that is below it
-    swap-bucket NAME NAME                exchanges names and items of two buckets
+Commands, those of `ceph osd crush`:
+    add osd.N WEIGHT PAIR ..             puts a new or unplaced device there
+    set osd.N WEIGHT PAIR ..             puts any device there, with the weight
+    create-or-move osd.N WEIGHT PAIR ..  the same; a placed one keeps its weight
+    move NAME PAIR ..                    puts an item there, with all below it
+    swap-bucket NAME NAME                swaps two buckets' names and items
     reweight NAME WEIGHT                 the placed device NAME weighs WEIGHT
-    reweight-subtree NAME WEIGHT         each device below the bucket NAME weighs WEIGHT
-    rm NAME, remove NAME                 removes a device, or a bucket without items
-    add-bucket NAME TYPE                 makes an empty bucket that stands in no other
+    reweight-subtree NAME WEIGHT         each device below NAME weighs WEIGHT
+    rm NAME, remove NAME                 removes a device, or an empty bucket
+    add-bucket NAME TYPE                 makes an empty bucket that is a root
     rename-bucket NAME NAME              gives a bucket another name
-    begin, commit                        the commands between are made all, or none
+    begin, commit                        those between are made all or none
 
-The scripts of several operators run at once; with --in-turn they run one after the other, in the
-order of the job, so that the output is the same each time.
+N is the device's id, and WEIGHT is in Ceph's decimals, 0 to 32767.99998. A PAIR
+is TYPE=BUCKET, and up to 16 of them are a location: from the lowest type
+upward, the first bucket that is in the map receives; those below it are made,
+those above it are not looked at.
 
-Standard output gets the map after the scripts, and behind it, as comments, a line for each
-command with its answer, in the order in which they were made. A command that is refused changes
-nothing, and the next one is tried.
+Output:
+Standard output gets the map after the scripts, and behind it, as comments, a
+line for each command or batch with its answer, in the order in which they were
+made:
+
+    # 1 alice reweight osd.2 1.00000 = done changed 1 made 0
+    # 2 alice reweight h2 1.00000 = refused NotADevice 22
+
+`changed` counts the edits that made the map another, and `made` the buckets
+that were made. ` = refused ` marks a command that changed nothing, with a name
+and an error number of Linux; the next one is tried all the same.
+
+Standard error gets `crushedit: adjusted N` where N buckets were written with
+another weight than the sum of their devices, and got the sum.
 
 Exit status:
     0    the run was done, also where commands were refused
     1    the input is no job, and nothing was written
     2    the command line is refused
-    3    reading or writing failed
-    4    there was no memory or no thread, and nothing was written
+    3    FILE can't be opened, or reading or writing failed
+    4    out of memory, or no thread could be started; nothing was written
 ";
 
 /// A flag `--NAME`.
@@ -79,11 +99,11 @@ fn file<'a>(alloc: Global) -> Arg<'a>
 fn command<'a>(alloc: Global) -> Result<Command<'a>, AllocError>
     ensures { IfOk result (λ command. app_of command ≡ program) }
 {
-    let in_turn = "Run the operators' scripts one after the other, in the job's order, not at once";
+    let in_turn = "Run the scripts one after the other, in the job's order";
     let no_history = "Write no line for each command behind the map";
     Command::new(alloc, "crushedit")
         .no_binary_name(true)
-        .version("0.1.0")
+        .version(VERSION)
         .about(ABOUT)
         .after_help(MORE)
         .arg(flag(alloc, "in-turn", in_turn))?

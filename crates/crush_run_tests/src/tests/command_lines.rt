@@ -101,8 +101,8 @@ const HELP: &[&str] = &[
     "\n    0    the run was done",
     "\n    1    the input is no job",
     "\n    2    the command line is refused",
-    "\n    3    reading or writing failed",
-    "\n    4    there was no memory",
+    "\n    3    FILE can't be opened, or reading or writing failed",
+    "\n    4    out of memory",
 ];
 
 /// What is told where the word asks for no run.
@@ -127,5 +127,7 @@ fn has_all(text: &str, parts: &[&str]) -> bool {
 fn help_and_the_version_are_told(rt: HostRuntime) {
     let help = told(&rt, "--help");
     let version = told(&rt, "--version");
-    assert!(rt; has_all(help.as_str(), HELP) && version.as_str() == "crushedit 0.1.0\n");
+    assert!(rt;
+        has_all(help.as_str(), HELP) && version.as_str().starts_with("crushedit 0.1.0 (rattle-kit-")
+    );
 }

@@ -1,0 +1,111 @@
+#!/usr/bin/env python3
+"""Writes the manual page docs/crushedit.1 out of the help of crates/crush_options/src/command_line.rt.
+
+The help's paragraphs, lists of two columns and samples become those of the page, and what stands below in END
+comes behind them. With --check nothing is written, and the status is 1 where the page has other bytes.
+"""
+import pathlib
+import re
+import sys
+
+TOP = pathlib.Path(__file__).resolve().parent.parent
+SOURCE = TOP / "crates/crush_options/src/command_line.rt"
+PAGE = TOP / "docs/crushedit.1"
+# A sample, and what else an operator must know who doesn't have the other pages at hand.
+END = r""".SH EXAMPLES
+.nf
+ceph osd getcrushmap \-o map.bin
+crushtool \-d map.bin \-o map.txt
+{ cat map.txt; printf '%%operator alice\enreweight osd.2 1.0\en'; } > job.txt
+crushedit job.txt > new.txt
+grep ' = refused ' new.txt
+diff <(crushedit map.txt) new.txt
+.fi
+.SH CAVEATS
+It touches no cluster: the map that was taken before is the way back.
+.PP
+An empty text is a map: where a file is empty or a step before failed,
+.B crushedit
+prints the empty map and ends with status 0.
+So does
+.BR "crushedit map.txt > map.txt" ,
+since the shell empties the file first.
+.PP
+A name of a bucket that isn't in the map is no error in a location: the bucket is made, which
+.B made
+tells.
+.SH "SEE ALSO"
+.BR crushtool (8),
+.BR ceph (8)
+"""
+
+
+def constant(source, name):
+    """The text of a constant."""
+    text = re.search(rf'(?s)const {name}: &str = "(.*?)(?<!\\)";', source).group(1)
+    return text.removeprefix("\\\n")
+
+
+def plain(text):
+    """Text as the page writes it: no hyphen is broken, and no line begins with a request."""
+    text = text.replace("\\", "\\e").replace("-", "\\-")
+    return re.sub(r"(?m)^(?=[.'])", r"\\&", text)
+
+
+def marked(text):
+    """What is typed is bold, what stands for something else is italic."""
+    return re.sub(r"\b(?:[A-Z]{4,}|N)\b", r"\\fI\g<0>\\fB", f"\\fB{plain(text)}\\fR").replace("\\fB\\fR", "\\fR")
+
+
+def prose(text):
+    """A paragraph, in which backquotes mark what is typed."""
+    parts = " ".join(text.split()).split("`")
+    return "".join(marked(part) if at % 2 else plain(part) for at, part in enumerate(parts)) + "\n"
+
+
+def item(head, text):
+    return f".TP\n{marked(head)}\n{prose(text)}"
+
+
+def block(text):
+    """A list, a sample or a paragraph of the help, perhaps behind its heading."""
+    heading = re.match(r"([A-Z][A-Za-z ]*)(?:, ([^\n]*))?:\n(?=.)", text)
+    if heading:
+        said = f"They are {heading.group(2)}.\n" if heading.group(2) else ""
+        return f'.SH "{heading.group(1).upper()}"\n{prose(said) if said else ""}{block(text[heading.end() :])}'
+    rows = [re.match(r" {4}(\S.*?) {2,}(\S.*)$", line) for line in text.splitlines()]
+    if all(rows):
+        return "".join(item(row.group(1), row.group(2)) for row in rows)
+    if text.startswith("    "):
+        return f".PP\n.RS\n.nf\n{plain(re.sub(r'(?m)^ {4}', '', text))}\n.fi\n.RE\n"
+    return f".PP\n{prose(text)}"
+
+
+def page():
+    source = SOURCE.read_text()
+    version, about = constant(source, "VERSION"), constant(source, "ABOUT")
+    texts = dict(re.findall(r'let (\w+) = "([^"]+)";', source))
+    flags = [(name, texts[text]) for name, text in re.findall(r'flag\(alloc, "([a-z-]+)", (\w+)\)', source)]
+    file = re.search(r'Arg::new\(alloc, "(\w+)"\).*?\.help\("([^"]+)"\)', source, re.S)
+    synopsis = "".join(f'.RB [ "{plain("--" + name)}" ]\n' for name, _ in flags)
+    options = [(f"--{name}", text) for name, text in flags]
+    options += [("-h, --help", "Print help, and run nothing"), ("-V, --version", "Print version, and run nothing")]
+    first, *rest = constant(source, "MORE").strip("\n").split("\n\nCommands")
+    return (
+        f'.TH CRUSHEDIT 1 "" "crushedit {version.split()[0]}" "User Commands"\n'
+        f".SH NAME\ncrushedit \\- {plain(about[0].lower() + about[1:])}\n"
+        f".SH SYNOPSIS\n.B crushedit\n{synopsis}.RI [ {file.group(1)} ]\n"
+        f".SH DESCRIPTION\n{''.join(block(text) for text in first.split(chr(10) * 2))}"
+        f".SH OPTIONS\n{item(file.group(1), file.group(2) + '.')}"
+        f"{''.join(item(head, text + '.') for head, text in options)}"
+        f"{''.join(block(text) for text in ('Commands' + rest[0]).split(chr(10) * 2))}{END}"
+    )
+
+
+def main():
+    if sys.argv[1:] == ["--check"]:
+        sys.exit(0 if PAGE.read_text() == page() else "docs/crushedit.1 is older than the help: run docs/manual.py")
+    PAGE.write_text(page())
+
+
+main()
