@@ -100,20 +100,20 @@ def spelled(text):
 
 def refused(table):
     """The jobs of a table of refused/, each with what standard error is told: each row is a job by itself behind
-    the front above it, refused for the fault above it, which is told where `^` stands, or, where the line names
+    the prefix above it, refused for the fault above it, which is told where `^` stands, or, where the line names
     its place, as it stands."""
-    front, fault = "", ""
+    prefix, fault = "", ""
     for line in read(table).split("\n"):
         word, _, rest = line.partition(" ")
         if line.startswith("  "):
-            text = front + spelled(line[2:])
+            text = prefix + spelled(line[2:])
             told = fault if " " in fault else f"byte {text.index('^')}: {fault}"
             yield text.replace("^", ""), f"crushedit: {told}\n"
-        elif word == "front":
-            front = spelled(rest)
+        elif word == "prefix":
+            prefix = spelled(rest)
         elif word == "lines":
             first, last, text = rest.split(" ", 2)
-            front += "".join(spelled(text).replace("%", str(n)) for n in range(int(first), int(last) + 1))
+            prefix += "".join(spelled(text).replace("%", str(n)) for n in range(int(first), int(last) + 1))
         elif word != "#":
             fault = line
 
