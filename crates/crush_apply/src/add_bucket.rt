@@ -12,14 +12,15 @@ ghost use Rattle.crush_apply.specs.Answered.{AnswersAs};
 
 use crate::route::empty_bucket;
 use crush_edits::{Done, EditFault, Refusal, Setting};
-use crush_tree::{Forest, Place};
+use crush_hierarchy::Hierarchy;
+use crush_tree::Place;
 use crush_units::limits::MOST_BUCKETS;
 use crush_units::{BucketId, Name, TypeId};
 use std::alloc::{Allocator, Global};
 
 /// The type of the bucket that is to be made, or why it isn't.
 fn check_add<A: Allocator>(
-    forest: &Forest<A>,
+    forest: &Hierarchy<A>,
     setting: &Setting,
     name: &Name<Global>,
     kind: &Name<Global>,
@@ -45,7 +46,7 @@ fn check_add<A: Allocator>(
 }
 
 /// The free id nearest to 0.
-fn first_free<A: Allocator>(forest: &Forest<A>) -> BucketId
+fn first_free<A: Allocator>(forest: &Hierarchy<A>) -> BucketId
     ensures { (t : List Row) → Stands forest.now t → free_ids t 1 ≡ result ∷ [] }
 {
     let Some(some) = BucketId::below_zero(1) else {
@@ -58,7 +59,7 @@ fn first_free<A: Allocator>(forest: &Forest<A>) -> BucketId
 
 /// Makes an empty bucket of this name and type that no other holds, or tells why it isn't made.
 pub(crate) fn add_bucket<A: Allocator + Clone>(
-    forest: &mut Forest<A>,
+    forest: &mut Hierarchy<A>,
     setting: &Setting,
     name: &Name<Global>,
     kind: &Name<Global>,

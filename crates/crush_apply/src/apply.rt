@@ -25,7 +25,7 @@ use crate::route::Arrival;
 use crate::swap::swap;
 use crate::update::update;
 use crush_edits::{Done, Edit, EditFault, Setting};
-use crush_tree::Forest;
+use crush_hierarchy::Hierarchy;
 use std::alloc::Allocator;
 
 /// Makes the edit on the hierarchy, by the setting, or tells why it isn't made.
@@ -36,7 +36,7 @@ use std::alloc::Allocator;
 /// weights, of an exchange or of a removal. The hierarchy is then as before but for the room that
 /// it has.
 pub fn apply_edit<A: Allocator + Clone>(
-    forest: &mut Forest<A>,
+    forest: &mut Hierarchy<A>,
     setting: &Setting,
     asked: &Edit,
 ) -> Result<Done, EditFault>
@@ -103,7 +103,7 @@ fn recall_forms(asked: &Edit)
 
 /// Makes the edit, or tells why it isn't made.
 fn make<A: Allocator + Clone>(
-    forest: &mut Forest<A>,
+    forest: &mut Hierarchy<A>,
     setting: &Setting,
     asked: &Edit,
 ) -> Result<Done, EditFault>

@@ -13,7 +13,7 @@ ghost use Rattle.crush_apply.specs.Batched.{IsBatchDone};
 
 use crate::apply::apply_edit;
 use crush_edits::{BatchFault, Done, Dones, Edit, EditFault, Setting};
-use crush_tree::Forest;
+use crush_hierarchy::Hierarchy;
 use std::alloc::Allocator;
 
 /// Makes the edits one after the other, each on what the ones before it made, or none of them: at
@@ -24,7 +24,7 @@ use std::alloc::Allocator;
 /// refusal are told, and the hierarchy is as before the first. Want of memory may be told of a
 /// batch of which a later edit would be refused.
 pub fn apply_batch<A: Allocator + Clone>(
-    forest: &mut Forest<A>,
+    forest: &mut Hierarchy<A>,
     setting: &Setting,
     edits: &[Edit],
 ) -> Result<Dones, BatchFault>
@@ -78,7 +78,7 @@ fn takes_memory(asked: &Edit) -> bool
 /// Makes the edits one after the other until one isn't made. Where that is the first, and takes no
 /// memory, nothing has changed.
 fn make_all<A: Allocator + Clone>(
-    forest: &mut Forest<A>,
+    forest: &mut Hierarchy<A>,
     setting: &Setting,
     edits: &[Edit],
 ) -> Result<Dones, BatchFault>

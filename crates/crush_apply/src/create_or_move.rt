@@ -13,13 +13,13 @@ ghost use Rattle.crush_apply.specs.Answered.{AnswersAs};
 
 use crate::route::{Arrival, check_device, destination_of, is_held, place_device};
 use crush_edits::{Done, EditFault, Setting};
-use crush_tree::Forest;
+use crush_hierarchy::Hierarchy;
 use crush_units::{DeviceId, ItemId, Weight};
 use std::alloc::Allocator;
 
 /// The own weight of a device that stands in a bucket, else the given one, of up to 2147483647
 /// units as well.
-fn kept_weight<A: Allocator>(forest: &Forest<A>, device: DeviceId, weight: Weight) -> Weight
+fn kept_weight<A: Allocator>(forest: &Hierarchy<A>, device: DeviceId, weight: Weight) -> Weight
     requires { weight ≤ HEAVIEST_DEVICE }
     ensures kept { (t : List Row) → Stands forest.now t → result ≡ kept_weight t device weight }
     ensures light { result ≤ HEAVIEST_DEVICE }
@@ -40,7 +40,7 @@ fn kept_weight<A: Allocator>(forest: &Forest<A>, device: DeviceId, weight: Weigh
 ///
 /// All memory is taken before the device moves. Where it lacks, the items are as before.
 pub(crate) fn create_or_move<A: Allocator + Clone>(
-    forest: &mut Forest<A>,
+    forest: &mut Hierarchy<A>,
     setting: &Setting,
     arrival: &Arrival<'_>,
 ) -> Result<Done, EditFault>

@@ -8,7 +8,7 @@ ghost use Rattle.crush_apply.specs.Answered.{AnswersAs};
 
 use crate::route::{Arrival, check_device, destination_of, place_device};
 use crush_edits::{Done, EditFault, Refusal, Setting};
-use crush_tree::Forest;
+use crush_hierarchy::Hierarchy;
 use crush_units::ItemId;
 use std::alloc::Allocator;
 
@@ -17,7 +17,7 @@ use std::alloc::Allocator;
 ///
 /// All memory is taken before the device moves. Where it lacks, the items are as before.
 pub(crate) fn insert<A: Allocator + Clone>(
-    forest: &mut Forest<A>,
+    forest: &mut Hierarchy<A>,
     setting: &Setting,
     arrival: &Arrival<'_>,
 ) -> Result<Done, EditFault>

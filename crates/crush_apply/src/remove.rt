@@ -10,12 +10,12 @@ ghost use Rattle.crush_apply.specs.Alone.{CanRemove};
 ghost use Rattle.crush_apply.specs.Answered.{AnswersAs};
 
 use crush_edits::{Done, EditFault, Refusal, Setting};
-use crush_tree::Forest;
+use crush_hierarchy::Hierarchy;
 use crush_units::{BucketId, ItemId, Name};
 use std::alloc::{Allocator, Global};
 
 /// Whether the bucket holds items.
-fn holds_items<A: Allocator>(forest: &Forest<A>, bucket: BucketId) -> bool
+fn holds_items<A: Allocator>(forest: &Hierarchy<A>, bucket: BucketId) -> bool
     ensures { (t : List Row) → Stands forest.now t → result ≡ holds_items t bucket }
 {
     match forest.items(bucket) {
@@ -26,7 +26,7 @@ fn holds_items<A: Allocator>(forest: &Forest<A>, bucket: BucketId) -> bool
 
 /// The item that is to be taken out, or why it isn't.
 fn check_remove<A: Allocator>(
-    forest: &Forest<A>,
+    forest: &Hierarchy<A>,
     setting: &Setting,
     name: &Name<Global>,
 ) -> Result<ItemId, Refusal>
@@ -52,7 +52,7 @@ fn check_remove<A: Allocator>(
 
 /// Takes the item of this name out, or tells why it doesn't.
 pub(crate) fn remove<A: Allocator>(
-    forest: &mut Forest<A>,
+    forest: &mut Hierarchy<A>,
     setting: &Setting,
     name: &Name<Global>,
 ) -> Result<Done, EditFault>

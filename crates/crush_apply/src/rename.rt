@@ -10,13 +10,13 @@ ghost use Rattle.crush_apply.specs.Alone.{CanRename};
 ghost use Rattle.crush_apply.specs.Answered.{AnswersAs};
 
 use crush_edits::{Done, EditFault, Refusal};
-use crush_tree::Forest;
+use crush_hierarchy::Hierarchy;
 use crush_units::{BucketId, ItemId, Name};
 use std::alloc::{Allocator, Global};
 
 /// The bucket that is to have another name, or why it doesn't get it.
 fn check_rename<A: Allocator>(
-    forest: &Forest<A>,
+    forest: &Hierarchy<A>,
     from: &Name<Global>,
     to: &Name<Global>,
 ) -> Result<BucketId, Refusal>
@@ -43,7 +43,7 @@ fn check_rename<A: Allocator>(
 
 /// Gives the bucket of the one name the other, or tells why it doesn't get it.
 pub(crate) fn rename<A: Allocator + Clone>(
-    forest: &mut Forest<A>,
+    forest: &mut Hierarchy<A>,
     from: &Name<Global>,
     to: &Name<Global>,
 ) -> Result<Done, EditFault>
@@ -54,7 +54,7 @@ pub(crate) fn rename<A: Allocator + Clone>(
     let bucket = check_rename(forest, from, to)?;
     let name = to.try_copy(forest.allocator().clone()?)?;
     let _form = to.as_bytes();
-    forest.rename(ItemId::Bucket(bucket), name);
+    forest.rename(ItemId::Bucket(bucket), name)?;
     Ok(Done {
         changed: true,
         made: 0,

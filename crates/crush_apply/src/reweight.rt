@@ -10,13 +10,13 @@ ghost use Rattle.crush_apply.specs.Answered.{AnswersAs, KeepsRooms};
 ghost use Rattle.crush_apply.specs.Weighed.{CanReweight};
 
 use crush_edits::{Done, EditFault, Refusal};
-use crush_tree::Forest;
+use crush_hierarchy::Hierarchy;
 use crush_units::{DeviceId, ItemId, Name, Weight};
 use std::alloc::{Allocator, Global};
 
 /// The device whose weight is to be set, or why it isn't.
 fn check_reweight<A: Allocator>(
-    forest: &Forest<A>,
+    forest: &Hierarchy<A>,
     name: &Name<Global>,
     weight: Weight,
 ) -> Result<DeviceId, Refusal>
@@ -46,7 +46,7 @@ fn check_reweight<A: Allocator>(
 
 /// Sets the weight of the placed device of this name, or tells why it isn't set.
 pub(crate) fn reweight<A: Allocator>(
-    forest: &mut Forest<A>,
+    forest: &mut Hierarchy<A>,
     name: &Name<Global>,
     weight: Weight,
 ) -> Result<Done, EditFault>

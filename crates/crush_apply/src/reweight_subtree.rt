@@ -10,13 +10,13 @@ ghost use Rattle.crush_apply.specs.Answered.{AnswersAs, KeepsRooms};
 ghost use Rattle.crush_apply.specs.Weighed.{CanReweightSubtree};
 
 use crush_edits::{Done, EditFault, Refusal};
-use crush_tree::Forest;
+use crush_hierarchy::Hierarchy;
 use crush_units::{BucketId, ItemId, Name, Weight};
 use std::alloc::{Allocator, Global};
 
 /// The bucket below which weights are to be set, or why they aren't.
 fn check_subtree<A: Allocator>(
-    forest: &Forest<A>,
+    forest: &Hierarchy<A>,
     name: &Name<Global>,
     weight: Weight,
 ) -> Result<BucketId, Refusal>
@@ -43,7 +43,7 @@ fn check_subtree<A: Allocator>(
 
 /// Sets the weight of all devices below the bucket of this name, or tells why they aren't set.
 pub(crate) fn reweight_subtree<A: Allocator>(
-    forest: &mut Forest<A>,
+    forest: &mut Hierarchy<A>,
     name: &Name<Global>,
     weight: Weight,
 ) -> Result<Done, EditFault>

@@ -10,13 +10,13 @@ ghost use Rattle.crush_apply.specs.Alone.{CanSwap};
 ghost use Rattle.crush_apply.specs.Answered.{AnswersAs};
 
 use crush_edits::{Done, EditFault, Refusal};
-use crush_tree::Forest;
+use crush_hierarchy::Hierarchy;
 use crush_units::{BucketId, ItemId, Name};
 use std::alloc::{Allocator, Global};
 
 /// The two buckets that are to be exchanged, or why they aren't.
 fn check_swap<A: Allocator>(
-    forest: &Forest<A>,
+    forest: &Hierarchy<A>,
     a: &Name<Global>,
     b: &Name<Global>,
 ) -> Result<(BucketId, BucketId), Refusal>
@@ -52,7 +52,7 @@ fn check_swap<A: Allocator>(
 
 /// Exchanges the items and the names of the two buckets, or tells why it doesn't.
 pub(crate) fn swap<A: Allocator>(
-    forest: &mut Forest<A>,
+    forest: &mut Hierarchy<A>,
     a: &Name<Global>,
     b: &Name<Global>,
 ) -> Result<Done, EditFault>

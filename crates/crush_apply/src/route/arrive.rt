@@ -19,7 +19,8 @@ use crate::route::room::{
     fits_put_device, fits_put_item, fits_put_new, lacks_room, lacks_room_for_new,
 };
 use crush_edits::{Done, EditFault, Refusal};
-use crush_tree::{Forest, Leaf};
+use crush_hierarchy::Hierarchy;
+use crush_tree::Leaf;
 use crush_units::ItemId;
 use std::alloc::{AllocError, Allocator};
 
@@ -28,7 +29,7 @@ use std::alloc::{AllocError, Allocator};
 ///
 /// All memory is taken before the item moves. Where it lacks, the items are as before.
 pub(crate) fn place_item<A: Allocator + Clone>(
-    forest: &mut Forest<A>,
+    forest: &mut Hierarchy<A>,
     id: ItemId,
     to: &Destination,
 ) -> Result<Done, EditFault>
@@ -57,7 +58,7 @@ pub(crate) fn place_item<A: Allocator + Clone>(
 ///
 /// All memory is taken before the device moves. Where it lacks, the items are as before.
 pub(crate) fn place_device<A: Allocator + Clone>(
-    forest: &mut Forest<A>,
+    forest: &mut Hierarchy<A>,
     arrival: &Arrival<'_>,
     to: &Destination,
 ) -> Result<Done, EditFault>
@@ -89,7 +90,7 @@ pub(crate) fn place_device<A: Allocator + Clone>(
 
 /// Makes a device that isn't there at the destination, or tells why it isn't made.
 fn place_new<A: Allocator + Clone>(
-    forest: &mut Forest<A>,
+    forest: &mut Hierarchy<A>,
     arrival: &Arrival<'_>,
     to: &Destination,
 ) -> Result<Done, EditFault>

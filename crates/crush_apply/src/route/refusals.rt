@@ -14,7 +14,7 @@ ghost use Rattle.crush_apply.specs.Destination.{item_tests};
 
 use crate::route::Arrival;
 use crush_edits::{Location, Pair, Refusal, Setting};
-use crush_tree::Forest;
+use crush_hierarchy::Hierarchy;
 use crush_units::{BucketId, DeviceId, ItemId, Name, TypeId};
 use std::alloc::{Allocator, Global};
 
@@ -42,7 +42,7 @@ pub(crate) fn check_location(setting: &Setting, at: &Location) -> Result<(), Ref
 /// location has its name, the location can't be an edit's, no device has the weight, or the name is
 /// another item's or the id is there with another name.
 pub(crate) fn check_device<A: Allocator>(
-    forest: &Forest<A>,
+    forest: &Hierarchy<A>,
     setting: &Setting,
     arrival: &Arrival<'_>,
 ) -> Result<(), Refusal>
@@ -69,7 +69,7 @@ pub(crate) fn check_device<A: Allocator>(
 /// The bucket that ends a route at a pair of this type, or why no item can come there: the pair's
 /// name is that of a device, or of a bucket of another type.
 pub(crate) fn check_end<A: Allocator>(
-    forest: &Forest<A>,
+    forest: &Hierarchy<A>,
     kind: TypeId,
     id: ItemId,
 ) -> Result<BucketId, Refusal>
@@ -163,14 +163,18 @@ fn has_unknown_type(setting: &Setting, pairs: &[Pair]) -> bool
 }
 
 /// Whether the name belongs to another item, or the device is there with another name.
-fn is_taken<A: Allocator>(forest: &Forest<A>, device: DeviceId, name: &Name<Global>) -> bool
+fn is_taken<A: Allocator>(forest: &Hierarchy<A>, device: DeviceId, name: &Name<Global>) -> bool
     ensures { (t : List Row) → Stands forest.now t → result ≡ is_taken t (Device device) name.now }
 {
     is_name_of_other(forest, device, name) || has_other_name(forest, device, name)
 }
 
 /// Whether the name belongs to an item that isn't the device.
-fn is_name_of_other<A: Allocator>(forest: &Forest<A>, device: DeviceId, name: &Name<Global>) -> bool
+fn is_name_of_other<A: Allocator>(
+    forest: &Hierarchy<A>,
+    device: DeviceId,
+    name: &Name<Global>,
+) -> bool
     ensures { (t : List Row) → Stands forest.now t
         → result ≡ meets (λ j. not (same_id j (Device device))) (id_named t name.now) }
 {
@@ -181,7 +185,11 @@ fn is_name_of_other<A: Allocator>(forest: &Forest<A>, device: DeviceId, name: &N
 }
 
 /// Whether the device is there with another name.
-fn has_other_name<A: Allocator>(forest: &Forest<A>, device: DeviceId, name: &Name<Global>) -> bool
+fn has_other_name<A: Allocator>(
+    forest: &Hierarchy<A>,
+    device: DeviceId,
+    name: &Name<Global>,
+) -> bool
     ensures { (t : List Row) → Stands forest.now t
         → result ≡ meets (λ m. not (bytes_eq m name.now)) (name_of t (Device device)) }
 {
@@ -192,7 +200,7 @@ fn has_other_name<A: Allocator>(forest: &Forest<A>, device: DeviceId, name: &Nam
 }
 
 /// Whether the item is there with another type.
-fn is_of_other_type<A: Allocator>(forest: &Forest<A>, id: ItemId, kind: TypeId) -> bool
+fn is_of_other_type<A: Allocator>(forest: &Hierarchy<A>, id: ItemId, kind: TypeId) -> bool
     ensures { (t : List Row) → Stands forest.now t
         → result ≡ meets (λ k. not (k == kind)) (kind_of t id) }
 {

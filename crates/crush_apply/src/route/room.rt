@@ -14,14 +14,14 @@ ghost use Rattle.crush_apply.specs.Coming.{CanMove};
 ghost use Rattle.crush_apply.specs.Destination.{Leads};
 
 use crate::route::destination::Destination;
-use crush_tree::Forest;
+use crush_hierarchy::Hierarchy;
 use crush_units::limits::{MOST_BUCKETS, MOST_DEVICES};
 use crush_units::{DeviceId, ItemId, Weight};
 use std::alloc::Allocator;
 
 /// Whether there would be too many buckets where an item that is there comes to the
 /// destination.
-pub(crate) fn lacks_room<A: Allocator>(forest: &Forest<A>, to: &Destination) -> bool
+pub(crate) fn lacks_room<A: Allocator>(forest: &Hierarchy<A>, to: &Destination) -> bool
     ensures { (t : List Row) (r : Row) → Stands forest.now t → Leads t to.now
         → row_of t r.id ≡ Some r → (w : ℕ)
         → result ≡ has_too_many (put t (record r { weight = w }) to.now.stops) }
@@ -32,7 +32,7 @@ pub(crate) fn lacks_room<A: Allocator>(forest: &Forest<A>, to: &Destination) -> 
 
 /// Whether there would be too many buckets or devices where a device that isn't there comes to
 /// the destination.
-pub(crate) fn lacks_room_for_new<A: Allocator>(forest: &Forest<A>, to: &Destination) -> bool
+pub(crate) fn lacks_room_for_new<A: Allocator>(forest: &Hierarchy<A>, to: &Destination) -> bool
     ensures { (t : List Row) (d : LeafData) → Stands forest.now t → Leads t to.now
         → is_there t (Device d.id) ≡ false
         → result ≡ has_too_many (put t (device_row None d) to.now.stops) }
@@ -45,7 +45,11 @@ pub(crate) fn lacks_room_for_new<A: Allocator>(forest: &Forest<A>, to: &Destinat
 
 /// Whether all sums stay in range where an item that is there, with all that is below it, comes to
 /// the destination, as it is.
-pub(crate) fn fits_put_item<A: Allocator>(forest: &Forest<A>, id: ItemId, to: &Destination) -> bool
+pub(crate) fn fits_put_item<A: Allocator>(
+    forest: &Hierarchy<A>,
+    id: ItemId,
+    to: &Destination,
+) -> bool
     requires { (t : List Row) → Stands forest.now t → CanMove t id to.now }
     ensures { (t : List Row) (r : Row) → Stands forest.now t → row_of t id ≡ Some r
         → has_too_many (put t r to.now.stops) ≡ false
@@ -63,7 +67,7 @@ pub(crate) fn fits_put_item<A: Allocator>(forest: &Forest<A>, id: ItemId, to: &D
 /// Whether all sums stay in range where a device that is there comes to the destination with this
 /// weight, of up to 2147483647 units.
 pub(crate) fn fits_put_device<A: Allocator>(
-    forest: &Forest<A>,
+    forest: &Hierarchy<A>,
     device: DeviceId,
     weight: Weight,
     to: &Destination,
@@ -82,7 +86,7 @@ pub(crate) fn fits_put_device<A: Allocator>(
 /// Whether all sums stay in range where a device that isn't there comes to the destination with
 /// this weight, of up to 2147483647 units.
 pub(crate) fn fits_put_new<A: Allocator>(
-    forest: &Forest<A>,
+    forest: &Hierarchy<A>,
     weight: Weight,
     to: &Destination,
 ) -> bool

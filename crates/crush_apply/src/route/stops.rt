@@ -16,7 +16,7 @@ ghost use Rattle.crush_apply.specs.Destination.{EndsAt};
 use crate::route::refusals::check_end;
 use arrayvec::ArrayVec;
 use crush_edits::{Location, Pair, Refusal, Setting};
-use crush_tree::Forest;
+use crush_hierarchy::Hierarchy;
 use crush_units::limits::MOST_PAIRS;
 use crush_units::{BucketId, Name, TypeId};
 use std::alloc::{Allocator, Global};
@@ -118,7 +118,7 @@ pub(crate) fn stop_name<'a>(at: &'a Location, stop: &Stop) -> &'a Name<Global>
 /// Where none is there, all of them come before it, and there is no bucket. An Err tells why no item
 /// can come there.
 pub(crate) fn route_end<A: Allocator>(
-    forest: &Forest<A>,
+    forest: &Hierarchy<A>,
     at: &Location,
     stops: &[Stop],
 ) -> Result<(usize, Option<BucketId>), Refusal>

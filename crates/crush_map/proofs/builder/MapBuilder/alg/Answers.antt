@@ -14,7 +14,7 @@ use Rattle.crush_map.proofs.builder.MapBuilder.alg.Goals as goal
 
 pub attach-requires-clause-fits : goal.attach-requires-clause-fits
 attach-requires-clause-fits g c =
-    let b : BuilderData = record { setting = c.self.inside.setting; forest = c.self.inside.forest; pending = pending_data c.self.inside.pending; adjusted = c.self.inside.adjusted } in
+    let b : BuilderData = record { setting = c.self.inside.setting; forest = c.self.inside.hierarchy; pending = pending_data c.self.inside.pending; adjusted = c.self.inside.adjusted } in
     let d : Draft = record { setting = b.setting; table = rows_of c.reserve.new.self; pending = b.pending; adjusted = b.adjusted } in
     let at : IsDraft b d = room_is_draft b c.reserve.new.self c.recall_invariant.ensures c.self.invariant c.reserve.ensures.stands in
     let p : b.pending ≡ numbered c.in-Numbered.kind c.in-Numbered.name c.in-Numbered.id (listed c.in-Numbered.class_ids) = ap pending_data (sym c.replace.ensures.value ∙ c.in-Numbered.is) in
@@ -25,7 +25,7 @@ attach-requires-clause-fits g c =
 
 pub invariant_of-self-2 : goal.invariant_of-self-2
 invariant_of-self-2 g c =
-    let b : BuilderData = record { setting = c.self.inside.setting; forest = c.self.inside.forest; pending = pending_data c.self.inside.pending; adjusted = c.self.inside.adjusted } in
+    let b : BuilderData = record { setting = c.self.inside.setting; forest = c.self.inside.hierarchy; pending = pending_data c.self.inside.pending; adjusted = c.self.inside.adjusted } in
     let own : IsDraft b (own_draft b) = own_is_draft b c.recall_invariant.ensures c.self.invariant in
     let p : b.pending ≡ numbered c.in-Numbered.kind c.in-Numbered.name c.in-Numbered.id (listed c.in-Numbered.class_ids) = ap pending_data (sym c.replace.ensures.value ∙ c.in-Numbered.is) in
     let node = c.in_ok-node.ensures ∙ (λ i. bucket (record { id = c.in-Numbered.id; kind = c.in-Numbered.kind; name = c.in-Numbered.name; alg = c.args.alg; class_ids = c.in_ok-class_ids.ensures i }) 0 1 none none) in
@@ -35,7 +35,7 @@ invariant_of-self-2 g c =
 
 pub returns-clause-ok : goal.returns-clause-ok
 returns-clause-ok g c = λ d i.
-    let b : BuilderData = record { setting = c.self.inside.setting; forest = c.self.inside.forest; pending = pending_data c.self.inside.pending; adjusted = c.self.inside.adjusted } in
+    let b : BuilderData = record { setting = c.self.inside.setting; forest = c.self.inside.hierarchy; pending = pending_data c.self.inside.pending; adjusted = c.self.inside.adjusted } in
     let at : IsDraft b d = subst (λ (x : BuilderData). IsDraft x d) (sym c.self.view_is) i in
     let p : b.pending ≡ numbered c.in-Numbered.kind c.in-Numbered.name c.in-Numbered.id (listed c.in-Numbered.class_ids) = ap pending_data (sym c.replace.ensures.value ∙ c.in-Numbered.is) in
     let node = c.in_ok-node.ensures ∙ (λ i. bucket (record { id = c.in-Numbered.id; kind = c.in-Numbered.kind; name = c.in-Numbered.name; alg = c.args.alg; class_ids = c.in_ok-class_ids.ensures i }) 0 1 none none) in

@@ -23,7 +23,7 @@ use Rattle.crush_map.proofs.builder.MapBuilder.item.Goals as goal
 
 pub unreachable-requires-in_default-detach : goal.unreachable-requires-in_default-detach
 unreachable-requires-in_default-detach g c =
-    let b : BuilderData = record { setting = c.self.inside.setting; forest = c.self.inside.forest; pending = pending_data c.self.inside.pending; adjusted = c.self.inside.adjusted } in
+    let b : BuilderData = record { setting = c.self.inside.setting; forest = c.self.inside.hierarchy; pending = pending_data c.self.inside.pending; adjusted = c.self.inside.adjusted } in
     let own : IsDraft b (own_draft b) = own_is_draft b c.recall_invariant.ensures c.self.invariant in
     let own_at : IsDraft c.args.self.now (own_draft b) = subst (λ (x : BuilderData). IsDraft x (own_draft b)) c.self.view_is own in
     let clear : IsClear (own_draft b) c.args.id c.args.written = item_clear (own_draft b) c.args.id c.args.written (sym (c.in_default-item_fault.ensures (own_draft b) own_at)) in
@@ -33,7 +33,7 @@ unreachable-requires-in_default-detach g c =
 
 pub attach-requires-clause-room : goal.attach-requires-clause-room
 attach-requires-clause-room g c =
-    let b : BuilderData = record { setting = c.self.inside.setting; forest = c.self.inside.forest; pending = pending_data c.self.inside.pending; adjusted = c.self.inside.adjusted } in
+    let b : BuilderData = record { setting = c.self.inside.setting; forest = c.self.inside.hierarchy; pending = pending_data c.self.inside.pending; adjusted = c.self.inside.adjusted } in
     let k : ℕ = c.in-Filling.bucket in
     let n : Items = items_of (c.in-Some-detach.node ∷ []) in
     let took : Coming b c.args.id k n = clear_comes b c.args.self.now c.args.id k n c.args.written c.self.view_is c.recall_invariant.ensures c.self.invariant (ap pending_data c.in-Filling.is) (λ d i. sym (c.in_default-item_fault.ensures d i)) (λ t st. c.in-Some-detach.ensures.node t (c.reserve.ensures.stands t st)) (one_item c.in-Some-detach.node) c.in-Some-detach.ensures.node_sums in
@@ -43,7 +43,7 @@ attach-requires-clause-room g c =
 
 pub attach-requires-clause-fits : goal.attach-requires-clause-fits
 attach-requires-clause-fits g c =
-    let b : BuilderData = record { setting = c.self.inside.setting; forest = c.self.inside.forest; pending = pending_data c.self.inside.pending; adjusted = c.self.inside.adjusted } in
+    let b : BuilderData = record { setting = c.self.inside.setting; forest = c.self.inside.hierarchy; pending = pending_data c.self.inside.pending; adjusted = c.self.inside.adjusted } in
     let own : IsDraft b (own_draft b) = own_is_draft b c.recall_invariant.ensures c.self.invariant in
     let own_at : IsDraft c.args.self.now (own_draft b) = subst (λ (x : BuilderData). IsDraft x (own_draft b)) c.self.view_is own in
     let clear : IsClear (own_draft b) c.args.id c.args.written = item_clear (own_draft b) c.args.id c.args.written (sym (c.in_default-item_fault.ensures (own_draft b) own_at)) in
@@ -56,7 +56,7 @@ attach-requires-clause-fits g c =
 
 pub overflow_add-self : goal.overflow_add-self
 overflow_add-self g c =
-    let b : BuilderData = record { setting = c.self.inside.setting; forest = c.self.inside.forest; pending = pending_data c.self.inside.pending; adjusted = c.self.inside.adjusted } in
+    let b : BuilderData = record { setting = c.self.inside.setting; forest = c.self.inside.hierarchy; pending = pending_data c.self.inside.pending; adjusted = c.self.inside.adjusted } in
     let own : IsDraft b (own_draft b) = own_is_draft b c.recall_invariant.ensures c.self.invariant in
     let own_at : IsDraft c.args.self.now (own_draft b) = subst (λ (x : BuilderData). IsDraft x (own_draft b)) c.self.view_is own in
     let clear : IsClear (own_draft b) c.args.id c.args.written = item_clear (own_draft b) c.args.id c.args.written (sym (c.in_default-item_fault.ensures (own_draft b) own_at)) in
@@ -66,7 +66,7 @@ overflow_add-self g c =
 
 pub invariant_of-self-2 : goal.invariant_of-self-2
 invariant_of-self-2 g c =
-    let b : BuilderData = record { setting = c.self.inside.setting; forest = c.self.inside.forest; pending = pending_data c.self.inside.pending; adjusted = c.self.inside.adjusted } in
+    let b : BuilderData = record { setting = c.self.inside.setting; forest = c.self.inside.hierarchy; pending = pending_data c.self.inside.pending; adjusted = c.self.inside.adjusted } in
     let own : IsDraft b (own_draft b) = own_is_draft b c.recall_invariant.ensures c.self.invariant in
     let own_at : IsDraft c.args.self.now (own_draft b) = subst (λ (x : BuilderData). IsDraft x (own_draft b)) c.self.view_is own in
     let clear : IsClear (own_draft b) c.args.id c.args.written = item_clear (own_draft b) c.args.id c.args.written (sym (c.in_default-item_fault.ensures (own_draft b) own_at)) in
@@ -84,7 +84,7 @@ invariant_of-self-2 g c =
 pub returns-clause-ok : goal.returns-clause-ok
 returns-clause-ok g c =
     λ d i.
-    let b : BuilderData = record { setting = c.self.inside.setting; forest = c.self.inside.forest; pending = pending_data c.self.inside.pending; adjusted = c.self.inside.adjusted } in
+    let b : BuilderData = record { setting = c.self.inside.setting; forest = c.self.inside.hierarchy; pending = pending_data c.self.inside.pending; adjusted = c.self.inside.adjusted } in
     let k : ℕ = c.in-Filling.bucket in
     let n : Items = items_of (c.in-Some-detach.node ∷ []) in
     let took : Coming b c.args.id k n = clear_comes b c.args.self.now c.args.id k n c.args.written c.self.view_is c.recall_invariant.ensures c.self.invariant (ap pending_data c.in-Filling.is) (λ d i. sym (c.in_default-item_fault.ensures d i)) (λ t st. c.in-Some-detach.ensures.node t (c.reserve.ensures.stands t st)) (one_item c.in-Some-detach.node) c.in-Some-detach.ensures.node_sums in
