@@ -73,8 +73,7 @@ pub(crate) fn add_bucket<A: Allocator + Clone>(
     let number = check_add(forest, setting, name, kind)?;
     let id = first_free(forest);
     let node = empty_bucket(forest.allocator(), id, number, name)?;
-    forest.reserve(Place::Root)?;
-    forest.attach(Place::Root, node);
+    forest.add(Place::Root, node)?;
     Ok(Done {
         changed: true,
         made: 1,
