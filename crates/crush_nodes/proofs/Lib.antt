@@ -3,6 +3,7 @@ pub mod ApartSteps
 pub mod CopyLaws
 pub mod CountLaws
 pub mod Ends
+pub mod FirstLaws
 pub mod FormLaws
 pub mod GuideRows
 pub mod HoldLaws

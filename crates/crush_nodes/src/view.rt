@@ -2,7 +2,7 @@
 
 ghost use Rattle.std.specs.Prelude.{◌≡◌};
 
-use crate::node::{Bucket, Leaf};
+use crate::node::{Bucket, Leaf, Node};
 use crush_units::{Alg, BucketId, ItemId, TypeId, Weight};
 use std::alloc::Allocator;
 
@@ -35,7 +35,9 @@ pub struct Counts {
 }
 
 impl<'a> View<'a> {
-    ghost use Rattle.crush_nodes.specs.Seen.{leaf_data};
+    ghost use Rattle.std.specs.Prelude.{◌∷◌, [], Some};
+    ghost use Rattle.crush_nodes.specs.Search.{first_view};
+    ghost use Rattle.crush_nodes.specs.Seen.{items_of, leaf_data};
     ghost use Rattle.crush_nodes.specs.Views.{device_view, bucket_view};
     ghost use Rattle.crush_nodes.specs.SeenView.{view_data};
 
@@ -70,6 +72,19 @@ impl<'a> View<'a> {
             parent,
             class: None,
             alg: Some(bucket.header.alg),
+        }
+    }
+
+    /// An item below the parent.
+    pub fn item<A: Allocator>(node: &'a Node<A>, parent: Option<BucketId>) -> View<'a>
+        ensures { Some (view_data result) ≡ first_view parent (items_of (node.now ∷ [])) }
+    {
+        match node {
+            Node::Device(leaf) => View::device(leaf, parent),
+            Node::Bucket(bucket) => {
+                let bucket: &'a Bucket<A> = bucket;
+                View::bucket(bucket, parent)
+            }
         }
     }
 }
