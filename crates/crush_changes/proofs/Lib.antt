@@ -7,6 +7,7 @@ pub mod MoveLaws
 pub mod NewNameLaws
 pub mod PutLastLaws
 pub mod RenameLaws
+pub mod ShuffleLaws
 pub mod SubtreeLaws
 pub mod SwapLaws
 pub mod SwapNodes

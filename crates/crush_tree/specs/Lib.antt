@@ -1,6 +1,7 @@
 pub mod OtherWeights
 pub mod Sameness
 pub mod SeenForest
+pub mod Taken
 pub mod Tops
 pub use Rattle.crush_nodes.specs.Apart
 pub use Rattle.crush_nodes.specs.Attachable
