@@ -49,7 +49,7 @@ pub record HasFault (kinds : Kinds) (fault : OptionsFault) : Type 0 where
   pub among : IsAmong kind kinds
   pub told : IsFaultOf kind fault
 
--- the fault is want of memory, or one that the words have
+-- the fault is out of memory, or one that the words have
 abbrev pub IsFaultIn : Kinds → OptionsFault → Type 0
 IsFaultIn kinds (Help text) = HasFault kinds (Help text)
 IsFaultIn kinds (Refused text) = HasFault kinds (Refused text)

@@ -31,7 +31,7 @@ pub enum OptionsFault {
     /// The words are no command line of the program: the text says why.
     #[error("{0}")]
     Refused(String),
-    /// There was no memory.
+    /// Out of memory.
     #[error("out of memory")]
     Memory,
 }
