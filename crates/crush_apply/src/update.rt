@@ -19,19 +19,19 @@ use std::alloc::Allocator;
 ///
 /// All memory is taken before the device moves. Where it lacks, the items are as before.
 pub(crate) fn update<A: Allocator + Clone>(
-    forest: &mut Hierarchy<A>,
+    hierarchy: &mut Hierarchy<A>,
     setting: &Setting,
     arrival: &Arrival<'_>,
 ) -> Result<Done, EditFault>
-    requires { Fits setting.now (rows_of forest.old) }
+    requires { Fits setting.now (rows_of hierarchy.old) }
     ensures { AnswersAs (λ t. edit setting.now t (Update arrival.now.device arrival.now.name.now
-        arrival.now.weight arrival.now.at.now)) forest.old forest.new result }
+        arrival.now.weight arrival.now.at.now)) hierarchy.old hierarchy.new result }
 {
-    forest.recall_invariant();
-    check_device(forest, setting, arrival)?;
-    let to = destination_of(forest, setting, arrival.at)?;
-    if is_held(forest, ItemId::Device(arrival.device), &to) {
-        return reweight(forest, arrival.name, arrival.weight);
+    hierarchy.recall_invariant();
+    check_device(hierarchy, setting, arrival)?;
+    let to = destination_of(hierarchy, setting, arrival.at)?;
+    if is_held(hierarchy, ItemId::Device(arrival.device), &to) {
+        return reweight(hierarchy, arrival.name, arrival.weight);
     }
-    place_device(forest, arrival, &to)
+    place_device(hierarchy, arrival, &to)
 }

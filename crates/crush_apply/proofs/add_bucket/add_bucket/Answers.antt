@@ -31,8 +31,8 @@ returns-in_err-add g c =
 
 pub add-requires-clause-fits : goal.add-requires-clause-fits
 add-requires-clause-fits g c =
-    let t : List Row = rows_of c.args.forest.now in
-    let st = stands_for_rows c.args.forest.now c.recall_invariant.ensures in
+    let t : List Row = rows_of c.args.hierarchy.now in
+    let st = stands_for_rows c.args.hierarchy.now c.recall_invariant.ensures in
     let lawful = add_bucket_lawful c.args.setting.now t c.args.name.now c.args.kind.now c.in_ok-number.number c.first_free-id.result c.recall_invariant.ensures.lawful c.requires c.as_bytes-form.ensures.name (c.in_ok-number.ensures.can t st) (c.first_free-id.ensures t st) in
     subst (λ (n : Items). Lawful (t ++ rows None n)) (sym c.in_ok-node.ensures) lawful
 

@@ -22,7 +22,7 @@ use Rattle.crush_apply.proofs.Destinations.{parent_of_place, stops-length, place
 use Rattle.crush_apply.proofs.route.put.attach_new.Goals as goal
 
 pub add-requires-clause-there : goal.add-requires-clause-there
-add-requires-clause-there g c = subst (λ p. is_place (rows_of c.args.forest.now) p ≡ true) (sym c.place_of.ensures) c.requires.there
+add-requires-clause-there g c = subst (λ p. is_place (rows_of c.args.hierarchy.now) p ≡ true) (sym c.place_of.ensures) c.requires.there
 
 pub add-requires-clause-sums : goal.add-requires-clause-sums
 add-requires-clause-sums g c =
@@ -41,7 +41,7 @@ add-requires-clause-kind g c =
 
 pub add-requires-clause-fits : goal.add-requires-clause-fits
 add-requires-clause-fits g c =
-    let f = c.args.forest.now in
+    let f = c.args.hierarchy.now in
     let ps = stops_data c.args.at.now c.args.stops.now in
     let as_many = length-take-le (length c.args.stops.now) _ (subst (λ n. length c.args.stops.now ≤ n) (sym c.new_slots-slots.ensures) c.requires.few) in
     let ids : c.free_ids.new.ids ≡ free_ids (rows_of f) (length ps) =
@@ -73,7 +73,7 @@ returns-clause-stands g c = λ t st.
 
 pub returns-clause-room : goal.returns-clause-room
 returns-clause-room g c =
-    let f = c.args.forest.now in
+    let f = c.args.hierarchy.now in
     let st = stands_for_rows f c.recall_invariant.ensures in
     let ps = stops_data c.args.at.now c.args.stops.now in
     let ids = c.free_ids.new.ids in

@@ -21,17 +21,17 @@ attach_new-requires-clause-few g c = c.new_stops.ensures.few
 
 pub attach_new-requires-clause-forms : goal.attach_new-requires-clause-forms
 attach_new-requires-clause-forms g c =
-    let f = c.args.forest.now in
+    let f = c.args.hierarchy.now in
     fresh_forms (rows_of f) c.new_stops.result.0.now c.new_stops.result.1.now c.args.to.now c.new_stops.ensures.stops (c.requires.leads (rows_of f) (stands_for_rows f c.recall_invariant.ensures))
 
 pub attach_new-requires-clause-there : goal.attach_new-requires-clause-there
 attach_new-requires-clause-there g c =
-    let f = c.args.forest.now in
+    let f = c.args.hierarchy.now in
     subst (λ o. is_place (rows_of f) (place_at o) ≡ true) (sym c.receiver.ensures) (place_there (rows_of f) c.args.to.now (c.requires.leads (rows_of f) (stands_for_rows f c.recall_invariant.ensures)))
 
 pub attach_new-requires-clause-fits : goal.attach_new-requires-clause-fits
 attach_new-requires-clause-fits g c =
-    let f = c.args.forest.now in
+    let f = c.args.hierarchy.now in
     let t : List Row = rows_of f in
     let st = stands_for_rows f c.recall_invariant.ensures in
     let leads = c.requires.leads t st in
@@ -48,18 +48,18 @@ returns-then-fresh-gt0-clause-next g c =
 pub returns-then-fresh-gt0-clause-stands : goal.returns-then-fresh-gt0-clause-stands
 returns-then-fresh-gt0-clause-stands g c =
     on_ok c.attach_new.result
-    (λ stands t st. subst (λ z. Stands c.attach_new.new.forest (t ++ z)) (rows_are t c.new_stops.result.0.now c.new_stops.result.1.now c.args.to.now c.new_stops.ensures.stops (c.requires.leads t st))
-    (subst (λ o. Stands c.attach_new.new.forest (t ++ rows o (new_boxes t (stops_data c.new_stops.result.0.now c.new_stops.result.1.now)))) c.receiver.ensures (stands t st)))
+    (λ stands t st. subst (λ z. Stands c.attach_new.new.hierarchy (t ++ z)) (rows_are t c.new_stops.result.0.now c.new_stops.result.1.now c.args.to.now c.new_stops.ensures.stops (c.requires.leads t st))
+    (subst (λ o. Stands c.attach_new.new.hierarchy (t ++ rows o (new_boxes t (stops_data c.new_stops.result.0.now c.new_stops.result.1.now)))) c.receiver.ensures (stands t st)))
     c.attach_new.ensures.stands
 
 pub unreachable-requires : goal.unreachable-requires
 unreachable-requires g c =
-    let f = c.args.forest.now in
+    let f = c.args.hierarchy.now in
     receives (rows_of f) c.args.to.now (c.requires.leads (rows_of f) (stands_for_rows f c.recall_invariant.ensures)) (omega (arith, c.fresh.ensures.value, c.if-fresh-gt0.false)) (sym c.receiver-2.ensures ∙ c.in_default.is)
 
 pub reserve-requires : goal.reserve-requires
 reserve-requires g c =
-    let f = c.args.forest.now in
+    let f = c.args.hierarchy.now in
     subst (λ o. is_place (rows_of f) (place_at o) ≡ true) (sym c.receiver-2.ensures ∙ c.in-Some.is) (place_there (rows_of f) c.args.to.now (c.requires.leads (rows_of f) (stands_for_rows f c.recall_invariant.ensures)))
 
 pub returns-clause-next : goal.returns-clause-next

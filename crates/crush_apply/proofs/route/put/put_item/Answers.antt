@@ -21,42 +21,42 @@ make_room-requires-clause-counts g c = λ t st.
 
 pub recall_part-requires : goal.recall_part-requires
 recall_part-requires g c =
-    let f = c.args.forest.now in
+    let f = c.args.hierarchy.now in
     let t : List Row = rows_of f in
     let st : Stands f t = stands_for_rows f c.recall_invariant.ensures in
     let row = some_row t c.args.id (c.requires.moves t st).there in
-    stands_there c.make_room.new.forest (t ++ rows_made t c.args.to.now.stops) c.args.id (c.in_ok-bucket.ensures.stands t st)
+    stands_there c.make_room.new.hierarchy (t ++ rows_made t c.args.to.now.stops) c.args.id (c.in_ok-bucket.ensures.stands t st)
     (still_there t st.lawful c.args.id c.args.to.now (c.requires.moves t st).leads row.0 row.0.weight row.1 (c.requires.can t row.0 st row.1))
 
 pub put-requires-clause-there : goal.put-requires-clause-there
 put-requires-clause-there g c =
-    let f = c.args.forest.now in
+    let f = c.args.hierarchy.now in
     let t : List Row = rows_of f in
     let st : Stands f t = stands_for_rows f c.recall_invariant.ensures in
     let row = some_row t c.args.id (c.requires.moves t st).there in
-    stands_there c.make_room.new.forest (t ++ rows_made t c.args.to.now.stops) c.args.id (c.in_ok-bucket.ensures.stands t st)
+    stands_there c.make_room.new.hierarchy (t ++ rows_made t c.args.to.now.stops) c.args.id (c.in_ok-bucket.ensures.stands t st)
     (still_there t st.lawful c.args.id c.args.to.now (c.requires.moves t st).leads row.0 row.0.weight row.1 (c.requires.can t row.0 st row.1))
 
 pub put-requires-clause-place : goal.put-requires-clause-place
 put-requires-clause-place g c =
-    let f = c.args.forest.now in
+    let f = c.args.hierarchy.now in
     let t : List Row = rows_of f in
     let st : Stands f t = stands_for_rows f c.recall_invariant.ensures in
     let row = some_row t c.args.id (c.requires.moves t st).there in
     let b = c.in_ok-bucket.bucket in
-    stands_left c.make_room.new.forest (t ++ rows_made t c.args.to.now.stops) c.args.id (Bucket b) (c.in_ok-bucket.ensures.stands t st)
+    stands_left c.make_room.new.hierarchy (t ++ rows_made t c.args.to.now.stops) c.args.id (Bucket b) (c.in_ok-bucket.ensures.stands t st)
     (next_there t st.lawful c.args.id c.args.to.now (c.requires.moves t st).leads row.0 row.0.weight row.1 (c.requires.can t row.0 st row.1) b (c.in_ok-bucket.ensures.next t st))
 
 pub put-requires-clause-fits : goal.put-requires-clause-fits
 put-requires-clause-fits g c =
-    let f = c.args.forest.now in
+    let f = c.args.hierarchy.now in
     let t : List Row = rows_of f in
     let st : Stands f t = stands_for_rows f c.recall_invariant.ensures in
     let ps = c.args.to.now.stops in
     let row = some_row t c.args.id (c.requires.moves t st).there in
     let leads = (c.requires.moves t st).leads in
     let can = c.requires.can t row.0 st row.1 in
-    let h = c.make_room.new.forest in
+    let h = c.make_room.new.hierarchy in
     let b = c.in_ok-bucket.bucket in
     let n = part_of c.args.id (all_items h) in
     let mid : Stands h (t ++ rows_made t ps) = c.in_ok-bucket.ensures.stands t st in
@@ -67,7 +67,7 @@ put-requires-clause-fits g c =
 pub returns-clause-stands : goal.returns-clause-stands
 returns-clause-stands g c = λ t r st found.
     let ps = c.args.to.now.stops in
-    let h = c.make_room.new.forest in
+    let h = c.make_room.new.hierarchy in
     let b = c.in_ok-bucket.bucket in
     let n = part_of c.args.id (all_items h) in
     let mid : Stands h (t ++ rows_made t ps) = c.in_ok-bucket.ensures.stands t st in

@@ -22,12 +22,12 @@ use Rattle.crush_apply.proofs.route.put.put_new.Goals as goal
 
 pub in_new_buckets-requires-clause-forms : goal.in_new_buckets-requires-clause-forms
 in_new_buckets-requires-clause-forms g c =
-    let f = c.args.forest.now in
+    let f = c.args.hierarchy.now in
     fresh_forms (rows_of f) c.new_stops.result.0.now c.new_stops.result.1.now c.args.to.now c.new_stops.ensures.stops (c.requires.leads (rows_of f) (stands_for_rows f c.recall_invariant.ensures))
 
 pub add-requires-clause-there : goal.add-requires-clause-there
 add-requires-clause-there g c =
-    let f = c.args.forest.now in
+    let f = c.args.hierarchy.now in
     subst (λ p. is_place (rows_of f) p ≡ true) (sym c.place.ensures) (place_there (rows_of f) c.args.to.now (c.requires.leads (rows_of f) (stands_for_rows f c.recall_invariant.ensures)))
 
 pub add-requires-clause-sums : goal.add-requires-clause-sums
@@ -36,7 +36,7 @@ add-requires-clause-sums g c =
 
 pub add-requires-clause-kind : goal.add-requires-clause-kind
 add-requires-clause-kind g c =
-    let f = c.args.forest.now in
+    let f = c.args.hierarchy.now in
     let t : List Row = rows_of f in
     let st : Stands f t = stands_for_rows f c.recall_invariant.ensures in
     let l = c.new_stops.result.0.now in
@@ -52,7 +52,7 @@ add-requires-clause-kind g c =
 
 pub add-requires-clause-fits : goal.add-requires-clause-fits
 add-requires-clause-fits g c =
-    let f = c.args.forest.now in
+    let f = c.args.hierarchy.now in
     let t : List Row = rows_of f in
     let st : Stands f t = stands_for_rows f c.recall_invariant.ensures in
     let l = c.new_stops.result.0.now in
