@@ -44,10 +44,26 @@ impl<C: Clock> Gate for Meeting<'_, C> {
 
 /// Lets the calls of two operators come by turns, the first operator's first.
 #[derive(Drop)]
-struct ByTurns<'a, C> {
+pub(super) struct ByTurns<'a, C> {
     clock: &'a C,
     made: AtomicU64,
     missed: AtomicU64,
+}
+
+impl<'a, C> ByTurns<'a, C> {
+    /// The gate of a run in which no call is made yet.
+    pub(super) fn new(clock: &'a C) -> ByTurns<'a, C> {
+        ByTurns {
+            clock,
+            made: AtomicU64::new(0),
+            missed: AtomicU64::new(0),
+        }
+    }
+
+    /// Whether no call waited in vain so far.
+    pub(super) fn kept_order(&self) -> bool {
+        self.missed.load(Ordering::SeqCst) == 0
+    }
 }
 
 impl<C: Clock> Gate for ByTurns<'_, C> {
@@ -99,16 +115,12 @@ const BY_TURNS: &[u8] =
 
 #[test]
 fn a_gate_dictates_the_order_of_calls(rt: HostRuntime) {
-    let gate = ByTurns {
-        clock: &rt,
-        made: AtomicU64::new(0),
-        missed: AtomicU64::new(0),
-    };
+    let gate = ByTurns::new(&rt);
     let job = joined(&rt, PLAIN, TWO_WEIGHTS);
     let mut out = Vec::new(rt.alloc());
     let outcome = run_job(&rt, &gate, AT_ONCE, &mut job.as_slice(), &mut out);
-    let missed = gate.missed.load(Ordering::SeqCst);
-    assert!(&rt; missed == 0 && outcome == Ok(summary(0, 4, 2)) && out.ends_with(BY_TURNS));
+    let in_order = gate.kept_order();
+    assert!(&rt; in_order && outcome == Ok(summary(0, 4, 2)) && out.ends_with(BY_TURNS));
 }
 
 /// The names of sixteen operators.

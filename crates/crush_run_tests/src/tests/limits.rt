@@ -1,6 +1,7 @@
 //! As much as a map and a job may have: buckets below one another, and calls.
 
-use super::{MODE, PLAIN, joined, put_behind, summary, writes};
+use super::at_once::ByTurns;
+use super::{AT_ONCE, MODE, PLAIN, joined, put_behind, summary, writes};
 use crush_run::{NoGate, run_job};
 use std::process::Abort;
 
@@ -54,6 +55,27 @@ fn edits_the_most_buckets(rt: HostRuntime) {
     let after = chain(&rt, "2.00000");
     let summary = summary(0, 6, 3);
     assert!(rt; writes(&rt, MODE, job.as_slice(), after.as_slice(), LINES, summary));
+}
+
+/// What two operators call by turns in the chain: the innermost device and the innermost bucket are
+/// each edited, and end where they were.
+const TWO_SCRIPTS: &[u8] =
+    b"%operator a\nreweight osd.0 3.0\nmove b1 host=b4096\n%operator b\nbegin\nreweight-subtree b4096 1.0\nreweight osd.0 2.0\ncommit\nmove b1 host=b2\n";
+
+const TWO_PARTS: &[u8] =
+    b"# 1 a reweight osd.0 3.00000 = done changed 1 made 0\n# 2 b begin ; reweight-subtree b4096 1.00000 ; reweight osd.0 2.00000 ; commit = dones 2 changed 2 made 0\n# 3 a move b1 host=b4096 = done changed 1 made 0\n# 4 b move b1 host=b2 = done changed 1 made 0\n";
+
+#[test]
+fn two_operators_edit_the_most_buckets(rt: HostRuntime) {
+    let gate = ByTurns::new(&rt);
+    let before = chain(&rt, "1.00000");
+    let job = joined(&rt, before.as_slice(), TWO_SCRIPTS);
+    let after = chain(&rt, "2.00000");
+    let expected = joined(&rt, after.as_slice(), TWO_PARTS);
+    let mut out = Vec::new(rt.alloc());
+    let outcome = run_job(&rt, &gate, AT_ONCE, &mut job.as_slice(), &mut out);
+    let in_order = gate.kept_order();
+    assert!(&rt; in_order && outcome == Ok(summary(0, 4, 4)) && out == expected);
 }
 
 /// Puts as many calls behind a text as a job may have.
