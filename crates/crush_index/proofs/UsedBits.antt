@@ -1,22 +1,22 @@
 -- What an index of used ids tells of an id that has a bit, and of one further off.
-use Rattle.std.proofs.Common.{◌≡◌, ◌⊎◌, inl, inr, ⊎_elim, ℕ, ◌+◌, ◌*◌, ◌/◌, ◌%◌, ◌<◌, ◌≤◌, Bool, true, false, List, length, get_or, ap, ◌∙◌, arith}
+use Rattle.std.proofs.Common.{◌≡◌, ◌⊎◌, inl, inr, ⊎_elim, ℕ, ◌+◌, ◌*◌, ◌/◌, ◌%◌, ◌<◌, ◌≤◌, max, Bool, true, false, List, get_or, ap, ◌∙◌, arith}
 use Rattle.std.specs.Prelude.{◌==◌, if◌then◌else◌, nat_eq, nat_lt}
 use Rattle.std.specs.Int.{bit_at}
 use Rattle.std.proofs.lemmas.Bool.{cases_order}
 use Rattle.std.proofs.lemmas.Bool.Decides.{nat_tests}
 use Rattle.indexmap.specs.IndexSet.{contains}
 use Rattle.crush_index.specs.declared.used.UsedIds.{UsedIds}
-use Rattle.crush_index.specs.UsedTold.{used_told, IsFirstFree}
+use Rattle.crush_index.specs.UsedTold.{used_told, near_ids, IsFirstFree}
 
 -- the bit of an id
 abbrev pub bit_of : List ℕ → ℕ → Bool
 bit_of ws k = bit_at (get_or ws (k / 64) 0) (k % 64) == 1
 
-inside : (a n : ℕ) → a < n → nat_lt a n ≡ true
-inside a n h = grind (arith, nat_tests)
+below : (a n : ℕ) → a < n → nat_lt a n ≡ true
+below a n h = grind (arith, nat_tests)
 
-told_by_bit : (used : UsedIds) (k : ℕ) → k / 64 < length used.words.items → used_told used k ≡ bit_of used.words.items k
-told_by_bit used k h = ap (λ b. if b then bit_of used.words.items k else contains nat_eq used.far k) (inside (k / 64) (length used.words.items) h)
+pub told_by_bit : (used : UsedIds) (k : ℕ) → k < near_ids → used_told used k ≡ bit_of used.words.items k
+told_by_bit used k h = ap (λ b. if b then bit_of used.words.items k else contains nat_eq used.far k) (below k near_ids h)
 
 is_one : (n : ℕ) → n ≡ 1 → (n == 1) ≡ true
 is_one n e = ap (λ z. z == 1) e
@@ -34,7 +34,11 @@ searched_first used least place e k from to = absurd (omega (arith, e, from, to)
 below_or_not : (k n : ℕ) → (k < n) ⊎ (n ≤ k)
 below_or_not k n = ⊎_elim (λ e. inr (omega arith)) (λ other. ⊎_elim (λ below. inl below) (λ above. inr (omega arith)) other) (cases_order k n)
 
-module _ (used : UsedIds) (least place : ℕ) (within : place < length used.words.items) (before : Searched used least place) where
+-- what is left to look at after the words
+pub searched_words : (used : UsedIds) (least place : ℕ) → Searched used least place → (next : ℕ) → next ≤ max (64 * place) least → (k : ℕ) → least ≤ k → k < next → used_told used k ≡ true
+searched_words used least place before next h k from to = before k from (omega (arith, h, from, to))
+
+module _ (used : UsedIds) (least place : ℕ) (within : place < 1089) (before : Searched used least place) where
   -- an id of the word
   told_here : (k : ℕ) → k / 64 ≡ place → used_told used k ≡ (bit_at (get_or used.words.items place 0) (k % 64) == 1)
   told_here k e = told_by_bit used k (omega (arith, e, within)) ∙ ap (λ z. bit_at (get_or used.words.items z 0) (k % 64) == 1) e

@@ -1,14 +1,19 @@
 -- Which ids an index tells are in use, and when it tells what a table says.
-use Rattle.std.specs.Prelude.{◌≡◌, ℕ, ◌<◌, ◌≤◌, ◌/◌, ◌%◌, ◌==◌, List, Bool, true, false, length, if◌then◌else◌, nat_eq, nat_lt, slice_index}
+use Rattle.std.specs.Prelude.{◌≡◌, ℕ, ◌<◌, ◌≤◌, ◌/◌, ◌%◌, ◌==◌, List, Bool, true, false, if◌then◌else◌, nat_eq, nat_lt, slice_index}
 use Rattle.std.specs.Int.{bit_at}
 use Rattle.indexmap.specs.IndexSet.{contains}
 use Rattle.crush_table.specs.Table.{Row, member, used_ids}
+use Rattle.crush_units.specs.declared.limits.TheConstants.{FARTHEST_BUCKET_ID}
 use Rattle.crush_index.specs.declared.used.UsedIds.{UsedIds}
 
--- whether an id is in use: its bit, or, beyond the words, whether it is kept by itself
+-- how many ids have a bit, counted from 0
+abbrev pub near_ids : ℕ
+near_ids = 69696
+
+-- whether an id is in use: its bit, which none has past the words, or, further off, whether it is kept by itself
 abbrev pub used_told : UsedIds → ℕ → Bool
 used_told used k =
-    if nat_lt (k / 64) (length used.words.items) then bit_at (slice_index used.words.items (k / 64)) (k % 64) == 1 else contains nat_eq used.far k
+    if nat_lt k near_ids then bit_at (slice_index used.words.items (k / 64)) (k % 64) == 1 else contains nat_eq used.far k
 
 -- USED IDS OF A TABLE: an id is in use exactly where the table says so
 abbrev pub AreUsedIn : List Row → UsedIds → Type 0
@@ -22,13 +27,9 @@ UsesSame old new = (k : ℕ) → used_told new k ≡ used_told old k
 abbrev pub UsesOne : UsedIds → UsedIds → ℕ → Bool → Type 0
 UsesOne old new id b = (k : ℕ) → used_told new k ≡ (if id == k then b else used_told old k)
 
--- how many numbers have a bit, counted from 0
-abbrev pub near_ids : ℕ
-near_ids = 69696
-
--- each of those from one on is in use
+-- each id that a bucket can have is in use from one on
 abbrev pub AreAllUsed : UsedIds → ℕ → Type 0
-AreAllUsed used least = (k : ℕ) → least ≤ k → k < near_ids → used_told used k ≡ true
+AreAllUsed used least = (k : ℕ) → least ≤ k → k ≤ FARTHEST_BUCKET_ID → used_told used k ≡ true
 
 -- the first id from one on that isn't in use
 pub record IsFirstFree (used : UsedIds) (least id : ℕ) : Type 0 where

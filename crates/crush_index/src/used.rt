@@ -1,47 +1,48 @@
 //! Which ids buckets and class ids use.
 
-ghost use Rattle.std.specs.Prelude.{◌≡◌, ◌+◌, ◌*◌, ◌/◌, ◌≤◌, ◌<◌, ℕ, true, false, IfOk, OnOk, OnErr, IfSome, IfNone, length};
+ghost use Rattle.std.specs.Prelude.{◌≡◌, ◌+◌, ◌*◌, ◌/◌, ◌≤◌, ◌<◌, ℕ, true, false, OnOk, OnErr, IfSome, IfNone, length, slice_index};
 
 use crate::hashing::Hashing;
 use crate::word::{first_clear, is_set, with_bit, without_bit};
+use crush_units::limits::FARTHEST_BUCKET_ID;
 use indexmap::IndexSet;
 use std::alloc::{AllocError, Global};
 
-/// How many words of 64 bits are kept. A map uses at most 17 ids for each of 4,096 buckets, and an
-/// edit asks for at most 16 more, so that the nearest free ones stand in these words.
-const WORDS: usize = 1089;
+/// How many ids have a bit, counted from 0. A map uses at most 17 ids for each of 4,096 buckets, and
+/// an edit asks for at most 16 more, so that the nearest free ones are among these.
+const NEAR: u32 = 69696;
 
 /// The ids that buckets and class ids use, each as its distance below 0, in the machine's memory.
 ///
 /// An id near to 0 has a bit in a table of words, so that the first one that is free is found word
-/// by word, whatever was used and given back before. One further off is kept by itself.
+/// by word, whatever was used and given back before. The words come as they are needed, and none
+/// goes. An id further off is kept by itself.
 #[derive(Drop)]
 pub struct UsedIds {
     words: Vec<u64>,
     far: IndexSet<u32, Hashing>,
-    ghost as_many: { length words.items ≡ 1089 },
+    ghost few: { length words.items ≤ 1089 },
 }
 
 impl UsedIds {
     ghost use Rattle.crush_index.specs.UsedTold.{used_told, UsesSame, UsesOne, AreAllUsed, IsFirstFree};
 
-    /// No ids. An Err is want of memory for the words.
-    pub fn new(alloc: Global, hashing: Hashing) -> Result<UsedIds, AllocError>
-        ensures { IfOk result (λ used. (k : ℕ) → used_told used k ≡ false) }
+    /// No ids. It takes no memory.
+    pub fn new(alloc: Global, hashing: Hashing) -> UsedIds
+        ensures { (k : ℕ) → used_told result k ≡ false }
     {
-        Ok(UsedIds {
-            words: vec![in alloc; 0u64; WORDS]?,
+        UsedIds {
+            words: Vec::new(alloc),
             far: IndexSet::with_hasher(alloc, hashing),
-        })
+        }
     }
 
     /// Whether an id is in use.
     pub fn has(&self, id: u32) -> bool
         ensures { result ≡ used_told self.now id }
     {
-        let place = id as usize / 64;
-        if place < self.words.len() {
-            is_set(self.words[place], id % 64)
+        if id < NEAR {
+            is_set(word_at(self.words.as_slice(), id as usize / 64), id % 64)
         } else {
             self.far.contains(&id)
         }
@@ -52,8 +53,9 @@ impl UsedIds {
         ensures ok { OnOk result (UsesOne self.old self.new id true) }
         ensures err { OnErr result (UsesSame self.old self.new) }
     {
-        let place = id as usize / 64;
-        if place < self.words.len() {
+        if id < NEAR {
+            let place = id as usize / 64;
+            reach(&mut self.words, place)?;
             self.words[place] = with_bit(self.words[place], id % 64);
         } else {
             self.far.insert(id)?;
@@ -65,16 +67,18 @@ impl UsedIds {
     pub fn remove(&mut self, id: u32)
         ensures { UsesOne self.old self.new id false }
     {
-        let place = id as usize / 64;
-        if place < self.words.len() {
-            self.words[place] = without_bit(self.words[place], id % 64);
+        if id < NEAR {
+            let place = id as usize / 64;
+            if place < self.words.len() {
+                self.words[place] = without_bit(self.words[place], id % 64);
+            }
         } else {
             self.far.swap_remove(&id);
         }
     }
 
     /// The free id nearest to 0 among those that are at least so far below it. `None` where all
-    /// that have a bit are in use.
+    /// that a bucket can have are in use.
     pub fn first_free(&self, least: u32) -> Option<u32>
         ensures some { IfSome result (IsFirstFree self.now least) }
         ensures none { IfNone result (AreAllUsed self.now least) }
@@ -86,8 +90,38 @@ impl UsedIds {
                 return Some(place as u32 * 64 + bit);
             }
         }
+        let past = self.words.len() as u32 * 64;
+        for id in past.max(least)..FARTHEST_BUCKET_ID + 1 {
+            if !self.has(id) {
+                return Some(id);
+            }
+        }
         None
     }
+}
+
+/// A word, or one without bits where there are fewer.
+fn word_at(words: &[u64], place: usize) -> u64
+    ensures { result ≡ slice_index words.now place }
+{
+    match words.get(place) {
+        Some(word) => *word,
+        None => 0,
+    }
+}
+
+/// Makes a word be there: those that lack are put last, without bits. An Err is want of memory.
+fn reach(words: &mut Vec<u64>, place: usize) -> Result<(), AllocError>
+    requires within { place < 1089 }
+    requires few { length words.old.items ≤ 1089 }
+    ensures there { OnOk result (place < length words.new.items) }
+    ensures few { length words.new.items ≤ 1089 }
+    ensures same { (i : ℕ) → slice_index words.new.items i ≡ slice_index words.old.items i }
+{
+    while words.len() <= place {
+        words.push(0)?;
+    }
+    Ok(())
 }
 
 /// From which of its bits on a word is looked at: in the first word from the least id's own on, in

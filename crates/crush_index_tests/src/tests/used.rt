@@ -27,18 +27,20 @@ fn tells_ends(used: &UsedIds) -> bool {
 
 #[test]
 fn ids_are_in_use(rt: HostRuntime) {
-    let mut used = UsedIds::new(rt.alloc(), Hashing::plain()).expect(&rt, "memory for the words");
-    assert!(rt; !used.has(1) && used.first_free(1) == Some(1));
+    let mut used = UsedIds::new(rt.alloc(), Hashing::plain());
+    assert!(rt; !used.has(1) && used.first_free(1) == Some(1) && used.first_free(500) == Some(500));
     assert!(rt; use_some(&mut used) && tells_ends(&used));
     drop(used);
 }
 
 #[test]
 fn the_nearest_free_id_is_found(rt: HostRuntime) {
-    let mut used = UsedIds::new(rt.alloc(), Hashing::plain()).expect(&rt, "memory for the words");
+    let mut used = UsedIds::new(rt.alloc(), Hashing::plain());
     assert!(rt; use_some(&mut used));
     assert!(rt; used.first_free(1) == Some(65) && used.first_free(66) == Some(67));
-    assert!(rt; used.first_free(69_695) == Some(69_695) && used.first_free(69_696).is_none());
+    assert!(rt;
+        used.first_free(69_696) == Some(69_697) && used.first_free(2_147_483_648).is_none()
+    );
     used.remove(3);
     used.remove(69_696);
     assert!(rt; used.first_free(1) == Some(3) && used.first_free(4) == Some(65));
