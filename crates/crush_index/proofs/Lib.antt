@@ -1,3 +1,7 @@
+pub mod IdsTold
+pub mod NodeRows
 pub mod PlaceColumn
+pub mod TableTold
+pub mod ToldLaws
 pub mod UsedBits
 pub mod WordBits

@@ -1,4 +1,6 @@
 pub mod Hashed
+pub mod IndexLaw
+pub mod IndexTold
 pub mod NamesLaw
 pub mod NamesTold
 pub mod PlacesLaw

@@ -1,5 +1,5 @@
 -- Which ids an index tells are in use, and when it tells what a table says.
-use Rattle.std.specs.Prelude.{◌≡◌, ℕ, ◌<◌, ◌≤◌, ◌/◌, ◌%◌, ◌==◌, List, Bool, true, false, if◌then◌else◌, nat_eq, nat_lt, slice_index}
+use Rattle.std.specs.Prelude.{◌≡◌, ℕ, ◌<◌, ◌≤◌, ◌/◌, ◌%◌, ◌==◌, ◌||◌, List, Bool, true, false, if◌then◌else◌, nat_eq, nat_lt, slice_index}
 use Rattle.std.specs.Int.{bit_at}
 use Rattle.indexmap.specs.IndexSet.{contains}
 use Rattle.crush_table.specs.Table.{Row, member, used_ids}
@@ -26,6 +26,17 @@ UsesSame old new = (k : ℕ) → used_told new k ≡ used_told old k
 -- this of one id, and of each other the same as before
 abbrev pub UsesOne : UsedIds → UsedIds → ℕ → Bool → Type 0
 UsesOne old new id b = (k : ℕ) → used_told new k ≡ (if id == k then b else used_told old k)
+
+-- these have come into use; these are free; and of each but these the same as before
+abbrev pub ComeIntoUse : List ℕ → UsedIds → UsedIds → Type 0
+ComeIntoUse ids old new = (k : ℕ) → used_told new k ≡ (used_told old k || member k ids)
+
+abbrev pub AreFree : List ℕ → UsedIds → UsedIds → Type 0
+AreFree ids old new = (k : ℕ) → used_told new k ≡ (if member k ids then false else used_told old k)
+
+abbrev pub UsesSameBut : List ℕ → UsedIds → UsedIds → Type 0
+UsesSameBut ids old new =
+    (k : ℕ) → (if member k ids then false else used_told new k) ≡ (if member k ids then false else used_told old k)
 
 -- each id that a bucket can have is in use from one on
 abbrev pub AreAllUsed : UsedIds → ℕ → Type 0

@@ -15,6 +15,7 @@
 #![tactic(auto)]
 
 mod hashing;
+mod index;
 pub mod law;
 mod names;
 mod places;
@@ -22,6 +23,7 @@ mod used;
 mod word;
 
 pub use hashing::Hashing;
+pub use index::Index;
 pub use names::Names;
 pub use places::Places;
 pub use used::UsedIds;
