@@ -1,0 +1,98 @@
+//! Names, places and used ids as items come to an index, change and go.
+
+use crush_index::{Hashing, Index};
+use crush_nodes::guide::{Guide, Spot};
+use crush_nodes::node::{Header, Node, ShadowId};
+use crush_nodes::place::Place;
+use crush_units::{Alg, BucketId, DeviceId, ItemId, Name, TypeId, Weight};
+use std::alloc::{AllocGlobal, Global};
+use std::process::Abort;
+
+fn bucket(rt: &impl Abort, distance: u32) -> BucketId {
+    BucketId::below_zero(distance).expect(rt, "the id of a bucket")
+}
+
+fn device(rt: &impl Abort, number: u32) -> ItemId {
+    ItemId::Device(DeviceId::from_number(number).expect(rt, "the id of a device"))
+}
+
+fn name(rt: &impl Abort, alloc: Global, text: &[u8]) -> Name<Global> {
+    Name::read(alloc, text).expect(rt, "a name")
+}
+
+/// The header of the bucket 2, h1, whose class id of `ssd` is 3.
+fn header(rt: &impl Abort, alloc: Global) -> Header<Global> {
+    let mut class_ids = Vec::new(alloc);
+    let class = ShadowId {
+        id: bucket(rt, 3),
+        class: name(rt, alloc, b"ssd"),
+    };
+    class_ids.push(class).expect(rt, "memory");
+    Header {
+        id: bucket(rt, 2),
+        kind: TypeId::new(1),
+        name: name(rt, alloc, b"h1"),
+        alg: Alg::Straw2,
+        class_ids,
+    }
+}
+
+/// The bucket of the header, without items.
+fn host(rt: &impl Abort, alloc: Global) -> Node<Global> {
+    Node::bucket(alloc, header(rt, alloc))
+        .ok()
+        .expect(rt, "memory")
+}
+
+/// The device osd.0.
+fn leaf(rt: &impl Abort, alloc: Global) -> Node<Global> {
+    let id = DeviceId::from_number(0).expect(rt, "the id of a device");
+    Node::device(
+        id,
+        name(rt, alloc, b"osd.0"),
+        Weight::from_units(65536),
+        None,
+    )
+}
+
+/// Whether h1 and its ids are told, and osd.0 stands there.
+fn tells(index: &Index, rt: &impl Abort, host: Option<Spot>, leaf: Option<Spot>) -> bool {
+    let id = bucket(rt, 2);
+    let is_there = host.is_some();
+    index.id_of(b"h1").is_some() == is_there
+        && index.places().spot(ItemId::Bucket(id)) == host
+        && index.places().spot(device(rt, 0)) == leaf
+        && index.is_used(id) == is_there
+        && index.is_used(bucket(rt, 3)) == is_there
+        && !index.is_used(bucket(rt, 1))
+}
+
+#[test]
+fn items_come_and_go(rt: HostRuntime) {
+    let mut index = Index::new(rt.alloc(), Hashing::plain());
+    let first = host(&rt, rt.alloc());
+    let second = leaf(&rt, rt.alloc());
+    let root = Some(Spot {
+        place: Place::Root,
+        near: 0,
+    });
+    let below = Some(Spot {
+        place: Place::Bucket(bucket(&rt, 2)),
+        near: 0,
+    });
+    assert!(rt; tells(&index, &rt, None, None));
+    index
+        .insert_node(Place::Root, 0, &first)
+        .expect(&rt, "memory");
+    index
+        .insert_node(Place::Bucket(bucket(&rt, 2)), 0, &second)
+        .expect(&rt, "memory");
+    assert!(rt; tells(&index, &rt, root, below));
+    index.remove_node(&second);
+    assert!(rt; tells(&index, &rt, root, None) && index.id_of(b"osd.0").is_none());
+    index.remove_node(&first);
+    assert!(rt; tells(&index, &rt, None, None));
+    drop(second);
+    drop(first);
+    drop(index);
+}
