@@ -65,6 +65,7 @@ fn tells(index: &Index, rt: &impl Abort, host: Option<Spot>, leaf: Option<Spot>)
         && index.is_used(id) == is_there
         && index.is_used(bucket(rt, 3)) == is_there
         && !index.is_used(bucket(rt, 1))
+        && index.first_free(2) == Some(if is_there { 4 } else { 2 })
 }
 
 #[test]
