@@ -6,3 +6,4 @@ pub mod TableTold
 pub mod ToldLaws
 pub mod UsedBits
 pub mod WordBits
+pub mod Exchanged

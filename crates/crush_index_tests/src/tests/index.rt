@@ -97,3 +97,47 @@ fn items_come_and_go(rt: HostRuntime) {
     drop(first);
     drop(index);
 }
+
+/// The bucket 1, h2, without class ids and items.
+fn other(rt: &impl Abort, alloc: Global) -> Node<Global> {
+    let header = Header {
+        id: bucket(rt, 1),
+        kind: TypeId::new(1),
+        name: name(rt, alloc, b"h2"),
+        alg: Alg::Straw2,
+        class_ids: Vec::new(alloc),
+    };
+    Node::bucket(alloc, header).ok().expect(rt, "memory")
+}
+
+#[test]
+fn buckets_are_exchanged(rt: HostRuntime) {
+    let mut index = Index::new(rt.alloc(), Hashing::plain());
+    let mut roots = Vec::new(rt.alloc());
+    roots.push(host(&rt, rt.alloc())).expect(&rt, "memory");
+    roots.push(other(&rt, rt.alloc())).expect(&rt, "memory");
+    let mut items = Vec::new(rt.alloc());
+    items.push(leaf(&rt, rt.alloc())).expect(&rt, "memory");
+    let h1 = bucket(&rt, 2);
+    let h2 = bucket(&rt, 1);
+    index
+        .insert_node(Place::Root, 0, &roots[0])
+        .expect(&rt, "memory");
+    index
+        .insert_node(Place::Root, 1, &roots[1])
+        .expect(&rt, "memory");
+    index
+        .insert_node(Place::Bucket(h1), 0, &items[0])
+        .expect(&rt, "memory");
+    let moved = Some(Spot {
+        place: Place::Bucket(h2),
+        near: 0,
+    });
+    index.exchange(h1, h2, b"h1", b"h2", items.as_slice(), &[]);
+    assert!(rt; index.id_of(b"h1") == Some(ItemId::Bucket(h2)));
+    assert!(rt; index.id_of(b"h2") == Some(ItemId::Bucket(h1)));
+    assert!(rt; index.places().spot(device(&rt, 0)) == moved);
+    drop(items);
+    drop(roots);
+    drop(index);
+}
