@@ -5,16 +5,22 @@
 
 ghost use Rattle.std.specs.Prelude.{◌≡◌, ◌<◌, ◌≤◌};
 ghost use Rattle.crush_units.specs.declared.limits.TheConstants.{MOST_OPERATORS};
+ghost use Rattle.crush_editor_tests.specs.Seats.{AreAll};
 
-use crush_calls::Call;
-use crush_editor::{Desk, Editor, Seat, Started};
+use crush_calls::{Call, Reply};
+use crush_editor::{Desk, Editor, Seat, Started, SubmitFault};
 use crush_edits::Edit;
 use crush_gauge::Reading;
+use crush_map::CrushMap;
 use crush_text::read_map;
 use crush_units::{Name, Weight};
+use std::alloc::Global;
 use std::marker::Brand;
 use std::process::Abort;
 use std::sync::Wait;
+
+mod closing;
+mod full;
 
 const PLAIN_EXAMPLE_MAP: &[u8] = b"\
     # begin crush map\n\
@@ -66,6 +72,15 @@ fn started(rt: &(impl Abort + AllocGlobal), operators: usize) -> Started
     ensures { result.parts ≡ operators }
 {
     let (map, _) = read_map(rt.alloc(), PLAIN_EXAMPLE_MAP).expect(rt, "no map");
+    started_with(rt, map, operators)
+}
+
+/// The same of this map.
+fn started_with(rt: &(impl Abort + AllocGlobal), map: CrushMap<Global>, operators: usize) -> Started
+    requires some { 0 < operators }
+    requires few { operators ≤ MOST_OPERATORS }
+    ensures { result.parts ≡ operators }
+{
     match Started::new(map, operators, rt.alloc()) {
         Ok(started) => started,
         Err(map) => {
@@ -81,6 +96,7 @@ fn opened<N: Desk>(rt: &(impl Abort + AllocGlobal), started: Started) -> (Editor
     requires opening { started.opening ≡ N.opening }
     requires name { started.name ≡ N.name }
     requires parts { started.parts ≡ N.parts }
+    ensures { AreAll N.parts result.1.items }
 {
     match Editor::<N>::open(started, rt.alloc()) {
         Ok(opened) => opened,
@@ -89,6 +105,21 @@ fn opened<N: Desk>(rt: &(impl Abort + AllocGlobal), started: Started) -> (Editor
             panic!(rt; "no memory")
         }
     }
+}
+
+/// Submits a call by the seat of this operator.
+fn submit_by<N: Desk>(
+    rt: &(impl Abort + AllocGlobal + Wait),
+    editor: &Editor<N>,
+    seats: &mut Vec<Seat<N>>,
+    operator: usize,
+    call: &Call,
+) -> Result<Reply, SubmitFault>
+    requires { AreAll N.parts seats.old.items }
+    ensures { AreAll N.parts seats.new.items }
+{
+    let seat = seats.get_mut(operator).expect(rt, "no seat");
+    editor.submit(rt, rt.alloc(), seat, call)
 }
 
 /// Sets the weight of the device of this name to 2.
