@@ -1,1 +1,7 @@
+pub mod FrontLemmas
+pub mod GuideLemmas
+pub mod IndexLemmas
+pub mod MoveLemmas
 pub mod PutLemmas
+pub mod RenameLemmas
+pub mod ViewLemmas
