@@ -1,5 +1,9 @@
 //! Names, places and used ids as items come to an index, change and go.
 
+ghost use Rattle.std.specs.Prelude.{◌≡◌, Some, IfSome};
+ghost use Rattle.crush_units.specs.declared.id.ItemId.TheVariants.{Bucket as BucketItem};
+ghost use Rattle.crush_index.specs.NamesTold.{id_told};
+
 use crush_index::{Hashing, Index};
 use crush_nodes::guide::{Guide, Spot};
 use crush_nodes::node::{Header, Node, ShadowId};
@@ -110,6 +114,27 @@ fn other(rt: &impl Abort, alloc: Global) -> Node<Global> {
     Node::bucket(alloc, header).ok().expect(rt, "memory")
 }
 
+/// The bucket of this name.
+fn named(index: &Index, name: &[u8]) -> Option<BucketId>
+    ensures { IfSome result (λ b. id_told index.now.names name.now ≡ Some (BucketItem b)) }
+{
+    match index.id_of(name)? {
+        ItemId::Bucket(bucket) => Some(bucket),
+        ItemId::Device(_) => None,
+    }
+}
+
+/// Exchanges the buckets h1, with these items, and h2, without any, where they are there.
+fn exchange_hosts(index: &mut Index, of_first: &[Node<Global>]) {
+    let Some(first) = named(index, b"h1") else {
+        return;
+    };
+    let Some(second) = named(index, b"h2") else {
+        return;
+    };
+    index.exchange(first, second, b"h1", b"h2", of_first, &[]);
+}
+
 #[test]
 fn buckets_are_exchanged(rt: HostRuntime) {
     let mut index = Index::new(rt.alloc(), Hashing::plain());
@@ -133,7 +158,7 @@ fn buckets_are_exchanged(rt: HostRuntime) {
         place: Place::Bucket(h2),
         near: 0,
     });
-    index.exchange(h1, h2, b"h1", b"h2", items.as_slice(), &[]);
+    exchange_hosts(&mut index, items.as_slice());
     assert!(rt; index.id_of(b"h1") == Some(ItemId::Bucket(h2)));
     assert!(rt; index.id_of(b"h2") == Some(ItemId::Bucket(h1)));
     assert!(rt; index.places().spot(device(&rt, 0)) == moved);
