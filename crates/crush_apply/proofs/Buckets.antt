@@ -1,6 +1,7 @@
 -- New buckets, one more at a time.
-use Rattle.std.proofs.Common.{◌≡◌, ℕ, zero, suc, ◌+◌, ◌<◌, ◌≤◌, List, [], ◌∷◌, ◌++◌, length, take, get_or, refl, ap, sym, ◌∙◌, arith, add-one}
+use Rattle.std.proofs.Common.{◌≡◌, ℕ, zero, suc, ◌+◌, ◌-◌, ◌<◌, ◌≤◌, List, [], ◌∷◌, ◌++◌, length, take, drop, get_or, refl, ap, sym, ◌∙◌, arith, add-one}
 use Rattle.std.specs.Prelude.{All}
+use Rattle.std.proofs.lemmas.List.{take_rest}
 use Rattle.std.proofs.lemmas.List.Elements.{All-head, All-tail}
 use Rattle.crush_table.specs.Items.{Items, none, bucket}
 use Rattle.crush_table.specs.Stored.{weight_sum}
@@ -42,25 +43,37 @@ with_ids-more l (j ∷ ids) [] k i d h g = absurd (omega (arith, g))
 with_ids-more l (j ∷ ids) (x ∷ xs) zero i d h g = refl
 with_ids-more l (j ∷ ids) (x ∷ xs) (suc k) i d h g = ap (λ z. new_of j (stop_data l x) ∷ z) (with_ids-more l ids xs k i d (omega (arith, h)) (omega (arith, g)))
 
--- a new bucket that holds those before it
-pub one_more : (l : List Pair) (ids : List ℕ) (xs : List Stop) (k i : ℕ) (d : Stop) (above below more : Items) → k < length ids → k < length xs
+-- the lowest bucket in the others
+pub with_lowest : (l : List Pair) (ids : List ℕ) (xs : List Stop) (i : ℕ) (d : Stop) (low : Items) → 0 < length ids → 0 < length xs
+    → low ≡ bucket (new_header (new_of (get_or ids 0 i) (stop_data l (get_or xs 0 d)))) 0 1 none none
+    → boxes 1 low (with_ids (take (length ids - 1) (drop 1 ids)) (stops_data l (take (length xs - 1) (drop 1 xs)))) ≡ boxes 1 none (with_ids ids (stops_data l xs))
+with_lowest l [] xs i d low h g is = absurd (omega (arith, h))
+with_lowest l (j ∷ ids) [] i d low h g is = absurd (omega (arith, g))
+with_lowest l (j ∷ ids) (x ∷ xs) i d low h g is = λ k. boxes 1 (is k) (with_ids (take_rest (j ∷ ids) 1 k) (stops_data l (take_rest (x ∷ xs) 1 k)))
+
+pub later_forms : (P : StopData → Type 0) (l : List Pair) (xs : List Stop) → All P (stops_data l xs) → All P (stops_data l (drop 1 xs))
+later_forms P l [] all = all
+later_forms P l (x ∷ xs) all = All-tail P (stop_data l x) (stops_data l xs) all
+
+-- a new bucket that holds an item in those before it
+pub one_more : (l : List Pair) (item : Items) (ids : List ℕ) (xs : List Stop) (k i : ℕ) (d : Stop) (above below more : Items) → k < length ids → k < length xs
     → above ≡ bucket (new_header (new_of (get_or ids k i) (stop_data l (get_or xs k d)))) 0 1 none none
-    → below ≡ boxes 1 none (with_ids (take k ids) (stops_data l (take k xs)))
+    → below ≡ boxes 1 item (with_ids (take k ids) (stops_data l (take k xs)))
     → more ≡ bucket_with below above
-    → more ≡ boxes 1 none (with_ids (take (k + 1) ids) (stops_data l (take (k + 1) xs)))
-one_more l ids xs k i d above below more h g empty so_far held =
+    → more ≡ boxes 1 item (with_ids (take (k + 1) ids) (stops_data l (take (k + 1) xs)))
+one_more l item ids xs k i d above below more h g empty so_far held =
     let n = new_of (get_or ids k i) (stop_data l (get_or xs k d)) in
     let ns = with_ids (take k ids) (stops_data l (take k xs)) in
-    let first : 0 + weight_sum (boxes 1 none ns) ≡ weight_sum (boxes 1 none ns) = omega arith in
+    let first : 0 + weight_sum (boxes 1 item ns) ≡ weight_sum (boxes 1 item ns) = omega arith in
     held ∙ (λ j. bucket_with (so_far j) (empty j))
-    ∙ (λ j. bucket (new_header n) (first j) 1 (boxes 1 none ns) none)
-    ∙ sym (boxes-more 1 none ns n)
-    ∙ sym (ap (boxes 1 none) (with_ids-more l ids xs k i d h g))
-    ∙ (λ j. boxes 1 none (with_ids (take (sym (add-one k) j) ids) (stops_data l (take (sym (add-one k) j) xs))))
+    ∙ (λ j. bucket (new_header n) (first j) 1 (boxes 1 item ns) none)
+    ∙ sym (boxes-more 1 item ns n)
+    ∙ sym (ap (boxes 1 item) (with_ids-more l ids xs k i d h g))
+    ∙ (λ j. boxes 1 item (with_ids (take (sym (add-one k) j) ids) (stops_data l (take (sym (add-one k) j) xs))))
 
--- both weigh nothing
-pub weigh_nothing : (above below : Items) (h : _) (ns : List NewData) → above ≡ bucket h 0 1 none none → below ≡ boxes 1 none ns → weight_sum above + weight_sum below ≤ 4294967295
-weigh_nothing above below h ns empty so_far =
+-- both weigh what the item weighs
+pub weigh_item : (item above below : Items) (h : _) (ns : List NewData) → weight_sum item ≤ 4294967295 → above ≡ bucket h 0 1 none none → below ≡ boxes 1 item ns → weight_sum above + weight_sum below ≤ 4294967295
+weigh_item item above below h ns light empty so_far =
     let nothing : weight_sum above ≡ 0 = ap weight_sum empty in
-    let none_below : weight_sum below ≡ 0 = ap weight_sum so_far ∙ weight_sum-boxes 1 none ns in
-    omega arith
+    let within : weight_sum below ≡ weight_sum item = ap weight_sum so_far ∙ weight_sum-boxes 1 item ns in
+    omega (arith, nothing, within, light)

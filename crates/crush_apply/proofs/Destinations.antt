@@ -1,23 +1,23 @@
 -- New buckets that are attached, and what comes into the lowest of them.
-use Rattle.std.proofs.Common.{◌≡◌, ℕ, zero, suc, ◌+◌, ◌<◌, ◌≤◌, true, List, [], ◌∷◌, ◌++◌, length, take, get_or, ap, sym, subst, ◌∙◌, refl, arith, eq-eqb, append-nil, ⊎_elim}
+use Rattle.std.proofs.Common.{◌≡◌, ℕ, zero, suc, ◌+◌, ◌<◌, ◌≤◌, true, List, [], ◌∷◌, ◌++◌, length, take, get_or, ap, sym, subst, ◌∙◌, refl, arith, false, eq-eqb, append-nil, ⊎_elim}
 use Rattle.std.specs.Prelude.{Option, Some, None, IfSome, All, Result, Ok, Err, IfOk, OnOk, ◌==◌, if◌then◌else◌}
 use Rattle.std.specs.List.{prefix_len}
-use Rattle.std.proofs.lemmas.Bool.{eqb-true}
+use Rattle.std.proofs.lemmas.Bool.Decides.{eqb_tells}
 use Rattle.std.proofs.lemmas.List.{length-take-le}
 use Rattle.std.proofs.lemmas.List.Sums.{prefix_len-le-length}
-use Rattle.std.proofs.lemmas.List.Elements.{All-take}
+use Rattle.std.proofs.lemmas.List.Elements.{All-head, All-take}
 use Rattle.crush_units.specs.declared.id.ItemId.TheVariants.{Bucket}
 use Rattle.crush_table.specs.Items.{Items, none, bucket}
 use Rattle.crush_table.specs.ItemRows.{rows}
 use Rattle.crush_table.specs.Forest.{ForestData, OnlyBuckets}
 use Rattle.crush_table.specs.Stored.{weight_sum}
-use Rattle.crush_table.specs.Table.{Row, is_there}
-use Rattle.crush_table.proofs.Weighs.{true_or_false}
+use Rattle.crush_table.specs.Table.{Row, is_there, member, used_ids, free_ids}
+use Rattle.crush_table.proofs.Appended.{unused_fresh}
 use Rattle.crush_nodes.specs.Ops.{FitsPlace, is_place}
 use Rattle.crush_table.specs.Count.{one_if}
 use Rattle.crush_nodes.specs.Room.{parent_at, same_place, room, room_in, bucket_room}
 use Rattle.crush_nodes.specs.declared.place.Place.{Place}
-use Rattle.crush_nodes.specs.declared.place.Place.TheVariants.{Bucket as AtBucket, Root, Unplaced}
+use Rattle.crush_nodes.specs.declared.place.Place.TheVariants.{Bucket as AtBucket}
 use Rattle.crush_edits.specs.declared.location.Pair.{Pair}
 use Rattle.crush_edits.specs.Boxes.{boxes}
 use Rattle.crush_edits.specs.LawRoute.{rows_made}
@@ -73,24 +73,19 @@ lowest_room (i ∷ ids) (p ∷ ps) d h g =
     let own : ◌≡◌ {A = ℕ} (if i == i then 1 else 0) 1 = ap (λ b. if b then 1 else 0) (eq-eqb i i refl) in
     omega (arith, own, room-boxes i 1 (bucket (new_header n) 0 1 none none) (with_ids ids ps))
 
--- places that are the same
-same_is : (p q : Place) → same_place p q ≡ true → p ≡ q
-same_is (AtBucket a) (AtBucket b) e = ap AtBucket (eqb-true a b e)
-same_is (AtBucket a) Root e = absurd cc
-same_is (AtBucket a) Unplaced e = absurd cc
-same_is Root (AtBucket b) e = absurd cc
-same_is Root Root e = refl
-same_is Root Unplaced e = absurd cc
-same_is Unplaced (AtBucket b) e = absurd cc
-same_is Unplaced Root e = absurd cc
-same_is Unplaced Unplaced e = refl
+-- a new bucket is at no place that is there
+pub new_place : (t : List Row) (o : Option ℕ) (b : ℕ) → member b (used_ids t) ≡ false → is_place t (place_at o) ≡ true → same_place (AtBucket b) (place_at o) ≡ false
+new_place t None b unused there = refl
+new_place t (Some c) b unused there = ⊎_elim (λ p. absurd (let no : false ≡ true = sym (unused_fresh t b unused) ∙ ap (λ k. is_there t (Bucket k)) p.1 ∙ there in cc)) (λ p. p.0) (eqb_tells b c)
 
 -- items keep their own room where they come
-pub room_kept : (f g : ForestData) (n : Items) (p q : Place) → room g p + one_if (same_place p q) ≡ room f p + room_in n p → 0 < room f q → 0 < room_in n p → 0 < room g p
-room_kept f g n p q e some own = ⊎_elim
-    (λ same. let here : 0 < room f p = subst (λ z. 0 < room f z) (sym (same_is p q same)) some in let one : one_if (same_place p q) ≡ 1 = ap one_if same in omega (arith, e, one, here, own))
-    (λ other. let no : one_if (same_place p q) ≡ 0 = ap one_if other in omega (arith, e, no, own))
-    (true_or_false (same_place p q))
+pub room_kept : (f g : ForestData) (n : Items) (p q : Place) → room f p + room_in n p ≤ room g p + one_if (same_place p q) → same_place p q ≡ false → 0 < room_in n p → 0 < room g p
+room_kept f g n p q e other own = let no : one_if (same_place p q) ≡ 0 = ap one_if other in omega (arith, e, no, own)
+
+-- what holds of all ids holds of the first
+pub of_first : (P : ℕ → Type 0) (ids : List ℕ) (d : ℕ) → 0 < length ids → All P ids → P (get_or ids 0 d)
+of_first P [] d h all = absurd (omega (arith, h))
+of_first P (i ∷ ids) d h all = All-head P i ids all
 
 -- what receives is there
 pub place_there : (t : List Row) (to : DestinationData) → Leads t to → is_place t (place_at to.receiver) ≡ true
@@ -123,6 +118,9 @@ module _ (t : List Row) (l : List Pair) (xs : List Stop) (to : DestinationData) 
 
   pub fresh_are : stops_data l xs ≡ fresh_stops t to.stops
   fresh_are = are ∙ ap (λ k. take k to.stops) count_is
+
+  pub boxes_are : (item : Items) (ids : List ℕ) → ids ≡ free_ids t (length (stops_data l xs)) → boxes 1 item (with_ids ids (stops_data l xs)) ≡ boxes 1 item (new_buckets t to.stops)
+  boxes_are item ids e = ap (λ i. boxes 1 item (with_ids i (stops_data l xs))) e ∙ ap (λ z. boxes 1 item (numbered t z)) fresh_are
 
   pub fresh_forms : All IsStop (stops_data l xs)
   fresh_forms = subst (All IsStop) (sym are) (All-take IsStop to.fresh to.stops leads.route.forms)

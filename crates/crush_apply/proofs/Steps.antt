@@ -1,5 +1,5 @@
--- The steps of a put: the new buckets attached, the item taken out and attached in the lowest.
-use Rattle.std.proofs.Common.{◌≡◌, ℕ, ◌≤◌, true, false, List, ◌++◌, ap, sym, subst, refl, ◌∙◌}
+-- The steps of a put: the new buckets added, and the item put into the lowest; or a new device that comes with them.
+use Rattle.std.proofs.Common.{◌≡◌, ℕ, ◌≤◌, true, false, List, ◌++◌, ap, sym, subst, refl, ◌∙◌, append_assoc}
 use Rattle.std.specs.Prelude.{Bool, if◌then◌else◌, Some, None, IfSome, is_some}
 use Rattle.crush_units.specs.declared.id.ItemId.{ItemId}
 use Rattle.crush_units.specs.declared.id.ItemId.TheVariants.{Device, Bucket}
@@ -14,23 +14,42 @@ use Rattle.crush_table.specs.Law.{IsOne}
 use Rattle.crush_table.specs.Lawful.{IsRow, Lawful, has_too_many}
 use Rattle.crush_table.specs.Columns.{table_without, part}
 use Rattle.crush_table.proofs.Attached.{is_there-append}
-use Rattle.crush_table.proofs.Changes.{Same-with}
+use Rattle.crush_table.proofs.Changes.{Same-with, Same-without}
+use Rattle.crush_table.proofs.Found.{is_there-same, is_there-times, times-is_there}
 use Rattle.crush_table.proofs.Moved.{row_id}
-use Rattle.crush_table.proofs.Same.{Same-sym, Same-trans, Lawful-same}
-use Rattle.crush_nodes.specs.Ops.{part_of}
+use Rattle.crush_table.proofs.Reorder.{reordered-count}
+use Rattle.crush_table.proofs.Same.{Same-is, Same-sym, Same-trans, Lawful-same}
+use Rattle.crush_table.proofs.Stands.{stands_lawful}
+use Rattle.crush_nodes.specs.Ops.{part_of, FitsPlace}
 use Rattle.crush_nodes.proofs.LastSteps.{OnlyDevices-join}
 use Rattle.crush_edits.specs.LawRoute.{rows_made}
-use Rattle.crush_edits.specs.Put.{next_place, put}
-use Rattle.crush_edits.proofs.PutLaws.{room_new, room_new_device, moves, moves_device, new_puts, lawful_put, lawful_new}
+use Rattle.crush_edits.specs.Boxes.{boxes}
+use Rattle.crush_edits.specs.Put.{NewData, new_buckets, next_up, next_place, put}
+use Rattle.crush_edits.specs.Stops.{receiver}
+use Rattle.crush_edits.proofs.Boxes.{rows-boxes}
+use Rattle.crush_edits.proofs.Routes.{route_next}
+use Rattle.crush_edits.proofs.PutLaws.{room_new, moves, moves_device, new_puts, lawful_put, lawful_new}
 use Rattle.crush_edits.proofs.Tails.{next_stays, form_stays, row_form}
-use Rattle.crush_apply.specs.Placed.{CanPut, CanPutNew}
+use Rattle.crush_apply.specs.Placed.{place_at, CanPut, CanPutNew}
 use Rattle.crush_apply.specs.Destination.{DestinationData, Leads}
+use Rattle.crush_apply.proofs.Destinations.{placed_boxes}
 
--- items come to a forest where the table that they make is lawful
-pub attach_lawful : (g : ForestData) (u v n : List Row) → Stands g u → Same (u ++ n) v → Lawful v → Lawful (rows_of g ++ n)
-attach_lawful g u v n st same lawful =
-    let whole : Same (rows_of g ++ n) v = Same-trans (rows_of g ++ n) (u ++ n) v (Same-with n (rows_of g) u st.same) same in
-    Lawful-same v (rows_of g ++ n) (Same-sym (rows_of g ++ n) v whole) lawful
+-- WHAT STANDS FOR A TABLE: an item is there as in the table, what is there without an item is so too
+pub stands_there : (g : ForestData) (u : List Row) (i : ItemId) → Stands g u → is_there u i ≡ true → is_there (rows_of g) i ≡ true
+stands_there g u i st there = is_there-same (rows_of g) u st.same.rows (stands_lawful g u st).ids i ∙ there
+
+rows_without : (g : ForestData) (u : List Row) (i : ItemId) → Stands g u → Same (table_without i (rows_of g)) (table_without i u)
+rows_without g u i st = Same-without i (rows_of g) u (stands_lawful g u st) st.same
+
+pub stands_left : (g : ForestData) (u : List Row) (i j : ItemId) → Stands g u → is_there (table_without i u) j ≡ true → is_there (table_without i (rows_of g)) j ≡ true
+stands_left g u i j st there =
+    times-is_there (table_without i (rows_of g)) j (subst (λ n. 1 ≤ n) (sym (reordered-count (λ (r : Row). same_id r.id j) (rows_without g u i st).rows)) (is_there-times (table_without i u) j there))
+
+-- and the rows with an item that is put are lawful where the table after is
+pub placed_lawful : (g : ForestData) (u v n : List Row) (i : ItemId) → Stands g u → Same (table_without i u ++ n) v → Lawful v → Lawful (table_without i (rows_of g) ++ n)
+placed_lawful g u v n i st same lawful =
+    let whole : Same (table_without i (rows_of g) ++ n) v = Same-trans (table_without i (rows_of g) ++ n) (table_without i u ++ n) v (Same-with n (table_without i (rows_of g)) (table_without i u) (rows_without g u i st)) same in
+    Lawful-same v (table_without i (rows_of g) ++ n) (Same-sym (table_without i (rows_of g) ++ n) v whole) lawful
 
 -- AN ITEM THAT IS THERE, with the weight that it has afterwards
 module _ (t : List Row) (l : Lawful t) (i : ItemId) (to : DestinationData) (leads : Leads t to) (r : Row) (w : ℕ) (found : row_of t i ≡ Some r) (can : CanPut t r w to.stops) where
@@ -77,16 +96,28 @@ module _ (t : List Row) (l : Lawful t) (i : ItemId) (to : DestinationData) (lead
       (subst (λ q. Same (table_without r.id (t ++ rows_made t to.stops) ++ rows q n) (put t r to.stops)) next
       (moves t to.stops l leads.route r n (ap (row_of t) own_id ∙ found) can.apart can.room one (subst (λ j. Same (rows None n) (part j (t ++ rows_made t to.stops))) (sym own_id) whole)))
 
--- A DEVICE THAT ISN'T THERE
+-- A DEVICE THAT ISN'T THERE, in its new buckets
 module _ (t : List Row) (l : Lawful t) (to : DestinationData) (leads : Leads t to) (d : LeafData) (can : CanPutNew t d to.stops) where
-  pub few_new_device : has_too_many (t ++ rows_made t to.stops) ≡ false
-  few_new_device = room_new_device t to.stops l leads.route d can.gone can.room
+  abbrev ns : List NewData
+  ns = new_buckets t to.stops
 
-  pub new_same : (b : ℕ) → next_place t to.stops ≡ Some b → Same ((t ++ rows_made t to.stops) ++ rows (Some b) (device d none)) (put t (device_row None d) to.stops)
-  new_same b next = subst (λ q. Same ((t ++ rows_made t to.stops) ++ rows q (device d none)) (put t (device_row None d) to.stops)) next (new_puts t to.stops l leads.route d can.gone)
+  -- what comes to the receiver
+  abbrev pub new_item : Items
+  new_item = boxes 1 (device d none) ns
 
-  pub new_lawful_put : Lawful (put t (device_row None d) to.stops)
-  new_lawful_put = lawful_new t to.stops l leads.route d can.gone can.unnamed can.other can.form can.light can.room
+  pub new_same : Same (t ++ rows to.receiver new_item) (put t (device_row None d) to.stops)
+  new_same =
+      let are : t ++ rows to.receiver new_item ≡ (t ++ rows_made t to.stops) ++ rows (next_place t to.stops) (device d none) =
+      ap (λ o. t ++ rows o new_item) leads.receiver ∙ ap (λ z. t ++ z) (rows-boxes 1 (device d none) ns (receiver t to.stops)) ∙ sym (append_assoc t (rows_made t to.stops) (rows (next_place t to.stops) (device d none))) in
+      Same-trans (t ++ rows to.receiver new_item) ((t ++ rows_made t to.stops) ++ rows (next_place t to.stops) (device d none)) (put t (device_row None d) to.stops) (Same-is are) (new_puts t to.stops l leads.route d can.gone)
+
+  pub new_lawful : Lawful (t ++ rows to.receiver new_item)
+  new_lawful =
+      Lawful-same (put t (device_row None d) to.stops) (t ++ rows to.receiver new_item) (Same-sym (t ++ rows to.receiver new_item) (put t (device_row None d) to.stops) new_same)
+      (lawful_new t to.stops l leads.route d can.gone can.unnamed can.other can.form can.light can.room)
+
+  pub new_fits : FitsPlace (place_at to.receiver) new_item
+  new_fits = let next = route_next t to.stops leads.route in placed_boxes to.receiver 1 (device d none) ns next.0 (ap (next_up ns) leads.receiver ∙ next.1)
 
 -- THE PART of a device is a device
 devices_if : (c : Bool) (d : LeafData) (s : Items) → OnlyDevices s → OnlyDevices (if c then device d s else s)

@@ -12,68 +12,68 @@ ghost use Rattle.crush_apply.specs.Answered.{AnswersAs};
 
 use crate::route::empty_bucket;
 use crush_edits::{Done, EditFault, Refusal, Setting};
-use crush_tree::{Forest, Place};
+use crush_hierarchy::Hierarchy;
+use crush_tree::Place;
 use crush_units::limits::MOST_BUCKETS;
 use crush_units::{BucketId, Name, TypeId};
 use std::alloc::{Allocator, Global};
 
 /// The type of the bucket that is to be made, or why it isn't.
 fn check_add<A: Allocator>(
-    forest: &Forest<A>,
+    hierarchy: &Hierarchy<A>,
     setting: &Setting,
     name: &Name<Global>,
     kind: &Name<Global>,
 ) -> Result<TypeId, Refusal>
-    ensures can { IfOk result (λ k. (t : List Row) → Stands forest.now t
+    ensures can { IfOk result (λ k. (t : List Row) → Stands hierarchy.now t
         → CanAddBucket setting.now t name.now kind.now k) }
-    ensures refused { IfErr result (λ r. (t : List Row) → Stands forest.now t
+    ensures refused { IfErr result (λ r. (t : List Row) → Stands hierarchy.now t
         → refusal setting.now t (AddBucket name.now kind.now) ≡ Some r) }
 {
     let Some(number) = setting.kind_number(kind.as_bytes()) else {
         return Err(Refusal::NoSuchType);
     };
-    if forest.id_of(name.as_str()).is_some() {
+    if hierarchy.id_of(name.as_str()).is_some() {
         return Err(Refusal::NameTaken);
     }
     if number.number() == 0 {
         return Err(Refusal::WrongType);
     }
-    if forest.counts().buckets >= MOST_BUCKETS {
+    if hierarchy.counts().buckets >= MOST_BUCKETS {
         return Err(Refusal::NoRoom);
     }
     Ok(number)
 }
 
 /// The free id nearest to 0.
-fn first_free<A: Allocator>(forest: &Forest<A>) -> BucketId
-    ensures { (t : List Row) → Stands forest.now t → free_ids t 1 ≡ result ∷ [] }
+fn first_free<A: Allocator>(hierarchy: &Hierarchy<A>) -> BucketId
+    ensures { (t : List Row) → Stands hierarchy.now t → free_ids t 1 ≡ result ∷ [] }
 {
     let Some(some) = BucketId::below_zero(1) else {
         unreachable!()
     };
     let mut ids = [some];
-    forest.free_ids(&mut ids);
+    hierarchy.free_ids(&mut ids);
     ids[0]
 }
 
 /// Makes an empty bucket of this name and type that no other holds, or tells why it isn't made.
 pub(crate) fn add_bucket<A: Allocator + Clone>(
-    forest: &mut Forest<A>,
+    hierarchy: &mut Hierarchy<A>,
     setting: &Setting,
     name: &Name<Global>,
     kind: &Name<Global>,
 ) -> Result<Done, EditFault>
-    requires { Fits setting.now (rows_of forest.old) }
+    requires { Fits setting.now (rows_of hierarchy.old) }
     ensures { AnswersAs (λ t. edit setting.now t (AddBucket name.now kind.now))
-        forest.old forest.new result }
+        hierarchy.old hierarchy.new result }
 {
-    forest.recall_invariant();
+    hierarchy.recall_invariant();
     let _form = name.as_bytes();
-    let number = check_add(forest, setting, name, kind)?;
-    let id = first_free(forest);
-    let node = empty_bucket(forest.allocator(), id, number, name)?;
-    forest.reserve(Place::Root)?;
-    forest.attach(Place::Root, node);
+    let number = check_add(hierarchy, setting, name, kind)?;
+    let id = first_free(hierarchy);
+    let node = empty_bucket(hierarchy.allocator(), id, number, name)?;
+    hierarchy.add(Place::Root, node)?;
     Ok(Done {
         changed: true,
         made: 1,

@@ -25,7 +25,7 @@ use crate::route::Arrival;
 use crate::swap::swap;
 use crate::update::update;
 use crush_edits::{Done, Edit, EditFault, Setting};
-use crush_tree::Forest;
+use crush_hierarchy::Hierarchy;
 use std::alloc::Allocator;
 
 /// Makes the edit on the hierarchy, by the setting, or tells why it isn't made.
@@ -36,29 +36,29 @@ use std::alloc::Allocator;
 /// weights, of an exchange or of a removal. The hierarchy is then as before but for the room that
 /// it has.
 pub fn apply_edit<A: Allocator + Clone>(
-    forest: &mut Forest<A>,
+    hierarchy: &mut Hierarchy<A>,
     setting: &Setting,
     asked: &Edit,
 ) -> Result<Done, EditFault>
-    requires fits { Fits setting.now (rows_of forest.old) }
-    ensures done { IfOk result (λ d. (t : List Row) → Stands forest.old t
-        → IsDone (Stands forest.new) (edit setting.now t asked.now) d) }
+    requires fits { Fits setting.now (rows_of hierarchy.old) }
+    ensures done { IfOk result (λ d. (t : List Row) → Stands hierarchy.old t
+        → IsDone (Stands hierarchy.new) (edit setting.now t asked.now) d) }
     ensures refused { (r : DeclaredRefusal) → result ≡ Err (EditFault.Refused r)
-        → (t : List Row) → Stands forest.old t → edit setting.now t asked.now ≡ refused r }
+        → (t : List Row) → Stands hierarchy.old t → edit setting.now t asked.now ≡ refused r }
     ensures change { result ≡ Err EditFault.OutOfMemory
-        → (t : List Row) → Stands forest.old t
+        → (t : List Row) → Stands hierarchy.old t
         → IsChange (edit setting.now t asked.now) }
     ensures memory { result ≡ Err EditFault.OutOfMemory → takes_memory asked.now ≡ true }
-    ensures rooms { sets_weights asked.now ≡ true → KeepsRooms forest.old forest.new }
+    ensures rooms { sets_weights asked.now ≡ true → KeepsRooms hierarchy.old hierarchy.new }
     ensures unchanged { (r : DeclaredRefusal) → result ≡ Err (EditFault.Refused r)
-        → forest.new ≡ forest.old }
-    ensures still { IfOk result (λ d. d.changed ≡ false → forest.new ≡ forest.old) }
-    ensures kept { OnErr result (IsSameForest forest.new forest.old) }
-    ensures fits { Fits setting.now (rows_of forest.new) }
+        → hierarchy.new ≡ hierarchy.old }
+    ensures still { IfOk result (λ d. d.changed ≡ false → hierarchy.new ≡ hierarchy.old) }
+    ensures kept { OnErr result (IsSameForest hierarchy.new hierarchy.old) }
+    ensures fits { Fits setting.now (rows_of hierarchy.new) }
 {
-    forest.recall_invariant();
+    hierarchy.recall_invariant();
     recall_forms(asked);
-    make(forest, setting, asked)
+    make(hierarchy, setting, asked)
 }
 
 /// A law of each edit: its names are names, its ids are in range, and its location is one.
@@ -103,14 +103,15 @@ fn recall_forms(asked: &Edit)
 
 /// Makes the edit, or tells why it isn't made.
 fn make<A: Allocator + Clone>(
-    forest: &mut Forest<A>,
+    hierarchy: &mut Hierarchy<A>,
     setting: &Setting,
     asked: &Edit,
 ) -> Result<Done, EditFault>
-    requires { Fits setting.now (rows_of forest.old) }
-    ensures made { AnswersAs (λ t. edit setting.now t asked.now) forest.old forest.new result }
+    requires { Fits setting.now (rows_of hierarchy.old) }
+    ensures made { AnswersAs (λ t. edit setting.now t asked.now)
+        hierarchy.old hierarchy.new result }
     ensures memory { result ≡ Err EditFault.OutOfMemory → takes_memory asked.now ≡ true }
-    ensures rooms { sets_weights asked.now ≡ true → KeepsRooms forest.old forest.new }
+    ensures rooms { sets_weights asked.now ≡ true → KeepsRooms hierarchy.old hierarchy.new }
 {
     match asked {
         Edit::Insert {
@@ -125,7 +126,7 @@ fn make<A: Allocator + Clone>(
                 weight: *weight,
                 at,
             };
-            insert(forest, setting, &arrival)
+            insert(hierarchy, setting, &arrival)
         }
         Edit::CreateOrMove {
             device,
@@ -139,7 +140,7 @@ fn make<A: Allocator + Clone>(
                 weight: *weight,
                 at,
             };
-            create_or_move(forest, setting, &arrival)
+            create_or_move(hierarchy, setting, &arrival)
         }
         Edit::Update {
             device,
@@ -153,14 +154,14 @@ fn make<A: Allocator + Clone>(
                 weight: *weight,
                 at,
             };
-            update(forest, setting, &arrival)
+            update(hierarchy, setting, &arrival)
         }
-        Edit::Move { name, at } => relocate(forest, setting, name, at),
-        Edit::Swap { a, b } => swap(forest, a, b),
-        Edit::Reweight { name, weight } => reweight(forest, name, *weight),
-        Edit::ReweightSubtree { name, weight } => reweight_subtree(forest, name, *weight),
-        Edit::Remove { name } => remove(forest, setting, name),
-        Edit::AddBucket { name, kind } => add_bucket(forest, setting, name, kind),
-        Edit::Rename { from, to } => rename(forest, from, to),
+        Edit::Move { name, at } => relocate(hierarchy, setting, name, at),
+        Edit::Swap { a, b } => swap(hierarchy, a, b),
+        Edit::Reweight { name, weight } => reweight(hierarchy, name, *weight),
+        Edit::ReweightSubtree { name, weight } => reweight_subtree(hierarchy, name, *weight),
+        Edit::Remove { name } => remove(hierarchy, setting, name),
+        Edit::AddBucket { name, kind } => add_bucket(hierarchy, setting, name, kind),
+        Edit::Rename { from, to } => rename(hierarchy, from, to),
     }
 }

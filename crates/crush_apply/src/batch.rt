@@ -13,39 +13,39 @@ ghost use Rattle.crush_apply.specs.Batched.{IsBatchDone};
 
 use crate::apply::apply_edit;
 use crush_edits::{BatchFault, Done, Dones, Edit, EditFault, Setting};
-use crush_tree::Forest;
+use crush_hierarchy::Hierarchy;
 use std::alloc::Allocator;
 
 /// Makes the edits one after the other, each on what the ones before it made, or none of them: at
 /// most 65,536.
 ///
 /// They are made on a copy of the hierarchy, which takes its place when all are done; so there is
-/// memory for no more items than there are. No edit, and one that takes no memory, need no copy. Where one is refused, its index, from 0, and its
-/// refusal are told, and the hierarchy is as before the first. Want of memory may be told of a
-/// batch of which a later edit would be refused.
+/// memory for no more items than there are. No edit, and one that takes no memory, need no copy.
+/// Where one is refused, its index, from 0, and its refusal are told, and the hierarchy is as before
+/// the first. Want of memory may be told of a batch of which a later edit would be refused.
 pub fn apply_batch<A: Allocator + Clone>(
-    forest: &mut Forest<A>,
+    hierarchy: &mut Hierarchy<A>,
     setting: &Setting,
     edits: &[Edit],
 ) -> Result<Dones, BatchFault>
     requires few { length edits.now ≤ MOST_EDITS }
-    requires fits { Fits setting.now (rows_of forest.old) }
-    ensures done { IfOk result (λ d. (t : List Row) → Stands forest.old t
-        → IsBatchDone (Stands forest.new) (batch setting.now t edits.now) d) }
+    requires fits { Fits setting.now (rows_of hierarchy.old) }
+    ensures done { IfOk result (λ d. (t : List Row) → Stands hierarchy.old t
+        → IsBatchDone (Stands hierarchy.new) (batch setting.now t edits.now) d) }
     ensures refused { (index : ℕ) (r : DeclaredRefusal)
-        → result ≡ Err (BatchFault.Refused index r) → (t : List Row) → Stands forest.old t
+        → result ≡ Err (BatchFault.Refused index r) → (t : List Row) → Stands hierarchy.old t
         → batch setting.now t edits.now ≡ batch_refused index r }
-    ensures unchanged { OnErr result (forest.new ≡ forest.old) }
-    ensures fits { Fits setting.now (rows_of forest.new) }
+    ensures unchanged { OnErr result (hierarchy.new ≡ hierarchy.old) }
+    ensures fits { Fits setting.now (rows_of hierarchy.new) }
 {
     if !needs_copy(edits) {
-        return make_all(forest, setting, edits);
+        return make_all(hierarchy, setting, edits);
     }
-    let Ok(mut copy) = forest.try_copy() else {
+    let Ok(mut copy) = hierarchy.try_copy() else {
         return Err(BatchFault::OutOfMemory);
     };
     let dones = make_all(&mut copy, setting, edits)?;
-    *forest = copy;
+    *hierarchy = copy;
     Ok(dones)
 }
 
@@ -78,20 +78,20 @@ fn takes_memory(asked: &Edit) -> bool
 /// Makes the edits one after the other until one isn't made. Where that is the first, and takes no
 /// memory, nothing has changed.
 fn make_all<A: Allocator + Clone>(
-    forest: &mut Forest<A>,
+    hierarchy: &mut Hierarchy<A>,
     setting: &Setting,
     edits: &[Edit],
 ) -> Result<Dones, BatchFault>
     requires few { length edits.now ≤ MOST_EDITS }
-    requires fits { Fits setting.now (rows_of forest.old) }
-    ensures done { IfOk result (λ d. (t : List Row) → Stands forest.old t
-        → IsBatchDone (Stands forest.new) (batch setting.now t edits.now) d) }
+    requires fits { Fits setting.now (rows_of hierarchy.old) }
+    ensures done { IfOk result (λ d. (t : List Row) → Stands hierarchy.old t
+        → IsBatchDone (Stands hierarchy.new) (batch setting.now t edits.now) d) }
     ensures refused { (index : ℕ) (r : DeclaredRefusal)
-        → result ≡ Err (BatchFault.Refused index r) → (t : List Row) → Stands forest.old t
+        → result ≡ Err (BatchFault.Refused index r) → (t : List Row) → Stands hierarchy.old t
         → batch setting.now t edits.now ≡ batch_refused index r }
     ensures alone { length edits.now ≤ 1 → All (λ e. takes_memory e ≡ false) edits.now
-        → OnErr result (forest.new ≡ forest.old) }
-    ensures fits { Fits setting.now (rows_of forest.new) }
+        → OnErr result (hierarchy.new ≡ hierarchy.old) }
+    ensures fits { Fits setting.now (rows_of hierarchy.new) }
 {
     let mut dones = Dones {
         edits: 0,
@@ -99,7 +99,7 @@ fn make_all<A: Allocator + Clone>(
         made: 0,
     };
     for asked in edits {
-        match apply_edit(forest, setting, asked) {
+        match apply_edit(hierarchy, setting, asked) {
             Ok(done) => dones = with_done(dones, done),
             Err(EditFault::Refused(refusal)) => {
                 return Err(BatchFault::Refused(dones.edits, refusal));

@@ -13,22 +13,22 @@ ghost use Rattle.crush_apply.specs.Answered.{AnswersAs};
 
 use crate::route::{Arrival, check_device, destination_of, is_held, place_device};
 use crush_edits::{Done, EditFault, Setting};
-use crush_tree::Forest;
+use crush_hierarchy::Hierarchy;
 use crush_units::{DeviceId, ItemId, Weight};
 use std::alloc::Allocator;
 
 /// The own weight of a device that stands in a bucket, else the given one, of up to 2147483647
 /// units as well.
-fn kept_weight<A: Allocator>(forest: &Forest<A>, device: DeviceId, weight: Weight) -> Weight
+fn kept_weight<A: Allocator>(hierarchy: &Hierarchy<A>, device: DeviceId, weight: Weight) -> Weight
     requires { weight ≤ HEAVIEST_DEVICE }
-    ensures kept { (t : List Row) → Stands forest.now t → result ≡ kept_weight t device weight }
+    ensures kept { (t : List Row) → Stands hierarchy.now t → result ≡ kept_weight t device weight }
     ensures light { result ≤ HEAVIEST_DEVICE }
 {
-    forest.recall_invariant();
-    if forest.parent(ItemId::Device(device)).is_none() {
+    hierarchy.recall_invariant();
+    if hierarchy.parent(ItemId::Device(device)).is_none() {
         return weight;
     }
-    match forest.weight(ItemId::Device(device)) {
+    match hierarchy.weight(ItemId::Device(device)) {
         Some(own) => own,
         None => weight,
     }
@@ -40,24 +40,24 @@ fn kept_weight<A: Allocator>(forest: &Forest<A>, device: DeviceId, weight: Weigh
 ///
 /// All memory is taken before the device moves. Where it lacks, the items are as before.
 pub(crate) fn create_or_move<A: Allocator + Clone>(
-    forest: &mut Forest<A>,
+    hierarchy: &mut Hierarchy<A>,
     setting: &Setting,
     arrival: &Arrival<'_>,
 ) -> Result<Done, EditFault>
-    requires { Fits setting.now (rows_of forest.old) }
+    requires { Fits setting.now (rows_of hierarchy.old) }
     ensures { AnswersAs (λ t. edit setting.now t (CreateOrMove arrival.now.device arrival.now.name.now
-        arrival.now.weight arrival.now.at.now)) forest.old forest.new result }
+        arrival.now.weight arrival.now.at.now)) hierarchy.old hierarchy.new result }
 {
-    forest.recall_invariant();
-    check_device(forest, setting, arrival)?;
-    let to = destination_of(forest, setting, arrival.at)?;
-    if is_held(forest, ItemId::Device(arrival.device), &to) {
+    hierarchy.recall_invariant();
+    check_device(hierarchy, setting, arrival)?;
+    let to = destination_of(hierarchy, setting, arrival.at)?;
+    if is_held(hierarchy, ItemId::Device(arrival.device), &to) {
         return Ok(Done {
             changed: false,
             made: 0,
         });
     }
-    let weight = kept_weight(forest, arrival.device, arrival.weight);
+    let weight = kept_weight(hierarchy, arrival.device, arrival.weight);
     let kept = Arrival { weight, ..*arrival };
-    place_device(forest, &kept, &to)
+    place_device(hierarchy, &kept, &to)
 }

@@ -8,7 +8,7 @@ ghost use Rattle.crush_apply.specs.Answered.{AnswersAs};
 
 use crate::route::{Arrival, check_device, destination_of, place_device};
 use crush_edits::{Done, EditFault, Refusal, Setting};
-use crush_tree::Forest;
+use crush_hierarchy::Hierarchy;
 use crush_units::ItemId;
 use std::alloc::Allocator;
 
@@ -17,19 +17,19 @@ use std::alloc::Allocator;
 ///
 /// All memory is taken before the device moves. Where it lacks, the items are as before.
 pub(crate) fn insert<A: Allocator + Clone>(
-    forest: &mut Forest<A>,
+    hierarchy: &mut Hierarchy<A>,
     setting: &Setting,
     arrival: &Arrival<'_>,
 ) -> Result<Done, EditFault>
-    requires { Fits setting.now (rows_of forest.old) }
+    requires { Fits setting.now (rows_of hierarchy.old) }
     ensures { AnswersAs (λ t. edit setting.now t (Insert arrival.now.device arrival.now.name.now
-        arrival.now.weight arrival.now.at.now)) forest.old forest.new result }
+        arrival.now.weight arrival.now.at.now)) hierarchy.old hierarchy.new result }
 {
-    forest.recall_invariant();
-    check_device(forest, setting, arrival)?;
-    if forest.parent(ItemId::Device(arrival.device)).is_some() {
+    hierarchy.recall_invariant();
+    check_device(hierarchy, setting, arrival)?;
+    if hierarchy.parent(ItemId::Device(arrival.device)).is_some() {
         return Err(EditFault::Refused(Refusal::AlreadyPlaced));
     }
-    let to = destination_of(forest, setting, arrival.at)?;
-    place_device(forest, arrival, &to)
+    let to = destination_of(hierarchy, setting, arrival.at)?;
+    place_device(hierarchy, arrival, &to)
 }

@@ -10,15 +10,15 @@ ghost use Rattle.crush_apply.specs.Alone.{CanRemove};
 ghost use Rattle.crush_apply.specs.Answered.{AnswersAs};
 
 use crush_edits::{Done, EditFault, Refusal, Setting};
-use crush_tree::Forest;
+use crush_hierarchy::Hierarchy;
 use crush_units::{BucketId, ItemId, Name};
 use std::alloc::{Allocator, Global};
 
 /// Whether the bucket holds items.
-fn holds_items<A: Allocator>(forest: &Forest<A>, bucket: BucketId) -> bool
-    ensures { (t : List Row) → Stands forest.now t → result ≡ holds_items t bucket }
+fn holds_items<A: Allocator>(hierarchy: &Hierarchy<A>, bucket: BucketId) -> bool
+    ensures { (t : List Row) → Stands hierarchy.now t → result ≡ holds_items t bucket }
 {
-    match forest.items(bucket) {
+    match hierarchy.items(bucket) {
         Some(items) => !items.is_empty(),
         None => false,
     }
@@ -26,22 +26,22 @@ fn holds_items<A: Allocator>(forest: &Forest<A>, bucket: BucketId) -> bool
 
 /// The item that is to be taken out, or why it isn't.
 fn check_remove<A: Allocator>(
-    forest: &Forest<A>,
+    hierarchy: &Hierarchy<A>,
     setting: &Setting,
     name: &Name<Global>,
 ) -> Result<ItemId, Refusal>
-    ensures can { IfOk result (λ i. (t : List Row) → Stands forest.now t
+    ensures can { IfOk result (λ i. (t : List Row) → Stands hierarchy.now t
         → CanRemove setting.now t name.now i) }
-    ensures refused { IfErr result (λ r. (t : List Row) → Stands forest.now t
+    ensures refused { IfErr result (λ r. (t : List Row) → Stands hierarchy.now t
         → refusal setting.now t (Remove name.now) ≡ Some r) }
 {
-    let Some(id) = forest.id_of(name.as_str()) else {
+    let Some(id) = hierarchy.id_of(name.as_str()) else {
         return Err(Refusal::NoSuchItem);
     };
     let ItemId::Bucket(bucket) = id else {
         return Ok(id);
     };
-    if holds_items(forest, bucket) {
+    if holds_items(hierarchy, bucket) {
         return Err(Refusal::NotEmpty);
     }
     if setting.takes(bucket) {
@@ -52,17 +52,17 @@ fn check_remove<A: Allocator>(
 
 /// Takes the item of this name out, or tells why it doesn't.
 pub(crate) fn remove<A: Allocator>(
-    forest: &mut Forest<A>,
+    hierarchy: &mut Hierarchy<A>,
     setting: &Setting,
     name: &Name<Global>,
 ) -> Result<Done, EditFault>
     ensures answers { AnswersAs (λ t. edit setting.now t (Remove name.now))
-        forest.old forest.new result }
+        hierarchy.old hierarchy.new result }
     ensures memory { result ≢ Err EditFault.OutOfMemory }
 {
-    forest.recall_invariant();
-    let id = check_remove(forest, setting, name)?;
-    let Some(_) = forest.detach(id) else {
+    hierarchy.recall_invariant();
+    let id = check_remove(hierarchy, setting, name)?;
+    let Some(_) = hierarchy.detach(id) else {
         unreachable!()
     };
     Ok(Done {

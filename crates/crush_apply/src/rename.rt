@@ -10,23 +10,23 @@ ghost use Rattle.crush_apply.specs.Alone.{CanRename};
 ghost use Rattle.crush_apply.specs.Answered.{AnswersAs};
 
 use crush_edits::{Done, EditFault, Refusal};
-use crush_tree::Forest;
+use crush_hierarchy::Hierarchy;
 use crush_units::{BucketId, ItemId, Name};
 use std::alloc::{Allocator, Global};
 
 /// The bucket that is to have another name, or why it doesn't get it.
 fn check_rename<A: Allocator>(
-    forest: &Forest<A>,
+    hierarchy: &Hierarchy<A>,
     from: &Name<Global>,
     to: &Name<Global>,
 ) -> Result<BucketId, Refusal>
-    ensures can { IfOk result (λ b. (t : List Row) → Stands forest.now t
+    ensures can { IfOk result (λ b. (t : List Row) → Stands hierarchy.now t
         → CanRename t from.now to.now b) }
-    ensures refused { IfErr result (λ r. (s : SettingData) (t : List Row) → Stands forest.now t
+    ensures refused { IfErr result (λ r. (s : SettingData) (t : List Row) → Stands hierarchy.now t
         → refusal s t (Rename from.now to.now) ≡ Some r) }
 {
-    let holder = forest.id_of(to.as_str());
-    let Some(id) = forest.id_of(from.as_str()) else {
+    let holder = hierarchy.id_of(to.as_str());
+    let Some(id) = hierarchy.id_of(from.as_str()) else {
         if holder.is_some() {
             return Err(Refusal::AlreadyRenamed);
         }
@@ -43,18 +43,18 @@ fn check_rename<A: Allocator>(
 
 /// Gives the bucket of the one name the other, or tells why it doesn't get it.
 pub(crate) fn rename<A: Allocator + Clone>(
-    forest: &mut Forest<A>,
+    hierarchy: &mut Hierarchy<A>,
     from: &Name<Global>,
     to: &Name<Global>,
 ) -> Result<Done, EditFault>
     ensures { (s : SettingData) → AnswersAs (λ t. edit s t (Rename from.now to.now))
-        forest.old forest.new result }
+        hierarchy.old hierarchy.new result }
 {
-    forest.recall_invariant();
-    let bucket = check_rename(forest, from, to)?;
-    let name = to.try_copy(forest.allocator().clone()?)?;
+    hierarchy.recall_invariant();
+    let bucket = check_rename(hierarchy, from, to)?;
+    let name = to.try_copy(hierarchy.allocator().clone()?)?;
     let _form = to.as_bytes();
-    forest.rename(ItemId::Bucket(bucket), name);
+    hierarchy.rename(ItemId::Bucket(bucket), name)?;
     Ok(Done {
         changed: true,
         made: 0,

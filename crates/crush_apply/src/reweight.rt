@@ -10,35 +10,35 @@ ghost use Rattle.crush_apply.specs.Answered.{AnswersAs, KeepsRooms};
 ghost use Rattle.crush_apply.specs.Weighed.{CanReweight};
 
 use crush_edits::{Done, EditFault, Refusal};
-use crush_tree::Forest;
+use crush_hierarchy::Hierarchy;
 use crush_units::{DeviceId, ItemId, Name, Weight};
 use std::alloc::{Allocator, Global};
 
 /// The device whose weight is to be set, or why it isn't.
 fn check_reweight<A: Allocator>(
-    forest: &Forest<A>,
+    hierarchy: &Hierarchy<A>,
     name: &Name<Global>,
     weight: Weight,
 ) -> Result<DeviceId, Refusal>
-    ensures can { IfOk result (λ d. (t : List Row) → Stands forest.now t
+    ensures can { IfOk result (λ d. (t : List Row) → Stands hierarchy.now t
         → CanReweight t name.now weight d) }
-    ensures refused { IfErr result (λ r. (s : SettingData) (t : List Row) → Stands forest.now t
+    ensures refused { IfErr result (λ r. (s : SettingData) (t : List Row) → Stands hierarchy.now t
         → refusal s t (Reweight name.now weight) ≡ Some r) }
 {
-    forest.recall_invariant();
+    hierarchy.recall_invariant();
     if !weight.is_device_weight() {
         return Err(Refusal::WeightTooLarge);
     }
-    let Some(id) = forest.id_of(name.as_str()) else {
+    let Some(id) = hierarchy.id_of(name.as_str()) else {
         return Err(Refusal::NoSuchItem);
     };
     let ItemId::Device(device) = id else {
         return Err(Refusal::NotADevice);
     };
-    if forest.parent(id).is_none() {
+    if hierarchy.parent(id).is_none() {
         return Err(Refusal::NotPlaced);
     }
-    if !forest.fits_weight(device, weight) {
+    if !hierarchy.fits_weight(device, weight) {
         return Err(Refusal::SumTooLarge);
     }
     Ok(device)
@@ -46,24 +46,24 @@ fn check_reweight<A: Allocator>(
 
 /// Sets the weight of the placed device of this name, or tells why it isn't set.
 pub(crate) fn reweight<A: Allocator>(
-    forest: &mut Forest<A>,
+    hierarchy: &mut Hierarchy<A>,
     name: &Name<Global>,
     weight: Weight,
 ) -> Result<Done, EditFault>
     ensures answers { (s : SettingData) → AnswersAs (λ t. edit s t (Reweight name.now weight))
-        forest.old forest.new result }
+        hierarchy.old hierarchy.new result }
     ensures memory { result ≢ Err EditFault.OutOfMemory }
-    ensures rooms { KeepsRooms forest.old forest.new }
+    ensures rooms { KeepsRooms hierarchy.old hierarchy.new }
 {
-    forest.recall_invariant();
-    let device = check_reweight(forest, name, weight)?;
-    if forest.weight(ItemId::Device(device)) == Some(weight) {
+    hierarchy.recall_invariant();
+    let device = check_reweight(hierarchy, name, weight)?;
+    if hierarchy.weight(ItemId::Device(device)) == Some(weight) {
         return Ok(Done {
             changed: false,
             made: 0,
         });
     }
-    forest.set_weight(device, weight);
+    hierarchy.set_weight(device, weight);
     Ok(Done {
         changed: true,
         made: 0,

@@ -10,32 +10,32 @@ ghost use Rattle.crush_apply.specs.Answered.{AnswersAs, KeepsRooms};
 ghost use Rattle.crush_apply.specs.Weighed.{CanReweightSubtree};
 
 use crush_edits::{Done, EditFault, Refusal};
-use crush_tree::Forest;
+use crush_hierarchy::Hierarchy;
 use crush_units::{BucketId, ItemId, Name, Weight};
 use std::alloc::{Allocator, Global};
 
 /// The bucket below which weights are to be set, or why they aren't.
 fn check_subtree<A: Allocator>(
-    forest: &Forest<A>,
+    hierarchy: &Hierarchy<A>,
     name: &Name<Global>,
     weight: Weight,
 ) -> Result<BucketId, Refusal>
-    ensures can { IfOk result (λ b. (t : List Row) → Stands forest.now t
+    ensures can { IfOk result (λ b. (t : List Row) → Stands hierarchy.now t
         → CanReweightSubtree t name.now weight b) }
-    ensures refused { IfErr result (λ r. (s : SettingData) (t : List Row) → Stands forest.now t
+    ensures refused { IfErr result (λ r. (s : SettingData) (t : List Row) → Stands hierarchy.now t
         → refusal s t (ReweightSubtree name.now weight) ≡ Some r) }
 {
-    forest.recall_invariant();
+    hierarchy.recall_invariant();
     if !weight.is_device_weight() {
         return Err(Refusal::WeightTooLarge);
     }
-    let Some(id) = forest.id_of(name.as_str()) else {
+    let Some(id) = hierarchy.id_of(name.as_str()) else {
         return Err(Refusal::NoSuchItem);
     };
     let ItemId::Bucket(bucket) = id else {
         return Err(Refusal::NotABucket);
     };
-    if !forest.fits_subtree(bucket, weight) {
+    if !hierarchy.fits_subtree(bucket, weight) {
         return Err(Refusal::SumTooLarge);
     }
     Ok(bucket)
@@ -43,24 +43,24 @@ fn check_subtree<A: Allocator>(
 
 /// Sets the weight of all devices below the bucket of this name, or tells why they aren't set.
 pub(crate) fn reweight_subtree<A: Allocator>(
-    forest: &mut Forest<A>,
+    hierarchy: &mut Hierarchy<A>,
     name: &Name<Global>,
     weight: Weight,
 ) -> Result<Done, EditFault>
     ensures answers { (s : SettingData) → AnswersAs (λ t. edit s t (ReweightSubtree name.now weight))
-        forest.old forest.new result }
+        hierarchy.old hierarchy.new result }
     ensures memory { result ≢ Err EditFault.OutOfMemory }
-    ensures rooms { KeepsRooms forest.old forest.new }
+    ensures rooms { KeepsRooms hierarchy.old hierarchy.new }
 {
-    forest.recall_invariant();
-    let bucket = check_subtree(forest, name, weight)?;
-    if !forest.changes_subtree(bucket, weight) {
+    hierarchy.recall_invariant();
+    let bucket = check_subtree(hierarchy, name, weight)?;
+    if !hierarchy.changes_subtree(bucket, weight) {
         return Ok(Done {
             changed: false,
             made: 0,
         });
     }
-    forest.set_subtree(bucket, weight);
+    hierarchy.set_subtree(bucket, weight);
     Ok(Done {
         changed: true,
         made: 0,

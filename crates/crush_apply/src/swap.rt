@@ -10,26 +10,26 @@ ghost use Rattle.crush_apply.specs.Alone.{CanSwap};
 ghost use Rattle.crush_apply.specs.Answered.{AnswersAs};
 
 use crush_edits::{Done, EditFault, Refusal};
-use crush_tree::Forest;
+use crush_hierarchy::Hierarchy;
 use crush_units::{BucketId, ItemId, Name};
 use std::alloc::{Allocator, Global};
 
 /// The two buckets that are to be exchanged, or why they aren't.
 fn check_swap<A: Allocator>(
-    forest: &Forest<A>,
+    hierarchy: &Hierarchy<A>,
     a: &Name<Global>,
     b: &Name<Global>,
 ) -> Result<(BucketId, BucketId), Refusal>
-    ensures can { IfOk result (λ pair. (t : List Row) → Stands forest.now t
+    ensures can { IfOk result (λ pair. (t : List Row) → Stands hierarchy.now t
         → CanSwap t a.now b.now pair.0 pair.1) }
-    ensures refused { IfErr result (λ r. (s : SettingData) (t : List Row) → Stands forest.now t
+    ensures refused { IfErr result (λ r. (s : SettingData) (t : List Row) → Stands hierarchy.now t
         → refusal s t (Swap a.now b.now) ≡ Some r) }
 {
-    forest.recall_invariant();
-    let Some(one) = forest.id_of(a.as_str()) else {
+    hierarchy.recall_invariant();
+    let Some(one) = hierarchy.id_of(a.as_str()) else {
         return Err(Refusal::NoSuchItem);
     };
-    let Some(other) = forest.id_of(b.as_str()) else {
+    let Some(other) = hierarchy.id_of(b.as_str()) else {
         return Err(Refusal::NoSuchItem);
     };
     let ItemId::Bucket(first) = one else {
@@ -38,13 +38,13 @@ fn check_swap<A: Allocator>(
     let ItemId::Bucket(second) = other else {
         return Err(Refusal::NotABucket);
     };
-    if forest.contains(first, other) {
+    if hierarchy.contains(first, other) {
         return Err(Refusal::Nested);
     }
-    if forest.contains(second, one) {
+    if hierarchy.contains(second, one) {
         return Err(Refusal::Nested);
     }
-    if !forest.fits_swap(first, second) {
+    if !hierarchy.fits_swap(first, second) {
         return Err(Refusal::SumTooLarge);
     }
     Ok((first, second))
@@ -52,17 +52,17 @@ fn check_swap<A: Allocator>(
 
 /// Exchanges the items and the names of the two buckets, or tells why it doesn't.
 pub(crate) fn swap<A: Allocator>(
-    forest: &mut Forest<A>,
+    hierarchy: &mut Hierarchy<A>,
     a: &Name<Global>,
     b: &Name<Global>,
 ) -> Result<Done, EditFault>
     ensures answers { (s : SettingData) → AnswersAs (λ t. edit s t (Swap a.now b.now))
-        forest.old forest.new result }
+        hierarchy.old hierarchy.new result }
     ensures memory { result ≢ Err EditFault.OutOfMemory }
 {
-    forest.recall_invariant();
-    let (first, second) = check_swap(forest, a, b)?;
-    forest.swap(first, second);
+    hierarchy.recall_invariant();
+    let (first, second) = check_swap(hierarchy, a, b)?;
+    hierarchy.swap(first, second);
     Ok(Done {
         changed: true,
         made: 0,

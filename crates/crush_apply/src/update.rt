@@ -9,7 +9,7 @@ ghost use Rattle.crush_apply.specs.Answered.{AnswersAs};
 use crate::reweight::reweight;
 use crate::route::{Arrival, check_device, destination_of, is_held, place_device};
 use crush_edits::{Done, EditFault, Setting};
-use crush_tree::Forest;
+use crush_hierarchy::Hierarchy;
 use crush_units::ItemId;
 use std::alloc::Allocator;
 
@@ -19,19 +19,19 @@ use std::alloc::Allocator;
 ///
 /// All memory is taken before the device moves. Where it lacks, the items are as before.
 pub(crate) fn update<A: Allocator + Clone>(
-    forest: &mut Forest<A>,
+    hierarchy: &mut Hierarchy<A>,
     setting: &Setting,
     arrival: &Arrival<'_>,
 ) -> Result<Done, EditFault>
-    requires { Fits setting.now (rows_of forest.old) }
+    requires { Fits setting.now (rows_of hierarchy.old) }
     ensures { AnswersAs (λ t. edit setting.now t (Update arrival.now.device arrival.now.name.now
-        arrival.now.weight arrival.now.at.now)) forest.old forest.new result }
+        arrival.now.weight arrival.now.at.now)) hierarchy.old hierarchy.new result }
 {
-    forest.recall_invariant();
-    check_device(forest, setting, arrival)?;
-    let to = destination_of(forest, setting, arrival.at)?;
-    if is_held(forest, ItemId::Device(arrival.device), &to) {
-        return reweight(forest, arrival.name, arrival.weight);
+    hierarchy.recall_invariant();
+    check_device(hierarchy, setting, arrival)?;
+    let to = destination_of(hierarchy, setting, arrival.at)?;
+    if is_held(hierarchy, ItemId::Device(arrival.device), &to) {
+        return reweight(hierarchy, arrival.name, arrival.weight);
     }
-    place_device(forest, arrival, &to)
+    place_device(hierarchy, arrival, &to)
 }

@@ -14,6 +14,8 @@ use Rattle.crush_table.proofs.Found.{is_named-same, is_there-same, parent_of-sam
 use Rattle.crush_table.proofs.Same.{Same-sym, bucket_count-same, used-same}
 use Rattle.crush_edits.proofs.FitLaws.{Fits-same}
 use Rattle.crush_table.proofs.Stands.{stands_for_rows, same_stands}
+use Rattle.crush_tree.specs.Sameness.{IsSameForest}
+use Rattle.crush_apply.proofs.StillFits.{same_rows}
 use Rattle.crush_map.specs.Built.{Pending, nothing, begun, numbered, filling, Draft, empty_draft}
 use Rattle.crush_map.specs.Building.{BuilderData, CanBegin, CanNumber, IsRoot, IsPending, IsDraft, BuilderFits, own_draft, held_buckets}
 use Rattle.crush_map.proofs.Held.{held-same}
@@ -87,12 +89,15 @@ own_is_draft b sound keeps = record {
   part = keeps.part;
 }
 
--- and at that of the rows that it has once there is room
-pub room_is_draft : (b : BuilderData) (f : ForestData) → IsSound b.forest → BuilderFits b → ((t : List Row) → Stands b.forest t → Stands f t) → IsDraft b (record { setting = b.setting; table = rows_of f; pending = b.pending; adjusted = b.adjusted })
-room_is_draft b f sound keeps kept =
-    let own = own_is_draft b sound keeps in
-    let after : Stands f (rows_of b.forest) = kept (rows_of b.forest) own.stands in
-    IsDraft-same b (own_draft b) (rows_of f) (Same-sym (rows_of f) (rows_of b.forest) after.same) own
+-- what it keeps it keeps where its forest has other room
+pub kept_fits : (b : BuilderData) (f : ForestData) → IsSound b.forest → IsSameForest f b.forest → BuilderFits b → BuilderFits (record b { forest = f })
+kept_fits b f sound same keeps =
+    let is : rows_of b.forest ≡ rows_of f = sym (same_rows b.forest f sound same) in
+    record {
+      fits = subst (Fits b.setting) is keeps.fits;
+      part = subst (λ (t : List Row). IsPending b.setting t b.pending) is keeps.part;
+      few = subst (λ (t : List Row). b.adjusted ≤ held_buckets t) is keeps.few;
+    }
 
 -- a map without types and items is the empty draft
 pub empty_is_draft : (s : SettingData) (f : ForestData) → s ≡ empty_draft.setting → IsSound f → rows_of f ≡ [] → IsDraft (record { setting = s; forest = f; pending = nothing; adjusted = 0 }) empty_draft

@@ -12,7 +12,7 @@ use Rattle.crush_table.specs.Same.{Same}
 use Rattle.crush_table.specs.Lawful.{Lawful, IsRow, IsRowOf, is_too_heavy}
 use Rattle.crush_table.specs.Table.{Row, is_device, is_device_id, is_there, row_of, parent_of, is_placed, member, above, then_up}
 use Rattle.crush_table.specs.Columns.{is_under, is_part, table_without, part, as_root, without_row}
-use Rattle.crush_table.specs.Forest.{ForestData, rows_of}
+use Rattle.crush_table.specs.Forest.{ForestData}
 use Rattle.crush_table.specs.ItemRows.{rows, device_row, bucket_row}
 use Rattle.crush_table.specs.Stands.{Stands}
 use Rattle.crush_table.specs.Stored.{weight_sum, StoresSums}
@@ -21,9 +21,8 @@ use Rattle.crush_edits.specs.Fits.{Fits, HasKind, IsThere}
 use Rattle.crush_table.proofs.Reorder.{reordered-sym, reordered-All, reordered-count}
 use Rattle.crush_table.specs.Count.{one_if}
 use Rattle.crush_table.proofs.Found.{times, times-cons, Distinct, Distinct-same, is_there-times, times-is_there}
-use Rattle.crush_table.proofs.Same.{Same-sym, Same-trans, Lawful-same, is_too_heavy-same}
+use Rattle.crush_table.proofs.Same.{Same-sym, Lawful-same, is_too_heavy-same}
 use Rattle.crush_table.proofs.Stands.{same_stands}
-use Rattle.crush_table.proofs.Changes.{Same-with}
 use Rattle.crush_table.proofs.Kept.{is_there-map, Distinct-map}
 use Rattle.crush_table.proofs.Climbs.{above-parent}
 use Rattle.crush_table.proofs.Weighs.{All-found}
@@ -33,9 +32,6 @@ use Rattle.crush_table.proofs.Moved.{at_parent, place, placed_last, row_id, Lawf
 use Rattle.crush_table.proofs.Relocated.{under_parent, relocate, relocate_device}
 use Rattle.crush_nodes.specs.Ops.{StoresUpTo}
 use Rattle.crush_nodes.proofs.RowLaws.{StoresUpTo-lawful}
-use Rattle.crush_nodes.specs.Seen.{items_of}
-use Rattle.crush_nodes.specs.declared.node.Node.{Node}
-use Rattle.crush_nodes.specs.declared.node.Node.TheVariants.{Device as DeviceNode, Bucket as BucketNode}
 use Rattle.crush_map.specs.Pending.{with_first_weight}
 use Rattle.crush_map.specs.Built.{Pending, filling, Draft, with_item, placed_row, put_below, table_with_item, device_weight, adjustment}
 use Rattle.crush_map.proofs.Held.{held-put}
@@ -290,20 +286,13 @@ item_step b h d i k w n at e there free other one whole st more is =
     subst (λ (x : Pending). IsDraft (record b { forest = h; adjusted = b.adjusted + more }) (with_item (record { setting = d.setting; table = d.table; pending = x; adjusted = d.adjusted }) i w)) (sym p)
     (step_at b h d.setting d.table d.adjusted i k w (subst (λ (x : Pending). IsDraft b (record { setting = d.setting; table = d.table; pending = x; adjusted = d.adjusted })) p at) there free other put more is)
 
--- the rows with the item, as it is attached to a forest that stands for the table without it
-pub attached_lawful : (g : ForestData) (t : List Row) (i : ItemId) (k w : ℕ) (n : Items) → Lawful t → is_there t i ≡ true → IsRoot t k → same_id (Bucket k) i ≡ false → IsOne n → Same (rows None n) (part i t)
-    → (is_device_id i ≡ true → w ≤ 2147483647) → Stands g (table_without i t) → is_too_heavy (put_below k i w t) ≡ false → Lawful (rows_of g ++ rows (Some k) (with_first_weight w n))
-attached_lawful g t i k w n l there root other one whole h st light =
+-- the rows with the item, as it is put
+pub put_lawful : (t : List Row) (i : ItemId) (k w : ℕ) (n : Items) → Lawful t → is_there t i ≡ true → IsRoot t k → same_id (Bucket k) i ≡ false → IsOne n → Same (rows None n) (part i t)
+    → (is_device_id i ≡ true → w ≤ 2147483647) → is_too_heavy (put_below k i w t) ≡ false → Lawful (table_without i t ++ rows (Some k) (with_first_weight w n))
+put_lawful t i k w n l there root other one whole h light =
     let far = is_no_part t l i k root other in
     let m : Items = with_first_weight w n in
-    let near : Same (rows_of g ++ rows (Some k) m) (put_below k i w t) =
-    Same-trans (rows_of g ++ rows (Some k) m) (table_without i t ++ rows (Some k) m) (put_below k i w t) (Same-with (rows (Some k) m) (rows_of g) (table_without i t) st.same) (item_same t i k w n l there far one whole) in
-    Lawful-same (put_below k i w t) (rows_of g ++ rows (Some k) m) (Same-sym (rows_of g ++ rows (Some k) m) (put_below k i w t) near) (item_lawful t i k w l there root.there far h light)
-
--- a node is one item
-pub one_item : {A : _} (n : Node A) → IsOne (items_of (n ∷ []))
-one_item (DeviceNode l) = tt
-one_item (BucketNode b) = tt
+    Lawful-same (put_below k i w t) (table_without i t ++ rows (Some k) m) (Same-sym (table_without i t ++ rows (Some k) m) (put_below k i w t) (item_same t i k w n l there far one whole)) (item_lawful t i k w l there root.there far h light)
 
 -- WHAT WAS TAKEN OUT is lawful by itself, so its sums are in range
 as_it_was : (t : List Row) (i : ItemId) → Lawful t → parent_of t i ≡ None → All (λ (r : Row). as_root i r ≡ r) t

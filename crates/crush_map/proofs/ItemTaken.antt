@@ -1,4 +1,4 @@
--- An item that was taken out of the forest, on its way into the bucket that is being filled.
+-- An item on its way into the bucket that is being filled.
 use Rattle.std.proofs.Common.{◌≡◌, ℕ, ◌+◌, ◌≤◌, Bool, true, false, not, ◌==◌, List, ◌++◌, ap, sym, subst, ◌∙◌, arith, [], ◌∷◌}
 use Rattle.std.proofs.lemmas.Bool.{not-false}
 use Rattle.std.specs.Prelude.{Option, Some, None, if◌then◌else◌, nat_lt}
@@ -31,7 +31,7 @@ use Rattle.crush_map.specs.Pending.{with_first_weight}
 use Rattle.crush_map.specs.Built.{Draft, Pending, filling, put_below, with_item, table_with_item, device_weight, adjustment}
 use Rattle.crush_map.specs.Building.{BuilderData, BuilderFits, IsRoot, IsDraft, own_draft, is_open}
 use Rattle.crush_map.proofs.Drafts.{own_is_draft}
-use Rattle.crush_map.proofs.ItemSteps.{open_root, is_no_part, root_without, put_table, item_step, item_same, item_heavy, item_distinct, item_small, attached_lawful, weighted_sums, weight_to_come}
+use Rattle.crush_map.proofs.ItemSteps.{open_root, is_no_part, root_without, put_table, item_step, item_same, item_heavy, item_distinct, item_small, put_lawful, weighted_sums, weight_to_come}
 
 pub flip : (b c : Bool) → c ≡ not b → b ≡ not c
 flip true c h = ap not (sym h)
@@ -147,11 +147,11 @@ module _ (b : BuilderData) (i : ItemId) (k : ℕ) (n : Items) (took : Coming b i
       → ((m : Items) → weight_sum m ≡ v → CanCome (table_without i d.table) (AtBucket k) m → a ≡ not (is_too_heavy (table_without i d.table ++ rows (Some k) m))) → is_too_heavy (table_with_item d.pending i w d.table) ≡ not a
   fits_test w v weighs d at a test = heavy_at w d at a (test (with_first_weight w n) (sym weighs) (can_come w d at))
 
-  -- what attaching it needs, and what it makes
-  pub can_attach : (h : ForestData) (w : ℕ) → Stands h (table_without i (rows_of b.forest)) → (is_device_id i ≡ true → w ≤ 2147483647) → is_too_heavy (table_with_item b.pending i w (rows_of b.forest)) ≡ false → Lawful (rows_of h ++ rows (Some k) (with_first_weight w n))
-  can_attach h w st small light =
-      attached_lawful h (rows_of b.forest) i k w n took.own.stands.lawful (took.there (own_draft b) took.own) (root_at (own_draft b) took.own) took.other took.one (took.node (rows_of b.forest) took.own.stands) small
-      st (ap is_too_heavy (sym (put_table (own_draft b) i k w took.fills)) ∙ light)
+  -- what putting it needs, and what it makes
+  pub can_put : (w : ℕ) → (is_device_id i ≡ true → w ≤ 2147483647) → is_too_heavy (table_with_item b.pending i w (rows_of b.forest)) ≡ false → Lawful (table_without i (rows_of b.forest) ++ rows (Some k) (with_first_weight w n))
+  can_put w small light =
+      put_lawful (rows_of b.forest) i k w n took.own.stands.lawful (took.there (own_draft b) took.own) (root_at (own_draft b) took.own) took.other took.one (took.node (rows_of b.forest) took.own.stands) small
+      (ap is_too_heavy (sym (put_table (own_draft b) i k w took.fills)) ∙ light)
 
-  pub attach_is_draft : (h : ForestData) (w : Option ℕ) (d : Draft) → IsDraft b d → Stands h (table_without i d.table ++ rows (Some k) (with_first_weight (device_weight w) n)) → (more : ℕ) → more ≡ adjustment d.table i w → IsDraft (record b { forest = h; adjusted = b.adjusted + more }) (with_item d i w)
-  attach_is_draft h w d at st more is = item_step b h d i k w n at took.fills (took.there d at) (took.free d at) took.other took.one (took.node d.table at.stands) st more is
+  pub put_is_draft : (h : ForestData) (w : Option ℕ) (d : Draft) → IsDraft b d → Stands h (table_without i d.table ++ rows (Some k) (with_first_weight (device_weight w) n)) → (more : ℕ) → more ≡ adjustment d.table i w → IsDraft (record b { forest = h; adjusted = b.adjusted + more }) (with_item d i w)
+  put_is_draft h w d at st more is = item_step b h d i k w n at took.fills (took.there d at) (took.free d at) took.other took.one (took.node d.table at.stands) st more is

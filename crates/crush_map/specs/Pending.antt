@@ -1,6 +1,7 @@
 -- How contracts see what a builder has of a statement.
-use Rattle.std.specs.Prelude.{ℕ, List, [], Option, Some, None, Vec, map}
-use Rattle.crush_table.specs.Items.{ShadowData, Items, none, device, bucket}
+pub use Rattle.crush_hierarchy.specs.Given.{with_first_weight}
+use Rattle.std.specs.Prelude.{List, [], Option, Some, None, Vec, map}
+use Rattle.crush_table.specs.Items.{ShadowData}
 use Rattle.crush_nodes.specs.declared.node.ShadowId.{ShadowId}
 use Rattle.crush_nodes.specs.Seen.{shadow_data}
 use Rattle.crush_map.specs.declared.builder.Pending.{Pending as BuilderPart}
@@ -17,9 +18,3 @@ pending_data Nothing = nothing
 pending_data (Begun kind name) = begun kind name
 pending_data (Numbered kind name b class_ids) = numbered kind name b (listed class_ids)
 pending_data (Filling b) = filling b
-
--- the first item with the weight, where it is a device
-abbrev pub with_first_weight : ℕ → Items → Items
-with_first_weight w none = none
-with_first_weight w (device d rest) = device (record d { weight = w }) rest
-with_first_weight w (bucket h v m kids rest) = bucket h v m kids rest

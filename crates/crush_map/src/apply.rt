@@ -46,7 +46,7 @@ impl<A: Allocator> CrushMap<A> {
         ensures kept { OnErr result (IsSameForest self.new.forest self.old.forest) }
         ensures setting { self.new.setting ≡ self.old.setting }
     {
-        apply_edit(&mut self.forest, &self.setting, asked)
+        apply_edit(&mut self.hierarchy, &self.setting, asked)
     }
 
     /// Makes the edits one after the other, each on what the ones before it made, or none of them:
@@ -68,6 +68,6 @@ impl<A: Allocator> CrushMap<A> {
         ensures unchanged { OnErr result (self.new ≡ self.old) }
         ensures setting { self.new.setting ≡ self.old.setting }
     {
-        apply_batch(&mut self.forest, &self.setting, edits)
+        apply_batch(&mut self.hierarchy, &self.setting, edits)
     }
 }

@@ -19,7 +19,8 @@ use crate::route::room::{
     fits_put_device, fits_put_item, fits_put_new, lacks_room, lacks_room_for_new,
 };
 use crush_edits::{Done, EditFault, Refusal};
-use crush_tree::{Forest, Leaf};
+use crush_hierarchy::Hierarchy;
+use crush_tree::Leaf;
 use crush_units::ItemId;
 use std::alloc::{AllocError, Allocator};
 
@@ -28,24 +29,24 @@ use std::alloc::{AllocError, Allocator};
 ///
 /// All memory is taken before the item moves. Where it lacks, the items are as before.
 pub(crate) fn place_item<A: Allocator + Clone>(
-    forest: &mut Forest<A>,
+    hierarchy: &mut Hierarchy<A>,
     id: ItemId,
     to: &Destination,
 ) -> Result<Done, EditFault>
-    requires can { (t : List Row) → Stands forest.old t → CanMove t id to.now }
-    requires free { (t : List Row) → Stands forest.old t → held t id to.now.stops ≡ false }
+    requires can { (t : List Row) → Stands hierarchy.old t → CanMove t id to.now }
+    requires free { (t : List Row) → Stands hierarchy.old t → held t id to.now.stops ≡ false }
     ensures { AnswersAs (λ t. last_answer t
         (on_some t (row_of t id) (λ r. put_after t r to.now.stops)))
-        forest.old forest.new result }
+        hierarchy.old hierarchy.new result }
 {
     let id = &id;
-    if lacks_room(forest, to) {
+    if lacks_room(hierarchy, to) {
         return Err(EditFault::Refused(Refusal::NoRoom));
     }
-    if !fits_put_item(forest, *id, to) {
+    if !fits_put_item(hierarchy, *id, to) {
         return Err(EditFault::Refused(Refusal::SumTooLarge));
     }
-    put_item(forest, *id, to)?;
+    put_item(hierarchy, *id, to)?;
     Ok(Done {
         changed: true,
         made: to.fresh() as u16,
@@ -57,30 +58,30 @@ pub(crate) fn place_item<A: Allocator + Clone>(
 ///
 /// All memory is taken before the device moves. Where it lacks, the items are as before.
 pub(crate) fn place_device<A: Allocator + Clone>(
-    forest: &mut Forest<A>,
+    hierarchy: &mut Hierarchy<A>,
     arrival: &Arrival<'_>,
     to: &Destination,
 ) -> Result<Done, EditFault>
-    requires can { (t : List Row) → Stands forest.old t → CanCome t arrival.now.device
+    requires can { (t : List Row) → Stands hierarchy.old t → CanCome t arrival.now.device
         arrival.now.name.now arrival.now.weight to.now }
-    requires free { (t : List Row) → Stands forest.old t
+    requires free { (t : List Row) → Stands hierarchy.old t
         → held t (Device arrival.now.device) to.now.stops ≡ false }
     ensures { AnswersAs (λ t. last_answer t
         (put_after t (edited_device t arrival.now.device arrival.now.name.now arrival.now.weight)
         to.now.stops))
-        forest.old forest.new result }
+        hierarchy.old hierarchy.new result }
 {
-    forest.recall_invariant();
-    if forest.kind(ItemId::Device(arrival.device)).is_none() {
-        return place_new(forest, arrival, to);
+    hierarchy.recall_invariant();
+    if hierarchy.kind(ItemId::Device(arrival.device)).is_none() {
+        return place_new(hierarchy, arrival, to);
     }
-    if lacks_room(forest, to) {
+    if lacks_room(hierarchy, to) {
         return Err(EditFault::Refused(Refusal::NoRoom));
     }
-    if !fits_put_device(forest, arrival.device, arrival.weight, to) {
+    if !fits_put_device(hierarchy, arrival.device, arrival.weight, to) {
         return Err(EditFault::Refused(Refusal::SumTooLarge));
     }
-    put_device(forest, arrival.device, arrival.weight, to)?;
+    put_device(hierarchy, arrival.device, arrival.weight, to)?;
     Ok(Done {
         changed: true,
         made: to.fresh() as u16,
@@ -89,31 +90,32 @@ pub(crate) fn place_device<A: Allocator + Clone>(
 
 /// Makes a device that isn't there at the destination, or tells why it isn't made.
 fn place_new<A: Allocator + Clone>(
-    forest: &mut Forest<A>,
+    hierarchy: &mut Hierarchy<A>,
     arrival: &Arrival<'_>,
     to: &Destination,
 ) -> Result<Done, EditFault>
-    requires can { (t : List Row) → Stands forest.old t → CanCome t arrival.now.device
+    requires can { (t : List Row) → Stands hierarchy.old t → CanCome t arrival.now.device
         arrival.now.name.now arrival.now.weight to.now }
-    requires free { (t : List Row) → Stands forest.old t
+    requires free { (t : List Row) → Stands hierarchy.old t
         → held t (Device arrival.now.device) to.now.stops ≡ false }
-    requires gone { (t : List Row) → Stands forest.old t → is_there t (Device arrival.now.device) ≡ false }
+    requires gone { (t : List Row) → Stands hierarchy.old t
+        → is_there t (Device arrival.now.device) ≡ false }
     ensures { AnswersAs (λ t. last_answer t
         (put_after t (edited_device t arrival.now.device arrival.now.name.now arrival.now.weight)
         to.now.stops))
-        forest.old forest.new result }
+        hierarchy.old hierarchy.new result }
 {
-    forest.recall_invariant();
+    hierarchy.recall_invariant();
     let _number = arrival.device.number();
     let _text = arrival.name.as_str();
-    if lacks_room_for_new(forest, to) {
+    if lacks_room_for_new(hierarchy, to) {
         return Err(EditFault::Refused(Refusal::NoRoom));
     }
-    if !fits_put_new(forest, arrival.weight, to) {
+    if !fits_put_new(hierarchy, arrival.weight, to) {
         return Err(EditFault::Refused(Refusal::SumTooLarge));
     }
-    let leaf = new_leaf(forest.allocator(), arrival)?;
-    put_new(forest, leaf, to)?;
+    let leaf = new_leaf(hierarchy.allocator(), arrival)?;
+    put_new(hierarchy, leaf, to)?;
     Ok(Done {
         changed: true,
         made: to.fresh() as u16,

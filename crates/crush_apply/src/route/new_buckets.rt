@@ -1,7 +1,9 @@
 //! New buckets, one in the next.
 
-ghost use Rattle.std.specs.Prelude.{◌≡◌, ◌<◌, ◌∷◌, [], length, IfOk, All};
+ghost use Rattle.std.specs.Prelude.{◌≡◌, ◌<◌, ◌≤◌, ◌∷◌, [], length, IfOk, All};
+ghost use Rattle.crush_units.specs.declared.limits.TheConstants.{HEAVIEST_BUCKET};
 ghost use Rattle.crush_table.specs.Items.{none, bucket};
+ghost use Rattle.crush_table.specs.Stored.{weight_sum};
 ghost use Rattle.crush_nodes.specs.Seen.{items_of, header_data};
 ghost use Rattle.crush_edits.specs.Put.{with_ids, new_header};
 ghost use Rattle.crush_edits.specs.Boxes.{boxes};
@@ -85,8 +87,27 @@ pub(crate) fn new_buckets<A: Allocator + Clone>(
     ensures { IfOk result (λ node. items_of (node ∷ [])
         ≡ boxes 1 none (with_ids ids.now (stops_data at.now stops.now))) }
 {
-    let mut node = new_bucket(alloc, ids[0], at, stops[0])?;
-    for k in 1..stops.len() {
+    let lowest = new_bucket(alloc, ids[0], at, stops[0])?;
+    in_new_buckets(alloc, &ids[1..], at, &stops[1..], lowest)
+}
+
+/// An item in the new buckets of stops, the lowest first, each in the next; where there are no
+/// stops, as it is. An Err is want of memory.
+pub(crate) fn in_new_buckets<A: Allocator + Clone>(
+    alloc: &A,
+    ids: &[BucketId],
+    at: &Location,
+    stops: &[Stop],
+    item: Node<A>,
+) -> Result<Node<A>, AllocError>
+    requires as_many { length ids.now ≡ length stops.now }
+    requires forms { All IsStop (stops_data at.now stops.now) }
+    requires light { weight_sum (items_of (item ∷ [])) ≤ HEAVIEST_BUCKET }
+    ensures { IfOk result (λ node. items_of (node ∷ [])
+        ≡ boxes 1 (items_of (item ∷ [])) (with_ids ids.now (stops_data at.now stops.now))) }
+{
+    let mut node = item;
+    for k in 0..stops.len() {
         let mut above = new_bucket(alloc, ids[k], at, stops[k])?;
         above.hold(node);
         node = above;

@@ -14,7 +14,7 @@ ghost use Rattle.crush_apply.specs.Destination.{item_tests};
 
 use crate::route::Arrival;
 use crush_edits::{Location, Pair, Refusal, Setting};
-use crush_tree::Forest;
+use crush_hierarchy::Hierarchy;
 use crush_units::{BucketId, DeviceId, ItemId, Name, TypeId};
 use std::alloc::{Allocator, Global};
 
@@ -42,14 +42,14 @@ pub(crate) fn check_location(setting: &Setting, at: &Location) -> Result<(), Ref
 /// location has its name, the location can't be an edit's, no device has the weight, or the name is
 /// another item's or the id is there with another name.
 pub(crate) fn check_device<A: Allocator>(
-    forest: &Forest<A>,
+    hierarchy: &Hierarchy<A>,
     setting: &Setting,
     arrival: &Arrival<'_>,
 ) -> Result<(), Refusal>
-    ensures passes { OnOk result ((t : List Row) → Stands forest.now t
+    ensures passes { OnOk result ((t : List Row) → Stands hierarchy.now t
         → first_refusal (device_tests setting.now t arrival.now.device arrival.now.name.now
         arrival.now.weight arrival.now.at.now) ≡ None) }
-    ensures refused { IfErr result (λ r. (t : List Row) → Stands forest.now t
+    ensures refused { IfErr result (λ r. (t : List Row) → Stands hierarchy.now t
         → first_refusal (device_tests setting.now t arrival.now.device arrival.now.name.now
         arrival.now.weight arrival.now.at.now) ≡ Some r) }
 {
@@ -60,7 +60,7 @@ pub(crate) fn check_device<A: Allocator>(
     if !arrival.weight.is_device_weight() {
         return Err(Refusal::WeightTooLarge);
     }
-    if is_taken(forest, arrival.device, arrival.name) {
+    if is_taken(hierarchy, arrival.device, arrival.name) {
         return Err(Refusal::NameTaken);
     }
     Ok(())
@@ -69,20 +69,20 @@ pub(crate) fn check_device<A: Allocator>(
 /// The bucket that ends a route at a pair of this type, or why no item can come there: the pair's
 /// name is that of a device, or of a bucket of another type.
 pub(crate) fn check_end<A: Allocator>(
-    forest: &Forest<A>,
+    hierarchy: &Hierarchy<A>,
     kind: TypeId,
     id: ItemId,
 ) -> Result<BucketId, Refusal>
-    ensures passes { IfOk result (λ b. (t : List Row) → Stands forest.now t
+    ensures passes { IfOk result (λ b. (t : List Row) → Stands hierarchy.now t
         → first_refusal (item_tests t kind (Bucket b)) ≡ None) }
     ensures bucket { IfOk result (λ b. id ≡ Bucket b) }
-    ensures refused { IfErr result (λ r. (t : List Row) → Stands forest.now t
+    ensures refused { IfErr result (λ r. (t : List Row) → Stands hierarchy.now t
         → first_refusal (item_tests t kind id) ≡ Some r) }
 {
     let ItemId::Bucket(bucket) = id else {
         return Err(Refusal::NotABucket);
     };
-    if is_of_other_type(forest, id, kind) {
+    if is_of_other_type(hierarchy, id, kind) {
         return Err(Refusal::WrongType);
     }
     Ok(bucket)
@@ -163,40 +163,49 @@ fn has_unknown_type(setting: &Setting, pairs: &[Pair]) -> bool
 }
 
 /// Whether the name belongs to another item, or the device is there with another name.
-fn is_taken<A: Allocator>(forest: &Forest<A>, device: DeviceId, name: &Name<Global>) -> bool
-    ensures { (t : List Row) → Stands forest.now t → result ≡ is_taken t (Device device) name.now }
+fn is_taken<A: Allocator>(hierarchy: &Hierarchy<A>, device: DeviceId, name: &Name<Global>) -> bool
+    ensures { (t : List Row) → Stands hierarchy.now t
+        → result ≡ is_taken t (Device device) name.now }
 {
-    is_name_of_other(forest, device, name) || has_other_name(forest, device, name)
+    is_name_of_other(hierarchy, device, name) || has_other_name(hierarchy, device, name)
 }
 
 /// Whether the name belongs to an item that isn't the device.
-fn is_name_of_other<A: Allocator>(forest: &Forest<A>, device: DeviceId, name: &Name<Global>) -> bool
-    ensures { (t : List Row) → Stands forest.now t
+fn is_name_of_other<A: Allocator>(
+    hierarchy: &Hierarchy<A>,
+    device: DeviceId,
+    name: &Name<Global>,
+) -> bool
+    ensures { (t : List Row) → Stands hierarchy.now t
         → result ≡ meets (λ j. not (same_id j (Device device))) (id_named t name.now) }
 {
-    match forest.id_of(name.as_str()) {
+    match hierarchy.id_of(name.as_str()) {
         Some(other) => !other.is_same(ItemId::Device(device)),
         None => false,
     }
 }
 
 /// Whether the device is there with another name.
-fn has_other_name<A: Allocator>(forest: &Forest<A>, device: DeviceId, name: &Name<Global>) -> bool
-    ensures { (t : List Row) → Stands forest.now t
+fn has_other_name<A: Allocator>(
+    hierarchy: &Hierarchy<A>,
+    device: DeviceId,
+    name: &Name<Global>,
+) -> bool
+    ensures { (t : List Row) → Stands hierarchy.now t
         → result ≡ meets (λ m. not (bytes_eq m name.now)) (name_of t (Device device)) }
 {
-    match forest.name(ItemId::Device(device)) {
+    match hierarchy.name(ItemId::Device(device)) {
         Some(own) => own != name.as_str(),
         None => false,
     }
 }
 
 /// Whether the item is there with another type.
-fn is_of_other_type<A: Allocator>(forest: &Forest<A>, id: ItemId, kind: TypeId) -> bool
-    ensures { (t : List Row) → Stands forest.now t
+fn is_of_other_type<A: Allocator>(hierarchy: &Hierarchy<A>, id: ItemId, kind: TypeId) -> bool
+    ensures { (t : List Row) → Stands hierarchy.now t
         → result ≡ meets (λ k. not (k == kind)) (kind_of t id) }
 {
-    match forest.kind(id) {
+    match hierarchy.kind(id) {
         Some(own) => own.number() != kind.number(),
         None => false,
     }

@@ -14,84 +14,88 @@ ghost use Rattle.crush_apply.specs.Coming.{CanMove};
 ghost use Rattle.crush_apply.specs.Destination.{Leads};
 
 use crate::route::destination::Destination;
-use crush_tree::Forest;
+use crush_hierarchy::Hierarchy;
 use crush_units::limits::{MOST_BUCKETS, MOST_DEVICES};
 use crush_units::{DeviceId, ItemId, Weight};
 use std::alloc::Allocator;
 
 /// Whether there would be too many buckets where an item that is there comes to the
 /// destination.
-pub(crate) fn lacks_room<A: Allocator>(forest: &Forest<A>, to: &Destination) -> bool
-    ensures { (t : List Row) (r : Row) → Stands forest.now t → Leads t to.now
+pub(crate) fn lacks_room<A: Allocator>(hierarchy: &Hierarchy<A>, to: &Destination) -> bool
+    ensures { (t : List Row) (r : Row) → Stands hierarchy.now t → Leads t to.now
         → row_of t r.id ≡ Some r → (w : ℕ)
         → result ≡ has_too_many (put t (record r { weight = w }) to.now.stops) }
 {
-    forest.recall_invariant();
-    forest.counts().buckets as usize + to.fresh() > MOST_BUCKETS as usize
+    hierarchy.recall_invariant();
+    hierarchy.counts().buckets as usize + to.fresh() > MOST_BUCKETS as usize
 }
 
 /// Whether there would be too many buckets or devices where a device that isn't there comes to
 /// the destination.
-pub(crate) fn lacks_room_for_new<A: Allocator>(forest: &Forest<A>, to: &Destination) -> bool
-    ensures { (t : List Row) (d : LeafData) → Stands forest.now t → Leads t to.now
+pub(crate) fn lacks_room_for_new<A: Allocator>(hierarchy: &Hierarchy<A>, to: &Destination) -> bool
+    ensures { (t : List Row) (d : LeafData) → Stands hierarchy.now t → Leads t to.now
         → is_there t (Device d.id) ≡ false
         → result ≡ has_too_many (put t (device_row None d) to.now.stops) }
 {
-    forest.recall_invariant();
-    let counts = forest.counts();
+    hierarchy.recall_invariant();
+    let counts = hierarchy.counts();
     let fresh = to.fresh();
     counts.devices >= MOST_DEVICES || counts.buckets as usize + fresh > MOST_BUCKETS as usize
 }
 
 /// Whether all sums stay in range where an item that is there, with all that is below it, comes to
 /// the destination, as it is.
-pub(crate) fn fits_put_item<A: Allocator>(forest: &Forest<A>, id: ItemId, to: &Destination) -> bool
-    requires { (t : List Row) → Stands forest.now t → CanMove t id to.now }
-    ensures { (t : List Row) (r : Row) → Stands forest.now t → row_of t id ≡ Some r
+pub(crate) fn fits_put_item<A: Allocator>(
+    hierarchy: &Hierarchy<A>,
+    id: ItemId,
+    to: &Destination,
+) -> bool
+    requires { (t : List Row) → Stands hierarchy.now t → CanMove t id to.now }
+    ensures { (t : List Row) (r : Row) → Stands hierarchy.now t → row_of t id ≡ Some r
         → has_too_many (put t r to.now.stops) ≡ false
         → result ≡ not (is_too_heavy (put t r to.now.stops)) }
 {
-    forest.recall_invariant();
+    hierarchy.recall_invariant();
     let id = &id;
-    forest.recall_part(*id);
-    let Some(weight) = forest.weight(*id) else {
+    hierarchy.recall_part(*id);
+    let Some(weight) = hierarchy.weight(*id) else {
         unreachable!()
     };
-    forest.fits_move(*id, to.place(), weight)
+    hierarchy.fits_move(*id, to.place(), weight)
 }
 
 /// Whether all sums stay in range where a device that is there comes to the destination with this
 /// weight, of up to 2147483647 units.
 pub(crate) fn fits_put_device<A: Allocator>(
-    forest: &Forest<A>,
+    hierarchy: &Hierarchy<A>,
     device: DeviceId,
     weight: Weight,
     to: &Destination,
 ) -> bool
-    requires can { (t : List Row) → Stands forest.now t → CanMove t (Device device) to.now }
+    requires can { (t : List Row) → Stands hierarchy.now t → CanMove t (Device device) to.now }
     requires weight { weight ≤ HEAVIEST_DEVICE }
-    ensures { (t : List Row) (r : Row) → Stands forest.now t → row_of t (Device device) ≡ Some r
+    ensures { (t : List Row) (r : Row) → Stands hierarchy.now t → row_of t (Device device) ≡ Some r
         → has_too_many (put t (record r { weight = weight }) to.now.stops) ≡ false
         → result ≡ not (is_too_heavy (put t (record r { weight = weight }) to.now.stops)) }
 {
-    forest.recall_invariant();
-    forest.recall_part(ItemId::Device(device));
-    forest.fits_move(ItemId::Device(device), to.place(), weight)
+    hierarchy.recall_invariant();
+    hierarchy.recall_part(ItemId::Device(device));
+    hierarchy.fits_move(ItemId::Device(device), to.place(), weight)
 }
 
 /// Whether all sums stay in range where a device that isn't there comes to the destination with
 /// this weight, of up to 2147483647 units.
 pub(crate) fn fits_put_new<A: Allocator>(
-    forest: &Forest<A>,
+    hierarchy: &Hierarchy<A>,
     weight: Weight,
     to: &Destination,
 ) -> bool
-    requires leads { (t : List Row) → Stands forest.now t → Leads t to.now }
+    requires leads { (t : List Row) → Stands hierarchy.now t → Leads t to.now }
     requires weight { weight ≤ HEAVIEST_DEVICE }
-    ensures { (t : List Row) (d : LeafData) → Stands forest.now t
+    ensures { (t : List Row) (d : LeafData) → Stands hierarchy.now t
         → is_there t (Device d.id) ≡ false → d.weight ≡ weight
         → result ≡ not (is_too_heavy (put t (device_row None d) to.now.stops)) }
 {
-    forest.recall_invariant();
-    forest.fits_attach(to.place(), weight)
+    hierarchy.recall_invariant();
+    hierarchy.fits_attach(to.place(), weight)
 }

@@ -16,7 +16,7 @@ ghost use Rattle.crush_apply.specs.Destination.{EndsAt};
 use crate::route::refusals::check_end;
 use arrayvec::ArrayVec;
 use crush_edits::{Location, Pair, Refusal, Setting};
-use crush_tree::Forest;
+use crush_hierarchy::Hierarchy;
 use crush_units::limits::MOST_PAIRS;
 use crush_units::{BucketId, Name, TypeId};
 use std::alloc::{Allocator, Global};
@@ -118,20 +118,20 @@ pub(crate) fn stop_name<'a>(at: &'a Location, stop: &Stop) -> &'a Name<Global>
 /// Where none is there, all of them come before it, and there is no bucket. An Err tells why no item
 /// can come there.
 pub(crate) fn route_end<A: Allocator>(
-    forest: &Forest<A>,
+    hierarchy: &Hierarchy<A>,
     at: &Location,
     stops: &[Stop],
 ) -> Result<(usize, Option<BucketId>), Refusal>
     requires { All (IsPairOf at.now) stops.now }
-    ensures ends { IfOk result (λ end. (t : List Row) → Stands forest.now t
+    ensures ends { IfOk result (λ end. (t : List Row) → Stands hierarchy.now t
         → EndsAt t (stops_data at.now stops.now) end.0 end.1) }
     ensures within { IfOk result (λ end. end.0 ≤ length stops.now) }
-    ensures refused { IfErr result (λ r. (t : List Row) → Stands forest.now t
+    ensures refused { IfErr result (λ r. (t : List Row) → Stands hierarchy.now t
         → first_refusal (end_tests t (stops_data at.now stops.now)) ≡ Some r) }
 {
     for (k, stop) in stops.iter().enumerate() {
-        if let Some(id) = forest.id_of(stop_name(at, stop).as_str()) {
-            let bucket = check_end(forest, stop.kind, id)?;
+        if let Some(id) = hierarchy.id_of(stop_name(at, stop).as_str()) {
+            let bucket = check_end(hierarchy, stop.kind, id)?;
             return Ok((k, Some(bucket)));
         }
     }

@@ -58,14 +58,14 @@ impl<A: Allocator> MapBuilder<A> {
     pub fn has_device(&self, id: DeviceId) -> bool
         ensures { (d : Draft) → IsDraft self.now d → result ≡ is_there d.table (Device id) }
     {
-        self.forest.kind(ItemId::Device(id)).is_some()
+        self.hierarchy.kind(ItemId::Device(id)).is_some()
     }
 
     /// Whether a bucket or a class id has this id, also the bucket that isn't complete.
     pub fn has_bucket_id(&self, id: BucketId) -> bool
         ensures { (d : Draft) → IsDraft self.now d → result ≡ has_bucket_id d id }
     {
-        self.forest.is_used(id) || self.has_pending_id(id)
+        self.hierarchy.is_used(id) || self.has_pending_id(id)
     }
 
     /// Whether the bucket that waits for its algorithm has a class id of this class.
@@ -91,7 +91,7 @@ impl<A: Allocator> MapBuilder<A> {
             Pending::Numbered(_, own, _, _) => own.is(name),
             _ => false,
         };
-        self.forest.id_of_bytes(name).is_some() || pending
+        self.hierarchy.id_of_bytes(name).is_some() || pending
     }
 
     /// Whether a type has this number.
@@ -159,7 +159,7 @@ impl<A: Allocator> MapBuilder<A> {
             → is_there d.table i ≡ true) }
         ensures closed { IfSome result (λ i. is_open self.now.pending i ≡ false) }
     {
-        match self.forest.id_of_bytes(name)? {
+        match self.hierarchy.id_of_bytes(name)? {
             ItemId::Device(device) => Some(ItemId::Device(device)),
             ItemId::Bucket(bucket) => {
                 if self.fills(bucket) {
@@ -175,14 +175,14 @@ impl<A: Allocator> MapBuilder<A> {
     pub fn is_placed(&self, id: ItemId) -> bool
         ensures { (d : Draft) → IsDraft self.now d → result ≡ is_placed d.table id }
     {
-        self.forest.parent(id).is_some()
+        self.hierarchy.parent(id).is_some()
     }
 
     /// The weight of an item, or `None` where it isn't there.
     pub fn weight_of(&self, id: ItemId) -> Option<Weight>
         ensures { (d : Draft) → IsDraft self.now d → result ≡ weight_of d.table id }
     {
-        self.forest.weight(id)
+        self.hierarchy.weight(id)
     }
 
     /// How many buckets were put into another with a written weight that wasn't their sum.
@@ -196,14 +196,14 @@ impl<A: Allocator> MapBuilder<A> {
     pub fn is_full_of_devices(&self) -> bool
         ensures { (d : Draft) → IsDraft self.now d → result ≡ is_full_of_devices d }
     {
-        self.forest.counts().devices >= MOST_DEVICES
+        self.hierarchy.counts().devices >= MOST_DEVICES
     }
 
     /// Whether there are 4,096 buckets.
     pub fn is_full_of_buckets(&self) -> bool
         ensures { (d : Draft) → IsDraft self.now d → result ≡ is_full_of_buckets d }
     {
-        self.forest.counts().buckets >= MOST_BUCKETS
+        self.hierarchy.counts().buckets >= MOST_BUCKETS
     }
 
     /// Whether there are 256 types.

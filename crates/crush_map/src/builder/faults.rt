@@ -132,7 +132,7 @@ impl<A: Allocator> MapBuilder<A> {
             ItemId::Bucket(bucket) => self.fills(*bucket),
             ItemId::Device(_) => false,
         };
-        self.forest.kind(*item).is_some() && !open
+        self.hierarchy.kind(*item).is_some() && !open
     }
 
     /// Whether all sums stay in range where the item is put into the bucket that is being filled.
@@ -143,10 +143,11 @@ impl<A: Allocator> MapBuilder<A> {
         ensures { (d : Draft) → IsDraft self.now d
             → result ≡ not (is_too_heavy (table_with_item d.pending id weight d.table)) }
     {
-        self.forest.recall_invariant();
+        self.hierarchy.recall_invariant();
         let item = &id;
         let coming = self.weight_to_come(*item, weight);
-        self.forest.fits_move(*item, Place::Bucket(bucket), coming)
+        self.hierarchy
+            .fits_move(*item, Place::Bucket(bucket), coming)
     }
 
     /// What an item weighs once it is put into a bucket with the weight: a device that, and a
@@ -156,12 +157,12 @@ impl<A: Allocator> MapBuilder<A> {
         ensures { result
             ≡ weight_sum (with_first_weight weight (part_of id (all_items self.now.forest))) }
     {
-        self.forest.recall_invariant();
+        self.hierarchy.recall_invariant();
         let item = &id;
-        self.forest.recall_part(*item);
+        self.hierarchy.recall_part(*item);
         match item {
             ItemId::Device(_) => weight,
-            ItemId::Bucket(_) => match self.forest.weight(*item) {
+            ItemId::Bucket(_) => match self.hierarchy.weight(*item) {
                 Some(own) => own,
                 None => unreachable!(),
             },
@@ -180,7 +181,7 @@ impl<A: Allocator> MapBuilder<A> {
                 let Some(written) = written else {
                     return 0;
                 };
-                let Some(own) = self.forest.weight(*item) else {
+                let Some(own) = self.hierarchy.weight(*item) else {
                     return 0;
                 };
                 if written == own { 0 } else { 1 }

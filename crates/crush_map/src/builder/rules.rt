@@ -36,7 +36,7 @@ impl<A: Allocator> MapBuilder<A> {
         ensures ok { OnOk result ((d : Draft) → IsDraft self.old d
             → (rule_fault d rule.now ≡ None) × IsDraft self.new (with_rule d rule.now)) }
     {
-        self.forest.recall_invariant();
+        self.hierarchy.recall_invariant();
         if let Some(fault) = self.rule_fault(rule) {
             return Err(fault);
         }
@@ -189,7 +189,7 @@ impl<A: Allocator> MapBuilder<A> {
         ensures { IfOk result (λ kept. (d : Draft) → IsDraft self.now d
             → step_data kept ≡ kept_step d step.now) }
     {
-        self.forest.recall_invariant();
+        self.hierarchy.recall_invariant();
         match step {
             Step::Take(name, class) => {
                 let Some(bucket) = self.bucket_named(name.as_bytes()) else {

@@ -24,17 +24,17 @@ returns-in_err-node g c =
     when_lacking _ _ _ _ c.from_residual-in_err-node.ensures.1 refl
     (λ t st. (1, _, add_bucket_done c.args.setting.now t c.args.name.now c.args.kind.now c.in_ok-number.number c.first_free-id.result st.lawful (c.in_ok-number.ensures.can t st) (c.first_free-id.ensures t st)))
 
-pub returns-in_err-reserve : goal.returns-in_err-reserve
-returns-in_err-reserve g c =
-    when_lacking _ _ _ _ c.from_residual-in_err-reserve.ensures.1 c.reserve.ensures.same
+pub returns-in_err-add : goal.returns-in_err-add
+returns-in_err-add g c =
+    when_lacking _ _ _ _ c.from_residual-in_err-add.ensures.1 c.in_err-add.ensures.kept
     (λ t st. (1, _, add_bucket_done c.args.setting.now t c.args.name.now c.args.kind.now c.in_ok-number.number c.first_free-id.result st.lawful (c.in_ok-number.ensures.can t st) (c.first_free-id.ensures t st)))
 
-pub attach-requires-clause-fits : goal.attach-requires-clause-fits
-attach-requires-clause-fits g c =
-    let t : List Row = rows_of c.args.forest.now in
-    let st = stands_for_rows c.args.forest.now c.recall_invariant.ensures in
+pub add-requires-clause-fits : goal.add-requires-clause-fits
+add-requires-clause-fits g c =
+    let t : List Row = rows_of c.args.hierarchy.now in
+    let st = stands_for_rows c.args.hierarchy.now c.recall_invariant.ensures in
     let lawful = add_bucket_lawful c.args.setting.now t c.args.name.now c.args.kind.now c.in_ok-number.number c.first_free-id.result c.recall_invariant.ensures.lawful c.requires c.as_bytes-form.ensures.name (c.in_ok-number.ensures.can t st) (c.first_free-id.ensures t st) in
-    subst (λ (n : Items). Lawful (rows_of c.reserve.new.self ++ rows None n)) (sym c.in_ok-node.ensures) (subst (λ (u : List Row). Lawful (u ++ bucket_row None (new_header (record { id = c.first_free-id.result; kind = c.in_ok-number.number; name = c.args.name.now })) ∷ [])) (sym c.reserve.ensures.rows) lawful)
+    subst (λ (n : Items). Lawful (t ++ rows None n)) (sym c.in_ok-node.ensures) lawful
 
 pub returns : goal.returns
 returns g c =
@@ -42,5 +42,5 @@ returns g c =
     (λ t st. (
       t ++ bucket_row None (new_header (record { id = c.first_free-id.result; kind = c.in_ok-number.number; name = c.args.name.now })) ∷ [],
       add_bucket_done c.args.setting.now t c.args.name.now c.args.kind.now c.in_ok-number.number c.first_free-id.result st.lawful (c.in_ok-number.ensures.can t st) (c.first_free-id.ensures t st),
-      subst (λ (n : Items). Stands c.attach.new.self (t ++ rows None n)) c.in_ok-node.ensures (c.attach.ensures.stands t (c.reserve.ensures.stands t st)),
+      subst (λ (n : Items). Stands c.add.new.self (t ++ rows None n)) c.in_ok-node.ensures (c.in_ok-add.ensures.stands t st),
     ))

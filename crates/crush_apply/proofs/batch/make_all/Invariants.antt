@@ -5,4 +5,4 @@ use Rattle.crush_apply.specs.Batched.{IsBegun, AreDone}
 use Rattle.crush_apply.proofs.batch.make_all.Given as goal
 
 abbrev pub invariant-loop-asked : goal.invariant-loop-asked
-invariant-loop-asked g l = IsBegun l.setting l.edits l.fn.forest (drop l.asked-index l.edits) l.dones l.forest × Fits l.setting (rows_of l.forest) × AreDone l.asked-index l.dones × (l.asked-index ≡ 0 → l.forest ≡ l.fn.forest)
+invariant-loop-asked g l = IsBegun l.setting l.edits l.fn.hierarchy (drop l.asked-index l.edits) l.dones l.hierarchy × Fits l.setting (rows_of l.hierarchy) × AreDone l.asked-index l.dones × (l.asked-index ≡ 0 → l.hierarchy ≡ l.fn.hierarchy)

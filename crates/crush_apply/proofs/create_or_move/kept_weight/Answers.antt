@@ -6,5 +6,5 @@ use Rattle.crush_apply.proofs.create_or_move.kept_weight.Goals as goal
 
 pub returns-in-Some-clause-light : goal.returns-in-Some-clause-light
 returns-in-Some-clause-light g c =
-    let f = c.args.forest.now in
+    let f = c.args.hierarchy.now in
     own_light (rows_of f) c.args.device c.in-Some.own c.recall_invariant.ensures.lawful (sym c.in-Some.is ∙ c.weight.ensures (rows_of f) (stands_for_rows f c.recall_invariant.ensures))

@@ -38,7 +38,7 @@ returns-then-is_some g c =
 
 pub destination_of-requires-clause-located : goal.destination_of-requires-clause-located
 destination_of-requires-clause-located g c =
-    let f = c.args.forest.now in
+    let f = c.args.hierarchy.now in
     located c.args.setting.now (rows_of f) c.args.arrival.now.device c.args.arrival.now.name.now c.args.arrival.now.weight c.args.arrival.now.at.now (c.in_ok-check_device.ensures.passes (rows_of f) (stands_for_rows f c.recall_invariant.ensures))
 
 pub returns-in_err-to : goal.returns-in_err-to

@@ -12,9 +12,9 @@ use Rattle.crush_apply.proofs.remove.remove.Goals as goal
 
 pub unreachable-requires : goal.unreachable-requires
 unreachable-requires g c =
-    let st = stands_for_rows c.args.forest.now c.recall_invariant.ensures in
-    let there = there_by_name (rows_of c.args.forest.now) c.args.name.now c.in_ok-id.id (c.in_ok-id.ensures.can (rows_of c.args.forest.now) st).named in
-    let no : false ≡ true = c.in_default.ensures.there (rows_of c.args.forest.now) st ∙ there in cc
+    let st = stands_for_rows c.args.hierarchy.now c.recall_invariant.ensures in
+    let there = there_by_name (rows_of c.args.hierarchy.now) c.args.name.now c.in_ok-id.id (c.in_ok-id.ensures.can (rows_of c.args.hierarchy.now) st).named in
+    let no : false ≡ true = c.in_default.ensures.there (rows_of c.args.hierarchy.now) st ∙ there in cc
 
 pub returns-in_err-id-clause-answers : goal.returns-in_err-id-clause-answers
 returns-in_err-id-clause-answers g c =

@@ -1,4 +1,4 @@
-use Rattle.std.proofs.Common.{List, sym, subst, refl}
+use Rattle.std.proofs.Common.{List, ap, sym, subst, refl}
 use Rattle.crush_units.specs.declared.id.ItemId.TheVariants.{Bucket}
 use Rattle.crush_table.specs.Table.{Row}
 use Rattle.crush_table.specs.Columns.{set_name}
@@ -6,6 +6,7 @@ use Rattle.crush_table.specs.Lawful.{Lawful}
 use Rattle.crush_table.specs.Forest.{rows_of}
 use Rattle.crush_table.specs.Stands.{Stands}
 use Rattle.crush_table.proofs.Stands.{stands_for_rows}
+use Rattle.crush_nodes.specs.Ops.{forest_without_capacity}
 use Rattle.crush_edits.specs.declared.edit.Edit.TheVariants.{Rename}
 use Rattle.crush_apply.proofs.Answered.{when_changed, when_refused, when_lacking}
 use Rattle.crush_apply.proofs.Found.{there_by_name}
@@ -29,14 +30,19 @@ returns-in_err-name g c = λ s.
 
 pub rename-requires-clause-there : goal.rename-requires-clause-there
 rename-requires-clause-there g c =
-    there_by_name (rows_of c.args.forest.now) c.args.from.now (Bucket c.in_ok-bucket.bucket) (c.in_ok-bucket.ensures.can (rows_of c.args.forest.now) (stands_for_rows c.args.forest.now c.recall_invariant.ensures)).named
+    there_by_name (rows_of c.args.hierarchy.now) c.args.from.now (Bucket c.in_ok-bucket.bucket) (c.in_ok-bucket.ensures.can (rows_of c.args.hierarchy.now) (stands_for_rows c.args.hierarchy.now c.recall_invariant.ensures)).named
 
 pub rename-requires-clause-fits : goal.rename-requires-clause-fits
 rename-requires-clause-fits g c =
-    let t : List Row = rows_of c.args.forest.now in
-    let can = c.in_ok-bucket.ensures.can t (stands_for_rows c.args.forest.now c.recall_invariant.ensures) in
+    let t : List Row = rows_of c.args.hierarchy.now in
+    let can = c.in_ok-bucket.ensures.can t (stands_for_rows c.args.hierarchy.now c.recall_invariant.ensures) in
     subst (λ n. Lawful (set_name (Bucket c.in_ok-bucket.bucket) n t)) (sym c.in_ok-name.ensures)
     (rename_lawful t c.args.from.now c.args.to.now c.in_ok-bucket.bucket c.recall_invariant.ensures.lawful c.as_bytes-form.ensures.name can)
+
+pub returns-in_err-rename : goal.returns-in_err-rename
+returns-in_err-rename g c = λ s.
+    when_lacking _ _ _ _ c.from_residual-in_err-rename.ensures.1 (ap forest_without_capacity c.in_err-rename.ensures.kept)
+    (λ t st. (0, set_name (Bucket c.in_ok-bucket.bucket) c.args.to.now t, rename_done s t c.args.from.now c.args.to.now c.in_ok-bucket.bucket st.lawful (c.in_ok-bucket.ensures.can t st)))
 
 pub returns : goal.returns
 returns g c = λ s.
@@ -45,5 +51,5 @@ returns g c = λ s.
     (λ t st. (
       set_name (Bucket b) c.args.to.now t,
       rename_done s t c.args.from.now c.args.to.now b st.lawful (c.in_ok-bucket.ensures.can t st),
-      subst (λ n. Stands c.rename.new.self (set_name (Bucket b) n t)) c.in_ok-name.ensures (c.rename.ensures.stands t st),
+      subst (λ n. Stands c.rename.new.self (set_name (Bucket b) n t)) c.in_ok-name.ensures (c.in_ok-rename.ensures.stands t st),
     ))

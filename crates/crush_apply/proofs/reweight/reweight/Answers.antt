@@ -20,12 +20,12 @@ returns-in_err-device-clause-memory g c = no_want _ _ c.from_residual.ensures.1
 
 pub set_weight-requires-clause-placed : goal.set_weight-requires-clause-placed
 set_weight-requires-clause-placed g c =
-    (c.in_ok-device.ensures.can (rows_of c.args.forest.now) (stands_for_rows c.args.forest.now c.recall_invariant.ensures)).placed
+    (c.in_ok-device.ensures.can (rows_of c.args.hierarchy.now) (stands_for_rows c.args.hierarchy.now c.recall_invariant.ensures)).placed
 
 pub set_weight-requires-clause-fits : goal.set_weight-requires-clause-fits
 set_weight-requires-clause-fits g c =
-    let can = c.in_ok-device.ensures.can (rows_of c.args.forest.now) (stands_for_rows c.args.forest.now c.recall_invariant.ensures) in
-    Lawful-set_weight (rows_of c.args.forest.now) c.in_ok-device.device c.args.weight c.recall_invariant.ensures.lawful can.placed (not_heavy c.args.weight can.light) can.fits
+    let can = c.in_ok-device.ensures.can (rows_of c.args.hierarchy.now) (stands_for_rows c.args.hierarchy.now c.recall_invariant.ensures) in
+    Lawful-set_weight (rows_of c.args.hierarchy.now) c.in_ok-device.device c.args.weight c.recall_invariant.ensures.lawful can.placed (not_heavy c.args.weight can.light) can.fits
 
 pub returns-then-eq-clause-answers : goal.returns-then-eq-clause-answers
 returns-then-eq-clause-answers g c = λ s. when_still _ _ _ (λ t st.

@@ -20,14 +20,18 @@ returns-in_err-bucket-clause-answers g c = λ s.
 pub returns-in_err-bucket-clause-memory : goal.returns-in_err-bucket-clause-memory
 returns-in_err-bucket-clause-memory g c = no_want _ _ c.from_residual.ensures.1
 
+pub changes_subtree-requires : goal.changes_subtree-requires
+changes_subtree-requires g c =
+    there_by_name (rows_of c.args.hierarchy.now) c.args.name.now (Bucket c.in_ok-bucket.bucket) (c.in_ok-bucket.ensures.can (rows_of c.args.hierarchy.now) (stands_for_rows c.args.hierarchy.now c.recall_invariant.ensures)).named
+
 pub set_subtree-requires-clause-there : goal.set_subtree-requires-clause-there
 set_subtree-requires-clause-there g c =
-    there_by_name (rows_of c.args.forest.now) c.args.name.now (Bucket c.in_ok-bucket.bucket) (c.in_ok-bucket.ensures.can (rows_of c.args.forest.now) (stands_for_rows c.args.forest.now c.recall_invariant.ensures)).named
+    there_by_name (rows_of c.args.hierarchy.now) c.args.name.now (Bucket c.in_ok-bucket.bucket) (c.in_ok-bucket.ensures.can (rows_of c.args.hierarchy.now) (stands_for_rows c.args.hierarchy.now c.recall_invariant.ensures)).named
 
 pub set_subtree-requires-clause-fits : goal.set_subtree-requires-clause-fits
 set_subtree-requires-clause-fits g c =
-    let can = c.in_ok-bucket.ensures.can (rows_of c.args.forest.now) (stands_for_rows c.args.forest.now c.recall_invariant.ensures) in
-    Lawful-set_subtree (rows_of c.args.forest.now) c.in_ok-bucket.bucket c.args.weight c.recall_invariant.ensures.lawful (not_heavy c.args.weight can.light) can.fits
+    let can = c.in_ok-bucket.ensures.can (rows_of c.args.hierarchy.now) (stands_for_rows c.args.hierarchy.now c.recall_invariant.ensures) in
+    Lawful-set_subtree (rows_of c.args.hierarchy.now) c.in_ok-bucket.bucket c.args.weight c.recall_invariant.ensures.lawful (not_heavy c.args.weight can.light) can.fits
 
 pub returns-then-not-changes_subtree-clause-answers : goal.returns-then-not-changes_subtree-clause-answers
 returns-then-not-changes_subtree-clause-answers g c = λ s. when_still _ _ _ (λ t st.

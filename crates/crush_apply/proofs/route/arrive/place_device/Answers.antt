@@ -30,7 +30,7 @@ fits_put_device-requires-clause-can g c = λ t st.
 
 pub fits_put_device-requires-clause-weight : goal.fits_put_device-requires-clause-weight
 fits_put_device-requires-clause-weight g c =
-    let f = c.args.forest.now in
+    let f = c.args.hierarchy.now in
     (c.requires.can (rows_of f) (stands_for_rows f c.recall_invariant.ensures)).weight
 
 pub returns-then-not-fits_put_device : goal.returns-then-not-fits_put_device
@@ -44,7 +44,7 @@ returns-then-not-fits_put_device g c =
 
 pub put_device-requires-clause-weight : goal.put_device-requires-clause-weight
 put_device-requires-clause-weight g c =
-    let f = c.args.forest.now in
+    let f = c.args.hierarchy.now in
     (c.requires.can (rows_of f) (stands_for_rows f c.recall_invariant.ensures)).weight
 
 pub put_device-requires-clause-moves : goal.put_device-requires-clause-moves

@@ -22,7 +22,7 @@ fits_put_new-requires-clause-leads g c = λ t st. (c.requires.can t st).leads
 
 pub fits_put_new-requires-clause-weight : goal.fits_put_new-requires-clause-weight
 fits_put_new-requires-clause-weight g c =
-    let f = c.args.forest.now in
+    let f = c.args.hierarchy.now in
     (c.requires.can (rows_of f) (stands_for_rows f c.recall_invariant.ensures)).weight
 
 pub returns-then-not-fits_put_new : goal.returns-then-not-fits_put_new
@@ -57,5 +57,5 @@ returns g c =
     let after = put t (device_row None (new_leaf c.args.arrival.now.device c.args.arrival.now.name.now c.args.arrival.now.weight)) c.args.to.now.stops in (
       after,
       both_pass (new_is_put t c.args.arrival.now.device c.args.arrival.now.name.now c.args.arrival.now.weight c.args.to.now st.lawful (c.requires.can t st) (c.requires.free t st) (c.requires.gone t st)) (c.lacks_room_for_new.ensures t (new_leaf c.args.arrival.now.device c.args.arrival.now.name.now c.args.arrival.now.weight) st (c.requires.can t st).leads (c.requires.gone t st)) c.if-lacks_room_for_new.false (λ room. c.fits_put_new.ensures t (new_leaf c.args.arrival.now.device c.args.arrival.now.name.now c.args.arrival.now.weight) st (c.requires.gone t st) refl) c.if-not-fits_put_new.false ∙ ap (λ k. done true k after) (sym c.fresh.ensures.value),
-      subst (λ d. Stands c.put_new.new.forest (put t (device_row None d) c.args.to.now.stops)) c.in_ok-leaf.ensures (c.in_ok-put_new.ensures.stands t st),
+      subst (λ d. Stands c.put_new.new.hierarchy (put t (device_row None d) c.args.to.now.stops)) c.in_ok-leaf.ensures (c.in_ok-put_new.ensures.stands t st),
     ))

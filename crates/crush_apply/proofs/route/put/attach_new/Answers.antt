@@ -1,4 +1,4 @@
-use Rattle.std.proofs.Common.{◌≡◌, ◌<◌, ◌∷◌, [], ◌++◌, length, ap, sym, subst, ◌∙◌, arith, get_or}
+use Rattle.std.proofs.Common.{◌≡◌, ◌<◌, ◌≤◌, true, false, ◌∷◌, [], ◌++◌, length, ap, sym, subst, ◌∙◌, arith, get_or}
 use Rattle.std.specs.Prelude.{None, Some}
 use Rattle.std.proofs.lemmas.List.{length-take-le}
 use Rattle.crush_table.specs.Forest.{rows_of}
@@ -7,10 +7,10 @@ use Rattle.crush_table.specs.Items.{none}
 use Rattle.crush_table.specs.Lawful.{Lawful}
 use Rattle.crush_table.specs.Stands.{Stands}
 use Rattle.crush_table.specs.Stored.{StoresSums}
-use Rattle.crush_table.specs.Table.{free_ids}
+use Rattle.crush_table.specs.Table.{free_ids, used_ids, member}
 use Rattle.crush_table.proofs.Stands.{stands_for_rows}
-use Rattle.crush_nodes.specs.Ops.{FitsPlace}
-use Rattle.crush_nodes.specs.Room.{bucket_room, parent_at}
+use Rattle.crush_nodes.specs.Ops.{FitsPlace, is_place}
+use Rattle.crush_nodes.specs.Room.{bucket_room, parent_at, same_place}
 use Rattle.crush_nodes.specs.Seen.{items_of}
 use Rattle.crush_nodes.specs.declared.place.Place.TheVariants.{Bucket as AtBucket}
 use Rattle.crush_edits.specs.Boxes.{boxes}
@@ -18,29 +18,32 @@ use Rattle.crush_edits.specs.Put.{with_ids, next_up}
 use Rattle.crush_edits.proofs.Boxes.{StoresSums-boxes}
 use Rattle.crush_apply.specs.Placed.{place_at, new_boxes}
 use Rattle.crush_apply.specs.Stopped.{stops_data}
-use Rattle.crush_apply.proofs.Destinations.{parent_of_place, stops-length, placed_boxes, lowest_is, lowest_room, room_kept}
+use Rattle.crush_apply.proofs.Destinations.{parent_of_place, stops-length, placed_boxes, lowest_is, lowest_room, of_first, new_place, room_kept}
 use Rattle.crush_apply.proofs.route.put.attach_new.Goals as goal
 
-pub attach-requires-clause-sums : goal.attach-requires-clause-sums
-attach-requires-clause-sums g c =
+pub add-requires-clause-there : goal.add-requires-clause-there
+add-requires-clause-there g c = subst (λ p. is_place (rows_of c.args.hierarchy.now) p ≡ true) (sym c.place_of.ensures) c.requires.there
+
+pub add-requires-clause-sums : goal.add-requires-clause-sums
+add-requires-clause-sums g c =
     subst StoresSums (sym c.in_ok-node.ensures) (StoresSums-boxes 1 none (with_ids c.free_ids.new.ids (stops_data c.args.at.now c.args.stops.now)) tt)
 
-pub attach-requires-clause-kind : goal.attach-requires-clause-kind
-attach-requires-clause-kind g c =
+pub add-requires-clause-kind : goal.add-requires-clause-kind
+add-requires-clause-kind g c =
     let ps = stops_data c.args.at.now c.args.stops.now in
     let ids = c.free_ids.new.ids in
     let some = c.requires.some in
     let many = stops-length c.args.at.now c.args.stops.now in
-    let as_many : length ids ≡ length c.args.stops.now = c.free_ids.ensures.as_many ∙ length-take-le (length c.args.stops.now) _ c.requires.few in
+    let as_many : length ids ≡ length c.args.stops.now = c.free_ids.ensures.as_many ∙ length-take-le (length c.args.stops.now) _ (subst (λ n. length c.args.stops.now ≤ n) (sym c.new_slots-slots.ensures) c.requires.few) in
     subst (λ p. FitsPlace p (items_of (c.in_ok-node.node ∷ []))) (sym c.place_of.ensures)
     (subst (FitsPlace (place_at c.args.receiver)) (sym c.in_ok-node.ensures)
     (placed_boxes c.args.receiver 1 none (with_ids ids ps) (get_or ids 0 0) (lowest_is ids ps 0 c.args.receiver (omega (arith, as_many, some)) (omega (arith, many, some)))))
 
-pub attach-requires-clause-fits : goal.attach-requires-clause-fits
-attach-requires-clause-fits g c =
-    let f = c.args.forest.now in
+pub add-requires-clause-fits : goal.add-requires-clause-fits
+add-requires-clause-fits g c =
+    let f = c.args.hierarchy.now in
     let ps = stops_data c.args.at.now c.args.stops.now in
-    let as_many = length-take-le (length c.args.stops.now) _ c.requires.few in
+    let as_many = length-take-le (length c.args.stops.now) _ (subst (λ n. length c.args.stops.now ≤ n) (sym c.new_slots-slots.ensures) c.requires.few) in
     let ids : c.free_ids.new.ids ≡ free_ids (rows_of f) (length ps) =
     c.free_ids.ensures.first (rows_of f) (stands_for_rows f c.recall_invariant.ensures) ∙ ap (free_ids (rows_of f)) (as_many ∙ sym (stops-length c.args.at.now c.args.stops.now)) in
     let are : items_of (c.in_ok-node.node ∷ []) ≡ new_boxes (rows_of f) ps = c.in_ok-node.ensures ∙ ap (λ i. boxes 1 none (with_ids i ps)) ids in
@@ -53,7 +56,7 @@ returns-clause-lowest g c = λ t st.
     let ps = stops_data c.args.at.now c.args.stops.now in
     let some = c.requires.some in
     let many = stops-length c.args.at.now c.args.stops.now in
-    let length_is = length-take-le (length c.args.stops.now) _ c.requires.few in
+    let length_is = length-take-le (length c.args.stops.now) _ (subst (λ n. length c.args.stops.now ≤ n) (sym c.new_slots-slots.ensures) c.requires.few) in
     let as_many : length c.free_ids.new.ids ≡ length c.args.stops.now = c.free_ids.ensures.as_many ∙ length_is in
     let ids : c.free_ids.new.ids ≡ free_ids t (length ps) = c.free_ids.ensures.first t st ∙ ap (free_ids t) (length_is ∙ sym many) in
     ap (λ i. next_up (with_ids i ps) None) (sym ids)
@@ -62,20 +65,27 @@ returns-clause-lowest g c = λ t st.
 pub returns-clause-stands : goal.returns-clause-stands
 returns-clause-stands g c = λ t st.
     let ps = stops_data c.args.at.now c.args.stops.now in
-    let length_is = length-take-le (length c.args.stops.now) _ c.requires.few in
+    let length_is = length-take-le (length c.args.stops.now) _ (subst (λ n. length c.args.stops.now ≤ n) (sym c.new_slots-slots.ensures) c.requires.few) in
     let ids : c.free_ids.new.ids ≡ free_ids t (length ps) = c.free_ids.ensures.first t st ∙ ap (free_ids t) (length_is ∙ sym (stops-length c.args.at.now c.args.stops.now)) in
     let are : items_of (c.in_ok-node.node ∷ []) ≡ new_boxes t ps = c.in_ok-node.ensures ∙ ap (λ i. boxes 1 none (with_ids i ps)) ids in
     let at : parent_at c.place_of.result ≡ c.args.receiver = ap parent_at c.place_of.ensures ∙ parent_of_place c.args.receiver in
-    subst (λ n. Stands c.attach.new.self (t ++ rows c.args.receiver n)) are (subst (λ p. Stands c.attach.new.self (t ++ rows p (items_of (c.in_ok-node.node ∷ [])))) at (c.attach.ensures.stands t st))
+    subst (λ n. Stands c.add.new.self (t ++ rows c.args.receiver n)) are (subst (λ p. Stands c.add.new.self (t ++ rows p (items_of (c.in_ok-node.node ∷ [])))) at (c.in_ok-add.ensures.stands t st))
 
 pub returns-clause-room : goal.returns-clause-room
 returns-clause-room g c =
+    let f = c.args.hierarchy.now in
+    let st = stands_for_rows f c.recall_invariant.ensures in
     let ps = stops_data c.args.at.now c.args.stops.now in
+    let ids = c.free_ids.new.ids in
+    let b = c.index-ids-0.result in
+    let n = items_of (c.in_ok-node.node ∷ []) in
     let some = c.requires.some in
     let many = stops-length c.args.at.now c.args.stops.now in
-    let as_many : length c.free_ids.new.ids ≡ length c.args.stops.now = c.free_ids.ensures.as_many ∙ length-take-le (length c.args.stops.now) _ c.requires.few in
-    let own : 0 < bucket_room c.index-ids-0.result (boxes 1 none (with_ids c.free_ids.new.ids ps)) =
-    subst (λ b. 0 < bucket_room b (boxes 1 none (with_ids c.free_ids.new.ids ps))) (sym c.index-ids-0.is) (lowest_room c.free_ids.new.ids ps c.index-ids-0.result (omega (arith, as_many, some)) (omega (arith, many, some))) in
-    room_kept c.args.forest.now c.attach.new.self (items_of (c.in_ok-node.node ∷ [])) (AtBucket c.index-ids-0.result) c.place_of.result (c.attach.ensures.rooms (AtBucket c.index-ids-0.result))
-    (subst (λ p. 0 < Rattle.crush_nodes.specs.Room.room c.args.forest.now p) (sym c.place_of.ensures) c.requires.room)
-    (subst (λ n. 0 < bucket_room c.index-ids-0.result n) (sym c.in_ok-node.ensures) own)
+    let as_many : length ids ≡ length c.args.stops.now = c.free_ids.ensures.as_many ∙ length-take-le (length c.args.stops.now) _ (subst (λ n. length c.args.stops.now ≤ n) (sym c.new_slots-slots.ensures) c.requires.few) in
+    let ids_some : 0 < length ids = omega (arith, as_many, some) in
+    let unused : member b (used_ids (rows_of f)) ≡ false =
+    subst (λ k. member k (used_ids (rows_of f)) ≡ false) (sym c.index-ids-0.is) (of_first (λ k. member k (used_ids (rows_of f)) ≡ false) ids b ids_some (c.free_ids.ensures.unused (rows_of f) st)) in
+    let own : 0 < bucket_room b (boxes 1 none (with_ids ids ps)) = subst (λ k. 0 < bucket_room k (boxes 1 none (with_ids ids ps))) (sym c.index-ids-0.is) (lowest_room ids ps b ids_some (omega (arith, many, some))) in
+    room_kept f c.add.new.self n (AtBucket b) c.place_of.result (c.in_ok-add.ensures.rooms (AtBucket b))
+    (ap (same_place (AtBucket b)) c.place_of.ensures ∙ new_place (rows_of f) c.args.receiver b unused c.requires.there)
+    (subst (λ m. 0 < bucket_room b m) (sym c.in_ok-node.ensures) own)

@@ -1,36 +1,86 @@
-use Rattle.std.proofs.Common.{◌++◌, List}
-use Rattle.std.specs.Prelude.{Some, None}
+use Rattle.std.proofs.Common.{◌≡◌, ◌≤◌, ◌++◌, [], ◌∷◌, List, length, true, ap, sym, subst, ◌∙◌}
+use Rattle.std.proofs.lemmas.List.{length-take-le}
+use Rattle.std.specs.Prelude.{None}
 use Rattle.crush_table.specs.Forest.{rows_of}
-use Rattle.crush_table.specs.Items.{none, device}
+use Rattle.crush_table.specs.Items.{Items, none, device}
 use Rattle.crush_table.specs.ItemRows.{rows, device_row}
+use Rattle.crush_table.specs.Lawful.{Lawful}
 use Rattle.crush_table.specs.Stands.{Stands}
-use Rattle.crush_table.specs.Table.{Row}
+use Rattle.crush_table.specs.Stored.{StoresSums}
+use Rattle.crush_table.specs.Table.{Row, free_ids}
 use Rattle.crush_table.proofs.Stands.{stands_for_rows, same_stands}
-use Rattle.crush_nodes.specs.Seen.{leaf_data}
-use Rattle.crush_edits.specs.LawRoute.{rows_made}
-use Rattle.crush_edits.specs.Put.{put}
-use Rattle.crush_apply.proofs.Steps.{attach_lawful, few_new_device, new_same, new_lawful_put}
+use Rattle.crush_nodes.specs.Ops.{FitsPlace, is_place}
+use Rattle.crush_nodes.specs.Room.{parent_at}
+use Rattle.crush_nodes.specs.Seen.{items_of, leaf_data}
+use Rattle.crush_edits.specs.Put.{put, with_ids}
+use Rattle.crush_edits.proofs.Boxes.{StoresSums-boxes}
+use Rattle.crush_apply.specs.Placed.{place_at}
+use Rattle.crush_apply.specs.Stopped.{stops_data}
+use Rattle.crush_apply.proofs.Destinations.{parent_of_place, place_there, stops-length, boxes_are, fresh_forms, on_ok}
+use Rattle.crush_apply.proofs.Steps.{new_item, new_same, new_lawful, new_fits}
 use Rattle.crush_apply.proofs.route.put.put_new.Goals as goal
 
-pub make_room-requires-clause-counts : goal.make_room-requires-clause-counts
-make_room-requires-clause-counts g c = λ t st. few_new_device t st.lawful c.args.to.now (c.requires.leads t st) (leaf_data c.args.leaf) (c.requires.can t st)
+pub in_new_buckets-requires-clause-forms : goal.in_new_buckets-requires-clause-forms
+in_new_buckets-requires-clause-forms g c =
+    let f = c.args.hierarchy.now in
+    fresh_forms (rows_of f) c.new_stops.result.0.now c.new_stops.result.1.now c.args.to.now c.new_stops.ensures.stops (c.requires.leads (rows_of f) (stands_for_rows f c.recall_invariant.ensures))
 
-pub attach-requires-clause-fits : goal.attach-requires-clause-fits
-attach-requires-clause-fits g c =
-    let f = c.args.forest.now in
+pub add-requires-clause-there : goal.add-requires-clause-there
+add-requires-clause-there g c =
+    let f = c.args.hierarchy.now in
+    subst (λ p. is_place (rows_of f) p ≡ true) (sym c.place.ensures) (place_there (rows_of f) c.args.to.now (c.requires.leads (rows_of f) (stands_for_rows f c.recall_invariant.ensures)))
+
+pub add-requires-clause-sums : goal.add-requires-clause-sums
+add-requires-clause-sums g c =
+    subst StoresSums (sym c.in_ok-node.ensures) (StoresSums-boxes 1 (device (leaf_data c.args.leaf) none) (with_ids c.free_ids.new.ids (stops_data c.new_stops.result.0.now c.new_stops.result.1.now)) tt)
+
+pub add-requires-clause-kind : goal.add-requires-clause-kind
+add-requires-clause-kind g c =
+    let f = c.args.hierarchy.now in
     let t : List Row = rows_of f in
     let st : Stands f t = stands_for_rows f c.recall_invariant.ensures in
-    let ps = c.args.to.now.stops in
-    let d = leaf_data c.args.leaf in
+    let l = c.new_stops.result.0.now in
+    let xs = c.new_stops.result.1.now in
+    let to = c.args.to.now in
     let leads = c.requires.leads t st in
+    let d = leaf_data c.args.leaf in
     let can = c.requires.can t st in
-    attach_lawful c.make_room.new.forest (t ++ rows_made t ps) (put t (device_row None d) ps) (rows (Some c.in_ok-bucket.bucket) (device d none)) (c.in_ok-bucket.ensures.stands t st)
-    (new_same t st.lawful c.args.to.now leads d can c.in_ok-bucket.bucket (c.in_ok-bucket.ensures.next t st)) (new_lawful_put t st.lawful c.args.to.now leads d can)
+    let few : length xs ≤ length c.new_slots-slots.result = subst (λ n. length xs ≤ n) (sym c.new_slots-slots.ensures) c.new_stops.ensures.few in
+    let ids : c.free_ids.new.ids ≡ free_ids t (length (stops_data l xs)) = c.free_ids.ensures.first t st ∙ ap (free_ids t) (length-take-le (length xs) c.new_slots-slots.result few ∙ sym (stops-length l xs)) in
+    let is : items_of (c.in_ok-node.node ∷ []) ≡ new_item t st.lawful to leads d can = c.in_ok-node.ensures ∙ boxes_are t l xs to c.new_stops.ensures.stops leads (device d none) c.free_ids.new.ids ids in
+    subst (λ p. FitsPlace p (items_of (c.in_ok-node.node ∷ []))) (sym c.place.ensures) (subst (FitsPlace (place_at to.receiver)) (sym is) (new_fits t st.lawful to leads d can))
+
+pub add-requires-clause-fits : goal.add-requires-clause-fits
+add-requires-clause-fits g c =
+    let f = c.args.hierarchy.now in
+    let t : List Row = rows_of f in
+    let st : Stands f t = stands_for_rows f c.recall_invariant.ensures in
+    let l = c.new_stops.result.0.now in
+    let xs = c.new_stops.result.1.now in
+    let to = c.args.to.now in
+    let leads = c.requires.leads t st in
+    let d = leaf_data c.args.leaf in
+    let can = c.requires.can t st in
+    let few : length xs ≤ length c.new_slots-slots.result = subst (λ n. length xs ≤ n) (sym c.new_slots-slots.ensures) c.new_stops.ensures.few in
+    let ids : c.free_ids.new.ids ≡ free_ids t (length (stops_data l xs)) = c.free_ids.ensures.first t st ∙ ap (free_ids t) (length-take-le (length xs) c.new_slots-slots.result few ∙ sym (stops-length l xs)) in
+    let is : items_of (c.in_ok-node.node ∷ []) ≡ new_item t st.lawful to leads d can = c.in_ok-node.ensures ∙ boxes_are t l xs to c.new_stops.ensures.stops leads (device d none) c.free_ids.new.ids ids in
+    let at : parent_at c.place.result ≡ to.receiver = ap parent_at c.place.ensures ∙ parent_of_place to.receiver in
+    subst (λ (n : Items). Lawful (t ++ rows (parent_at c.place.result) n)) (sym is) (subst (λ p. Lawful (t ++ rows p (new_item t st.lawful to leads d can))) (sym at) (new_lawful t st.lawful to leads d can))
 
 pub returns-clause-stands : goal.returns-clause-stands
-returns-clause-stands g c = λ t st.
-    let ps = c.args.to.now.stops in
+returns-clause-stands g c =
+    on_ok c.add.result
+    (λ stands t st.
+    let l = c.new_stops.result.0.now in
+    let xs = c.new_stops.result.1.now in
+    let to = c.args.to.now in
+    let leads = c.requires.leads t st in
     let d = leaf_data c.args.leaf in
-    same_stands c.attach.new.self ((t ++ rows_made t ps) ++ rows (Some c.in_ok-bucket.bucket) (device d none)) (put t (device_row None d) ps)
-    (new_same t st.lawful c.args.to.now (c.requires.leads t st) d (c.requires.can t st) c.in_ok-bucket.bucket (c.in_ok-bucket.ensures.next t st))
-    (c.attach.ensures.stands (t ++ rows_made t ps) (c.in_ok-bucket.ensures.stands t st))
+    let can = c.requires.can t st in
+    let few : length xs ≤ length c.new_slots-slots.result = subst (λ n. length xs ≤ n) (sym c.new_slots-slots.ensures) c.new_stops.ensures.few in
+    let ids : c.free_ids.new.ids ≡ free_ids t (length (stops_data l xs)) = c.free_ids.ensures.first t st ∙ ap (free_ids t) (length-take-le (length xs) c.new_slots-slots.result few ∙ sym (stops-length l xs)) in
+    let is : items_of (c.in_ok-node.node ∷ []) ≡ new_item t st.lawful to leads d can = c.in_ok-node.ensures ∙ boxes_are t l xs to c.new_stops.ensures.stops leads (device d none) c.free_ids.new.ids ids in
+    let at : parent_at c.place.result ≡ to.receiver = ap parent_at c.place.ensures ∙ parent_of_place to.receiver in
+    same_stands c.add.new.self (t ++ rows to.receiver (new_item t st.lawful to leads d can)) (put t (device_row None d) to.stops) (new_same t st.lawful to leads d can)
+    (subst (λ p. Stands c.add.new.self (t ++ rows p (new_item t st.lawful to leads d can))) at (subst (λ (n : Items). Stands c.add.new.self (t ++ rows (parent_at c.place.result) n)) is (stands t st))))
+    c.add.ensures.stands

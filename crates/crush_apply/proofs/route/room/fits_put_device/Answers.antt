@@ -19,23 +19,23 @@ use Rattle.crush_apply.proofs.route.room.fits_put_device.Goals as goal
 
 pub recall_part-requires : goal.recall_part-requires
 recall_part-requires g c =
-    let f = c.args.forest.now in
+    let f = c.args.hierarchy.now in
     (c.requires.can (rows_of f) (stands_for_rows f c.recall_invariant.ensures)).there
 
 pub fits_move-requires-clause-place : goal.fits_move-requires-clause-place
 fits_move-requires-clause-place g c =
-    let f = c.args.forest.now in
+    let f = c.args.hierarchy.now in
     let can = c.requires.can (rows_of f) (stands_for_rows f c.recall_invariant.ensures) in
     subst (λ p. is_place (rows_of f) p ≡ true) (sym c.place.ensures) (place_there (rows_of f) c.args.to.now can.leads)
 
 pub fits_move-requires-clause-apart : goal.fits_move-requires-clause-apart
-fits_move-requires-clause-apart g c = device_apart (rows_of c.args.forest.now) c.args.device (parent_at c.place.result)
+fits_move-requires-clause-apart g c = device_apart (rows_of c.args.hierarchy.now) c.args.device (parent_at c.place.result)
 
 pub returns : goal.returns
 returns g c = λ t r st found room.
     let i = Device c.args.device in
     let to = c.args.to.now in
-    let d = one_device (part_of i (all_items c.args.forest.now)) (part_devices c.args.device (all_items c.args.forest.now)) c.recall_part.ensures.one in
+    let d = one_device (part_of i (all_items c.args.hierarchy.now)) (part_devices c.args.device (all_items c.args.hierarchy.now)) c.recall_part.ensures.one in
     let whole : Same (rows None (device d.0 none)) (part i t) = subst (λ n. Same (rows None n) (part i t)) d.1 (c.recall_part.ensures.rows t st) in
     let can = c.requires.can t st in
     device_told t st.lawful to can.leads i r d.0 c.args.weight c.fits_move.result found can.apart room whole c.requires.weight

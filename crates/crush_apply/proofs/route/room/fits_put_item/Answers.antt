@@ -16,24 +16,24 @@ use Rattle.crush_apply.proofs.route.room.fits_put_item.Goals as goal
 
 pub recall_part-requires : goal.recall_part-requires
 recall_part-requires g c =
-    let f = c.args.forest.now in
+    let f = c.args.hierarchy.now in
     (c.requires (rows_of f) (stands_for_rows f c.recall_invariant.ensures)).there
 
 pub fits_move-requires-clause-place : goal.fits_move-requires-clause-place
 fits_move-requires-clause-place g c =
-    let f = c.args.forest.now in
+    let f = c.args.hierarchy.now in
     let can = c.requires (rows_of f) (stands_for_rows f c.recall_invariant.ensures) in
     subst (λ p. is_place (rows_of f) p ≡ true) (sym c.place.ensures) (place_there (rows_of f) c.args.to.now can.leads)
 
 pub fits_move-requires-clause-apart : goal.fits_move-requires-clause-apart
 fits_move-requires-clause-apart g c =
-    let f = c.args.forest.now in
+    let f = c.args.hierarchy.now in
     let can = c.requires (rows_of f) (stands_for_rows f c.recall_invariant.ensures) in
     subst (λ p. IfSome (parent_at p) (λ b. is_part (rows_of f) c.args.id (Bucket b) ≡ false)) (sym c.place.ensures) (receiver_apart (rows_of f) c.args.id c.args.to.now can.leads can.apart)
 
 pub unreachable-requires : goal.unreachable-requires
 unreachable-requires g c =
-    let f = c.args.forest.now in
+    let f = c.args.hierarchy.now in
     let st = stands_for_rows f c.recall_invariant.ensures in
     let part_weighs = c.recall_part.ensures.weight (rows_of f) st in
     let none = c.weight.ensures (rows_of f) st in
@@ -46,7 +46,7 @@ returns g c = λ t r st found room.
     let i = c.args.id in
     let to = c.args.to.now in
     let w = c.in-Some.weight in
-    let n : Items = part_of i (all_items c.args.forest.now) in
+    let n : Items = part_of i (all_items c.args.hierarchy.now) in
     let is : weight_sum n ≡ w = let both : Some (weight_sum n) ≡ Some w = sym (c.recall_part.ensures.weight t st) ∙ sym (c.in-Some.ensures t st) in cc in
     let can = c.requires t st in
     item_told t st.lawful to can.leads i r n w c.fits_move.result found can.apart room c.recall_part.ensures.one (c.recall_part.ensures.rows t st) c.recall_part.ensures.sums c.recall_part.ensures.small c.recall_part.ensures.light is

@@ -14,7 +14,7 @@ use Rattle.crush_apply.proofs.route.room.fits_put_new.Goals as goal
 
 pub fits_attach-requires : goal.fits_attach-requires
 fits_attach-requires g c =
-    let f = c.args.forest.now in
+    let f = c.args.hierarchy.now in
     let leads = c.requires.leads (rows_of f) (stands_for_rows f c.recall_invariant.ensures) in
     subst (λ p. is_place (rows_of f) p ≡ true) (sym c.place.ensures) (place_there (rows_of f) c.args.to.now leads)
 

@@ -31,7 +31,7 @@ pub returns-in_err-bucket-clause-refused : goal.returns-in_err-bucket-clause-ref
 returns-in_err-bucket-clause-refused g c =
     let l = c.args.at.now in
     let x = c.index-stops-k.result in
-    passed_on (λ r. (t : List Row) → Stands c.args.forest.now t → first_refusal (end_tests t (stops_data l c.args.stops.now)) ≡ Some r) _ _ c.from_residual.ensures.1
+    passed_on (λ r. (t : List Row) → Stands c.args.hierarchy.now t → first_refusal (end_tests t (stops_data l c.args.stops.now)) ≡ Some r) _ _ c.from_residual.ensures.1
     (λ t st. let named : id_named t (pair_name l x.pair) ≡ Some c.in-Some.id = ap (id_named t) (sym (c.as_str.ensures.value ∙ c.stop_name.ensures)) ∙ sym (c.id_of.ensures t st) ∙ c.in-Some.is in
     ap first_refusal (tests_here t l c.args.stops.now c.loop-k.k x c.in-Some.id c.loop-k-test.true c.index-stops-k.is named (c.loop-k.invariant t st)) ∙ c.in_err-bucket.ensures.refused t st)
 

@@ -6,4 +6,4 @@ use Rattle.crush_apply.proofs.route.stops.route_end.Given as goal
 
 -- what is left decides
 abbrev pub invariant-loop-k : goal.invariant-loop-k
-invariant-loop-k g l = (t : List Row) → Stands l.forest t → Left t l.at l.stops l.k
+invariant-loop-k g l = (t : List Row) → Stands l.hierarchy t → Left t l.at l.stops l.k

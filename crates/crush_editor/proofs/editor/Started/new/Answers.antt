@@ -1,5 +1,15 @@
-use Rattle.std.proofs.Common.{rules, arith}
+use Rattle.std.proofs.Common.{◌≡◌, [], rules, sym, subst, arith}
+use Rattle.std.specs.Prelude.{All}
+use Rattle.crush_gauge.specs.Held.{held}
+use Rattle.crush_editor.specs.Seat.{reads}
 use Rattle.crush_editor.proofs.editor.Started.new.Goals as goal
 
 pub invariant_of-result : goal.invariant_of-result
-invariant_of-result c = (search rules, search rules, c.in_ok-book.ensures.stands, search rules, search rules, search rules)
+invariant_of-result c = (
+  search rules,
+  search rules,
+  c.in_ok-book.ensures.stands,
+  search rules,
+  search rules,
+  subst (λ o. All (λ s. s ≡ held c.in-Ok.gauge.table.shared.table_id (reads o [])) c.in-Ok.readers.items) (sym c.in_ok-book.ensures.opening) c.in-Ok.ensures.readers,
+)

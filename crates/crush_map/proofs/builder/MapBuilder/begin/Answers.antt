@@ -10,14 +10,14 @@ use Rattle.crush_map.proofs.builder.MapBuilder.begin.Goals as goal
 
 pub unreachable-requires : goal.unreachable-requires
 unreachable-requires g c =
-    let b : BuilderData = record { setting = c.self.inside.setting; forest = c.self.inside.forest; pending = pending_data c.self.inside.pending; adjusted = c.self.inside.adjusted } in
+    let b : BuilderData = record { setting = c.self.inside.setting; forest = c.self.inside.hierarchy; pending = pending_data c.self.inside.pending; adjusted = c.self.inside.adjusted } in
     let d : Draft = own_draft b in
     let at : IsDraft c.args.self.now d = subst (λ (x : BuilderData). IsDraft x d) c.self.view_is (own_is_draft b c.recall_invariant.ensures c.self.invariant) in
     no_number d c.args.kind.now c.args.name.now (sym (c.in_default.ensures d at)) (sym (c.kind_number.ensures d at) ∙ c.in_default-kind_number.is)
 
 pub invariant_of-self : goal.invariant_of-self
 invariant_of-self g c =
-    let b : BuilderData = record { setting = c.self.inside.setting; forest = c.self.inside.forest; pending = pending_data c.self.inside.pending; adjusted = c.self.inside.adjusted } in
+    let b : BuilderData = record { setting = c.self.inside.setting; forest = c.self.inside.hierarchy; pending = pending_data c.self.inside.pending; adjusted = c.self.inside.adjusted } in
     let d : Draft = own_draft b in
     let own : IsDraft b d = own_is_draft b c.recall_invariant.ensures c.self.invariant in
     let at : IsDraft c.args.self.now d = subst (λ (x : BuilderData). IsDraft x d) c.self.view_is own in
@@ -28,7 +28,7 @@ invariant_of-self g c =
 
 pub returns-clause-ok : goal.returns-clause-ok
 returns-clause-ok g c = λ d k i e.
-    let b : BuilderData = record { setting = c.self.inside.setting; forest = c.self.inside.forest; pending = pending_data c.self.inside.pending; adjusted = c.self.inside.adjusted } in
+    let b : BuilderData = record { setting = c.self.inside.setting; forest = c.self.inside.hierarchy; pending = pending_data c.self.inside.pending; adjusted = c.self.inside.adjusted } in
     let at : IsDraft b d = subst (λ (x : BuilderData). IsDraft x d) (sym c.self.view_is) i in
     let number : kind_number d.setting c.args.kind.now ≡ Some c.in-Some-kind_number.kind = sym (c.kind_number.ensures d i) ∙ c.in-Some-kind_number.is in
     let found : ◌≡◌ {A = Option ℕ} (Some c.in-Some-kind_number.kind) (Some k) = sym number ∙ e in

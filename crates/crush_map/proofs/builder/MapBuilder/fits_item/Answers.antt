@@ -21,19 +21,19 @@ shut b {now} {i} is sound keeps closed =
 
 pub weight_to_come-coming-requires : goal.weight_to_come-coming-requires
 weight_to_come-coming-requires g c =
-    let b : BuilderData = record { setting = c.self.inside.setting; forest = c.self.inside.forest; pending = pending_data c.self.inside.pending; adjusted = c.self.inside.adjusted } in
+    let b : BuilderData = record { setting = c.self.inside.setting; forest = c.self.inside.hierarchy; pending = pending_data c.self.inside.pending; adjusted = c.self.inside.adjusted } in
     let at : IsDraft c.args.self.now (own_draft b) = subst (λ (x : BuilderData). IsDraft x (own_draft b)) c.self.view_is (own_is_draft b c.recall_invariant.ensures c.self.invariant) in
     subst (λ (x : BuilderData). is_there (rows_of x.forest) c.args.id ≡ true) c.self.view_is (closed_there _ _ (c.requires.closed (own_draft b) at))
 
 pub fits_move-requires-clause-apart : goal.fits_move-requires-clause-apart
 fits_move-requires-clause-apart g c =
-    let b : BuilderData = record { setting = c.self.inside.setting; forest = c.self.inside.forest; pending = pending_data c.self.inside.pending; adjusted = c.self.inside.adjusted } in
+    let b : BuilderData = record { setting = c.self.inside.setting; forest = c.self.inside.hierarchy; pending = pending_data c.self.inside.pending; adjusted = c.self.inside.adjusted } in
     let came = part_comes b c.args.self.now c.args.id c.args.bucket c.self.view_is c.recall_invariant.ensures c.self.invariant (ap (λ (x : BuilderData). x.pending) c.self.view_is ∙ c.requires.fills) (shut b c.self.view_is c.recall_invariant.ensures c.self.invariant c.requires.closed) (λ d i. closed_there _ _ (c.requires.closed d i)) c.requires.free in
     apart_at b c.args.id c.args.bucket _ came (own_draft b) came.own
 
 pub returns : goal.returns
 returns g c = λ d i.
-    let b : BuilderData = record { setting = c.self.inside.setting; forest = c.self.inside.forest; pending = pending_data c.self.inside.pending; adjusted = c.self.inside.adjusted } in
+    let b : BuilderData = record { setting = c.self.inside.setting; forest = c.self.inside.hierarchy; pending = pending_data c.self.inside.pending; adjusted = c.self.inside.adjusted } in
     let came = part_comes b c.args.self.now c.args.id c.args.bucket c.self.view_is c.recall_invariant.ensures c.self.invariant (ap (λ (x : BuilderData). x.pending) c.self.view_is ∙ c.requires.fills) (shut b c.self.view_is c.recall_invariant.ensures c.self.invariant c.requires.closed) (λ d i. closed_there _ _ (c.requires.closed d i)) c.requires.free in
     let at : IsDraft b d = subst (λ (x : BuilderData). IsDraft x d) (sym c.self.view_is) i in
     flip _ _ (fits_test b c.args.id c.args.bucket _ came c.args.weight c.weight_to_come-coming.result

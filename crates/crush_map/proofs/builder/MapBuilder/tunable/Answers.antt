@@ -14,7 +14,7 @@ use Rattle.crush_map.proofs.builder.MapBuilder.tunable.Goals as goal
 
 pub push_tunable-requires : goal.push_tunable-requires
 push_tunable-requires g c =
-    let b : BuilderData = record { setting = c.self.inside.setting; forest = c.self.inside.forest; pending = pending_data c.self.inside.pending; adjusted = c.self.inside.adjusted } in
+    let b : BuilderData = record { setting = c.self.inside.setting; forest = c.self.inside.hierarchy; pending = pending_data c.self.inside.pending; adjusted = c.self.inside.adjusted } in
     let d : Draft = own_draft b in
     let at : IsDraft c.args.self.now d = subst (λ (x : BuilderData). IsDraft x d) c.self.view_is (own_is_draft b c.recall_invariant.ensures c.self.invariant) in
     let clear : tunable_fault d c.args.name.now ≡ None = sym (c.in_default.ensures d at) in
@@ -23,7 +23,7 @@ push_tunable-requires g c =
 
 pub invariant_of-self-2 : goal.invariant_of-self-2
 invariant_of-self-2 g c =
-    let b : BuilderData = record { setting = c.self.inside.setting; forest = c.self.inside.forest; pending = pending_data c.self.inside.pending; adjusted = c.self.inside.adjusted } in
+    let b : BuilderData = record { setting = c.self.inside.setting; forest = c.self.inside.hierarchy; pending = pending_data c.self.inside.pending; adjusted = c.self.inside.adjusted } in
     let d : Draft = own_draft b in
     let own : IsDraft b d = own_is_draft b c.recall_invariant.ensures c.self.invariant in
     let at : IsDraft c.args.self.now d = subst (λ (x : BuilderData). IsDraft x d) c.self.view_is own in
@@ -36,7 +36,7 @@ invariant_of-self-2 g c =
 
 pub returns-clause-ok : goal.returns-clause-ok
 returns-clause-ok g c = λ d i.
-    let b : BuilderData = record { setting = c.self.inside.setting; forest = c.self.inside.forest; pending = pending_data c.self.inside.pending; adjusted = c.self.inside.adjusted } in
+    let b : BuilderData = record { setting = c.self.inside.setting; forest = c.self.inside.hierarchy; pending = pending_data c.self.inside.pending; adjusted = c.self.inside.adjusted } in
     let at : IsDraft b d = subst (λ (x : BuilderData). IsDraft x d) (sym c.self.view_is) i in
     let tunables = c.in_ok-push_tunable.ensures.ok ∙ (λ j. record c.self.inside.setting { tunables = c.self.inside.setting.tunables ++ record { name = c.in-Ok.ensures.value j; value = c.args.value } ∷ [] }) in
     let is : IsTunable (record { name = c.args.name.now; value = c.args.value }) = record { name = c.requires.name; value = omega arith } in

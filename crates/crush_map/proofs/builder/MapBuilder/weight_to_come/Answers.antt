@@ -12,13 +12,13 @@ use Rattle.crush_map.proofs.builder.MapBuilder.weight_to_come.Goals as goal
 
 pub unreachable-requires : goal.unreachable-requires
 unreachable-requires g c =
-    let f : ForestData = c.self.inside.forest in
+    let f : ForestData = c.self.inside.hierarchy in
     let own = c.in-None.ensures (rows_of f) (stands_for_rows f c.recall_invariant.ensures) ∙ c.recall_part.ensures.weight (rows_of f) (stands_for_rows f c.recall_invariant.ensures) in
     cc
 
 pub returns-in-Device : goal.returns-in-Device
 returns-in-Device g c =
-    let f : ForestData = c.self.inside.forest in
+    let f : ForestData = c.self.inside.hierarchy in
     let there : is_there (rows_of f) c.args.id ≡ true = subst (λ (x : BuilderData). is_there (rows_of x.forest) c.args.id ≡ true) (sym c.self.view_is) c.requires in
     sym (ap (λ (x : BuilderData). weight_sum (with_first_weight c.args.weight (part_of c.args.id (all_items x.forest)))) (sym c.self.view_is)
     ∙ part_weighs f c.args.id c.args.weight c.recall_invariant.ensures there
@@ -29,7 +29,7 @@ some_is v w e = cc
 
 pub returns-in-Some : goal.returns-in-Some
 returns-in-Some g c =
-    let f : ForestData = c.self.inside.forest in
+    let f : ForestData = c.self.inside.hierarchy in
     let there : is_there (rows_of f) c.args.id ≡ true = subst (λ (x : BuilderData). is_there (rows_of x.forest) c.args.id ≡ true) (sym c.self.view_is) c.requires in
     let own = some_is _ _ (sym c.in-Some.is ∙ c.weight.ensures (rows_of f) (stands_for_rows f c.recall_invariant.ensures) ∙ c.recall_part.ensures.weight (rows_of f) (stands_for_rows f c.recall_invariant.ensures)) in
     own ∙ sym (ap (λ (x : BuilderData). weight_sum (with_first_weight c.args.weight (part_of c.args.id (all_items x.forest)))) (sym c.self.view_is)

@@ -14,7 +14,7 @@ of_forest m n t e st = subst (λ (f : ForestData). Stands f t) (sym (ap (λ (x :
 
 pub returns-clause-done : goal.returns-clause-done
 returns-clause-done g c =
-    subst (λ (m : MapData). IfOk c.apply_edit.result (λ d. (t : List Row) → Stands m.forest t → IsDone (Stands c.apply_edit.new.forest) (edit m.setting t c.args.asked.now) d)) c.self.view_is c.apply_edit.ensures.done
+    subst (λ (m : MapData). IfOk c.apply_edit.result (λ d. (t : List Row) → Stands m.forest t → IsDone (Stands c.apply_edit.new.hierarchy) (edit m.setting t c.args.asked.now) d)) c.self.view_is c.apply_edit.ensures.done
 
 pub returns-clause-refused : goal.returns-clause-refused
 returns-clause-refused g c = λ r is t st.
