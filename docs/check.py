@@ -2,16 +2,14 @@
 """Looks whether what docs/ and README.md name is there.
 
 Each name in backticks has to stand in the crates: a function, a type, a definition, a clause, a file or
-an edit that must fail. In a table whose head has a column of must-fail edits, each name of that column has
-to be the file of one; and each such file has to be named by a page. In a table that has a column of code
-too, each cell of it has to name files of the crates in backticks, from the crate down, and each edit of
-the row has to change one of them. Of FORMATS.md, OPERATING.md, DECISIONS.md and README.md, which name words
-of jobs and of Ceph beside names of the code, only those columns are looked at. ADDING.md lists the
-files that an addition touches: each has to be there, and each file of src/ and specs/ that names all variants
-of an enum of ADDED has to stand in its section. RULES.md has a row for each variant of the enums of ROWS, and
-for each limit. The index of examples/ names each job. The version of the command line stands in VERSIONS, the
-manual page is that of the help (docs/manual.py), and `--version` and PROVED.md name the toolchain, where `rt` is
-there to tell its line. Prints what is missing, and ends with status 1 where anything is.
+an edit that must fail; but of the pages of WORDS_OF_TEXTS, which name words of jobs and of Ceph beside them.
+In a table whose head has a column of must-fail edits, each name of that column has to be the file of one; and
+each such file has to be named by a page. Each link leads to a file, and to a heading of it. ADDING.md lists
+the files that an addition touches: each has to be there, and each file of src/ and specs/ that names all
+variants of an enum of ADDED has to stand in its section. RULES.md has a row for each variant of the enums of
+ROWS, and for each limit. The index of examples/ names each job. The version of the command line stands in
+VERSIONS, the manual page is that of the help (docs/manual.py), and `--version` and PROVED.md name the
+toolchain, where `rt` is there to tell its line. Prints what is missing, and ends with status 1 where anything is.
 """
 import os
 import pathlib
@@ -26,7 +24,6 @@ PAGES = sorted((TOP / "docs").glob("*.md")) + [TOP / "README.md"]
 NAME = re.compile(r"^[A-Za-z_][A-Za-z0-9_]*(?:(?:::|\.)[A-Za-z_][A-Za-z0-9_]*)*(?:\(\))?$")
 # A file or a folder of the repository.
 FILE = re.compile(r"^(?:[a-z0-9_./-]*/[A-Za-z0-9_./+-]*|[A-Za-z0-9_]+\.(?:md|rt|antt|txt|job|py|edit))$")
-# Pages on texts and on choices name words of jobs and of Ceph beside names of the code.
 # The sections of ADDING.md, each with the enum that grows by what it adds.
 ADDED = {
     "An edit": ("crush_edits/src/edit.rt", "Edit"),
@@ -43,6 +40,7 @@ ROWS = {
 # Where the version stands that the command line tells.
 COMMAND_LINE = "crates/crush_options/src/command_line.rt"
 VERSIONS = {"CHANGELOG.md": "## {}\n", "docs/crushedit.1": '"crushedit {}"', "docs/FORMATS.md": "`crushedit {}`"}
+# Pages that name words of jobs and of Ceph beside names of the code.
 WORDS_OF_TEXTS = {"FORMATS.md", "OPERATING.md", "DECISIONS.md", "README.md"}
 
 
@@ -89,27 +87,6 @@ def quoted(text):
     return re.findall(r"`([^`]+)`", text)
 
 
-def changed_file(edit):
-    """The file that an edit changes, from the crate down."""
-    changed = re.match(r"file: *(\S+)", edit.read_text()).group(1)
-    return f"{edit.parent.parent.name}/{changed}"
-
-
-def code_faults(head, rows, changed):
-    """What is wrong with the column of code of a table, if it has one."""
-    for row in (dict(zip(head, row)) for row in rows):
-        code = quoted(row.get("Code", ""))
-        if row.get("Code") and not code:
-            yield f"no file in {row['Code']}"
-        for name in code:
-            if not (TOP / "crates" / name).is_file():
-                yield f"no file crates/{name}"
-        for column in (column for column in row if code and "ust-fail" in column):
-            for name in quoted(row[column]):
-                if changed.get(name, code[0]) not in code:
-                    yield f"{name} changes {changed[name]}"
-
-
 def variants(name, enum):
     """The variants of an enum of a file of the crates."""
     body = re.search(rf"pub enum {enum}\b[^{{]*{{(.*?)\n}}", (TOP / "crates" / name).read_text(), re.S).group(1)
@@ -143,6 +120,21 @@ def rule_faults():
         for name in names:
             if name not in there:
                 yield f"{title} has no row for {name}"
+
+
+def anchors(text):
+    """What a link may name of a page: its headings, as they are written in one."""
+    heads = re.findall(r"(?m)^#+ (.*)$", re.sub(r"```.*?```", "", text, flags=re.S))
+    return {re.sub(r"[^\w -]", "", head.lower()).replace(" ", "-") for head in heads}
+
+
+def link_faults(page):
+    """Which links of a page lead to no file, or to no heading of one."""
+    for link in re.findall(r"\]\(([^)\s]+)\)", page.read_text()):
+        file, _, anchor = link.partition("#")
+        to = page.parent / file if file else page
+        if not link.startswith("http") and not (to.exists() and (not anchor or anchor in anchors(to.read_text()))):
+            yield f"{page.name}: no {link}"
 
 
 def example_faults():
@@ -188,14 +180,12 @@ def adding_faults():
 
 def main():
     words = known_words()
-    changed = {path.stem: changed_file(path) for path in crate_files() if path.suffix == ".edit"}
-    edits = set(changed)
+    edits = {path.stem for path in crate_files() if path.suffix == ".edit"}
     files = {str(path.relative_to(TOP)) for path in files_below(TOP)}
     faults, named = [], set()
     for page in PAGES:
         text = re.sub(r"```.*?```", "", page.read_text(), flags=re.S)
         for head, rows in tables(text):
-            faults += [f"{page.name}: {fault}" for fault in code_faults(head, rows, changed)]
             columns = [i for i, cell in enumerate(head) if "ust-fail" in cell]
             for row in rows:
                 for name in (n for i in columns if i < len(row) for n in quoted(row[i])):
@@ -215,6 +205,8 @@ def main():
                     if part not in words:
                         faults.append(f"{page.name}: nothing is named {name}")
                         break
+    for page in [*PAGES, TOP / "examples/README.md", TOP / "bench/README.md"]:
+        faults += link_faults(page)
     faults += [f"RULES.md: {fault}" for fault in rule_faults()]
     faults += [f"ADDING.md: {fault}" for fault in adding_faults()]
     faults += [f"examples/README.md: {fault}" for fault in example_faults()]
