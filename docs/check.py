@@ -40,6 +40,8 @@ ROWS = {
 # Where the version stands that the command line tells.
 COMMAND_LINE = "crates/crush_options/src/command_line.rt"
 VERSIONS = {"CHANGELOG.md": "## {}\n", "docs/crushedit.1": '"crushedit {}"', "docs/FORMATS.md": "`crushedit {}`"}
+# Crates of which nobody calls a function.
+PROGRAMS = {"crush_examples", "crush_two_operators", "crushedit"}
 # Pages that name words of jobs and of Ceph beside names of the code.
 WORDS_OF_TEXTS = {"FORMATS.md", "OPERATING.md", "DECISIONS.md", "README.md"}
 
@@ -169,6 +171,60 @@ def manual_faults():
     yield from told.splitlines()
 
 
+def contracts():
+    """Each public function of the crates, but for those of tests and programs, with its type: head and contract."""
+    start = re.compile(r"(?m)^(?:impl\b[^{;]*\{|\}|(?P<in> *)pub (?:const |unsafe )?fn (?P<name>\w+))")
+    for path in crate_files():
+        crate, folder = path.relative_to(TOP / "crates").parts[:2]
+        if folder != "src" or crate.endswith("_tests") or crate in PROGRAMS:
+            continue
+        text, owner = path.read_text(), ""
+        for found in start.finditer(text):
+            if found["name"]:
+                end = re.compile(rf"(?m)^{found['in']}\{{").search(text, found.end())
+                name = f"{owner}::{found['name']}" if found["in"] else found["name"]
+                yield name, text[found.end() : end.start() if end else None]
+            else:
+                head = re.sub(r"<[^<>]*>", "", re.sub(r"<[^<>]*>", "", found[0]))
+                owner = (re.findall(r"(\w+)\s*(?:\bwhere\b.*)?\{", head, re.S) or [""])[0]
+
+
+def told_of(head):
+    """The fault type that a function's head answers, if any."""
+    found = re.search(r"-> Result<.*?(\w+)(?:<\w+>)?>\s*(?:where|requires|ensures|//|$)", head, re.S)
+    return found and found[1]
+
+
+def call_faults():
+    """What is wrong with the section of PROVED.md on public calls."""
+    section = sections_of("PROVED.md")["Each public call"]
+    functions, several, waiting = {}, set(), set()
+    sources = "".join(path.read_text() for path in crate_files())
+    for name, text in contracts():
+        functions.setdefault(name, []).append(text)
+        fault, head = told_of(text), re.split(r"\bensures\b|\brequires\b", text)[0]
+        body = re.search(rf"pub enum {fault}(?:Kind)?\b[^{{]*\{{(.*?)\n\}}", sources, re.S) if fault else None
+        if fault and ("&mut" in head or body and len(re.findall(r"(?m)^    [A-Z]", body[1])) > 1):
+            several.add(name)
+        if re.search(r"\bWait\b", head):
+            waiting.add(name)
+    named = set()
+    for row in (row for _, rows in tables(section) for row in rows):
+        owner = ""
+        for call in quoted(row[0]):
+            owner = call.split("::")[0] if "::" in call else owner if f"{owner}::{call}" in functions else ""
+            call = f"{owner}::{call.split('::')[-1]}" if owner else call
+            named.add(call)
+            for clause in (clause for cell in row[2:] for clause in quoted(cell)):
+                if not all(re.search(rf"ensures {clause} \{{", text) for text in functions.get(call, [""])):
+                    yield f"{call} has no clause {clause}"
+    for call in sorted(several ^ named):
+        yield f"{call} has {'no row' if call in several else 'a row, and no fault to order'}"
+    told = {call for line in section.splitlines() if "`Wait`" in line for call in quoted(line) if call != "Wait"}
+    for call in sorted(waiting ^ told):
+        yield f"{call} {'may wait' if call in waiting else 'does not wait'}"
+
+
 def adding_faults():
     """What is wrong with the lists of files of ADDING.md."""
     sections = {title: quoted(section) for title, section in sections_of("ADDING.md").items()}
@@ -209,6 +265,7 @@ def main():
         faults += link_faults(page)
     faults += [f"RULES.md: {fault}" for fault in rule_faults()]
     faults += [f"ADDING.md: {fault}" for fault in adding_faults()]
+    faults += [f"PROVED.md: {fault}" for fault in call_faults()]
     faults += [f"examples/README.md: {fault}" for fault in example_faults()]
     faults += [*version_faults(), *manual_faults()]
     faults += [f"no page names the must-fail edit {edit}" for edit in sorted(edits - named)]
