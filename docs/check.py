@@ -7,9 +7,11 @@ In a table whose head has a column of must-fail edits, each name of that column 
 each such file has to be named by a page. Each link leads to a file, and to a heading of it. ADDING.md lists
 the files that an addition touches: each has to be there, and each file of src/ and specs/ that names all
 variants of an enum of ADDED has to stand in its section. RULES.md has a row for each variant of the enums of
-ROWS, and for each limit. The index of examples/ names each job. The version of the command line stands in
-VERSIONS, the manual page is that of the help (docs/manual.py), and `--version` and PROVED.md name the
-toolchain, where `rt` is there to tell its line. Prints what is missing, and ends with status 1 where anything is.
+ROWS, and for each limit. Each public function is named by a page, but for those of INSIDE; and PROVED.md has a
+row for each that may answer one of several faults, or fails and is lent what it changes, with clauses that its
+contract has. The index of examples/ names each job. The version of the command line stands in VERSIONS, the
+manual page is that of the help (docs/manual.py), and `--version` and PROVED.md name the toolchain, where `rt` is
+there to tell its line. Prints what is missing, and ends with status 1 where anything is.
 """
 import os
 import pathlib
@@ -17,6 +19,7 @@ import re
 import shutil
 import subprocess
 import sys
+from fnmatch import fnmatch
 
 TOP = pathlib.Path(__file__).resolve().parent.parent
 PAGES = sorted((TOP / "docs").glob("*.md")) + [TOP / "README.md"]
@@ -40,7 +43,8 @@ ROWS = {
 # Where the version stands that the command line tells.
 COMMAND_LINE = "crates/crush_options/src/command_line.rt"
 VERSIONS = {"CHANGELOG.md": "## {}\n", "docs/crushedit.1": '"crushedit {}"', "docs/FORMATS.md": "`crushedit {}`"}
-# Crates of which nobody calls a function.
+# Crates whose functions are public for the tree alone, and those of which nobody calls a function.
+INSIDE = {"crush_nodes", "crush_changes"}
 PROGRAMS = {"crush_examples", "crush_two_operators", "crushedit"}
 # Pages that name words of jobs and of Ceph beside names of the code.
 WORDS_OF_TEXTS = {"FORMATS.md", "OPERATING.md", "DECISIONS.md", "README.md"}
@@ -172,21 +176,34 @@ def manual_faults():
 
 
 def contracts():
-    """Each public function of the crates, but for those of tests and programs, with its type: head and contract."""
+    """Each public function of the crates, but for those of tests and programs: crate, name, head and contract."""
     start = re.compile(r"(?m)^(?:impl\b[^{;]*\{|\}|(?P<in> *)pub (?:const |unsafe )?fn (?P<name>\w+))")
     for path in crate_files():
         crate, folder = path.relative_to(TOP / "crates").parts[:2]
         if folder != "src" or crate.endswith("_tests") or crate in PROGRAMS:
             continue
-        text, owner = path.read_text(), ""
+        text, owner, library = path.read_text(), "", (TOP / "crates" / crate / "src/lib.rt").read_text()
+        module = path.relative_to(TOP / "crates" / crate / "src").parts[0].removesuffix(".rt")
         for found in start.finditer(text):
             if found["name"]:
+                if not found["in"] and not re.search(rf"pub mod {module};|\b{found['name']}\b", library):
+                    continue  # of a private module
                 end = re.compile(rf"(?m)^{found['in']}\{{").search(text, found.end())
                 name = f"{owner}::{found['name']}" if found["in"] else found["name"]
-                yield name, text[found.end() : end.start() if end else None]
+                yield crate, name, text[found.end() : end.start() if end else None]
             else:
                 head = re.sub(r"<[^<>]*>", "", re.sub(r"<[^<>]*>", "", found[0]))
                 owner = (re.findall(r"(\w+)\s*(?:\bwhere\b.*)?\{", head, re.S) or [""])[0]
+
+
+def listing_faults():
+    """Which public functions no page names, be it by a pattern as `has_*`."""
+    named = {name.split("::")[-1] for page in PAGES for name in quoted(page.read_text())}
+    patterns = {name for name in named if "*" in name}
+    for crate, name, _ in contracts():
+        last = name.split("::")[-1]
+        if crate not in INSIDE and last not in named and not any(fnmatch(last, pattern) for pattern in patterns):
+            yield f"no page names {name} of {crate}"
 
 
 def told_of(head):
@@ -200,7 +217,7 @@ def call_faults():
     section = sections_of("PROVED.md")["Each public call"]
     functions, several, waiting = {}, set(), set()
     sources = "".join(path.read_text() for path in crate_files())
-    for name, text in contracts():
+    for _, name, text in contracts():
         functions.setdefault(name, []).append(text)
         fault, head = told_of(text), re.split(r"\bensures\b|\brequires\b", text)[0]
         body = re.search(rf"pub enum {fault}(?:Kind)?\b[^{{]*\{{(.*?)\n\}}", sources, re.S) if fault else None
@@ -267,7 +284,7 @@ def main():
     faults += [f"ADDING.md: {fault}" for fault in adding_faults()]
     faults += [f"PROVED.md: {fault}" for fault in call_faults()]
     faults += [f"examples/README.md: {fault}" for fault in example_faults()]
-    faults += [*version_faults(), *manual_faults()]
+    faults += [*version_faults(), *manual_faults(), *listing_faults()]
     faults += [f"no page names the must-fail edit {edit}" for edit in sorted(edits - named)]
     for fault in faults:
         print(fault)
