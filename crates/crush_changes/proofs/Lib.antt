@@ -4,6 +4,7 @@ pub mod CrossLaws
 pub mod FitLaws
 pub mod HeavyLaws
 pub mod MoveLaws
+pub mod MoveSteps
 pub mod NewNameLaws
 pub mod PutLastLaws
 pub mod RenameLaws
