@@ -34,7 +34,7 @@ use std::alloc::{Allocator, Global};
 /// over the devices below them; the map has the sum. Refused as [`TextFaultKind::LeftOut`] are
 /// weight sets (`choose_args`), the steps of MSR rules (`choosemsr`) and the positions of items
 /// (`pos`), and as [`TextFaultKind::OtherAlgorithm`] uniform and tree buckets. docs/FORMATS.md has
-/// the grammar, and each fault with its place.
+/// the grammar, docs/RULES.md each fault with its place.
 pub fn read_map(alloc: Global, text: &[u8]) -> Result<(CrushMap<Global>, u32), TextFault>
     // What is read is a map that the text spells.
     ensures map { IfOk result (λ m. (t : List Row)
