@@ -1,3 +1,4 @@
+pub mod Climbed
 pub mod OtherWeights
 pub mod Sameness
 pub mod SeenForest
