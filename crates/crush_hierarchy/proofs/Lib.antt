@@ -4,4 +4,6 @@ pub mod IndexLemmas
 pub mod MoveLemmas
 pub mod PutLemmas
 pub mod RenameLemmas
+pub mod Summed
+pub mod SumsLemmas
 pub mod ViewLemmas

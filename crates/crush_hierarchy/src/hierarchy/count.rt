@@ -1,0 +1,59 @@
+//! How many items there are, known from change to change.
+
+ghost use Rattle.std.specs.Prelude.{◌≡◌, ◌<◌, ◌≤◌, ◌+◌, ◌^◌, ◌∷◌, []};
+ghost use Rattle.crush_table.specs.Items.{size_of};
+ghost use Rattle.crush_nodes.specs.Search.{devices_in};
+ghost use Rattle.crush_tree.specs.Seen.{items_of};
+
+use crush_nodes::search::counts_in;
+use crush_tree::{Bucket, Counts, Node};
+use std::alloc::Allocator;
+
+/// How many devices and buckets an item is, with all that is below it.
+pub(super) fn counts_of<A: Allocator>(node: &Node<A>) -> Counts
+    requires devices { devices_in (items_of (node.now ∷ [])) < 2 ^ 32 }
+    requires buckets { size_of (items_of (node.now ∷ [])) < 2 ^ 32 }
+    ensures devices { result.devices ≡ devices_in (items_of (node.now ∷ [])) }
+    ensures buckets { result.buckets ≡ size_of (items_of (node.now ∷ [])) }
+{
+    match node {
+        Node::Device(_) => Counts {
+            devices: 1,
+            buckets: 0,
+        },
+        Node::Bucket(bucket) => {
+            let bucket: &Bucket<A> = bucket;
+            let below = counts_in(bucket.items.as_slice());
+            Counts {
+                devices: below.devices,
+                buckets: below.buckets + 1,
+            }
+        }
+    }
+}
+
+/// The counts with those of items that have come.
+pub(super) fn with_counts(counts: Counts, come: Counts) -> Counts
+    requires devices { counts.devices + come.devices < 2 ^ 32 }
+    requires buckets { counts.buckets + come.buckets < 2 ^ 32 }
+    ensures devices { result.devices ≡ counts.devices + come.devices }
+    ensures buckets { result.buckets ≡ counts.buckets + come.buckets }
+{
+    Counts {
+        devices: counts.devices + come.devices,
+        buckets: counts.buckets + come.buckets,
+    }
+}
+
+/// The counts without those of items that have gone.
+pub(super) fn without_counts(counts: Counts, gone: Counts) -> Counts
+    requires devices { gone.devices ≤ counts.devices }
+    requires buckets { gone.buckets ≤ counts.buckets }
+    ensures devices { result.devices + gone.devices ≡ counts.devices }
+    ensures buckets { result.buckets + gone.buckets ≡ counts.buckets }
+{
+    Counts {
+        devices: counts.devices - gone.devices,
+        buckets: counts.buckets - gone.buckets,
+    }
+}
