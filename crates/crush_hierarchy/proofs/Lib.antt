@@ -6,4 +6,6 @@ pub mod PutLemmas
 pub mod RenameLemmas
 pub mod Summed
 pub mod SumsLemmas
+pub mod TotalLemmas
 pub mod ViewLemmas
+pub mod Weighed

@@ -1,12 +1,14 @@
-//! How many items there are, known from change to change.
+//! How many items there are and what they weigh, known from change to change.
 
 ghost use Rattle.std.specs.Prelude.{◌≡◌, ◌<◌, ◌≤◌, ◌+◌, ◌^◌, ◌∷◌, []};
+ghost use Rattle.crush_units.specs.declared.limits.TheConstants.{HEAVIEST_MAP};
 ghost use Rattle.crush_table.specs.Items.{size_of};
 ghost use Rattle.crush_nodes.specs.Search.{devices_in};
 ghost use Rattle.crush_tree.specs.Seen.{items_of};
 
 use crush_nodes::search::counts_in;
 use crush_tree::{Bucket, Counts, Node};
+use crush_units::Weight;
 use std::alloc::Allocator;
 
 /// How many devices and buckets an item is, with all that is below it.
@@ -56,4 +58,20 @@ pub(super) fn without_counts(counts: Counts, gone: Counts) -> Counts
         devices: counts.devices - gone.devices,
         buckets: counts.buckets - gone.buckets,
     }
+}
+
+/// The total with the weight of what has come.
+pub(super) fn with_units(total: u64, come: Weight) -> u64
+    requires { total ≤ HEAVIEST_MAP }
+    ensures { result ≡ total + come }
+{
+    total + u64::from(come.units())
+}
+
+/// The total without the weight of what has gone.
+pub(super) fn without_units(total: u64, gone: Weight) -> u64
+    requires { gone ≤ total }
+    ensures { result + gone ≡ total }
+{
+    total - u64::from(gone.units())
 }
