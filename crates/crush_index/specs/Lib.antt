@@ -5,5 +5,6 @@ pub mod NamesLaw
 pub mod NamesTold
 pub mod PlacesLaw
 pub mod PlacesTold
+pub mod SpotsTold
 pub mod UsedLaw
 pub mod UsedTold

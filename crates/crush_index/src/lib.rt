@@ -19,6 +19,7 @@ mod index;
 pub mod law;
 mod names;
 mod places;
+mod spots;
 mod used;
 mod word;
 
