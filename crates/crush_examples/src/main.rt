@@ -6,6 +6,7 @@
 use crush_options::{Mode, options};
 use crush_report::{RunFault, Summary, report};
 use crush_run::{NoGate, run_job, run_options};
+use std::random::RandomSource;
 use std::sync::Wait;
 use std::thread::Threads;
 use std::{fs, io};
@@ -27,7 +28,7 @@ const RECORD_SEPARATOR: u8 = 0x1e;
 /// Runs each of the jobs between record separators.
 fn run_records(
     rt: &HostRuntime,
-    workers: &(impl AllocGlobal + Threads + Wait + Sync),
+    workers: &(impl AllocGlobal + RandomSource + Threads + Wait + Sync),
     records: &[u8],
 ) -> io::Result<()> {
     let jobs = records.split(|byte| *byte == RECORD_SEPARATOR);
@@ -41,7 +42,7 @@ fn run_records(
 /// Runs a job that is in memory.
 fn run_record(
     rt: &HostRuntime,
-    workers: &(impl AllocGlobal + Threads + Wait + Sync),
+    workers: &(impl AllocGlobal + RandomSource + Threads + Wait + Sync),
     job: &[u8],
 ) -> Result<Summary, RunFault> {
     let mode = Mode {
@@ -55,7 +56,7 @@ fn run_record(
 /// Runs each line, which has the words of a command line behind the program's name.
 fn run_lines(
     rt: &HostRuntime,
-    workers: &(impl AllocGlobal + Threads + Wait + Sync),
+    workers: &(impl AllocGlobal + RandomSource + Threads + Wait + Sync),
     lines: &str,
 ) -> io::Result<()> {
     for line in lines.lines() {
@@ -68,7 +69,7 @@ fn run_lines(
 /// Runs the job of a command line. One that is refused is told as a fault of reading.
 fn run_line(
     rt: &HostRuntime,
-    workers: &(impl AllocGlobal + Threads + Wait + Sync),
+    workers: &(impl AllocGlobal + RandomSource + Threads + Wait + Sync),
     line: &str,
 ) -> Result<Summary, RunFault> {
     let words: Vec<&str> = line.split_whitespace().collect(rt.alloc())?;

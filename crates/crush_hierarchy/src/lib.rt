@@ -3,4 +3,5 @@
 
 mod hierarchy;
 
+pub use crush_index::Hashing;
 pub use hierarchy::Hierarchy;

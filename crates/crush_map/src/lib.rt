@@ -12,6 +12,7 @@ pub use crush_edits::{
     BatchFault, Done, Dones, Edit, EditFault, KeptRule, KeptStep, Location, LocationFault, Pair,
     Refusal, Rule, Setting, Step, is_reserved,
 };
+pub use crush_hierarchy::Hashing;
 pub use crush_tree::Counts;
 pub use fault::{BuildFault, RuleFault, RulePart};
 pub use map::CrushMap;

@@ -9,6 +9,7 @@ mod asking;
 mod building;
 mod faults;
 mod lacking;
+mod looked_up;
 mod memory;
 mod statements;
 mod whole;

@@ -11,18 +11,23 @@ use crush_options::{Mode, Options};
 use crush_report::{RunFault, Summary};
 use std::fs::File;
 use std::io::{Read, Write};
+use std::random::RandomSource;
 use std::rt::Files;
 use std::sync::Wait;
 use std::thread::Threads;
 
 /// Runs the job of the file of this name.
-fn run_file<H: AllocGlobal + Threads + Wait + Sync, F: Files, W: Write>(
+fn run_file<H, F, W>(
     rt: &H,
     files: &F,
     name: &str,
     mode: Mode,
     output: &mut W,
 ) -> Result<Summary, RunFault>
+where
+    H: AllocGlobal + RandomSource + Threads + Wait + Sync,
+    F: Files,
+    W: Write,
     ensures { IfErr result (λ fault. fault ≢ RunFault.Write
         → Keeps (W.contents output.old) (W.contents output.new)) }
 {
@@ -44,7 +49,7 @@ pub fn run_options<H, F, R, W>(
     output: &mut W,
 ) -> Result<Summary, RunFault>
 where
-    H: AllocGlobal + Threads + Wait + Sync,
+    H: AllocGlobal + RandomSource + Threads + Wait + Sync,
     F: Files,
     R: Read,
     W: Write,

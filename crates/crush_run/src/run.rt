@@ -21,13 +21,15 @@ use crate::input::read_bytes;
 use crush_bytes::put;
 use crush_calls::{Entry, Script, count_changes, history_text};
 use crush_editor::Closed;
-use crush_map::CrushMap;
+use crush_map::{CrushMap, Hashing};
 use crush_options::Mode;
 use crush_print::write_map;
 use crush_report::{RunFault, Summary};
 use crush_script::{Job, read_job};
 use std::alloc::{AllocError, Global};
+use std::hash::RandomState;
 use std::io::{Read, Write};
+use std::random::RandomSource;
 use std::sync::Wait;
 use std::thread::Threads;
 
@@ -128,6 +130,14 @@ fn run_read<H: AllocGlobal + Threads + Wait + Sync, G: Gate + Sync, W: Write>(
     })
 }
 
+/// Hashing with keys that the system draws. It hashes without keys where none can be drawn.
+fn drawn_hashing<H: RandomSource>(rt: &H) -> Hashing {
+    match RandomState::new(rt) {
+        Ok(keys) => Hashing::keyed(keys),
+        Err(_) => Hashing::plain(),
+    }
+}
+
 /// Reads a job, runs the scripts of its operators, and writes the map after them and, where the
 /// mode asks for it, a line for each call with its reply.
 ///
@@ -142,13 +152,21 @@ fn run_read<H: AllocGlobal + Threads + Wait + Sync, G: Gate + Sync, W: Write>(
 /// [`RunFault::Memory`]; of bytes that are no job it is never told that a write failed, nor that a
 /// thread couldn't be started, which is [`RunFault::Thread`] and never told in turn. The reader is
 /// asked for at most 16,777,217 bytes, at most that many times.
-pub fn run_job<H: AllocGlobal + Threads + Wait + Sync, G: Gate + Sync, R: Read, W: Write>(
+///
+/// The names of a job come from strangers; so they are hashed with keys that the system draws, or
+/// without, where it draws none. Nothing that is written depends on them.
+pub fn run_job<H, G, R, W>(
     rt: &H,
     gate: &G,
     mode: Mode,
     reader: &mut R,
     writer: &mut W,
 ) -> Result<Summary, RunFault>
+where
+    H: AllocGlobal + RandomSource + Threads + Wait + Sync,
+    G: Gate + Sync,
+    R: Read,
+    W: Write,
     // Where the run is done, what was read is a job.
     ensures job { IfOk result (λ _. IfSome (R.remaining reader.old) HasJob) }
 
@@ -170,7 +188,9 @@ pub fn run_job<H: AllocGlobal + Threads + Wait + Sync, G: Gate + Sync, R: Read, 
 {
     let alloc = rt.alloc();
     let bytes = read_bytes(alloc, reader)?;
-    match read_job(alloc, bytes.as_slice()) {
+    let read = read_job(alloc, drawn_hashing(rt), bytes.as_slice());
+    drop(bytes);
+    match read {
         Ok(job) => run_read(rt, gate, mode, job, writer),
         Err(fault) => Err(RunFault::from(fault)),
     }

@@ -4,6 +4,7 @@ use crush_options::Mode;
 use crush_report::{RunFault, Summary, report};
 use crush_run::{NoGate, run_job};
 use std::process::Abort;
+use std::random::RandomSource;
 use std::sync::Wait;
 use std::thread::Threads;
 
@@ -46,7 +47,7 @@ fn put_behind(rt: &impl Abort, text: &mut Vec<u8>, bytes: &[u8]) {
 /// Whether a job that is run in this mode writes this map and these lines behind it, and is summed
 /// up like this.
 fn writes(
-    rt: &(impl AllocGlobal + Threads + Wait + Sync),
+    rt: &(impl AllocGlobal + RandomSource + Threads + Wait + Sync),
     mode: Mode,
     job: &[u8],
     map: &[u8],

@@ -16,8 +16,8 @@ use crate::fault::JobFault;
 use crate::line::{cut_job, line_feeds};
 use crate::sections::{Sections, read_sections};
 use crush_calls::Script;
-use crush_map::CrushMap;
-use crush_text::{TextFaultKind, read_map};
+use crush_map::{CrushMap, Hashing};
+use crush_text::{TextFaultKind, read_map_in};
 use crush_units::limits::LONGEST_JOB;
 use std::alloc::Global;
 
@@ -34,7 +34,11 @@ pub struct Job {
 }
 
 /// The map of a text, and the number of weights that were replaced in it.
-fn read_map_text(alloc: Global, text: &[u8]) -> Result<(CrushMap<Global>, u32), JobFault>
+fn read_map_text(
+    alloc: Global,
+    hashing: Hashing,
+    text: &[u8],
+) -> Result<(CrushMap<Global>, u32), JobFault>
     ensures map { IfOk result (λ m. (t : List Row)
         × IsMapText text.now m.0.setting t m.1 × Stands m.0.forest t) }
     ensures only { (s : SettingData) (t : List Row) (n : ℕ) → IsMapText text.now s t n
@@ -43,7 +47,7 @@ fn read_map_text(alloc: Global, text: &[u8]) -> Result<(CrushMap<Global>, u32), 
         → IfErr result (λ fault. fault ≡ JobFault.OutOfMemory) }
     ensures fault { IfErr result (IsMapFault text.now) }
 {
-    match read_map(alloc, text) {
+    match read_map_in(alloc, hashing, alloc, text) {
         Ok(read) => Ok(read),
         Err(fault) => match fault.kind {
             TextFaultKind::OutOfMemory => Err(JobFault::OutOfMemory),
@@ -52,7 +56,8 @@ fn read_map_text(alloc: Global, text: &[u8]) -> Result<(CrushMap<Global>, u32), 
     }
 }
 
-/// Reads a job.
+/// Reads a job, whose map hashes names and ids so: with keys that are drawn, where the bytes come
+/// from a stranger.
 ///
 /// The map's text is all that stands before the first line whose first byte is `%`. From there on
 /// each line that begins with `%` is `%operator NAME` and begins the section of that operator;
@@ -69,7 +74,7 @@ fn read_map_text(alloc: Global, text: &[u8]) -> Result<(CrushMap<Global>, u32), 
 ///   a fault of that place, but told with the line of its `begin`.
 ///
 /// [`JobFault::OutOfMemory`] may come in place of any but the first.
-pub fn read_job(alloc: Global, bytes: &[u8]) -> Result<Job, JobFault>
+pub fn read_job(alloc: Global, hashing: Hashing, bytes: &[u8]) -> Result<Job, JobFault>
     // What is read is a job of the bytes.
     ensures job { IfOk result (λ read. (job : JobData) × IsJob bytes.now job × JobStands read job) }
 
@@ -90,7 +95,7 @@ pub fn read_job(alloc: Global, bytes: &[u8]) -> Result<Job, JobFault>
         return Err(JobFault::TooLong);
     }
     let (text, rest) = cut_job(bytes);
-    let (map, adjusted) = read_map_text(alloc, text)?;
+    let (map, adjusted) = read_map_text(alloc, hashing, text)?;
     let sections = read_sections(alloc, line_feeds(text) + 1, rest)?;
     let Sections { scripts, .. } = sections;
     Ok(Job {

@@ -13,7 +13,7 @@ mod reading;
 mod words;
 mod writing;
 
-use crush_map::CrushMap;
+use crush_map::{CrushMap, Hashing};
 use crush_print::write_map;
 use crush_script::{Job, JobFault, read_job};
 use crush_text::{TextFault, TextFaultKind, read_map};
@@ -78,12 +78,12 @@ const TOO_LONG: &[u8] = &[b'a'; 256];
 
 /// The job of a text that is one.
 fn job_of(rt: &(impl Abort + AllocGlobal), text: &[u8]) -> Job {
-    read_job(rt.alloc(), text).expect(rt, "no job")
+    read_job(rt.alloc(), Hashing::plain(), text).expect(rt, "no job")
 }
 
 /// Whether the text is no job, for that reason.
 fn is_no_job(rt: &impl AllocGlobal, text: &[u8], fault: &JobFault) -> bool {
-    match read_job(rt.alloc(), text) {
+    match read_job(rt.alloc(), Hashing::plain(), text) {
         Ok(job) => {
             drop(job);
             false

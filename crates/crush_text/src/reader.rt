@@ -25,7 +25,7 @@ mod word;
 use crate::fault::{TextFault, TextFaultKind};
 use crate::reader::statement::read_statements;
 use crush_bytes::Reader;
-use crush_map::{CrushMap, MapBuilder};
+use crush_map::{CrushMap, Hashing, MapBuilder};
 use std::alloc::{Allocator, Global};
 
 /// Reads the text of a map, as `crushtool` prints it.
@@ -54,13 +54,15 @@ pub fn read_map(alloc: Global, text: &[u8]) -> Result<(CrushMap<Global>, u32), T
     // Want of memory is told at a word that is right, as all before it, or at 0 before the first.
     ensures want { IfErr result (IsToldInTime text.now) }
 {
-    read_map_in(alloc, alloc, text)
+    read_map_in(alloc, Hashing::plain(), alloc, text)
 }
 
 /// Reads the text of a map, as [`read_map`] does. Its types, tunables and rules are kept in the
-/// machine's memory, all else in that of the allocator.
+/// machine's memory, all else in that of the allocator, and names and ids are hashed so: of a
+/// stranger's text they are hashed with keys that are drawn.
 pub fn read_map_in<A: Allocator + Clone>(
     machine: Global,
+    hashing: Hashing,
     alloc: A,
     text: &[u8],
 ) -> Result<(CrushMap<A>, u32), TextFault>
@@ -83,7 +85,7 @@ pub fn read_map_in<A: Allocator + Clone>(
     ensures want { IfErr result (IsToldInTime text.now) }
 {
     let mut reader = Reader::new(text);
-    let Ok(mut builder) = MapBuilder::new(machine, alloc) else {
+    let Ok(mut builder) = MapBuilder::with_hashing(machine, hashing, alloc) else {
         return Err(TextFault {
             kind: TextFaultKind::OutOfMemory,
             place: 0,

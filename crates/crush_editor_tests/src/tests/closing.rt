@@ -7,6 +7,7 @@ ghost use Rattle.crush_editor_tests.specs.Seats.{AreAll};
 use super::{PLAIN_EXAMPLE_MAP, opened, started_with, submit_by};
 use crush_calls::{Entry, Script, write_entry};
 use crush_editor::{Closed, Desk, Editor, Seat, Started};
+use crush_map::Hashing;
 use crush_print::write_map;
 use crush_script::{Job, read_job};
 use std::alloc::Global;
@@ -86,7 +87,7 @@ const CLOSED: &[u8] = b"\
 fn job(rt: &(impl Abort + AllocGlobal), scripts: &[u8]) -> Job {
     let parts = [PLAIN_EXAMPLE_MAP, scripts];
     let text = parts.concat(rt.alloc()).expect(rt, "no memory");
-    read_job(rt.alloc(), text.as_slice()).expect(rt, "no job")
+    read_job(rt.alloc(), Hashing::plain(), text.as_slice()).expect(rt, "no job")
 }
 
 #[test]

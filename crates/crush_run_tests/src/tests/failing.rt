@@ -5,6 +5,7 @@ use crush_report::RunFault;
 use crush_run::{NoGate, run_job};
 use crush_script::JobFault;
 use std::io::{self, ErrorKind, Read, Write};
+use std::random::RandomSource;
 use std::sync::Wait;
 use std::thread::Threads;
 
@@ -84,7 +85,7 @@ impl Read for EndlessReader {
 const SCRIPT: &[u8] = b"%operator a\nreweight osd.2 1.0\n";
 
 /// Whether nothing is written where the read of that number fails.
-fn stops_at(rt: &(impl AllocGlobal + Threads + Wait + Sync), job: &[u8], failing: usize) -> bool {
+fn stops_at(rt: &(impl AllocGlobal + RandomSource + Threads + Wait + Sync), job: &[u8], failing: usize) -> bool {
     let mut reader = FailingReader {
         bytes: job,
         asked: 0,
@@ -107,7 +108,7 @@ fn stops_at_a_failed_read(rt: HostRuntime) {
 
 /// Whether a front of the whole output is written where there is room for so many bytes.
 fn leaves_a_front(
-    rt: &(impl AllocGlobal + Threads + Wait + Sync),
+    rt: &(impl AllocGlobal + RandomSource + Threads + Wait + Sync),
     job: &[u8],
     whole: &[u8],
     room: usize,

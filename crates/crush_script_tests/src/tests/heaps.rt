@@ -1,7 +1,7 @@
 //! Maps that are read into a heap of a test's own.
 
 use crate::tests::{PLAIN_EXAMPLE_MAP, text_of};
-use crush_map::CrushMap;
+use crush_map::{CrushMap, Hashing};
 use crush_text::{TextFault, TextFaultKind, read_map_in};
 use linked_list_allocator::LocalHeap;
 use std::alloc::Allocator;
@@ -15,7 +15,7 @@ fn is_plain_example_map<A: Allocator>(rt: &(impl Abort + AllocGlobal), map: &Cru
 /// Whether a heap of so many bytes holds the plain example map, with no weight adjusted.
 fn holds_the_map(rt: &(impl Abort + AllocGlobal), size: usize) -> Result<bool, TextFault> {
     let heap = LocalHeap::new(rt.alloc(), size).expect(rt, "no memory");
-    match read_map_in(rt.alloc(), &heap, PLAIN_EXAMPLE_MAP) {
+    match read_map_in(rt.alloc(), Hashing::plain(), &heap, PLAIN_EXAMPLE_MAP) {
         Ok((map, adjusted)) => {
             let is_held = adjusted == 0 && is_plain_example_map(rt, &map);
             drop(map);

@@ -1,12 +1,17 @@
-use Rattle.std.proofs.Common.{◌≡◌, ℕ, ◌+◌, ◌==◌, List, [], Result, Ok, Err, count_by, refl, sym, ap, subst, ◌∙◌, arith}
+use Rattle.std.proofs.Common.{◌≡◌, ℕ, ◌+◌, ◌==◌, ◌≤◌, List, [], Result, Ok, Err, count_by, is_ok, true≢false, refl, sym, ap, subst, ◌∙◌, arith}
 use Rattle.std.proofs.lemmas.List.{length-map}
 use Rattle.std.proofs.lemmas.Result.{err_from_is_err_and}
 use Rattle.crush_text.specs.Document.{IsMapText}
 use Rattle.crush_script.specs.Lines.{lines, map_part, section_part, section_line}
 use Rattle.crush_calls.specs.Script.{ScriptData, script_data, scripts_data}
 use Rattle.crush_script.specs.Sections.{SectionsData, no_sections, sections_data, sections_of, with_lines}
-use Rattle.crush_script.specs.Job.{JobData}
+use Rattle.crush_script.specs.Job.{JobData, IsJobFault}
+use Rattle.crush_script.specs.Steps.{FailsAs}
+use Rattle.crush_table.specs.Table.{Row}
+use Rattle.crush_edits.specs.Setting.{SettingData}
+use Rattle.crush_units.specs.declared.limits.TheConstants.{LONGEST_JOB}
 use Rattle.crush_script.specs.declared.fault.JobFault.{JobFault}
+use Rattle.crush_script.specs.declared.fault.JobFault.TheVariants.{BadLine, NoSuchCommand, OpenBatch, TooManyOperators, DuplicateOperator, Text, OutOfMemory, TooLong, TooManyCalls}
 use Rattle.crush_script.proofs.Few.{calls_few, scripts_few}
 use Rattle.crush_script.proofs.job.read_job.Goals as goal
 
@@ -16,6 +21,34 @@ sections_of-cut : (bytes text rest : List ℕ) (feeds : ℕ) (said : Result Sect
 sections_of-cut bytes text rest feeds said front back counted says =
     let first : feeds + 1 ≡ section_line bytes = ap (λ (n : ℕ). n + 1) (counted ∙ ap (λ (x : List ℕ). count_by (λ b. b == 10) x) front) in
     (λ i. with_lines (sym first i) no_sections (lines (sym back i))) ∙ says
+
+-- sections that the definition gives meet no fault of it
+ok_is_no_err : (said : SectionsData) (fault : JobFault) (given : Result SectionsData JobFault) → given ≡ Ok said → given ≡ Err fault → ⊥
+ok_is_no_err said fault given ok err = true≢false (sym (ap is_ok ok) ∙ ap is_ok err)
+
+-- they are refused for want of memory alone
+want_alone : (fault : JobFault) (said : SectionsData) (given : Result SectionsData JobFault) → given ≡ Ok said → FailsAs fault given → fault ≡ OutOfMemory
+want_alone (BadLine number) said given ok err = absurd (ok_is_no_err said (BadLine number) given ok err)
+want_alone (NoSuchCommand number) said given ok err = absurd (ok_is_no_err said (NoSuchCommand number) given ok err)
+want_alone (OpenBatch number) said given ok err = absurd (ok_is_no_err said (OpenBatch number) given ok err)
+want_alone (TooManyOperators number) said given ok err = absurd (ok_is_no_err said (TooManyOperators number) given ok err)
+want_alone (DuplicateOperator number) said given ok err = absurd (ok_is_no_err said (DuplicateOperator number) given ok err)
+want_alone (TooManyCalls number) said given ok err = absurd (ok_is_no_err said (TooManyCalls number) given ok err)
+want_alone (Text fault) said given ok err = absurd err
+want_alone OutOfMemory said given ok err = refl
+want_alone TooLong said given ok err = absurd err
+
+-- other sections behind a map's text have the fault that is told
+fault_of_lines : (fault : JobFault) (bytes : List ℕ) (s : SettingData) (t : List Row) (n : ℕ) → length bytes ≤ LONGEST_JOB → IsMapText (map_part bytes) s t n → FailsAs fault (sections_of bytes) → IsJobFault bytes fault
+fault_of_lines (BadLine number) bytes s t n short map err = record { short = short; setting = s; table = t; adjusted = n; map = map; sections = err }
+fault_of_lines (NoSuchCommand number) bytes s t n short map err = record { short = short; setting = s; table = t; adjusted = n; map = map; sections = err }
+fault_of_lines (OpenBatch number) bytes s t n short map err = record { short = short; setting = s; table = t; adjusted = n; map = map; sections = err }
+fault_of_lines (TooManyOperators number) bytes s t n short map err = record { short = short; setting = s; table = t; adjusted = n; map = map; sections = err }
+fault_of_lines (DuplicateOperator number) bytes s t n short map err = record { short = short; setting = s; table = t; adjusted = n; map = map; sections = err }
+fault_of_lines (TooManyCalls number) bytes s t n short map err = record { short = short; setting = s; table = t; adjusted = n; map = map; sections = err }
+fault_of_lines (Text fault) bytes s t n short map err = absurd err
+fault_of_lines OutOfMemory bytes s t n short map err = short
+fault_of_lines TooLong bytes s t n short map err = absurd err
 
 -- two lists of sections with the same text have the same scripts
 scripts_of : Result SectionsData JobFault → List ScriptData
@@ -63,3 +96,19 @@ pub returns-in_err-map-clause-want : goal.returns-in_err-map-clause-want
 returns-in_err-map-clause-want c =
     let p = err_from_is_err_and c.from_residual.result c.from_residual.ensures.1 in
     λ job is. rw (p.1, p.2) (c.in_err-map.ensures.want job.setting job.table job.adjusted (subst (λ (x : List ℕ). IsMapText x job.setting job.table job.adjusted) (sym c.cut_job.ensures.map) is.map))
+
+-- what the lines behind the cut fail as
+cut_fails : (fault : JobFault) (bytes text rest : List ℕ) (feeds : ℕ) → text ≡ map_part bytes → rest ≡ section_part bytes → feeds ≡ count_by (λ b. b == 10) text
+    → FailsAs fault (with_lines (feeds + 1) no_sections (lines rest)) → FailsAs fault (sections_of bytes)
+cut_fails fault bytes text rest feeds front back counted = subst (FailsAs fault) (sym (sections_of-cut bytes text rest feeds (with_lines (feeds + 1) no_sections (lines rest)) front back counted refl))
+
+pub returns-in_err-sections-clause-want : goal.returns-in_err-sections-clause-want
+returns-in_err-sections-clause-want c =
+    let p = err_from_is_err_and c.from_residual.result c.from_residual.ensures.1 in
+    λ job is. rw (p.1, p.2) (want_alone c.in_err-sections.fault is.said (sections_of c.args.bytes.now) is.sections (cut_fails c.in_err-sections.fault c.args.bytes.now _ _ _ c.cut_job.ensures.map c.cut_job.ensures.sections c.line_feeds.ensures.count c.in_err-sections.ensures))
+
+pub returns-in_err-sections-clause-fault : goal.returns-in_err-sections-clause-fault
+returns-in_err-sections-clause-fault c =
+    let p = err_from_is_err_and c.from_residual.result c.from_residual.ensures.1 in
+    let m = c.in_ok-map.ensures.map in
+    rw (p.1, p.2) (fault_of_lines c.in_err-sections.fault c.args.bytes.now c.in_ok-map.map.setting m.0 c.in_ok-map.adjusted (omega arith) (subst (λ (x : List ℕ). IsMapText x c.in_ok-map.map.setting m.0 c.in_ok-map.adjusted) c.cut_job.ensures.map m.1) (cut_fails c.in_err-sections.fault c.args.bytes.now _ _ _ c.cut_job.ensures.map c.cut_job.ensures.sections c.line_feeds.ensures.count c.in_err-sections.ensures))

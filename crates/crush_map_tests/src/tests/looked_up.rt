@@ -1,0 +1,83 @@
+//! What is looked up by name after each edit, beside what a search of the forest finds.
+
+use crate::tests::asking::{Asked, edit};
+use crate::tests::whole::whole_example_map;
+use crush_map::{CrushMap, Done, EditFault};
+use crush_units::{ItemId, Weight};
+use std::alloc::Global;
+use std::process::Abort;
+
+/// Each name that an item has before or after one of the edits, and one that none has.
+const NAMES: &[&str] = &[
+    "osd.0", "osd.1", "osd.2", "osd.3", "h1", "h2", "h3", "h9", "hq", "r1", "default", "x",
+];
+
+/// Edits of each kind, made one after the other.
+const EDITS: &[Asked] = &[
+    Asked::Add(
+        3,
+        21823,
+        &[("host", "h3"), ("rack", "r1"), ("root", "default")],
+    ),
+    Asked::CreateOrMove(0, 327680, &[("host", "h2")]),
+    Asked::Set(1, 196608, &[("host", "h1")]),
+    Asked::Move("h2", &[("rack", "r1"), ("root", "default")]),
+    Asked::Swap("h1", "h2"),
+    Asked::Reweight("osd.2", 65536),
+    Asked::ReweightSubtree("h1", 16384),
+    Asked::Remove("osd.0"),
+    Asked::AddBucket("h9", "host"),
+    Asked::Rename("h1", "hq"),
+    Asked::Remove("h9"),
+];
+
+/// What an item weighs, where there is one.
+fn weight_found(map: &CrushMap<Global>, id: Option<ItemId>) -> Option<Weight> {
+    match id {
+        Some(id) => map.forest().weight(id),
+        None => None,
+    }
+}
+
+/// Whether the item of a name, and what it weighs, is looked up as a search finds it.
+fn is_looked_up(map: &CrushMap<Global>, name: &str) -> bool {
+    let id = map.forest().id_of(name);
+    map.locate(name) == id && map.weight_of(name) == weight_found(map, id)
+}
+
+/// Whether all names are.
+fn are_looked_up(map: &CrushMap<Global>) -> bool {
+    NAMES.iter().all(|name| is_looked_up(map, name))
+}
+
+/// Whether an edit was made, and the map is another.
+fn is_changed(told: Result<Done, EditFault>) -> bool {
+    match told {
+        Ok(done) => done.changed,
+        Err(_) => false,
+    }
+}
+
+/// Makes an edit, and asserts that all names are looked up then.
+fn make_and_look(
+    rt: &impl Abort,
+    alloc: Global,
+    map: &mut CrushMap<Global>,
+    place: usize,
+    asked: Asked,
+) {
+    let edit = edit(rt, alloc, asked);
+    let told = map.apply(&edit);
+    drop(edit);
+    assert!(rt; is_changed(told), "edit {place}");
+    assert!(rt; are_looked_up(map), "edit {place}");
+}
+
+#[test]
+fn names_are_looked_up_after_each_edit(rt: HostRuntime) {
+    let mut map = whole_example_map(&rt, rt.alloc());
+    for (place, asked) in EDITS.iter().enumerate() {
+        make_and_look(&rt, rt.alloc(), &mut map, place, *asked);
+    }
+    drop(map);
+}
