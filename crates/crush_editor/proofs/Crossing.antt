@@ -14,6 +14,12 @@ use Rattle.crush_tree.specs.contracts.forest.Forest as Forest
 use Rattle.crush_edits.specs.contracts.setting.Setting as Setting
 use Rattle.crush_map.specs.contracts.map.CrushMap.TheInside as MapInside
 use Rattle.crush_tree.specs.contracts.forest.Forest.TheInside as ForestInside
+use Rattle.crush_index.specs.contracts.hashing.Hashing as Hashing
+use Rattle.crush_index.proofs.hashing.Hashing.TheSendSync.{the_send as hashing_send}
+use Rattle.crush_index.specs.contracts.index.Index as Index
+use Rattle.crush_index.proofs.index.Index.TheSendSync.{the_send as index_send}
+use Rattle.crush_hierarchy.specs.contracts.hierarchy.Hierarchy as Hierarchy
+use Rattle.crush_hierarchy.specs.contracts.hierarchy.Hierarchy.TheInside as HierarchyInside
 use Rattle.crush_units.specs.contracts.weight.Weight as Weight
 use Rattle.crush_nodes.specs.contracts.node.Header as Header
 use Rattle.crush_nodes.specs.contracts.node.Leaf as Leaf
@@ -57,8 +63,21 @@ nodes_sent = as_row_send (Vec.the_field (Node.the_row Global.the_row GlobalImpl.
 forest_sent : IsSend (Forest.the_row Global.the_row GlobalImpl.ghosts)
 forest_sent = view_send _ _ _ _ _ (declared_send (ForestInside.the_type Global.the_row GlobalImpl.ghosts) (nodes_sent, (nodes_sent, tt)))
 
+machine_sent : IsSend (as_row Global.the_field)
+machine_sent = search (sendable, crosses) depth 10
+
+hashing_sent : IsSend (as_row Hashing.the_field)
+hashing_sent = search (hashing_send, sendable, crosses) depth 10
+
+index_sent : IsSend (as_row Index.the_field)
+index_sent = search (index_send, sendable, crosses) depth 10
+
+hierarchy_sent : IsSend (Hierarchy.the_row Global.the_row GlobalImpl.ghosts)
+hierarchy_sent = view_send _ _ _ _ _ (declared_send (HierarchyInside.the_type Global.the_row GlobalImpl.ghosts)
+    (machine_sent, (hashing_sent, (as_row_send (Forest.the_field Global.the_row GlobalImpl.ghosts) forest_sent, (index_sent, tt)))))
+
 map_sent : IsSend (CrushMap.the_row Global.the_row GlobalImpl.ghosts)
-map_sent = view_send _ _ _ _ _ (declared_send (MapInside.the_type Global.the_row GlobalImpl.ghosts) (as_row_send Setting.the_field setting_send, (as_row_send (Forest.the_field Global.the_row GlobalImpl.ghosts) forest_sent, tt)))
+map_sent = view_send _ _ _ _ _ (declared_send (MapInside.the_type Global.the_row GlobalImpl.ghosts) (as_row_send Setting.the_field setting_send, (as_row_send (Hierarchy.the_field Global.the_row GlobalImpl.ghosts) hierarchy_sent, tt)))
 
 entry_sent : IsSend Entry.the_row
 entry_sent = search (entry_send, sendable, crosses) depth 20

@@ -1,4 +1,4 @@
-use Rattle.std.proofs.Common.{◌≡◌, ℕ, ◌+◌, ◌==◌, ◌≤◌, List, [], Result, Ok, Err, count_by, is_ok, true≢false, refl, sym, ap, subst, ◌∙◌, arith}
+use Rattle.std.proofs.Common.{◌≡◌, ℕ, ◌+◌, ◌==◌, ◌≤◌, List, [], Result, Ok, Err, length, count_by, is_ok, true≢false, refl, sym, ap, subst, ◌∙◌, arith}
 use Rattle.std.proofs.lemmas.List.{length-map}
 use Rattle.std.proofs.lemmas.Result.{err_from_is_err_and}
 use Rattle.crush_text.specs.Document.{IsMapText}
@@ -104,11 +104,11 @@ cut_fails fault bytes text rest feeds front back counted = subst (FailsAs fault)
 
 pub returns-in_err-sections-clause-want : goal.returns-in_err-sections-clause-want
 returns-in_err-sections-clause-want c =
-    let p = err_from_is_err_and c.from_residual.result c.from_residual.ensures.1 in
-    λ job is. rw (p.1, p.2) (want_alone c.in_err-sections.fault is.said (sections_of c.args.bytes.now) is.sections (cut_fails c.in_err-sections.fault c.args.bytes.now _ _ _ c.cut_job.ensures.map c.cut_job.ensures.sections c.line_feeds.ensures.count c.in_err-sections.ensures))
+    let p = err_from_is_err_and c.from_residual-in_err-sections.result c.from_residual-in_err-sections.ensures.1 in
+    λ job is. rw (p.1, p.2) (want_alone c.in_err-sections.field-0.0 is.said (sections_of c.args.bytes.now) is.sections (cut_fails c.in_err-sections.field-0.0 c.args.bytes.now _ _ _ c.cut_job.ensures.map c.cut_job.ensures.sections c.line_feeds.ensures.count c.in_err-sections.ensures))
 
 pub returns-in_err-sections-clause-fault : goal.returns-in_err-sections-clause-fault
 returns-in_err-sections-clause-fault c =
-    let p = err_from_is_err_and c.from_residual.result c.from_residual.ensures.1 in
+    let p = err_from_is_err_and c.from_residual-in_err-sections.result c.from_residual-in_err-sections.ensures.1 in
     let m = c.in_ok-map.ensures.map in
-    rw (p.1, p.2) (fault_of_lines c.in_err-sections.fault c.args.bytes.now c.in_ok-map.map.setting m.0 c.in_ok-map.adjusted (omega arith) (subst (λ (x : List ℕ). IsMapText x c.in_ok-map.map.setting m.0 c.in_ok-map.adjusted) c.cut_job.ensures.map m.1) (cut_fails c.in_err-sections.fault c.args.bytes.now _ _ _ c.cut_job.ensures.map c.cut_job.ensures.sections c.line_feeds.ensures.count c.in_err-sections.ensures))
+    rw (p.1, p.2) (fault_of_lines c.in_err-sections.field-0.0 c.args.bytes.now c.in_ok-map.map.setting m.0 c.in_ok-map.adjusted (omega arith) (subst (λ (x : List ℕ). IsMapText x c.in_ok-map.map.setting m.0 c.in_ok-map.adjusted) c.cut_job.ensures.map m.1) (cut_fails c.in_err-sections.field-0.0 c.args.bytes.now _ _ _ c.cut_job.ensures.map c.cut_job.ensures.sections c.line_feeds.ensures.count c.in_err-sections.ensures))
