@@ -1,4 +1,4 @@
-//! As many buckets as a map can have, and as heavy as it can be, and one more. The other limits are in
+//! As many devices and buckets as a map can have, and as heavy as it can be, and one more. The other limits are in
 //! examples/refused/limits.txt.
 
 use crate::tests::{is_refused_behind, joined, map_of, put_behind};
@@ -45,6 +45,21 @@ fn with_lines(
     let mut text = joined(rt, &[front]);
     put_lines(rt, &mut text, line, numbers);
     text
+}
+
+#[test]
+fn at_most_65536_devices(rt: HostRuntime) {
+    let most = with_lines(&rt, b"", b"device @ osd.@\n", 0..65536);
+    let map = map_of(&rt, most.as_slice());
+    let devices = map.counts().devices;
+    drop(map);
+    let is_refused = is_refused_behind(
+        &rt,
+        most.as_slice(),
+        b"device 65536 osd.65536\n",
+        TextFaultKind::TooMany,
+    );
+    assert!(rt; devices == 65536 && is_refused);
 }
 
 /// A text with a chain of the buckets 1 to 4,096, each but the first with the one before it as its item:
