@@ -102,6 +102,24 @@ fn items_come_and_go(rt: HostRuntime) {
     drop(index);
 }
 
+#[test]
+fn a_hint_leaves_the_place(rt: HostRuntime) {
+    let mut index = Index::new(rt.alloc(), Hashing::plain());
+    let first = host(&rt, rt.alloc());
+    index
+        .insert_node(Place::Root, 0, &first)
+        .expect(&rt, "memory");
+    index.hint(ItemId::Bucket(bucket(&rt, 2)), 3);
+    index.hint(device(&rt, 0), 3);
+    let root = Some(Spot {
+        place: Place::Root,
+        near: 3,
+    });
+    assert!(rt; tells(&index, &rt, root, None));
+    drop(first);
+    drop(index);
+}
+
 /// The bucket 1, h2, without class ids and items.
 fn other(rt: &impl Abort, alloc: Global) -> Node<Global> {
     let header = Header {
