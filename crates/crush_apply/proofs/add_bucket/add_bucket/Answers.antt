@@ -1,4 +1,4 @@
-use Rattle.std.proofs.Common.{List, [], ◌∷◌, ◌++◌, sym, subst, refl}
+use Rattle.std.proofs.Common.{List, [], ◌∷◌, ◌++◌, sym, ap, subst, refl}
 use Rattle.std.specs.Prelude.{None}
 use Rattle.crush_table.specs.Items.{Items}
 use Rattle.crush_table.specs.ItemRows.{rows, bucket_row}
@@ -7,6 +7,7 @@ use Rattle.crush_table.specs.Lawful.{Lawful}
 use Rattle.crush_table.specs.Forest.{rows_of}
 use Rattle.crush_table.specs.Stands.{Stands}
 use Rattle.crush_table.proofs.Stands.{stands_for_rows}
+use Rattle.crush_nodes.specs.Ops.{forest_without_capacity}
 use Rattle.crush_edits.specs.declared.edit.Edit.TheVariants.{AddBucket}
 use Rattle.crush_edits.specs.Put.{new_header}
 use Rattle.crush_apply.proofs.Answered.{when_changed, when_refused, when_lacking}
@@ -26,7 +27,7 @@ returns-in_err-node g c =
 
 pub returns-in_err-add : goal.returns-in_err-add
 returns-in_err-add g c =
-    when_lacking _ _ _ _ c.from_residual-in_err-add.ensures.1 c.in_err-add.ensures.kept
+    when_lacking _ _ _ _ c.from_residual-in_err-add.ensures.1 (ap forest_without_capacity c.in_err-add.ensures.err)
     (λ t st. (1, _, add_bucket_done c.args.setting.now t c.args.name.now c.args.kind.now c.in_ok-number.number c.first_free-id.result st.lawful (c.in_ok-number.ensures.can t st) (c.first_free-id.ensures t st)))
 
 pub add-requires-clause-fits : goal.add-requires-clause-fits

@@ -41,7 +41,7 @@ rename-requires-clause-fits g c =
 
 pub returns-in_err-rename : goal.returns-in_err-rename
 returns-in_err-rename g c = λ s.
-    when_lacking _ _ _ _ c.from_residual-in_err-rename.ensures.1 (ap forest_without_capacity c.in_err-rename.ensures.kept)
+    when_lacking _ _ _ _ c.from_residual-in_err-rename.ensures.1 (ap forest_without_capacity c.in_err-rename.ensures.err)
     (λ t st. (0, set_name (Bucket c.in_ok-bucket.bucket) c.args.to.now t, rename_done s t c.args.from.now c.args.to.now c.in_ok-bucket.bucket st.lawful (c.in_ok-bucket.ensures.can t st)))
 
 pub returns : goal.returns
