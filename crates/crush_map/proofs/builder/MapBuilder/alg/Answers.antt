@@ -8,6 +8,7 @@ use Rattle.crush_table.specs.Stands.{Stands}
 use Rattle.crush_map.specs.Pending.{pending_data, listed}
 use Rattle.crush_map.specs.Built.{Pending, numbered, filling, with_alg}
 use Rattle.crush_map.specs.Building.{BuilderData, IsDraft, IsPending, own_draft}
+use Rattle.crush_nodes.specs.Ops.{forest_without_capacity}
 use Rattle.crush_map.proofs.Drafts.{own_is_draft, kept_fits, draft_fits}
 use Rattle.crush_map.proofs.RowSteps.{bucket_lawful, alg_step}
 use Rattle.crush_map.proofs.builder.MapBuilder.alg.Goals as goal
@@ -26,7 +27,7 @@ pub invariant_of-self-in_err-add : goal.invariant_of-self-in_err-add
 invariant_of-self-in_err-add g c =
     let b : BuilderData = record { setting = c.self.inside.setting; forest = c.self.inside.hierarchy; pending = pending_data c.replace.new.dest; adjusted = c.self.inside.adjusted } in
     let idle : IsPending b.setting (rows_of b.forest) b.pending = subst (λ (p : Pending). IsPending b.setting (rows_of b.forest) p) (ap pending_data (sym c.replace.ensures.after)) tt in
-    kept_fits b c.add.new.self c.recall_invariant.ensures c.in_err-add.ensures.kept (record { fits = c.self.invariant.fits; part = idle; few = c.self.invariant.few })
+    kept_fits b c.add.new.self c.recall_invariant.ensures (ap forest_without_capacity c.in_err-add.ensures.err) (record { fits = c.self.invariant.fits; part = idle; few = c.self.invariant.few })
 
 pub invariant_of-self-2 : goal.invariant_of-self-2
 invariant_of-self-2 g c =

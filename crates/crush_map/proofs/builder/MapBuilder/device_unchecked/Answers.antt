@@ -17,6 +17,7 @@ use Rattle.crush_nodes.specs.Seen.{items_of}
 use Rattle.crush_map.specs.Pending.{pending_data}
 use Rattle.crush_map.specs.Built.{Draft, with_device}
 use Rattle.crush_map.specs.Building.{BuilderData, IsDraft, own_draft, has_name, is_full_of_devices}
+use Rattle.crush_nodes.specs.Ops.{forest_without_capacity}
 use Rattle.crush_map.proofs.Drafts.{own_is_draft, kept_fits, draft_fits}
 use Rattle.crush_map.proofs.RowSteps.{device_lawful, device_step}
 use Rattle.crush_map.proofs.builder.MapBuilder.device_unchecked.Goals as goal
@@ -41,7 +42,7 @@ add-requires-clause-fits g c =
 pub invariant_of-self : goal.invariant_of-self
 invariant_of-self g c =
     let b : BuilderData = record { setting = c.self.inside.setting; forest = c.self.inside.hierarchy; pending = pending_data c.self.inside.pending; adjusted = c.self.inside.adjusted } in
-    kept_fits b c.add.new.self c.recall_invariant.ensures c.in_err-add.ensures.kept c.self.invariant
+    kept_fits b c.add.new.self c.recall_invariant.ensures (ap forest_without_capacity c.in_err-add.ensures.err) c.self.invariant
 
 pub invariant_of-self-2 : goal.invariant_of-self-2
 invariant_of-self-2 g c =
