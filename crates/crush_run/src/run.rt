@@ -188,9 +188,7 @@ where
 {
     let alloc = rt.alloc();
     let bytes = read_bytes(alloc, reader)?;
-    let read = read_job(alloc, drawn_hashing(rt), bytes.as_slice());
-    drop(bytes);
-    match read {
+    match read_job(alloc, drawn_hashing(rt), bytes.as_slice()) {
         Ok(job) => run_read(rt, gate, mode, job, writer),
         Err(fault) => Err(RunFault::from(fault)),
     }
