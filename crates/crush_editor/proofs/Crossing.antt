@@ -22,6 +22,7 @@ use Rattle.crush_hierarchy.specs.contracts.hierarchy.Hierarchy as Hierarchy
 use Rattle.crush_hierarchy.specs.contracts.hierarchy.Hierarchy.TheInside as HierarchyInside
 use Rattle.crush_units.specs.contracts.weight.Weight as Weight
 use Rattle.crush_nodes.specs.contracts.node.Header as Header
+use Rattle.crush_nodes.specs.contracts.view.Counts as Counts
 use Rattle.crush_nodes.specs.contracts.node.Leaf as Leaf
 use Rattle.crush_nodes.specs.contracts.node.Bucket as Bucket
 use Rattle.crush_nodes.specs.contracts.node.Node as Node
@@ -72,9 +73,15 @@ hashing_sent = search (hashing_send, sendable, crosses) depth 10
 index_sent : IsSend (as_row Index.the_field)
 index_sent = search (index_send, sendable, crosses) depth 10
 
+counts_sent : IsSend (as_row Counts.the_field)
+counts_sent = search (sendable, crosses) depth 10
+
+number_sent : IsSend (as_row u64-field)
+number_sent = search sendable
+
 hierarchy_sent : IsSend (Hierarchy.the_row Global.the_row GlobalImpl.ghosts)
 hierarchy_sent = view_send _ _ _ _ _ (declared_send (HierarchyInside.the_type Global.the_row GlobalImpl.ghosts)
-    (machine_sent, (hashing_sent, (as_row_send (Forest.the_field Global.the_row GlobalImpl.ghosts) forest_sent, (index_sent, tt)))))
+    (machine_sent, (hashing_sent, (as_row_send (Forest.the_field Global.the_row GlobalImpl.ghosts) forest_sent, (index_sent, (counts_sent, (number_sent, tt)))))))
 
 map_sent : IsSend (CrushMap.the_row Global.the_row GlobalImpl.ghosts)
 map_sent = view_send _ _ _ _ _ (declared_send (MapInside.the_type Global.the_row GlobalImpl.ghosts) (as_row_send Setting.the_field setting_send, (as_row_send (Hierarchy.the_field Global.the_row GlobalImpl.ghosts) hierarchy_sent, tt)))
@@ -85,15 +92,12 @@ entry_sent = search (entry_send, sendable, crosses) depth 20
 history_sent : IsSend (as_row (Vec.the_field Entry.the_row Global.the_row GlobalImpl.ghosts))
 history_sent = search (entry_sent, sendable, crosses) depth 20
 
-changes_sent : IsSend (as_row u64-field)
-changes_sent = search sendable
-
 seat_sent : IsSend (BookSeat.the_row (CrushMap.the_row Global.the_row GlobalImpl.ghosts) Entry.the_row)
 seat_sent = search (table_seat_send, sendable, crosses) depth 20
 
 pub book_send : IsSend (Book.the_row Global.the_row GlobalImpl.ghosts)
 book_send = view_send _ _ _ _ _ (declared_send (Inside.the_type Global.the_row GlobalImpl.ghosts)
-    (as_row_send (CrushMap.the_field Global.the_row GlobalImpl.ghosts) map_sent, (as_row_send (CrushMap.the_field Global.the_row GlobalImpl.ghosts) map_sent, (history_sent, (changes_sent, (as_row_send (BookSeat.the_field (CrushMap.the_row Global.the_row GlobalImpl.ghosts) Entry.the_row) seat_sent, tt))))))
+    (as_row_send (CrushMap.the_field Global.the_row GlobalImpl.ghosts) map_sent, (as_row_send (CrushMap.the_field Global.the_row GlobalImpl.ghosts) map_sent, (history_sent, (number_sent, (as_row_send (BookSeat.the_field (CrushMap.the_row Global.the_row GlobalImpl.ghosts) Entry.the_row) seat_sent, tt))))))
 
 module _ (N : RattleType) (g : Desk.Ghosts N.Denot) (g' : Ledger.Ghosts N.Denot) where
   count_sent : IsSend (as_row (Count.the_field N g'))
