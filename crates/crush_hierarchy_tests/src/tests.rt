@@ -1,0 +1,6 @@
+//! Each call once, over helpers that build a hierarchy item by item.
+
+mod asks;
+mod calls;
+mod items;
+mod puts;

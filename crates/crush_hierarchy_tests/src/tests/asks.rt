@@ -1,0 +1,122 @@
+//! What a caller asks before a change.
+
+ghost use Rattle.std.specs.Prelude.{◌≡◌, false};
+ghost use Rattle.crush_units.specs.Name.{IsName};
+ghost use Rattle.crush_units.specs.declared.id.ItemId.TheVariants.{Bucket as BucketItem};
+ghost use Rattle.crush_table.specs.Columns.{is_part};
+ghost use Rattle.crush_table.specs.Forest.{rows_of};
+ghost use Rattle.crush_table.specs.Table.{are_nested, is_there, is_named, is_placed};
+
+use crush_hierarchy::Hierarchy;
+use crush_tree::Place;
+use crush_units::{BucketId, DeviceId, ItemId, Name, Weight};
+use std::alloc::Global;
+
+/// Whether the item is there.
+pub(super) fn has_item(hierarchy: &Hierarchy<Global>, id: &ItemId) -> bool
+    ensures { result ≡ is_there (rows_of hierarchy.now) id.now }
+{
+    hierarchy.recall_invariant();
+    hierarchy.kind(*id).is_some()
+}
+
+/// Whether a bucket holds the item.
+pub(super) fn is_held(hierarchy: &Hierarchy<Global>, id: &ItemId) -> bool
+    ensures { result ≡ is_placed (rows_of hierarchy.now) id.now }
+{
+    hierarchy.recall_invariant();
+    hierarchy.parent(*id).is_some()
+}
+
+/// Whether the second bucket is the first, or below it.
+pub(super) fn is_inside(hierarchy: &Hierarchy<Global>, own: BucketId, bucket: BucketId) -> bool
+    ensures { result ≡ is_part (rows_of hierarchy.now) (BucketItem own) (BucketItem bucket) }
+{
+    hierarchy.recall_invariant();
+    hierarchy.contains(own, ItemId::Bucket(bucket))
+}
+
+/// Whether one of two buckets is the other or below it.
+pub(super) fn are_nested(hierarchy: &Hierarchy<Global>, a: BucketId, b: BucketId) -> bool
+    ensures { result ≡ are_nested (rows_of hierarchy.now) a b }
+{
+    is_inside(hierarchy, a, b) || is_inside(hierarchy, b, a)
+}
+
+/// Whether an item has the name.
+pub(super) fn has_name(hierarchy: &Hierarchy<Global>, name: &Name<Global>) -> bool
+    ensures named { result ≡ is_named (rows_of hierarchy.now) name.now }
+    ensures name { IsName name.now }
+{
+    hierarchy.recall_invariant();
+    hierarchy.id_of(name.as_str()).is_some()
+}
+
+/// Whether sums stay in range where a device gets another weight, if a bucket holds it.
+pub(super) fn fits_weight(
+    hierarchy: &Hierarchy<Global>,
+    device: DeviceId,
+    weight: Weight,
+) -> Option<bool> {
+    if is_held(hierarchy, &ItemId::Device(device)) {
+        Some(hierarchy.fits_weight(device, weight))
+    } else {
+        None
+    }
+}
+
+/// Whether sums stay in range where all devices below a bucket get a weight, and whether one of them
+/// has another now, if the bucket is there.
+pub(super) fn fits_subtree(
+    hierarchy: &Hierarchy<Global>,
+    bucket: BucketId,
+    weight: Weight,
+) -> Option<(bool, bool)> {
+    if has_item(hierarchy, &ItemId::Bucket(bucket)) {
+        let fits = hierarchy.fits_subtree(bucket, weight);
+        Some((fits, hierarchy.changes_subtree(bucket, weight)))
+    } else {
+        None
+    }
+}
+
+/// Whether sums stay in range where items of this weight come to a bucket, if it is there.
+pub(super) fn fits_attach(
+    hierarchy: &Hierarchy<Global>,
+    bucket: BucketId,
+    weight: Weight,
+) -> Option<bool> {
+    if has_item(hierarchy, &ItemId::Bucket(bucket)) {
+        Some(hierarchy.fits_attach(Place::Bucket(bucket), weight))
+    } else {
+        None
+    }
+}
+
+/// Whether sums stay in range where a device comes to a bucket with this weight, if the bucket is
+/// there.
+pub(super) fn fits_move(
+    hierarchy: &Hierarchy<Global>,
+    device: DeviceId,
+    bucket: BucketId,
+    weight: Weight,
+) -> Option<bool> {
+    if has_item(hierarchy, &ItemId::Bucket(bucket)) {
+        Some(hierarchy.fits_move(ItemId::Device(device), Place::Bucket(bucket), weight))
+    } else {
+        None
+    }
+}
+
+/// Whether sums stay in range where two buckets exchange their items, if both are there and neither
+/// is in the other.
+pub(super) fn fits_swap(hierarchy: &Hierarchy<Global>, a: BucketId, b: BucketId) -> Option<bool> {
+    if has_item(hierarchy, &ItemId::Bucket(a))
+        && has_item(hierarchy, &ItemId::Bucket(b))
+        && !are_nested(hierarchy, a, b)
+    {
+        Some(hierarchy.fits_swap(a, b))
+    } else {
+        None
+    }
+}

@@ -1,0 +1,251 @@
+//! A small hierarchy, and each call of it once.
+
+use super::asks::{fits_attach, fits_move, fits_subtree, fits_swap, fits_weight, has_item};
+use super::items::{bucket, bucket_item, device, device_item, empty, inside, leaf, name};
+use super::puts::{add, exchange, give_name, make_room, put_device, weigh, weigh_all};
+use crush_hierarchy::{Hashing, Hierarchy};
+use crush_tree::{Node, Place};
+use crush_units::Weight;
+use std::alloc::Global;
+use std::process::Abort;
+
+/// Puts the root `default`, h1 with osd.0 and osd.1 of 1.0 each, h2 with osd.2 of 0.5, and osd.3,
+/// which no bucket holds, into a hierarchy.
+fn fill(rt: &(impl Abort + AllocGlobal), hierarchy: &mut Hierarchy<Global>) {
+    add(rt, hierarchy, Place::Root, empty(rt, 1, 11, "default"));
+    add(rt, hierarchy, inside(rt, 1), empty(rt, 2, 1, "h1"));
+    add(rt, hierarchy, inside(rt, 2), leaf(rt, 0, "osd.0", 65536));
+    add(rt, hierarchy, inside(rt, 2), leaf(rt, 1, "osd.1", 65536));
+    add(rt, hierarchy, inside(rt, 1), empty(rt, 3, 1, "h2"));
+    add(rt, hierarchy, inside(rt, 3), leaf(rt, 2, "osd.2", 32768));
+    add(rt, hierarchy, Place::Unplaced, leaf(rt, 3, "osd.3", 0));
+}
+
+/// The hierarchy of all of them.
+fn example(rt: &(impl Abort + AllocGlobal)) -> Hierarchy<Global> {
+    let mut hierarchy = Hierarchy::new(rt.alloc(), Hashing::plain(), rt.alloc(), rt.alloc());
+    fill(rt, &mut hierarchy);
+    hierarchy
+}
+
+/// Whether there are so many devices and buckets, of so many units together.
+fn sums_up(hierarchy: &Hierarchy<Global>, devices: u32, buckets: u32, units: u64) -> bool {
+    let counts = hierarchy.counts();
+    counts.devices == devices && counts.buckets == buckets && hierarchy.total() == units
+}
+
+/// Whether the bucket weighs so many units.
+fn weighs(rt: &impl Abort, hierarchy: &Hierarchy<Global>, distance: u32, units: u32) -> bool {
+    hierarchy.weight(bucket_item(rt, distance)) == Some(Weight::from_units(units))
+}
+
+/// Whether osd.2 is found by its name, in h2, which is found by its own.
+fn is_osd_2_in_h2(rt: &impl Abort, hierarchy: &Hierarchy<Global>) -> bool {
+    hierarchy.id_of("osd.2") == Some(device_item(rt, 2))
+        && hierarchy.id_of_bytes(b"h2") == Some(bucket_item(rt, 3))
+        && hierarchy.parent(device_item(rt, 2)) == Some(bucket(rt, 3))
+        && hierarchy.parent(device_item(rt, 3)).is_none()
+}
+
+/// Whether the columns of h2 are told.
+fn tells_of_h2(rt: &impl Abort, hierarchy: &Hierarchy<Global>) -> bool {
+    let kind = hierarchy.kind(bucket_item(rt, 3)).expect(rt, "h2");
+    kind.number() == 1
+        && hierarchy.name(bucket_item(rt, 3)) == Some("h2")
+        && weighs(rt, hierarchy, 3, 32768)
+}
+
+/// Whether osd.2 is below the root and not below h1.
+fn tells_what_is_below(rt: &impl Abort, hierarchy: &Hierarchy<Global>) -> bool {
+    hierarchy.contains(bucket(rt, 1), device_item(rt, 2))
+        && !hierarchy.contains(bucket(rt, 2), device_item(rt, 2))
+}
+
+/// Whether the items have these ids in order, as the numbers that a map shows.
+fn are_numbered(items: &[Node<Global>], numbers: &[i32]) -> bool {
+    items.len() == numbers.len()
+        && items
+            .iter()
+            .zip(numbers)
+            .all(|(item, number)| item.id().number() == *number)
+}
+
+/// Whether the bucket whose id is so far below 0 holds the items of these numbers, in order.
+fn holds(rt: &impl Abort, hierarchy: &Hierarchy<Global>, distance: u32, numbers: &[i32]) -> bool {
+    let items = hierarchy.items(bucket(rt, distance)).expect(rt, "a bucket");
+    are_numbered(items, numbers)
+}
+
+/// Whether the ids -4 and -5 are told, which are free beside -1, -2 and -3.
+fn frees_two_ids(rt: &impl Abort, hierarchy: &Hierarchy<Global>) -> bool {
+    let mut ids = [bucket(rt, 1); 2];
+    hierarchy.free_ids(&mut ids);
+    ids[0].number() == -4
+        && ids[1].number() == -5
+        && hierarchy.is_used(bucket(rt, 3))
+        && !hierarchy.is_used(bucket(rt, 4))
+}
+
+/// Whether a copy is the same, and tells so.
+fn is_copied(rt: &impl Abort, hierarchy: &Hierarchy<Global>) -> bool {
+    let copy = hierarchy.try_copy().expect(rt, "memory");
+    let is_copied = copy.forest().is_same(hierarchy.forest())
+        && sums_up(&copy, 4, 3, 163840)
+        && is_osd_2_in_h2(rt, &copy);
+    drop(copy);
+    is_copied
+}
+
+/// Whether all is told.
+fn tells_all(rt: &impl Abort, hierarchy: &Hierarchy<Global>) -> bool {
+    sums_up(hierarchy, 4, 3, 163840)
+        && is_osd_2_in_h2(rt, hierarchy)
+        && tells_of_h2(rt, hierarchy)
+        && tells_what_is_below(rt, hierarchy)
+        && holds(rt, hierarchy, 2, &[0, 1])
+        && frees_two_ids(rt, hierarchy)
+        && is_copied(rt, hierarchy)
+}
+
+#[test]
+fn what_is_told(rt: HostRuntime) {
+    let hierarchy = example(&rt);
+    let is_told = tells_all(&rt, &hierarchy);
+    drop(hierarchy);
+    assert!(rt; is_told);
+}
+
+/// Whether the root, which weighs 163840 units, can come to weigh 4294967295 by more items, by osd.2
+/// and by osd.0 in h2, and no unit more.
+fn tells_what_fits(rt: &impl Abort, hierarchy: &Hierarchy<Global>) -> bool {
+    let (h2, osd_0, osd_2) = (bucket(rt, 3), device(rt, 0), device(rt, 2));
+    fits_attach(hierarchy, h2, Weight::from_units(4294803455)) == Some(true)
+        && fits_attach(hierarchy, h2, Weight::from_units(4294803456)) == Some(false)
+        && fits_weight(hierarchy, osd_2, Weight::from_units(4294836223)) == Some(true)
+        && fits_weight(hierarchy, osd_2, Weight::from_units(4294836224)) == Some(false)
+        && fits_move(hierarchy, osd_0, h2, Weight::from_units(4294868991)) == Some(true)
+        && fits_move(hierarchy, osd_0, h2, Weight::from_units(4294868992)) == Some(false)
+}
+
+/// Whether the same is told of both devices of h1 beside the 32768 units of h2, and that 65536 units
+/// are their weights.
+fn tells_what_fits_below(rt: &impl Abort, hierarchy: &Hierarchy<Global>) -> bool {
+    let h1 = bucket(rt, 2);
+    fits_subtree(hierarchy, h1, Weight::from_units(2147467263)) == Some((true, true))
+        && fits_subtree(hierarchy, h1, Weight::from_units(2147467264)) == Some((false, true))
+        && fits_subtree(hierarchy, h1, Weight::from_units(65536)) == Some((true, false))
+}
+
+/// Whether h1 can be exchanged with a root that weighs 4294967295 units less the 32768 of h2, and not
+/// with one that weighs a unit more.
+fn tells_what_can_be_exchanged(
+    rt: &(impl Abort + AllocGlobal),
+    hierarchy: &mut Hierarchy<Global>,
+) -> bool {
+    let (h1, other) = (bucket(rt, 2), bucket(rt, 4));
+    add(rt, hierarchy, Place::Root, empty(rt, 4, 11, "other"));
+    add(
+        rt,
+        hierarchy,
+        inside(rt, 4),
+        leaf(rt, 4, "osd.4", 2147483647),
+    );
+    add(
+        rt,
+        hierarchy,
+        inside(rt, 4),
+        leaf(rt, 5, "osd.5", 2147450880),
+    );
+    let fits = fits_swap(hierarchy, h1, other) == Some(true);
+    let is_weighed = weigh(hierarchy, device(rt, 5), Weight::from_units(2147450881));
+    fits && is_weighed && fits_swap(hierarchy, h1, other) == Some(false)
+}
+
+#[test]
+fn sums_that_fit(rt: HostRuntime) {
+    let mut hierarchy = example(&rt);
+    let is_told = tells_what_fits(&rt, &hierarchy) && tells_what_fits_below(&rt, &hierarchy);
+    let is_told_of_two = tells_what_can_be_exchanged(&rt, &mut hierarchy);
+    drop(hierarchy);
+    assert!(rt; is_told && is_told_of_two);
+}
+
+/// Whether the host h2 goes out with osd.2, of 32768 units.
+fn goes_out(rt: &impl Abort, hierarchy: &mut Hierarchy<Global>) -> bool {
+    let h2 = hierarchy.detach(bucket_item(rt, 3)).expect(rt, "h2");
+    let weight = h2.weight();
+    drop(h2);
+    weight.units() == 32768
+        && sums_up(hierarchy, 3, 2, 131072)
+        && !has_item(hierarchy, &device_item(rt, 2))
+        && hierarchy.id_of("osd.2").is_none()
+}
+
+/// Whether osd.3 comes into h1 once there is room, last, with 2.0.
+fn comes_in(rt: &impl Abort, hierarchy: &mut Hierarchy<Global>) -> bool {
+    let h1 = bucket(rt, 2);
+    let has_room = make_room(hierarchy, h1) && hierarchy.forest().has_room(Place::Bucket(h1));
+    let is_put = put_device(hierarchy, device(rt, 3), h1, Weight::from_units(131072));
+    has_room
+        && is_put
+        && hierarchy.parent(device_item(rt, 3)) == Some(h1)
+        && holds(rt, hierarchy, 2, &[0, 1, 3])
+        && weighs(rt, hierarchy, 1, 262144)
+}
+
+/// h2 goes out, osd.3 comes into h1, and osd.2 comes again, as a device that no bucket holds.
+#[test]
+fn items_come_and_go(rt: HostRuntime) {
+    let mut hierarchy = example(&rt);
+    let is_out = goes_out(&rt, &mut hierarchy);
+    let is_in = comes_in(&rt, &mut hierarchy);
+    add(
+        &rt,
+        &mut hierarchy,
+        Place::Unplaced,
+        leaf(&rt, 2, "osd.2", 0),
+    );
+    let is_there = sums_up(&hierarchy, 4, 2, 262144);
+    drop(hierarchy);
+    assert!(rt; is_out && is_in && is_there);
+}
+
+/// Whether the sums follow new weights, of osd.2 and of all devices.
+fn sums_follow(rt: &impl Abort, hierarchy: &mut Hierarchy<Global>) -> bool {
+    let is_weighed = weigh(hierarchy, device(rt, 2), Weight::from_units(65536));
+    let follows = weighs(rt, hierarchy, 3, 65536) && sums_up(hierarchy, 4, 3, 196608);
+    let are_weighed = weigh_all(hierarchy, bucket(rt, 1), Weight::from_units(1));
+    is_weighed
+        && follows
+        && are_weighed
+        && weighs(rt, hierarchy, 2, 2)
+        && sums_up(hierarchy, 4, 3, 3)
+}
+
+/// Whether h1 gets the name h9.
+fn is_renamed(rt: &(impl Abort + AllocGlobal), hierarchy: &mut Hierarchy<Global>) -> bool {
+    let h1 = bucket_item(rt, 2);
+    give_name(hierarchy, &h1, name(rt, "h9"))
+        && hierarchy.name(h1) == Some("h9")
+        && hierarchy.id_of("h9") == Some(h1)
+        && hierarchy.id_of("h1").is_none()
+}
+
+/// Whether h9 and its devices have the id that h2 had, once they are exchanged.
+fn are_exchanged(rt: &impl Abort, hierarchy: &mut Hierarchy<Global>) -> bool {
+    exchange(hierarchy, bucket(rt, 2), bucket(rt, 3))
+        && hierarchy.id_of("h9") == Some(bucket_item(rt, 3))
+        && hierarchy.parent(device_item(rt, 0)) == Some(bucket(rt, 3))
+        && holds(rt, hierarchy, 3, &[0, 1])
+        && weighs(rt, hierarchy, 3, 2)
+        && sums_up(hierarchy, 4, 3, 3)
+}
+
+#[test]
+fn weights_and_names(rt: HostRuntime) {
+    let mut hierarchy = example(&rt);
+    let are_weighed = sums_follow(&rt, &mut hierarchy);
+    let is_named = is_renamed(&rt, &mut hierarchy) && are_exchanged(&rt, &mut hierarchy);
+    drop(hierarchy);
+    assert!(rt; are_weighed && is_named);
+}

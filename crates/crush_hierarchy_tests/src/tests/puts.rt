@@ -1,0 +1,136 @@
+//! Changes of a hierarchy: each is made once it was asked whether it may be.
+
+use super::asks::{are_nested, has_item, has_name, is_held};
+use crush_hierarchy::Hierarchy;
+use crush_tree::{Node, Place};
+use crush_units::{BucketId, DeviceId, ItemId, Name, Weight};
+use std::alloc::Global;
+use std::process::Abort;
+
+/// Puts a new item last at a place, if it can come there. Whether that is done.
+fn put_new(hierarchy: &mut Hierarchy<Global>, place: Place, node: Node<Global>) -> bool {
+    let place = &place; // a place that was passed on by value can't be passed on again
+    if hierarchy.forest().can_attach(*place, &node) {
+        hierarchy.add(*place, node).is_ok()
+    } else {
+        drop(node);
+        false
+    }
+}
+
+/// Puts a new item last at a place where it can come.
+pub(super) fn add(
+    rt: &impl Abort,
+    hierarchy: &mut Hierarchy<Global>,
+    place: Place,
+    node: Node<Global>,
+) {
+    assert!(rt; put_new(hierarchy, place, node));
+}
+
+/// Makes room for one item more at a place inside a bucket, if that is there. Whether that is done.
+pub(super) fn make_room(hierarchy: &mut Hierarchy<Global>, bucket: BucketId) -> bool {
+    has_item(hierarchy, &ItemId::Bucket(bucket)) && hierarchy.reserve(Place::Bucket(bucket)).is_ok()
+}
+
+/// Puts a device last into a bucket that has room, with this weight, if both are there. Whether that
+/// is done.
+pub(super) fn put_device(
+    hierarchy: &mut Hierarchy<Global>,
+    device: DeviceId,
+    bucket: BucketId,
+    weight: Weight,
+) -> bool {
+    hierarchy.recall_invariant();
+    if !weight.is_device_weight() {
+        return false;
+    }
+    if !has_item(hierarchy, &ItemId::Device(device)) {
+        return false;
+    }
+    if !has_item(hierarchy, &ItemId::Bucket(bucket)) {
+        return false;
+    }
+    if !hierarchy.forest().has_room(Place::Bucket(bucket)) {
+        return false;
+    }
+    if !hierarchy.fits_move(ItemId::Device(device), Place::Bucket(bucket), weight) {
+        return false;
+    }
+    hierarchy.recall_part(ItemId::Device(device));
+    hierarchy.put(ItemId::Device(device), bucket, Some(weight));
+    true
+}
+
+/// Gives a placed device another weight. Whether that is done.
+pub(super) fn weigh(hierarchy: &mut Hierarchy<Global>, device: DeviceId, weight: Weight) -> bool {
+    hierarchy.recall_invariant();
+    if !weight.is_device_weight() {
+        return false;
+    }
+    if !is_held(hierarchy, &ItemId::Device(device)) {
+        return false;
+    }
+    if !hierarchy.fits_weight(device, weight) {
+        return false;
+    }
+    hierarchy.set_weight(device, weight);
+    true
+}
+
+/// Gives all devices below a bucket one weight. Whether that is done.
+pub(super) fn weigh_all(
+    hierarchy: &mut Hierarchy<Global>,
+    bucket: BucketId,
+    weight: Weight,
+) -> bool {
+    hierarchy.recall_invariant();
+    if !weight.is_device_weight() {
+        return false;
+    }
+    if !has_item(hierarchy, &ItemId::Bucket(bucket)) {
+        return false;
+    }
+    if !hierarchy.fits_subtree(bucket, weight) {
+        return false;
+    }
+    hierarchy.set_subtree(bucket, weight);
+    true
+}
+
+/// Gives an item another name, if no item has it. Whether that is done.
+pub(super) fn give_name(
+    hierarchy: &mut Hierarchy<Global>,
+    id: &ItemId,
+    name: Name<Global>,
+) -> bool {
+    hierarchy.recall_invariant();
+    if !has_item(hierarchy, id) {
+        drop(name);
+        return false;
+    }
+    if has_name(hierarchy, &name) {
+        drop(name);
+        return false;
+    }
+    hierarchy.rename(*id, name).is_ok()
+}
+
+/// Exchanges names and items of two buckets. Whether that is done.
+pub(super) fn exchange(hierarchy: &mut Hierarchy<Global>, a: BucketId, b: BucketId) -> bool {
+    hierarchy.recall_invariant();
+    if !has_item(hierarchy, &ItemId::Bucket(a)) {
+        return false;
+    }
+    if !has_item(hierarchy, &ItemId::Bucket(b)) {
+        return false;
+    }
+    if are_nested(hierarchy, a, b) {
+        return false;
+    }
+    if !hierarchy.fits_swap(a, b) {
+        return false;
+    }
+    hierarchy.swap(a, b);
+    true
+}
