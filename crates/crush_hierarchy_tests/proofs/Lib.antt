@@ -1,2 +1,3 @@
+pub mod Guiding
 pub mod Moving
 pub mod Passed

@@ -1,5 +1,6 @@
 //! Each call once, over helpers that build a hierarchy item by item.
 
+mod asked;
 mod asks;
 mod calls;
 mod items;

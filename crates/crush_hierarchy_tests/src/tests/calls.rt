@@ -22,7 +22,7 @@ fn fill(rt: &(impl Abort + AllocGlobal), hierarchy: &mut Hierarchy<Global>) {
 }
 
 /// The hierarchy of all of them.
-fn example(rt: &(impl Abort + AllocGlobal)) -> Hierarchy<Global> {
+pub(super) fn example(rt: &(impl Abort + AllocGlobal)) -> Hierarchy<Global> {
     let mut hierarchy = Hierarchy::new(rt.alloc(), Hashing::plain(), rt.alloc(), rt.alloc());
     fill(rt, &mut hierarchy);
     hierarchy

@@ -1,0 +1,210 @@
+//! How often the calls of a forest that take a guide ask it: for each climb once for the item, and
+//! once for each bucket above it.
+
+ghost use Rattle.std.specs.Option.{option_map};
+ghost use Rattle.std.specs.Prelude.{◌≡◌};
+ghost use Rattle.crush_units.specs.Id.{is_device_id};
+ghost use Rattle.crush_table.specs.Forest.{rows_of};
+ghost use Rattle.crush_table.specs.Table.{is_there, is_placed};
+ghost use Rattle.crush_nodes.specs.Guides.{place_in, place_under};
+
+use super::calls::example;
+use super::items::{bucket, bucket_item, device, device_item};
+use crush_nodes::guide::{Guide, Spot};
+use crush_tree::{Forest, Place};
+use crush_units::{BucketId, DeviceId, ItemId, Weight};
+use std::alloc::Global;
+use std::cell::Cell;
+use std::process::Abort;
+
+/// A guide that counts how often it is asked. It tells where an item stands in the forest, which it
+/// searches, and nothing of which of the items there it is.
+#[derive(Drop)]
+pub(super) struct Asked<'f> {
+    forest: &'f Forest<Global>,
+    times: Cell<u32>,
+}
+
+impl Guide for Asked<'_> {
+    ghost use Rattle.crush_table.specs.Forest.{rows_of};
+    ghost use Rattle.crush_nodes.specs.Guides.{place_in};
+
+    ghost place_of = { λ guide i. place_in (rows_of guide.forest.now) i };
+
+    fn spot(&self, id: ItemId) -> Option<Spot> {
+        self.times.set(self.times.get().saturating_add(1));
+        spot_in(self.forest, &id)
+    }
+}
+
+impl Asked<'_> {
+    /// Whether it was asked, and at most so often. Then it counts anew.
+    fn was_asked(&self, most: u32) -> bool {
+        let times = self.times.get();
+        self.times.set(0);
+        0 < times && times <= most
+    }
+}
+
+/// Whether the item is there.
+fn has_item(forest: &Forest<Global>, id: &ItemId) -> bool
+    ensures { result ≡ is_there (rows_of forest.now) id.now }
+{
+    forest.recall_invariant();
+    forest.kind(*id).is_some()
+}
+
+/// Whether a bucket holds the item.
+fn is_held(forest: &Forest<Global>, id: &ItemId) -> bool
+    ensures { result ≡ is_placed (rows_of forest.now) id.now }
+{
+    forest.recall_invariant();
+    forest.parent(*id).is_some()
+}
+
+/// Where an item stands that a bucket holds, or none.
+fn place_under(id: &ItemId, parent: Option<BucketId>) -> Place
+    ensures { result ≡ place_under (is_device_id id.now) parent }
+{
+    match parent {
+        Some(bucket) => Place::Bucket(bucket),
+        None => match id {
+            ItemId::Device(_) => Place::Unplaced,
+            ItemId::Bucket(_) => Place::Root,
+        },
+    }
+}
+
+/// Where the item stands.
+fn spot_in(forest: &Forest<Global>, id: &ItemId) -> Option<Spot>
+    ensures { option_map (λ spot. spot.place) result ≡ place_in (rows_of forest.now) id.now }
+{
+    forest.recall_invariant();
+    if !has_item(forest, id) {
+        return None;
+    }
+    let place = place_under(id, forest.parent(*id));
+    Some(Spot { place, near: 0 })
+}
+
+/// Whether the item is found.
+fn finds(guide: &Asked<'_>, id: &ItemId) -> bool {
+    guide.forest.find_by(guide, *id).is_some()
+}
+
+/// Whether a bucket holds the item.
+fn has_parent(guide: &Asked<'_>, id: &ItemId) -> bool {
+    guide.forest.parent_by(guide, *id).is_some()
+}
+
+/// Whether the bucket has items.
+fn has_items(guide: &Asked<'_>, bucket: BucketId) -> bool {
+    guide.forest.items_by(guide, bucket).is_some()
+}
+
+/// Whether the item is below the bucket.
+fn is_below(guide: &Asked<'_>, bucket: BucketId, id: &ItemId) -> bool {
+    guide.forest.contains_by(guide, bucket, *id)
+}
+
+/// Whether the placed device can get the weight.
+fn can_weigh(guide: &Asked<'_>, device: DeviceId, weight: Weight) -> bool {
+    guide.forest.recall_invariant();
+    let total = guide.forest.total();
+    is_held(guide.forest, &ItemId::Device(device))
+        && guide.forest.fits_weight_by(guide, device, weight, total)
+}
+
+/// Whether the weight of the device is this.
+fn weighs(guide: &Asked<'_>, device: DeviceId, weight: Weight) -> bool {
+    is_held(guide.forest, &ItemId::Device(device))
+        && guide.forest.placed_weight_by(guide, device) == weight
+}
+
+/// Whether items of the weight can come to the bucket.
+fn can_receive(guide: &Asked<'_>, bucket: BucketId, weight: Weight) -> bool {
+    guide.forest.recall_invariant();
+    let total = guide.forest.total();
+    has_item(guide.forest, &ItemId::Bucket(bucket))
+        && guide
+            .forest
+            .fits_attach_by(guide, Place::Bucket(bucket), weight, total)
+}
+
+/// Whether all devices of the bucket can get the weight.
+fn can_weigh_all(guide: &Asked<'_>, bucket: BucketId, weight: Weight) -> bool {
+    guide.forest.recall_invariant();
+    let total = guide.forest.total();
+    has_item(guide.forest, &ItemId::Bucket(bucket))
+        && guide.forest.fits_subtree_by(guide, bucket, weight, total)
+}
+
+/// Whether a device of the bucket has another weight.
+fn has_other_weight(guide: &Asked<'_>, bucket: BucketId, weight: Weight) -> bool {
+    has_item(guide.forest, &ItemId::Bucket(bucket))
+        && guide.forest.changes_subtree_by(guide, bucket, weight)
+}
+
+/// Whether the device can come to the bucket with the weight.
+fn can_move(guide: &Asked<'_>, device: DeviceId, bucket: BucketId, weight: Weight) -> bool {
+    guide.forest.recall_invariant();
+    let total = guide.forest.total();
+    has_item(guide.forest, &ItemId::Bucket(bucket))
+        && guide.forest.fits_move_by(
+            guide,
+            ItemId::Device(device),
+            Place::Bucket(bucket),
+            weight,
+            total,
+        )
+}
+
+/// Whether osd.0, which is 2 deep, is asked for 3 times at most.
+fn asks_for_a_device(rt: &impl Abort, guide: &Asked<'_>) -> bool {
+    let (osd_0, id, one) = (device(rt, 0), device_item(rt, 0), Weight::from_units(65536));
+    finds(guide, &id)
+        && guide.was_asked(3)
+        && has_parent(guide, &id)
+        && guide.was_asked(3)
+        && is_below(guide, bucket(rt, 1), &id)
+        && guide.was_asked(3)
+        && weighs(guide, osd_0, one)
+        && guide.was_asked(3)
+        && can_weigh(guide, osd_0, one)
+        && guide.was_asked(3)
+}
+
+/// Whether h1, which is 1 deep, and the place in it are asked for 2 times at most, and osd.0 and h2 5
+/// times.
+fn asks_for_a_bucket(rt: &impl Abort, guide: &Asked<'_>) -> bool {
+    let (h1, id, one) = (bucket(rt, 2), bucket_item(rt, 2), Weight::from_units(65536));
+    finds(guide, &id)
+        && guide.was_asked(2)
+        && has_items(guide, h1)
+        && guide.was_asked(2)
+        && can_receive(guide, h1, one)
+        && guide.was_asked(2)
+        && can_weigh_all(guide, h1, one)
+        && guide.was_asked(2)
+        && !has_other_weight(guide, h1, one)
+        && guide.was_asked(2)
+        && can_move(guide, device(rt, 0), bucket(rt, 3), one)
+        && guide.was_asked(5)
+}
+
+/// Whether a guide to the forest is asked so often.
+fn asks_seldom(rt: &impl Abort, forest: &Forest<Global>) -> bool {
+    let guide = Asked {
+        forest,
+        times: Cell::new(0),
+    };
+    asks_for_a_device(rt, &guide) && asks_for_a_bucket(rt, &guide)
+}
+
+#[test]
+fn guides_are_asked_once_for_each_bucket(rt: HostRuntime) {
+    let hierarchy = example(&rt);
+    let is_seldom = asks_seldom(&rt, hierarchy.forest());
+    drop(hierarchy);
+    assert!(rt; is_seldom);
+}
