@@ -1,6 +1,7 @@
 //! Each call once, over helpers that build a hierarchy item by item.
 
 mod asked;
+mod asked_changes;
 mod asks;
 mod calls;
 mod items;

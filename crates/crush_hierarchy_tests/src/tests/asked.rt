@@ -8,6 +8,7 @@ ghost use Rattle.crush_table.specs.Forest.{rows_of};
 ghost use Rattle.crush_table.specs.Table.{is_there, is_placed};
 ghost use Rattle.crush_nodes.specs.Guides.{place_in, place_under};
 
+use super::asked_changes::changes_ask;
 use super::calls::example;
 use super::items::{bucket, bucket_item, device, device_item};
 use crush_nodes::guide::{Guide, Spot};
@@ -21,7 +22,7 @@ use std::process::Abort;
 /// searches, and nothing of which of the items there it is.
 #[derive(Drop)]
 pub(super) struct Asked<'f> {
-    forest: &'f Forest<Global>,
+    pub(super) forest: &'f Forest<Global>,
     times: Cell<u32>,
 }
 
@@ -39,7 +40,7 @@ impl Guide for Asked<'_> {
 
 impl Asked<'_> {
     /// Whether it was asked, and at most so often. Then it counts anew.
-    fn was_asked(&self, most: u32) -> bool {
+    pub(super) fn was_asked(&self, most: u32) -> bool {
         let times = self.times.get();
         self.times.set(0);
         0 < times && times <= most
@@ -47,7 +48,7 @@ impl Asked<'_> {
 }
 
 /// Whether the item is there.
-fn has_item(forest: &Forest<Global>, id: &ItemId) -> bool
+pub(super) fn has_item(forest: &Forest<Global>, id: &ItemId) -> bool
     ensures { result ≡ is_there (rows_of forest.now) id.now }
 {
     forest.recall_invariant();
@@ -55,7 +56,7 @@ fn has_item(forest: &Forest<Global>, id: &ItemId) -> bool
 }
 
 /// Whether a bucket holds the item.
-fn is_held(forest: &Forest<Global>, id: &ItemId) -> bool
+pub(super) fn is_held(forest: &Forest<Global>, id: &ItemId) -> bool
     ensures { result ≡ is_placed (rows_of forest.now) id.now }
 {
     forest.recall_invariant();
@@ -193,12 +194,12 @@ fn asks_for_a_bucket(rt: &impl Abort, guide: &Asked<'_>) -> bool {
 }
 
 /// Whether a guide to the forest is asked so often.
-fn asks_seldom(rt: &impl Abort, forest: &Forest<Global>) -> bool {
+fn asks_seldom(rt: &(impl Abort + AllocGlobal), forest: &Forest<Global>) -> bool {
     let guide = Asked {
         forest,
         times: Cell::new(0),
     };
-    asks_for_a_device(rt, &guide) && asks_for_a_bucket(rt, &guide)
+    asks_for_a_device(rt, &guide) && asks_for_a_bucket(rt, &guide) && changes_ask(rt, &guide)
 }
 
 #[test]

@@ -1,0 +1,262 @@
+//! How often the calls of a forest that change it by a guide ask the guide. Each changes a copy.
+
+ghost use Rattle.std.specs.Prelude.{◌≡◌, false};
+ghost use Rattle.crush_units.specs.Name.{IsName};
+ghost use Rattle.crush_units.specs.declared.id.ItemId.TheVariants.{Bucket as BucketItem};
+ghost use Rattle.crush_table.specs.Columns.{is_part};
+ghost use Rattle.crush_table.specs.Forest.{rows_of};
+ghost use Rattle.crush_table.specs.Table.{are_nested, is_named};
+
+use super::asked::{Asked, has_item, is_held};
+use super::items::{bucket, bucket_item, device, device_item, leaf, name};
+use crush_tree::{Forest, Node, Place};
+use crush_units::{BucketId, DeviceId, ItemId, Name, Weight};
+use std::alloc::Global;
+use std::process::Abort;
+
+/// A copy of the forest that the guide searches.
+fn copy_of(rt: &impl Abort, guide: &Asked<'_>) -> Forest<Global>
+    ensures { rows_of result ≡ rows_of guide.now.forest.now }
+{
+    guide.forest.try_copy().expect(rt, "memory")
+}
+
+/// Whether the second bucket is the first, or below it.
+fn is_inside(forest: &Forest<Global>, own: BucketId, bucket: BucketId) -> bool
+    ensures { result ≡ is_part (rows_of forest.now) (BucketItem own) (BucketItem bucket) }
+{
+    forest.recall_invariant();
+    forest.contains(own, ItemId::Bucket(bucket))
+}
+
+/// Whether one of two buckets is the other or below it.
+fn are_nested(forest: &Forest<Global>, a: BucketId, b: BucketId) -> bool
+    ensures { result ≡ are_nested (rows_of forest.now) a b }
+{
+    is_inside(forest, a, b) || is_inside(forest, b, a)
+}
+
+/// Whether an item has the name.
+fn has_name(forest: &Forest<Global>, name: &Name<Global>) -> bool
+    ensures named { result ≡ is_named (rows_of forest.now) name.now }
+    ensures name { IsName name.now }
+{
+    forest.recall_invariant();
+    forest.id_of(name.as_str()).is_some()
+}
+
+/// Takes an item out. Whether that is done.
+fn take_out(guide: &Asked<'_>, forest: &mut Forest<Global>, id: &ItemId) -> bool
+    requires { rows_of forest.old ≡ rows_of guide.now.forest.now }
+{
+    match forest.detach_by(guide, *id) {
+        Some(node) => {
+            drop(node);
+            true
+        }
+        None => false,
+    }
+}
+
+/// Makes room in a bucket, if it is there. Whether that is done.
+fn make_room(guide: &Asked<'_>, forest: &mut Forest<Global>, bucket: BucketId) -> bool
+    requires { rows_of forest.old ≡ rows_of guide.now.forest.now }
+    ensures { rows_of forest.new ≡ rows_of guide.now.forest.now }
+{
+    has_item(forest, &ItemId::Bucket(bucket))
+        && forest.reserve_by(guide, Place::Bucket(bucket)).is_ok()
+}
+
+/// Puts an item into a bucket that has room, if it can come there. Whether that is done.
+fn put_new(
+    guide: &Asked<'_>,
+    forest: &mut Forest<Global>,
+    bucket: BucketId,
+    node: Node<Global>,
+) -> bool
+    requires { rows_of forest.old ≡ rows_of guide.now.forest.now }
+{
+    let can_come = forest.can_attach(Place::Bucket(bucket), &node);
+    if can_come && forest.has_room(Place::Bucket(bucket)) {
+        forest.attach_by(guide, Place::Bucket(bucket), node);
+        true
+    } else {
+        drop(node);
+        false
+    }
+}
+
+/// Gives a placed device another weight. Whether that is done.
+fn weigh(guide: &Asked<'_>, forest: &mut Forest<Global>, device: DeviceId, weight: Weight) -> bool
+    requires { rows_of forest.old ≡ rows_of guide.now.forest.now }
+{
+    forest.recall_invariant();
+    if !weight.is_device_weight() {
+        return false;
+    }
+    if !is_held(forest, &ItemId::Device(device)) {
+        return false;
+    }
+    if !forest.fits_weight(device, weight) {
+        return false;
+    }
+    forest.set_weight_by(guide, device, weight);
+    true
+}
+
+/// Gives all devices below a bucket one weight. Whether that is done.
+fn weigh_all(
+    guide: &Asked<'_>,
+    forest: &mut Forest<Global>,
+    bucket: BucketId,
+    weight: Weight,
+) -> bool
+    requires { rows_of forest.old ≡ rows_of guide.now.forest.now }
+{
+    forest.recall_invariant();
+    if !weight.is_device_weight() {
+        return false;
+    }
+    if !has_item(forest, &ItemId::Bucket(bucket)) {
+        return false;
+    }
+    if !forest.fits_subtree(bucket, weight) {
+        return false;
+    }
+    forest.set_subtree_by(guide, bucket, weight);
+    true
+}
+
+/// Gives an item another name, if no item has it. Whether that is done.
+fn give_name(
+    guide: &Asked<'_>,
+    forest: &mut Forest<Global>,
+    id: &ItemId,
+    name: Name<Global>,
+) -> bool
+    requires { rows_of forest.old ≡ rows_of guide.now.forest.now }
+{
+    forest.recall_invariant();
+    if !has_item(forest, id) {
+        drop(name);
+        return false;
+    }
+    if has_name(forest, &name) {
+        drop(name);
+        return false;
+    }
+    let old = forest.rename_by(guide, *id, name);
+    drop(old);
+    true
+}
+
+/// Exchanges names and items of two buckets. Whether that is done.
+fn exchange(guide: &Asked<'_>, forest: &mut Forest<Global>, a: BucketId, b: BucketId) -> bool
+    requires { rows_of forest.old ≡ rows_of guide.now.forest.now }
+{
+    forest.recall_invariant();
+    if !has_item(forest, &ItemId::Bucket(a)) {
+        return false;
+    }
+    if !has_item(forest, &ItemId::Bucket(b)) {
+        return false;
+    }
+    if are_nested(forest, a, b) {
+        return false;
+    }
+    if !forest.fits_swap_by(guide, a, b) {
+        return false;
+    }
+    forest.swap_by(guide, a, b);
+    true
+}
+
+/// Whether an item is taken out, with so many questions at most.
+fn detach_asks(rt: &impl Abort, guide: &Asked<'_>, id: &ItemId, most: u32) -> bool {
+    let mut forest = copy_of(rt, guide);
+    let asks = take_out(guide, &mut forest, id) && guide.was_asked(most);
+    drop(forest);
+    asks
+}
+
+/// Whether there is room in a bucket, with so many questions at most.
+fn reserve_asks(rt: &impl Abort, guide: &Asked<'_>, bucket: BucketId, most: u32) -> bool {
+    let mut forest = copy_of(rt, guide);
+    let asks = make_room(guide, &mut forest, bucket) && guide.was_asked(most);
+    drop(forest);
+    asks
+}
+
+/// Whether an item gets another name, with so many questions at most.
+fn rename_asks(rt: &(impl Abort + AllocGlobal), guide: &Asked<'_>, id: &ItemId, most: u32) -> bool {
+    let mut forest = copy_of(rt, guide);
+    let asks = give_name(guide, &mut forest, id, name(rt, "h9")) && guide.was_asked(most);
+    drop(forest);
+    asks
+}
+
+/// Whether a device gets another weight, with so many questions at most.
+fn weigh_asks(rt: &impl Abort, guide: &Asked<'_>, device: DeviceId, most: u32) -> bool {
+    let mut forest = copy_of(rt, guide);
+    let asks = weigh(guide, &mut forest, device, Weight::from_units(1)) && guide.was_asked(most);
+    drop(forest);
+    asks
+}
+
+/// Whether all devices of a bucket get another weight, with so many questions at most.
+fn weigh_all_asks(rt: &impl Abort, guide: &Asked<'_>, bucket: BucketId, most: u32) -> bool {
+    let mut forest = copy_of(rt, guide);
+    let asks = weigh_all(guide, &mut forest, bucket, Weight::from_units(1))
+        && guide.was_asked(most);
+    drop(forest);
+    asks
+}
+
+/// Whether h1 and h2 are exchanged, once they were asked for, with so many questions at most.
+fn exchange_asks(rt: &impl Abort, guide: &Asked<'_>, most: u32) -> bool {
+    let mut forest = copy_of(rt, guide);
+    let asks = exchange(guide, &mut forest, bucket(rt, 2), bucket(rt, 3)) && guide.was_asked(most);
+    drop(forest);
+    asks
+}
+
+/// Whether osd.0, which is 2 deep, and h1, which is 1 deep, are asked for 3 and 2 times at most.
+pub(super) fn changes_ask(rt: &(impl Abort + AllocGlobal), guide: &Asked<'_>) -> bool {
+    detach_asks(rt, guide, &device_item(rt, 0), 3)
+        && detach_asks(rt, guide, &bucket_item(rt, 2), 2)
+        && rename_asks(rt, guide, &device_item(rt, 0), 3)
+        && rename_asks(rt, guide, &bucket_item(rt, 2), 2)
+        && weigh_asks(rt, guide, device(rt, 0), 3)
+        && weigh_all_asks(rt, guide, bucket(rt, 2), 2)
+        && reserve_asks(rt, guide, bucket(rt, 2), 2)
+        && attach_asks(rt, guide, bucket(rt, 2), 2)
+        && exchange_asks(rt, guide, 8)
+}
+
+/// Whether an item comes into a bucket that has room for it, with so many questions at most. Room is
+/// made by another call, whose questions don't count.
+fn attach_asks(
+    rt: &(impl Abort + AllocGlobal),
+    guide: &Asked<'_>,
+    bucket: BucketId,
+    most: u32,
+) -> bool {
+    let mut forest = copy_of(rt, guide);
+    let asks = attaches(guide, &mut forest, bucket, leaf(rt, 9, "osd.9", 1), most);
+    drop(forest);
+    asks
+}
+
+/// Puts an item into a bucket, once there is room. Whether that is done with so many questions.
+fn attaches(
+    guide: &Asked<'_>,
+    forest: &mut Forest<Global>,
+    bucket: BucketId,
+    node: Node<Global>,
+    most: u32,
+) -> bool
+    requires { rows_of forest.old ≡ rows_of guide.now.forest.now }
+{
+    let has_room = make_room(guide, forest, bucket) && guide.was_asked(most);
+    put_new(guide, forest, bucket, node) && has_room && guide.was_asked(most)
+}
