@@ -1,0 +1,105 @@
+//! An example for a program of one thread that uses the library: it makes an edit of a map's text.
+//!
+//! A text is edited twice: the first edit gives a device a new weight, the second asks for what is
+//! refused. What is printed is the text after the first, and a line for the answer of each.
+#![tactic(auto)]
+
+ghost use Rattle.std.specs.Prelude.{◌≡◌, ℕ, List, IfOk};
+ghost use Rattle.std.specs.Io.KnownBytes.{Appends, Keeps};
+ghost use Rattle.crush_table.specs.Table.{Row};
+ghost use Rattle.crush_edits.specs.declared.refusal.EditFault.{EditFault as DeclaredFault};
+ghost use Rattle.crush_edits.specs.declared.refusal.Refusal.{Refusal as DeclaredRefusal};
+ghost use Rattle.crush_edits.specs.Answer.{done, refused};
+ghost use Rattle.crush_edits.specs.Edit.{edit};
+ghost use Rattle.crush_edits.specs.Setting.{SettingData};
+ghost use Rattle.crush_text.specs.declared.fault.TextFault.{TextFault as DeclaredFlaw};
+ghost use Rattle.crush_text.specs.Document.{IsMapText};
+ghost use Rattle.crush_text.specs.Flaw.{IsFlawOrWant};
+ghost use Rattle.crush_print.specs.MapText.{map_text};
+
+use crush_map::{Done, Edit, EditFault};
+use crush_print::{WriteFault, write_map};
+use crush_text::{TextFault, read_map};
+use crush_units::{Name, Weight};
+use std::alloc::Global;
+use std::io::Write;
+use thiserror::Error;
+
+/// The text that is edited. A printed one has a heading for each kind of line.
+const MAP: &[u8] = b"device 0 osd.0
+device 1 osd.1
+type 1 host
+type 11 root
+host h1 { id -2 alg straw2 item osd.0 weight 1.0 item osd.1 weight 1.5 }
+root default { id -1 alg straw2 item h1 }
+";
+
+/// Why the text after an edit isn't written.
+#[derive(Clone, Copy, Debug, PartialEq, Eq, Error)]
+enum Fault {
+    /// The text has a flaw, or there was no memory for its map.
+    #[error("{0}")]
+    Text(TextFault),
+    /// The edit is refused, or there was no memory for it.
+    #[error("{0}")]
+    Edit(EditFault),
+    /// The writer failed, or there was no memory for what was to be written.
+    #[error("{0}")]
+    Write(WriteFault),
+}
+
+fn main(rt: HostRuntime) -> anyhow::Result<()> {
+    let osd = Name::read(rt.alloc(), b"osd.1")?;
+    let weight = Weight::read("0.5")?;
+    print_edited(&rt, MAP, &Edit::Reweight { name: osd, weight })?;
+    let host = Name::read(rt.alloc(), b"h1")?;
+    print_edited(&rt, MAP, &Edit::Remove { name: host })
+}
+
+/// Prints the text after the edit, and what was answered. A refusal is an answer; any other fault,
+/// as want of memory, ends the program, and `main` tells it.
+fn print_edited(rt: &HostRuntime, text: &[u8], asked: &Edit) -> anyhow::Result<()> {
+    match edit_text(rt.alloc(), text, asked, &mut rt.stdout()) {
+        Ok(done) => {
+            println!(rt; "# done changed {} made {}", done.changed as u8, done.made)?;
+        }
+        Err(Fault::Edit(EditFault::Refused(refusal))) => {
+            println!(rt; "# refused {} {}", refusal.name(), refusal.error())?;
+        }
+        Err(fault) => return Err(fault.into()),
+    }
+    Ok(())
+}
+
+/// Reads a map's text, makes the edit and writes the text of the map after it.
+fn edit_text<W: Write>(alloc: Global, text: &[u8], asked: &Edit, out: &mut W) -> Result<Done, Fault>
+    // Of the map that the text spells, the table after the edit is what was written.
+    ensures done { (s : SettingData) (t : List Row) (n : ℕ) → IsMapText text.now s t n
+        → IfOk result (λ d. (u : List Row) × (edit s t asked.now ≡ done d.changed d.made u)
+        × Appends (W.contents out.old) (W.contents out.new) (map_text s u)) }
+
+    // A refusal is that of the table.
+    ensures refused { (r : DeclaredRefusal) → result ≡ Err (Fault.Edit (EditFault.Refused r))
+        → (s : SettingData) (t : List Row) (n : ℕ) → IsMapText text.now s t n
+        → edit s t asked.now ≡ refused r }
+
+    // A fault that is told of the text is a flaw of it, or memory was refused.
+    ensures flaw { (f : DeclaredFlaw) → result ≡ Err (Fault.Text f) → IsFlawOrWant text.now f }
+
+    // Of an edit that isn't made nothing is written.
+    ensures nothing { (f : DeclaredFault) → result ≡ Err (Fault.Edit f)
+        → Keeps (W.contents out.old) (W.contents out.new) }
+{
+    let (mut map, _adjusted) = match read_map(alloc, text) {
+        Ok(read) => read,
+        Err(fault) => return Err(Fault::Text(fault)),
+    };
+    let done = match map.apply(asked) {
+        Ok(done) => done,
+        Err(fault) => return Err(Fault::Edit(fault)),
+    };
+    match write_map(alloc, &map, out) {
+        Ok(()) => Ok(done),
+        Err(fault) => Err(Fault::Write(fault)),
+    }
+}
