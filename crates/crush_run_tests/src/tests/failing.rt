@@ -85,7 +85,11 @@ impl Read for EndlessReader {
 const SCRIPT: &[u8] = b"%operator a\nreweight osd.2 1.0\n";
 
 /// Whether nothing is written where the read of that number fails.
-fn stops_at(rt: &(impl AllocGlobal + RandomSource + Threads + Wait + Sync), job: &[u8], failing: usize) -> bool {
+fn stops_at(
+    rt: &(impl AllocGlobal + RandomSource + Threads + Wait + Sync),
+    job: &[u8],
+    failing: usize,
+) -> bool {
     let mut reader = FailingReader {
         bytes: job,
         asked: 0,
