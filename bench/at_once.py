@@ -1,5 +1,5 @@
 """Runs jobs of sixteen operators at once by crushedit, and looks whether what is printed is what the plain
-model of against_reference.py prints when it makes the calls one after the other, in the order of the history.
+model of model.py prints when it makes the calls one after the other, in the order of the history.
 
     python3 bench/at_once.py crates/crushedit/out/crushedit [JOBS [SEED]]
     python3 bench/at_once.py --model [JOBS [SEED]]
@@ -16,7 +16,8 @@ import random
 import subprocess
 import sys
 
-from against_reference import call_lines, random_call, random_map, run_call
+from chance import call_lines, random_call, random_map
+from model import run_call
 
 OPERATORS = [f"op{number}" for number in range(16)]
 MOST_CALLS = 100

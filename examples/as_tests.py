@@ -11,7 +11,7 @@ maps/ that is no refused one, what is written is run again and gives the same ma
 job's map alone is printed as it is, or, where there is a NAME.map, as that (NAME.alone.job). What a run is
 summed up as is counted here from the history. Each row of a table of refused/ is a job that is refused; these
 are one file, `records`, in which a record separator stands between two. Behind them stand jobs of chance, of one
-seed, with what the plain model of bench/against_reference.py prints of them. With --check nothing is written, and
+seed, with what the plain model of bench/model.py prints of them. With --check nothing is written, and
 the status is 1 where the crate has other files or other bytes.
 """
 import pathlib
@@ -21,7 +21,7 @@ import sys
 HERE = pathlib.Path(__file__).resolve().parent
 sys.dont_write_bytecode = True
 sys.path.insert(0, str(HERE.parent / "bench"))
-from against_reference import numbered  # noqa: E402
+from chance import numbered  # noqa: E402
 
 CRATE = HERE.parent / "crates/crush_examples"
 # What stands between two jobs that are refused: no text and no command has it.

@@ -1,0 +1,115 @@
+"""Maps, calls and jobs of chance, for the scripts that compare the program with the model."""
+
+import random
+
+from model import Map, run_call, units_of
+
+NAMES = ["h1", "h2", "h3", "h4", "r1", "r2", "w1", "default", "other", "x", "osd.4", "disk"]
+KINDS = ["osd", "host", "rack", "row", "root", "pod"]
+WEIGHTS = ["0", "1", "0.333", "2.5", "1.00001", "32767.99998", "32768", "40000", "0.00001"]
+
+
+def random_map(dice):
+    """A map that isn't too heavy to be read."""
+    while True:
+        map = any_map(dice)
+        if not map.is_heavy():
+            return map
+
+
+def any_map(dice):
+    map = Map({0: "osd", 1: "host", 3: "rack", 4: "row", 11: "root"})
+    for number in dice.sample(range(9), dice.randint(1, 7)):
+        name = "disk" if number == 7 else f"osd.{number}"
+        map.items[name] = {"id": number, "weight": 0, "kids": []}
+    spare = list(map.items)
+    numbers = dice.sample(range(-9, 0), 9)
+    for name in dice.sample(NAMES[:9], dice.randint(1, 6)):
+        kids = dice.sample(spare, dice.randint(0, min(3, len(spare))))
+        spare = [n for n in spare if n not in kids] + [name]
+        for kid in kids:
+            if map.is_device(kid):
+                map.items[kid]["weight"] = units_of(dice.choice(WEIGHTS[:6] + WEIGHTS[:5]))
+        map.items[name] = {"id": numbers.pop(), "kind": dice.choice([1, 3, 4, 11]),
+                           "alg": dice.choice(["straw2", "straw", "list"]), "kids": kids}
+    return map
+
+
+def random_command(dice, map):
+    def name():
+        if map.items and dice.random() < 0.75:
+            return dice.choice(list(map.items))
+        return dice.choice(NAMES + [f"osd.{dice.randint(0, 9)}" for _ in range(6)])
+
+    def pair():
+        bucket = name()
+        if bucket in map.items and dice.random() < 0.8:
+            return f"{map.types[map.items[bucket].get('kind', 1)]}={bucket}"
+        return f"{dice.choice(KINDS[1:5] * 4 + KINDS)}={bucket}"
+
+    def pairs():
+        return [pair() for _ in range(dice.choice([0] + [1] * 9 + [2] * 6 + [3] * 2))]
+
+    word = dice.choice(["add", "set", "create-or-move"] * 3 + ["move"] * 6 + [
+        "swap-bucket", "reweight", "reweight-subtree", "rm", "remove", "add-bucket",
+        "rename-bucket"] * 2)
+    if word in ("add", "set", "create-or-move"):
+        return [word, f"osd.{dice.randint(0, 9)}", dice.choice(WEIGHTS + WEIGHTS[:6] * 2)] + pairs()
+    if word == "move":
+        return [word, name()] + pairs()
+    if word in ("reweight", "reweight-subtree"):
+        return [word, name(), dice.choice(WEIGHTS)]
+    if word in ("rm", "remove"):
+        return [word, name()]
+    if word == "add-bucket":
+        return [word, name(), dice.choice(KINDS)]
+    return [word, name(), name()]
+
+
+def random_call(dice, map):
+    """A call: whether it is a batch, and its commands, each as its words."""
+    is_batch = dice.random() < 0.2
+    count = dice.randint(0, 4) if is_batch else 1
+    return is_batch, [random_command(dice, map) for _ in range(count)]
+
+
+def call_lines(dice, call):
+    """The lines of a script that ask for a call."""
+    is_batch, commands = call
+    if is_batch:
+        return "begin\n" + "".join(" ".join(words) + "\n" for words in commands) + "commit\n"
+    return " ".join(commands[0]) + dice.choice(["", "", " # why not", "\r"]) + "\n"
+
+
+def random_job(dice):
+    """The bytes of a job, and what is to be printed of it."""
+    map = random_map(dice)
+    job, lines, number = map.text(), [], 0
+    for operator in dice.sample(["a", "b", "c.d"], dice.randint(0, 3)):
+        job += f"%operator {operator}\n"
+        for _ in range(dice.randint(0, 6)):
+            number += 1
+            call = random_call(dice, map)
+            job += call_lines(dice, call)
+            map, line = run_call(map, call)
+            lines.append(f"# {number} {operator} {line}\n")
+    return job, map.text() + "".join(lines)
+
+
+class Dice(random.Random):
+    """Draws by `random` alone, whose numbers of a seed are the same in each version of Python."""
+
+    def randint(self, low, high):
+        return low + int(self.random() * (high - low + 1))
+
+    def choice(self, things):
+        return things[self.randint(0, len(things) - 1)]
+
+    def sample(self, things, count):
+        left = list(things)
+        return [left.pop(self.randint(0, len(left) - 1)) for _ in range(count)]
+
+
+def numbered(count, seed):
+    """The jobs of a seed, each with what is to be printed of it."""
+    return (random_job(Dice(f"{seed} {index}")) for index in range(count))
