@@ -1,11 +1,12 @@
 """Runs crushedit on inputs that are made to take long, and prints how many processor seconds each takes.
 
-    python3 bench/hostile.py crates/crushedit/out/crushedit [--megabytes 1 16] [--limit 60] [--only WORD ..]
+    python3 bench/hostile.py crates/crushedit/out/crushedit [--megabytes 1 16] [--limit 5 60] [--only WORD ..]
     python3 bench/hostile.py --write FOLDER [--megabytes 1 16] [--only WORD ..]
 
 Each input has at most so many bytes, a megabyte being 1,000,000. Printed are its name, its bytes, the seconds,
-the status and standard error. A run that takes longer than the limit is ended, and `> LIMIT` is printed. The status
-is 1 where another signal ended a run. With --write the inputs are written into the folder and nothing is run.
+the status and standard error. The bound is 5 seconds for an input of 1 MB, 60 for one of 16 MB: a limit for each of
+the sizes. A run that takes longer is ended, and `> LIMIT` is printed; then, and where another signal ended a run,
+the status is 1. With --write the inputs are written into the folder and nothing is run.
 """
 
 import argparse
@@ -82,6 +83,10 @@ def hundred_deep_reweights(size):
     return nest() + [OPERATOR] + [f"reweight osd.0 {n % 7}.5" for n in range(100)]
 
 
+def deep_subtrees(size):
+    return filled(nest() + [OPERATOR], size, lambda n: f"reweight-subtree b1 {n % 7}.5")
+
+
 def deep_renames(size):
     return filled(nest() + [OPERATOR], size, lambda n: f"rename-bucket {['b4096 c', 'c b4096'][n % 2]}")
 
@@ -147,6 +152,12 @@ def batches_of_two(size):
                   lambda n: f"begin\nreweight osd.{n % count} {n % 7}\nreweight osd.0 {n % 5}\ncommit")
 
 
+def refused_batches(size):
+    """The last edit of each batch is refused, so that what the others made is let go."""
+    count = devices_for(size)
+    return filled(flat(count, 100) + [OPERATOR], size, lambda n: f"begin\nreweight osd.{n % count} {n % 7}\nrm x\ncommit")
+
+
 def one_batch(size):
     count = devices_for(size)
     lines = filled(flat(count, 100) + [OPERATOR, "begin"], size - 7, lambda n: f"reweight osd.{n % count} {n % 7}")
@@ -191,6 +202,14 @@ def take_steps(size):
 def pairs_over_types(size):
     lines = [f"type {number} t{number}" for number in range(256)] + [OPERATOR]
     return filled(lines, size, lambda n: "move x " + " ".join(f"t{255 - (n + k) % 255}=y{k}" for k in range(16)), 4096)
+
+
+def routes_without_room(size):
+    """Each call would make sixteen buckets, of which the map has no room for all."""
+    lines = TYPES + [f"type {number} t{number}" for number in range(20, 36)]
+    lines += [line for n in range(MOST_BUCKETS - 15) for line in bucket("rack", f"b{n}", n + 1, [])]
+    pairs = " ".join(f"t{number}=y{number}" for number in range(20, 36))
+    return filled(lines + [OPERATOR], size, lambda n: f"add osd.{n} 1 {pairs}")
 
 
 def class_ids(size):
@@ -240,11 +259,12 @@ def spaces_of_operators(size):
 
 
 INPUTS = {function.__name__: function for function in (
-    hundred_deep_reweights, deep_reweights, deep_renames, deep_moves, deep_absent, deep_batches, deep_pairs_of_edits,
-    deep_swaps, devices_alone, long_names, long_absent_names, new_buckets, new_devices, flat_batches, batches_of_two,
-    one_batch, removals_at_the_front, moves_from_the_front, moves_there_and_back, subtrees, large_swaps, take_steps,
-    pairs_over_types, class_ids, new_buckets_of_class_ids, sixteen_operators, a_comment, a_word, blank_lines,
-    comments_in_a_section, blanks_in_a_line, spaces_of_operators)}
+    hundred_deep_reweights, deep_reweights, deep_subtrees, deep_renames, deep_moves, deep_absent, deep_batches,
+    deep_pairs_of_edits, deep_swaps, devices_alone, long_names, long_absent_names, new_buckets, new_devices,
+    flat_batches, batches_of_two, refused_batches, one_batch, removals_at_the_front, moves_from_the_front,
+    moves_there_and_back, subtrees, large_swaps, take_steps, pairs_over_types, routes_without_room, class_ids,
+    new_buckets_of_class_ids, sixteen_operators, a_comment, a_word, blank_lines, comments_in_a_section,
+    blanks_in_a_line, spaces_of_operators)}
 
 
 def timed(program, job, limit):
@@ -268,16 +288,19 @@ def main():
     parser.add_argument("program", nargs="?", help="not with --write")
     parser.add_argument("--write", metavar="FOLDER")
     parser.add_argument("--megabytes", type=float, nargs="+", default=[1, 16])
-    parser.add_argument("--limit", type=int, default=60, help="processor seconds that a run may take")
+    parser.add_argument("--limit", type=int, nargs="+", help="processor seconds that a run may take, for each size")
     parser.add_argument("--only", nargs="+", metavar="WORD", help="inputs whose name has one of these words")
     options = parser.parse_args()
     if bool(options.program) == bool(options.write):
         parser.error("a program or --write FOLDER")
-    killed = False
+    limits = options.limit or [5 if megabytes <= 1 else 60 for megabytes in options.megabytes]
+    if len(limits) != len(options.megabytes):
+        parser.error("a limit for each of the sizes")
+    failed = False
     with tempfile.TemporaryDirectory() as own:
         folder = options.write or own
         os.makedirs(folder, exist_ok=True)
-        for megabytes, (name, make) in itertools.product(options.megabytes, INPUTS.items()):
+        for (megabytes, limit), (name, make) in itertools.product(zip(options.megabytes, limits), INPUTS.items()):
             if options.only and not any(word in name for word in options.only):
                 continue
             job = os.path.join(folder, f"{name}.{megabytes:g}")
@@ -286,12 +309,12 @@ def main():
             if options.write:
                 continue
             size = os.path.getsize(job)
-            seconds, status, told = timed(os.path.abspath(options.program), job, options.limit)
+            seconds, status, told = timed(os.path.abspath(options.program), job, limit)
             os.remove(job)
-            killed |= status < 0
-            shown = f"> {options.limit}" if seconds is None else f"{seconds:.2f}"
+            failed |= status < 0 or seconds is None
+            shown = f"> {limit}" if seconds is None else f"{seconds:.2f}"
             print(f"{name:26} {size:>9} {shown:>7} {status:>3} {told}".rstrip(), flush=True)
-    sys.exit(1 if killed else 0)
+    sys.exit(1 if failed else 0)
 
 
 if __name__ == "__main__":

@@ -2,8 +2,8 @@
 
     python3 bench/streams.py crates/crushedit/out/crushedit [--table]
 
-Each case is a command of bash, with `$C` for the program, in a folder with `job` (a map with an edit) and
-`large` (a map of 2,000 devices, more than a pipe holds). Of each it tells the status, of what a signal ended
+Each case is a command of bash, with `$C` for the program, in a folder with `job` (a map with an edit), `large` (one
+of 2,000 devices, more than a pipe holds) and `adjusted` (a weight that is no sum). Of each it tells the status, of what a signal ended
 128 and its number, what standard error got, and how much of its output was written. With --table what comes is
 printed as a table and not judged; else a line for each case that ends otherwise, and status 1 where any does.
 """
@@ -17,6 +17,10 @@ from make_job import map_text, script
 
 READ, WRITE = "crushedit: read fault", "crushedit: write fault"
 FILE_SIZE = 128 + 25
+ADJUSTED = "type 1 host\nhost a { id -1 alg straw2 }\nhost b { id -2 alg straw2 item a weight 1 }\n"
+# Makes 4 the end for writing of a pipe whose only reader has closed its end.
+NO_READER = "mkfifo pipe; exec 3<> pipe 4> pipe 3<&-"
+JOBS = {"job": map_text(3) + script(3, 1), "large": map_text(2000) + script(2000, 1), "adjusted": ADJUSTED}
 # What it is, the command, the status, standard error, and what of the output is written: all, none, or the
 # start of it; of the empty job all are 75 bytes. None where the command sends the output elsewhere.
 CASES = [
@@ -35,18 +39,26 @@ CASES = [
     ("standard input is closed", "$C <&-", 3, READ, "none"),
     ("standard input comes in pieces", "(head -c 100 job; sleep 0.2; tail -c +101 job) | $C", 0, "", "all"),
     ("the file behind standard input is removed", "cp job gone; exec 3< gone; rm gone; $C <&3", 0, "", "all"),
+    ("FILE is removed while it is read", "mkfifo f; (head -c 100 job; rm f; tail -c +101 job) > f & $C f", 0, "", "all"),
     ("standard output is closed", "$C job >&-", 3, WRITE, None),
     ("standard output is a full disk", "$C job > /dev/full", 3, WRITE, None),
     ("the reader of standard output goes away", "$C large | true; exit ${PIPESTATUS[0]}", 3, WRITE, None),
     ("the same behind `head`", "$C large | head -n 1 > line; exit ${PIPESTATUS[0]}", 3, WRITE, None),
+    ("the reader of standard output is gone before the first byte", f"{NO_READER}; $C job >&4", 3, WRITE, None),
+    ("standard output and standard error are one, whose reader is gone", f"{NO_READER}; $C job >&4 2>&4", 3, "", None),
     ("a limit on the size of files", "ulimit -f 1; $C large", FILE_SIZE, "", "start"),
     ("the same where SIGXFSZ is ignored", "trap '' XFSZ; ulimit -f 1; $C large", 3, WRITE, "start"),
     ("standard error is closed", "$C missing 2>&-", 3, "", "none"),
     ("standard error is a full disk", "$C missing 2> /dev/full", 3, "", "none"),
+    ("the reader of standard error is gone", f"{NO_READER}; $C missing 2>&4", 3, "", "none"),
+    ("standard error is closed, and the run is done", "$C job 2>&-", 0, "", "all"),
+    ("standard error is closed, and a weight is replaced", "$C adjusted 2>&-", 0, "", "all"),
+    ("the same where it isn't closed", "$C adjusted", 0, "crushedit: adjusted 1", "all"),
     ("standard input and output are closed", "$C job <&- >&-", 3, WRITE, None),
     ("all three are closed", "$C job <&- >&- 2>&-", 3, "", None),
     ("--help to a full disk", "$C --help > /dev/full", 3, WRITE, None),
     ("--version to a full disk", "$C --version > /dev/full", 3, WRITE, None),
+    ("--help to a pipe whose reader is gone", f"{NO_READER}; $C --help >&4", 3, WRITE, None),
     ("--help to a closed output", "$C --help >&-", 3, WRITE, None),
 ]
 
@@ -62,7 +74,7 @@ def written(out, whole):
 def ending(program, folder, command):
     """The status, standard error and standard output of a case, in a folder of its own."""
     with tempfile.TemporaryDirectory(dir=folder) as case:
-        for name in ("job", "large"):
+        for name in JOBS:
             os.link(os.path.join(folder, name), os.path.join(case, name))
         with open(os.path.join(folder, "out"), "wb") as out:
             run = subprocess.run(["bash", "-c", command], cwd=case, env={**os.environ, "C": program},
@@ -78,9 +90,9 @@ def main():
     failed = False
     with tempfile.TemporaryDirectory() as folder:
         whole = []
-        for name, devices in (("job", 3), ("large", 2000)):
+        for name, text in JOBS.items():
             with open(os.path.join(folder, name), "w") as out:
-                out.write(map_text(devices) + script(devices, 1))
+                out.write(text)
             whole.append(subprocess.run([program, out.name], capture_output=True, check=True).stdout)
         for name, command, *due in CASES:
             status, told, out = ending(program, folder, command)
