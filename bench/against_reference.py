@@ -4,9 +4,10 @@ status, standard error and what is printed with what a plain model says.
     python3 bench/against_reference.py crates/crushedit/out/crushedit [JOBS [SEED]]
 
 The model (`model.py`, and `reading.py`, which reads jobs) is written from docs/ alone. Jobs are of random maps and
-scripts, of sixteen operators, and those of examples/, which have tunables, rules and classes. In turn all bytes are
-compared. At once the history may be another each time: the model makes the calls in its order (`at_once.py`). The
-seed may be any word; without one it is drawn. It is printed, and the same seed makes the same jobs.
+scripts, of sixteen operators, and those of examples/, the refused ones too, as crush_examples has them: these have
+tunables, rules and classes. In turn all bytes are compared. At once the history may be another each time: the model
+makes the calls in its order (`at_once.py`). The seed may be any word; without one it is drawn. It is printed, and the
+same seed makes the same jobs.
 """
 
 import collections
@@ -18,15 +19,15 @@ import sys
 
 from at_once import fault_of, job_text, random_scripts
 from chance import Dice, random_job
-from reading import Fault, outcome, read_job
+from reading import outcome, read_job
 
-EXAMPLES = pathlib.Path(__file__).resolve().parent.parent / "examples"
+DATA = pathlib.Path(__file__).resolve().parent.parent / "crates/crush_examples/data"
 # What a mutation puts into a job: words and bytes that are due somewhere, or nowhere, and numbers out of range.
 PIECES = [
     " ", "\t", "\n", "\r", "#", "{", "}", " { ", " } ", "$", "\0", "\x1f", "\x7f", "\xe9", "=", "%", ".", "-", "_",
-    "\n%operator a\n", "\n%operator zz\n", "\nbegin\n", "\ncommit\n", "\nrm x\n", "\nfly\n", " host=h1", " x=y", " osd=x",
-    " class ssd ", " class ", " weight 1.5 ", " weight ", " hash 0 ", " hash 1 ", " pos 0 ", " min_size 1 ", " max_size 2 ",
-    " step emit ", " step choosemsr ", " step set_x 1 ", " step take default ", " step choose firstn -1 type host ",
+    "\n%operator a\n", "\n%operator zz\n", "\nbegin\n", "\ncommit\n", "\nrm x\n", "\nfly\n", " host=h1", " x=y",
+    " osd=x", " class ssd ", " class ", " weight 1.5 ", " weight ", " hash 0 ", " hash 1 ", " pos 0 ", " min_size 1 ",
+    " max_size 2 ", " step emit ", " step choosemsr ", " step set_x 1 ", " step take default ", " step choose firstn -1 type host ",
     " choose_args 0 ", " tunable t 1 ", " device 7 osd.7 ", " type 2 chassis ", " rule r { id 9 type x } ",
     " host z { id -99 alg straw2 } ", " id -7 class ssd ", " item osd.1 ", " uniform ", "a" * 255, "a" * 256,
     "0", "00", "1", "-0", "-1", "4294967295", "4294967296", "2147483647", "2147483648", "-2147483648", "-2147483649",
@@ -88,11 +89,13 @@ def prefix(dice, text):
     return text[: place(dice, text)]
 
 
-def any_job(dice, examples):
-    kind = dice.randint(0, 4)
+def any_job(dice, examples, refused):
+    kind = dice.randint(0, 5)
     if kind == 0:
         return job_text(dice, *random_scripts(dice))
-    return dice.choice(examples).read_bytes().decode("latin-1") if kind == 1 else random_job(dice)[0]
+    if kind < 3:
+        return dice.choice(refused if kind == 1 else examples)
+    return random_job(dice)[0]
 
 
 def run(program, flags, text):
@@ -115,11 +118,12 @@ def difference(program, text, due):
 
 
 def compare(program, count, seed):
-    examples = sorted([*EXAMPLES.glob("*.job"), *EXAMPLES.glob("*/*.job")])
+    examples = [path.read_bytes().decode("latin-1") for path in sorted(DATA.glob("*.job"))]
+    refused = (DATA / "records").read_bytes().decode("latin-1").split("\x1e")
     told, refusals = collections.Counter(), collections.Counter()
     for index in range(count):
         dice = Dice(f"{seed} {index}")
-        job = any_job(dice, examples)
+        job = any_job(dice, examples, refused)
         for name, text in (("job", job), ("mutation", mutated(dice, job)), ("prefix", prefix(dice, job))):
             due = outcome(text)
             wrong = difference(program, text, due)

@@ -155,7 +155,8 @@ def batches_of_two(size):
 def refused_batches(size):
     """The last edit of each batch is refused, so that what the others made is let go."""
     count = devices_for(size)
-    return filled(flat(count, 100) + [OPERATOR], size, lambda n: f"begin\nreweight osd.{n % count} {n % 7}\nrm x\ncommit")
+    return filled(flat(count, 100) + [OPERATOR], size,
+                  lambda n: f"begin\nreweight osd.{n % count} {n % 7}\nrm x\ncommit")
 
 
 def one_batch(size):

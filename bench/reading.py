@@ -170,7 +170,8 @@ class Reader:
             return sum + own(name, written) > MOST["bucket"] or total > MOST["map"]
 
         is_alone = self.left[-2][1] != "weight" if len(self.left) > 1 else True
-        name = self.plain(("UnknownItem", lambda w: w not in self.map.items), ("SecondParent", lambda w: w in self.held),
+        name = self.plain(("UnknownItem", lambda w: w not in self.map.items),
+                          ("SecondParent", lambda w: w in self.held),
                           ("SumTooLarge", lambda w: is_alone and is_too_heavy(w, 65536)))
         written = None
         if self.skip("weight"):
@@ -198,13 +199,12 @@ class Reader:
         for size in ("min_size", "max_size"):
             if self.skip(size):
                 lines.append(f"\t{size} {self.number(NUMBER, 0, LARGEST)}")
-        lines = [(line.replace("{", "{{"), None) for line in lines]
         steps = []
         while self.take(("Unexpected", lambda w: w not in ("step", "}")),
                         ("TooMany", lambda w: w == "step" and len(steps) == MOST_STEPS)) == "step":
             steps.append(self.step())
-        lines = [(line.replace("{{", "{"), bucket) for line, bucket in lines] + steps + [("}", None)]
-        self.map.rules.append({"name": name, "id": number, "lines": lines})
+        lines = [(line, None) for line in lines]
+        self.map.rules.append({"name": name, "id": number, "lines": lines + steps + [("}", None)]})
 
     def step(self):
         """A step as it is printed, and the id of the bucket that it takes, whose name goes into the braces."""

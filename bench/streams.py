@@ -3,9 +3,10 @@
     python3 bench/streams.py crates/crushedit/out/crushedit [--table]
 
 Each case is a command of bash, with `$C` for the program, in a folder with `job` (a map with an edit), `large` (one
-of 2,000 devices, more than a pipe holds) and `adjusted` (a weight that is no sum). Of each it tells the status, of what a signal ended
-128 and its number, what standard error got, and how much of its output was written. With --table what comes is
-printed as a table and not judged; else a line for each case that ends otherwise, and status 1 where any does.
+of 2,000 devices, more than a pipe holds) and `adjusted` (a weight that is no sum). Of each it tells the status, of
+what a signal ended 128 and its number, what standard error got, and how much of its output was written. With --table
+what comes is printed as a table and not judged; else a line for each case that ends otherwise, and status 1 where
+any does.
 """
 
 import os
@@ -39,7 +40,8 @@ CASES = [
     ("standard input is closed", "$C <&-", 3, READ, "none"),
     ("standard input comes in pieces", "(head -c 100 job; sleep 0.2; tail -c +101 job) | $C", 0, "", "all"),
     ("the file behind standard input is removed", "cp job gone; exec 3< gone; rm gone; $C <&3", 0, "", "all"),
-    ("FILE is removed while it is read", "mkfifo f; (head -c 100 job; rm f; tail -c +101 job) > f & $C f", 0, "", "all"),
+    ("FILE is removed while it is read",
+     "mkfifo f; (head -c 100 job; rm f; tail -c +101 job) > f & $C f", 0, "", "all"),
     ("standard output is closed", "$C job >&-", 3, WRITE, None),
     ("standard output is a full disk", "$C job > /dev/full", 3, WRITE, None),
     ("the reader of standard output goes away", "$C large | true; exit ${PIPESTATUS[0]}", 3, WRITE, None),
