@@ -16,6 +16,7 @@
 
 mod hashing;
 mod index;
+mod key;
 pub mod law;
 mod names;
 mod places;

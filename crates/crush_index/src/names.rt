@@ -5,6 +5,7 @@ ghost use Rattle.crush_table.specs.Table.{Row, is_named, name_of};
 ghost use Rattle.crush_index.specs.NamesTold.{id_told, TellsSame, TellsOne, TellsTwo};
 
 use crate::hashing::Hashing;
+use crate::key::{Asked, Key};
 use crush_units::{ItemId, Name};
 use indexmap::IndexMap;
 use std::alloc::{AllocError, Global};
@@ -12,7 +13,7 @@ use std::alloc::{AllocError, Global};
 /// The id of each name. It has names of its own, in the machine's memory.
 #[derive(Drop)]
 pub struct Names {
-    ids: IndexMap<Name<Global>, ItemId, Hashing>,
+    ids: IndexMap<Key, ItemId, Hashing>,
 }
 
 impl Names {
@@ -29,7 +30,7 @@ impl Names {
     pub fn id_of(&self, name: &[u8]) -> Option<ItemId>
         ensures { result ≡ id_told self.now name.now }
     {
-        match self.ids.get(name) {
+        match self.ids.get(Asked { bytes: name }) {
             Some(id) => Some(*id),
             None => None,
         }
@@ -40,7 +41,7 @@ impl Names {
         ensures ok { OnOk result (TellsOne self.old self.new name (Some id)) }
         ensures err { OnErr result (TellsSame self.old self.new) }
     {
-        self.ids.insert(name, id)?;
+        self.ids.insert(Key::of(name), id)?;
         Ok(())
     }
 
@@ -48,7 +49,7 @@ impl Names {
     pub fn remove(&mut self, name: &[u8])
         ensures { TellsOne self.old self.new name.now None }
     {
-        self.ids.swap_remove(name);
+        self.ids.swap_remove(Asked { bytes: name });
     }
 
     /// Another name for the item that has the first one. An Err is want of memory, and nothing has
@@ -59,8 +60,8 @@ impl Names {
         ensures ok { OnOk result (TellsTwo self.old self.new to (Some id) from.now None) }
         ensures err { OnErr result (TellsSame self.old self.new) }
     {
-        self.ids.insert(to, id)?;
-        self.ids.swap_remove(from);
+        self.ids.insert(Key::of(to), id)?;
+        self.ids.swap_remove(Asked { bytes: from });
         Ok(())
     }
 
@@ -70,10 +71,10 @@ impl Names {
         requires second { id_told self.old b.now ≡ Some second }
         ensures { TellsTwo self.old self.new a.now (Some second) b.now (Some first) }
     {
-        if let Some(id) = self.ids.get_mut(b) {
+        if let Some(id) = self.ids.get_mut(Asked { bytes: b }) {
             *id = first;
         }
-        if let Some(id) = self.ids.get_mut(a) {
+        if let Some(id) = self.ids.get_mut(Asked { bytes: a }) {
             *id = second;
         }
     }
