@@ -1,7 +1,10 @@
 pub mod Change
+pub mod Moving
 pub mod Named
+pub mod Putting
 pub mod Shuffled
 pub mod Subtree
 pub mod Swapping
+pub mod WayTo
 pub use Rattle.crush_nodes.specs.Ops
 pub use Rattle.crush_nodes.specs.Seen

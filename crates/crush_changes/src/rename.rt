@@ -1,10 +1,10 @@
 //! New names.
 
 ghost use Rattle.std.specs.Prelude.{◌≡◌, Some};
-ghost use Rattle.crush_table.specs.Stored.{StoresSums};
 ghost use Rattle.crush_changes.specs.Named.{name_in, with_name};
-ghost use Rattle.crush_nodes.specs.Ops.{count_of_id, StoresUpTo};
+ghost use Rattle.crush_nodes.specs.Ops.{StoresUpTo};
 ghost use Rattle.crush_nodes.specs.Seen.{items_of};
+ghost use Rattle.crush_changes.specs.WayTo.{IsWayTo};
 ghost use Rattle.crush_units.specs.declared.limits.TheConstants.{HEAVIEST_BUCKET};
 
 use crate::change::{Rename, change_at};
@@ -20,9 +20,7 @@ pub fn rename_in<A: Allocator, W: Way>(
     id: &ItemId,
     name: Name<A>,
 ) -> Name<A>
-    requires known { W.knows way id.now (items_of items.old) }
-    requires one { count_of_id id.now (items_of items.old) ≡ 1 }
-    requires sums { StoresSums (items_of items.old) }
+    requires way { IsWayTo (W.knows way) id.now (items_of items.old) }
     requires stored { StoresUpTo HEAVIEST_BUCKET (items_of items.old) }
     ensures old { Some result ≡ name_in id.now (items_of items.old) }
     ensures after { items_of items.new ≡ with_name id.now name (items_of items.old) }

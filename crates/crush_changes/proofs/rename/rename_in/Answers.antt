@@ -9,11 +9,9 @@ change_at-requires g c =
     let i = c.args.id.now in
     let t = items_of c.args.items.now in
     record {
-      known = c.requires.known;
-      one = c.requires.one;
-      sums = c.requires.sums;
+      way = c.requires.way;
       can = tt;
-      fits = λ y out does. subst (StoresUpTo 4294967295) (sym (named i c.args.name t y c.requires.one c.requires.sums does.0)) (StoresUpTo-with_name 4294967295 i c.args.name t c.requires.stored);
+      fits = λ y out does. subst (StoresUpTo 4294967295) (sym (named i c.args.name t y c.requires.way.one c.requires.way.sums does.0)) (StoresUpTo-with_name 4294967295 i c.args.name t c.requires.stored);
     }
 
 pub returns : goal.returns
@@ -23,5 +21,5 @@ returns g c =
     let change = c.change_at.ensures in
     record {
       old = change.comes.1 ∙ sym (name_taken i t);
-      after = change.is ∙ named i c.args.name t change.item c.requires.one c.requires.sums change.comes.0;
+      after = change.is ∙ named i c.args.name t change.item c.requires.way.one c.requires.way.sums change.comes.0;
     }
