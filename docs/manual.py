@@ -34,6 +34,9 @@ since the shell empties the file first.
 A name of a bucket that isn't in the map is no error in a location: the bucket is made, which
 .B made
 tells.
+.PP
+A new device has no class, so that no rule of a class finds it, until the map's line of the device or Ceph
+gives it one.
 .SH "SEE ALSO"
 .BR crushtool (8),
 .BR ceph (8)
