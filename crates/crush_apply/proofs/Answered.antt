@@ -1,6 +1,6 @@
 -- What is answered, by the way in which a call ends.
-use Rattle.std.proofs.Common.{◌≡◌, ℕ, Bool, true, false, List, ap, sym, subst, ◌∙◌, refl}
-use Rattle.std.specs.Prelude.{not, length, Result, Ok, Err, IsErrAnd}
+use Rattle.std.proofs.Common.{◌≡◌, ◌≢◌, ℕ, Bool, true, false, List, ap, sym, subst, ◌∙◌, refl}
+use Rattle.std.specs.Prelude.{not, length, Result, Ok, Err, IsErrAnd, OnErr}
 use Rattle.crush_table.specs.Table.{Row}
 use Rattle.crush_table.specs.Forest.{ForestData}
 use Rattle.crush_table.specs.Stands.{Stands}
@@ -56,6 +56,12 @@ when_lacking a f g (Err e) h same changes = record {
   still = tt;
   kept = same;
 }
+
+-- what never lacks memory leaves all as it was on every Err
+pub exact_but_lacking : (a : List Row → Answer) (f g : ForestData) (x : Result Done EditFault) → AnswersAs a f g x → x ≢ Err OutOfMemory → OnErr x (g ≡ f)
+exact_but_lacking a f g (Ok d) told never = tt
+exact_but_lacking a f g (Err (Refused r)) told never = told.unchanged r refl
+exact_but_lacking a f g (Err OutOfMemory) told never = absurd (never refl)
 
 -- what the table answers alike
 pub when_same : (a b : List Row → Answer) (f g : ForestData) (x : Result Done EditFault) → ((t : List Row) → Stands f t → a t ≡ b t) → AnswersAs b f g x → AnswersAs a f g x

@@ -1,6 +1,6 @@
 -- A batch, edit by edit.
 use Rattle.std.proofs.Common.{◌≡◌, ℕ, Bool, List, ◌∷◌, ap, sym, ◌∙◌}
-use Rattle.std.specs.Prelude.{Result, Ok, Err, IsErrAnd}
+use Rattle.std.specs.Prelude.{Result, Ok, Err, IsErrAnd, OnErr}
 use Rattle.crush_table.specs.Table.{Row}
 use Rattle.crush_edits.specs.declared.refusal.Refusal.{Refusal}
 use Rattle.crush_edits.specs.declared.refusal.Dones.{Dones}
@@ -20,6 +20,11 @@ fault_parts k index q r h = let one : RefusedAt k q ≡ RefusedAt index r = cc i
 pub passed_fault : {X : Type 0} (e f : BatchFault) (x : Result X BatchFault) → IsErrAnd x (λ z. z ≡ e) → x ≡ Err f → ◌≡◌ {A = Result X BatchFault} (Err e) (Err f)
 passed_fault e f (Ok d) h is = elim h [ ]
 passed_fault e f (Err z) h is = let one : z ≡ f = cc in ap Err (sym h ∙ one)
+
+-- what holds on every Err, where there is one
+pub on_err : {X Y : Type 0} {P : Type 0} (x : Result X Y) (e : Y) → x ≡ Err e → OnErr x P → P
+on_err (Ok d) e is p = absurd cc
+on_err (Err z) e is p = p
 
 -- the next edit is refused, and so the batch
 pub stops_at : (s : SettingData) (t u : List Row) (es left rest : List Edit) (d : Dones) (e : Edit) (q : Refusal) → batch s t es ≡ batch_from s left d u → left ≡ e ∷ rest → edit s u e ≡ refused q → batch s t es ≡ batch_refused d.edits q

@@ -11,7 +11,7 @@ ghost use Rattle.crush_edits.specs.Edit.{edit, takes_memory, sets_weights};
 ghost use Rattle.crush_edits.specs.Fits.{Fits};
 ghost use Rattle.crush_edits.specs.LawEdit.{IsEdit};
 ghost use Rattle.crush_edits.specs.Outcome.{IsDone, IsChange};
-ghost use Rattle.crush_apply.specs.Answered.{AnswersAs, KeepsRooms};
+ghost use Rattle.crush_apply.specs.Answered.{AnswersAs, KeepsRooms, leaves_no_room};
 
 use crate::add_bucket::add_bucket;
 use crate::create_or_move::create_or_move;
@@ -33,8 +33,8 @@ use std::alloc::Allocator;
 /// Where several refusals hold, the one of least number is told, and the hierarchy is as before, as
 /// it is where the edit changes nothing. Want of memory is told only of an edit that takes memory,
 /// where nothing speaks against it and the hierarchy would be another after it: so never of new
-/// weights, of an exchange or of a removal. The hierarchy is then as before but for the room that
-/// it has.
+/// weights, of an exchange or of a removal. The hierarchy is then as before, too; but an edit with a
+/// location may leave room behind where its item was to come.
 pub fn apply_edit<A: Allocator + Clone>(
     hierarchy: &mut Hierarchy<A>,
     setting: &Setting,
@@ -53,6 +53,8 @@ pub fn apply_edit<A: Allocator + Clone>(
     ensures unchanged { (r : DeclaredRefusal) → result ≡ Err (EditFault.Refused r)
         → hierarchy.new ≡ hierarchy.old }
     ensures still { IfOk result (λ d. d.changed ≡ false → hierarchy.new ≡ hierarchy.old) }
+    ensures exact { leaves_no_room asked.now ≡ true
+        → OnErr result (hierarchy.new ≡ hierarchy.old) }
     ensures kept { OnErr result (IsSameForest hierarchy.new hierarchy.old) }
     ensures fits { Fits setting.now (rows_of hierarchy.new) }
 {
@@ -112,6 +114,8 @@ fn make<A: Allocator + Clone>(
         hierarchy.old hierarchy.new result }
     ensures memory { result ≡ Err EditFault.OutOfMemory → takes_memory asked.now ≡ true }
     ensures rooms { sets_weights asked.now ≡ true → KeepsRooms hierarchy.old hierarchy.new }
+    ensures exact { leaves_no_room asked.now ≡ true
+        → OnErr result (hierarchy.new ≡ hierarchy.old) }
 {
     match asked {
         Edit::Insert {

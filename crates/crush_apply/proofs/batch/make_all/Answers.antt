@@ -1,10 +1,10 @@
-use Rattle.std.proofs.Common.{◌≡◌, ◌+◌, true, false, ap, sym, subst, ◌∙◌, arith}
+use Rattle.std.proofs.Common.{◌≡◌, ◌+◌, true, ap, sym, subst, ◌∙◌, arith}
 use Rattle.std.proofs.lemmas.List.Elements.{All-get_or}
 use Rattle.std.specs.Prelude.{drop, Err}
 use Rattle.crush_nodes.proofs.Steps.{drop_at}
 use Rattle.crush_edits.specs.Batch.{batch_refused, batch_from}
-use Rattle.crush_edits.specs.Edit.{takes_memory}
-use Rattle.crush_apply.proofs.Batching.{fault_parts, stops_at, goes_on}
+use Rattle.crush_apply.specs.Answered.{leaves_no_room}
+use Rattle.crush_apply.proofs.Batching.{fault_parts, stops_at, goes_on, on_err}
 use Rattle.crush_apply.proofs.batch.make_all.Goals as goal
 
 pub returns-in-Err-Refused-clause-refused : goal.returns-in-Err-Refused-clause-refused
@@ -19,15 +19,15 @@ returns-in-Err-Refused-clause-refused g c = λ index r told t st.
     ∙ (λ i. batch_refused (parts.0 i) ((sym c.in-Err-Refused.refusal-is ∙ parts.1) i))
 
 pub returns-in-Err-Refused-clause-alone : goal.returns-in-Err-Refused-clause-alone
-returns-in-Err-Refused-clause-alone g c = λ few light.
+returns-in-Err-Refused-clause-alone g c = λ few exact.
     c.apply_edit.ensures.unchanged c.in-Err-Refused.refusal (c.in-Err-Refused.is ∙ ap Err c.in-Err-Refused.field-0-is)
     ∙ c.loop-asked.invariant.3 (omega (arith, few, c.loop-asked-test.true))
 
 pub returns-in-Err-OutOfMemory-clause-alone : goal.returns-in-Err-OutOfMemory-clause-alone
-returns-in-Err-OutOfMemory-clause-alone g c = λ few light.
-    let plain : takes_memory c.asked-item.result ≡ false = subst (λ e. takes_memory e ≡ false) (sym c.asked-item.is) (All-get_or (λ e. takes_memory e ≡ false) c.args.edits.now c.loop-asked.asked-index c.asked-item.result c.loop-asked-test.true light) in
-    let takes : takes_memory c.asked-item.result ≡ true = c.apply_edit.ensures.memory (c.in-Err-OutOfMemory.is ∙ ap Err c.in-Err-OutOfMemory.field-0-is) in
-    let no : true ≡ false = sym takes ∙ plain in cc
+returns-in-Err-OutOfMemory-clause-alone g c = λ few exact.
+    let alone : leaves_no_room c.asked-item.result ≡ true = subst (λ e. leaves_no_room e ≡ true) (sym c.asked-item.is) (All-get_or (λ e. leaves_no_room e ≡ true) c.args.edits.now c.loop-asked.asked-index c.asked-item.result c.loop-asked-test.true exact) in
+    on_err c.apply_edit.result _ (c.in-Err-OutOfMemory.is) (c.apply_edit.ensures.exact alone)
+    ∙ c.loop-asked.invariant.3 (omega (arith, few, c.loop-asked-test.true))
 
 pub loop-asked-preserved : goal.loop-asked-preserved
 loop-asked-preserved g c =
