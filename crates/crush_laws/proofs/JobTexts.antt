@@ -25,7 +25,8 @@ use Rattle.crush_script.specs.Words.{is_plain, device_named}
 use Rattle.crush_script.specs.Printed.{IsPlacing, IsSaid}
 use Rattle.crush_laws.specs.Written.{IsNamed, IsNamedCall, JobsStayLawful, JobTextsAreReadBack, JobMapsAreReadBack, HistoryTextsAreReadBack}
 use Rattle.crush_laws.proofs.HistoryComments.{written_is_read_back}
-use Rattle.crush_script.proofs.SaidJobs.{IsSaidCall, IsSaidScript, job_said}
+use Rattle.crush_script.specs.ScriptsText.{IsSaidCall, IsSaidScript}
+use Rattle.crush_script.proofs.SaidJobs.{job_said}
 
 -- the number of a device's name is a device's id
 device_in_range : (n : List ℕ) (d : ℕ) → device_named n ≡ Some d → d < 2147483648
@@ -57,7 +58,7 @@ edit_form (Rename from to) is = is.1
 
 call_form : (c : Call) → IsSaidCall c → IsCall c
 call_form (One e) is = edit_form e is
-call_form (Batch es) is = All-weaker IsSaid table.IsEdit edit_form es is
+call_form (Batch es) is = All-weaker IsSaid table.IsEdit edit_form es is.0
 
 edit_named : (e : Edit) → IsSaid e → IsNamed e
 edit_named (Insert d n w l) is = (is.name, is.at)
@@ -73,7 +74,7 @@ edit_named (Rename from to) is = is
 
 call_named : (c : Call) → IsSaidCall c → IsNamedCall c
 call_named (One e) is = edit_named e is
-call_named (Batch es) is = All-weaker IsSaid IsNamed edit_named es is
+call_named (Batch es) is = All-weaker IsSaid IsNamed edit_named es is.0
 
 -- a fact of the calls of scripts, from what was read
 of_calls_said : (P : Call → Type 0) → ((c : Call) → IsSaidCall c → P c) → (scripts : List ScriptData) → All IsSaidScript scripts → All (λ (x : ScriptData). All P x.calls) scripts

@@ -8,3 +8,4 @@ pub mod PrintedLaws
 pub mod PrintedWords
 pub mod Said
 pub mod SaidJobs
+pub mod ScriptTexts

@@ -26,6 +26,10 @@ pub if_ok-else : {A F : Type 0} (e : F) (r : Result A F) (b : Bool) (P : A → T
 if_ok-else e r true P h = tt
 if_ok-else e r false P h = h
 
+pub if_ok-not : {A F : Type 0} (e : F) (r : Result A F) (b : Bool) (P : A → Type 0) → (b ≡ false → IfOk r P) → IfOk (cond b (Err e) r) P
+if_ok-not e r true P h = tt
+if_ok-not e r false P h = h refl
+
 -- a value behind a test that it passed
 pub if_ok-passed : {A F : Type 0} (x : A) (e : F) (b : Bool) (P : A → Type 0) → (b ≡ true → P x) → IfOk (cond b (Ok x) (Err e)) P
 if_ok-passed x e true P h = h refl

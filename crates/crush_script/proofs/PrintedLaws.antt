@@ -21,8 +21,8 @@ use Rattle.crush_script.specs.declared.command.Command.TheVariants as says
 use Rattle.crush_script.specs.Lines.{line_words}
 use Rattle.crush_script.specs.Words.{equals_at, pair_of, device_named}
 use Rattle.crush_script.specs.Command.{name_at, weight_at, end_at, with_pair, with_pairs, location_at, placing_at, located_at, one_name_at, two_names_at, weighed_at, keyword_of, moving_keyword, naming_keyword, edit_at, command}
-use Rattle.crush_calls.specs.HistoryText.{pairs_text, one_name}
-use Rattle.crush_script.specs.Printed.{PrintedIsRead}
+use Rattle.crush_calls.specs.HistoryText.{edit_text, pairs_text, one_name}
+use Rattle.crush_script.specs.Printed.{IsSaid, PrintedIsRead}
 use Rattle.crush_script.proofs.Pairs.{pair_added}
 use Rattle.crush_script.proofs.PrintedWords.{is_word_byte, IsWord, AreWords, joined, line_words-joined, both, never}
 
@@ -33,7 +33,7 @@ name_bytes (b ∷ bs) h =
     let p = both (is_name_byte b) (list_all is_name_byte bs) h in
     rw (p.0, name_bytes bs p.1) refl
 
-name_word : (n : List ℕ) → IsName n → IsWord n
+pub name_word : (n : List ℕ) → IsName n → IsWord n
 name_word n is = record { some = is.some; bytes = name_bytes n is.allowed }
 
 digit_byte : (d : ℕ) → 48 ≤ d → d ≤ 57 → is_word_byte d ≡ true
@@ -165,45 +165,58 @@ weighed_read : (n v : List ℕ) (w : ℕ) → IsName n → weight_of_text v ≡ 
 unfolding weighed_at name_at weight_at end_at
 weighed_read n v w name weight = let x = is_name_true n name in rw (x, weight) refl
 
--- a line of words says what the words say
-said : (text first : List ℕ) (words : List (List ℕ)) (e : Edit) → text ≡ joined first words → 0 < length first → list_all is_word_byte first ≡ true → AreWords words
-    → command (first ∷ words) ≡ Ok (says.Edit e) → command (line_words text) ≡ Ok (says.Edit e)
-said text first words e is some bytes are reads =
-    ap (λ (t : List ℕ). command (line_words t)) is ∙ ap command (line_words-joined first words (record { some = some; bytes = bytes }) are) ∙ reads
+-- what is printed of an edit, as words that say it
+pub record IsPrinted (e : Edit) : Type 0 where
+  pub first : List ℕ
+  pub words : List (List ℕ)
+  pub text : edit_text e ≡ joined first words
+  pub is : IsWord first
+  pub are : AreWords words
+  pub says : command (first ∷ words) ≡ Ok (says.Edit e)
 
-pub printed_is_read : PrintedIsRead
+said : (first : List ℕ) (words : List (List ℕ)) (e : Edit) → edit_text e ≡ joined first words → 0 < length first → list_all is_word_byte first ≡ true → AreWords words
+    → command (first ∷ words) ≡ Ok (says.Edit e) → IsPrinted e
+said first words e is some bytes are reads = record { first = first; words = words; text = is; is = record { some = some; bytes = bytes }; are = are; says = reads }
+
+pub printed : (e : Edit) → IsSaid e → IsPrinted e
 unfolding command keyword_of moving_keyword naming_keyword edit_at
-printed_is_read (Insert d n w l) is =
+printed (Insert d n w l) is =
     let are = of_location l is.at in
     let reads = placing_read d n (weight_text w) w l is.name is.device (read_again w is.weight) are is.at.few in
-    said _ (codes "add") (n ∷ (weight_text w ∷ map pair_word l)) (Insert d n w l) (placing-joined (codes "add") n (weight_text w) l) (omega arith) refl (name_word n is.name, (weight_word w is.weight, are.words)) (rw reads refl)
-printed_is_read (CreateOrMove d n w l) is =
+    said (codes "add") (n ∷ (weight_text w ∷ map pair_word l)) (Insert d n w l) (placing-joined (codes "add") n (weight_text w) l) (omega arith) refl (name_word n is.name, (weight_word w is.weight, are.words)) (rw reads refl)
+printed (CreateOrMove d n w l) is =
     let are = of_location l is.at in
     let reads = placing_read d n (weight_text w) w l is.name is.device (read_again w is.weight) are is.at.few in
-    said _ (codes "create-or-move") (n ∷ (weight_text w ∷ map pair_word l)) (CreateOrMove d n w l) (placing-joined (codes "create-or-move") n (weight_text w) l) (omega arith) refl (name_word n is.name, (weight_word w is.weight, are.words)) (rw reads refl)
-printed_is_read (Update d n w l) is =
+    said (codes "create-or-move") (n ∷ (weight_text w ∷ map pair_word l)) (CreateOrMove d n w l) (placing-joined (codes "create-or-move") n (weight_text w) l) (omega arith) refl (name_word n is.name, (weight_word w is.weight, are.words)) (rw reads refl)
+printed (Update d n w l) is =
     let are = of_location l is.at in
     let reads = placing_read d n (weight_text w) w l is.name is.device (read_again w is.weight) are is.at.few in
-    said _ (codes "set") (n ∷ (weight_text w ∷ map pair_word l)) (Update d n w l) (placing-joined (codes "set") n (weight_text w) l) (omega arith) refl (name_word n is.name, (weight_word w is.weight, are.words)) (rw reads refl)
-printed_is_read (Move n l) is =
+    said (codes "set") (n ∷ (weight_text w ∷ map pair_word l)) (Update d n w l) (placing-joined (codes "set") n (weight_text w) l) (omega arith) refl (name_word n is.name, (weight_word w is.weight, are.words)) (rw reads refl)
+printed (Move n l) is =
     let are = of_location l is.1 in
     let reads = located_read n l is.0 are is.1.few in
-    said _ (codes "move") (n ∷ map pair_word l) (Move n l) (move-joined (codes "move") n l) (omega arith) refl (name_word n is.0, are.words) (rw reads refl)
-printed_is_read (Swap a b) is =
+    said (codes "move") (n ∷ map pair_word l) (Move n l) (move-joined (codes "move") n l) (omega arith) refl (name_word n is.0, are.words) (rw reads refl)
+printed (Swap a b) is =
     let reads = two_names_read a b is.0 is.1 in
-    said _ (codes "swap-bucket") (a ∷ (b ∷ [])) (Swap a b) (two-joined (codes "swap-bucket") a b) (omega arith) refl (name_word a is.0, (name_word b is.1, tt)) (rw reads refl)
-printed_is_read (Reweight n w) is =
+    said (codes "swap-bucket") (a ∷ (b ∷ [])) (Swap a b) (two-joined (codes "swap-bucket") a b) (omega arith) refl (name_word a is.0, (name_word b is.1, tt)) (rw reads refl)
+printed (Reweight n w) is =
     let reads = weighed_read n (weight_text w) w is.0 (read_again w is.1) in
-    said _ (codes "reweight") (n ∷ (weight_text w ∷ [])) (Reweight n w) (two-joined (codes "reweight") n (weight_text w)) (omega arith) refl (name_word n is.0, (weight_word w is.1, tt)) (rw reads refl)
-printed_is_read (ReweightSubtree n w) is =
+    said (codes "reweight") (n ∷ (weight_text w ∷ [])) (Reweight n w) (two-joined (codes "reweight") n (weight_text w)) (omega arith) refl (name_word n is.0, (weight_word w is.1, tt)) (rw reads refl)
+printed (ReweightSubtree n w) is =
     let reads = weighed_read n (weight_text w) w is.0 (read_again w is.1) in
-    said _ (codes "reweight-subtree") (n ∷ (weight_text w ∷ [])) (ReweightSubtree n w) (two-joined (codes "reweight-subtree") n (weight_text w)) (omega arith) refl (name_word n is.0, (weight_word w is.1, tt)) (rw reads refl)
-printed_is_read (Remove n) is =
+    said (codes "reweight-subtree") (n ∷ (weight_text w ∷ [])) (ReweightSubtree n w) (two-joined (codes "reweight-subtree") n (weight_text w)) (omega arith) refl (name_word n is.0, (weight_word w is.1, tt)) (rw reads refl)
+printed (Remove n) is =
     let reads = one_name_read n is in
-    said _ (codes "rm") (n ∷ []) (Remove n) (one-joined (codes "rm") n) (omega arith) refl (name_word n is, tt) (rw reads refl)
-printed_is_read (AddBucket n kind) is =
+    said (codes "rm") (n ∷ []) (Remove n) (one-joined (codes "rm") n) (omega arith) refl (name_word n is, tt) (rw reads refl)
+printed (AddBucket n kind) is =
     let reads = two_names_read n kind is.0 is.1 in
-    said _ (codes "add-bucket") (n ∷ (kind ∷ [])) (AddBucket n kind) (two-joined (codes "add-bucket") n kind) (omega arith) refl (name_word n is.0, (name_word kind is.1, tt)) (rw reads refl)
-printed_is_read (Rename from to) is =
+    said (codes "add-bucket") (n ∷ (kind ∷ [])) (AddBucket n kind) (two-joined (codes "add-bucket") n kind) (omega arith) refl (name_word n is.0, (name_word kind is.1, tt)) (rw reads refl)
+printed (Rename from to) is =
     let reads = two_names_read from to is.0 is.1 in
-    said _ (codes "rename-bucket") (from ∷ (to ∷ [])) (Rename from to) (two-joined (codes "rename-bucket") from to) (omega arith) refl (name_word from is.0, (name_word to is.1, tt)) (rw reads refl)
+    said (codes "rename-bucket") (from ∷ (to ∷ [])) (Rename from to) (two-joined (codes "rename-bucket") from to) (omega arith) refl (name_word from is.0, (name_word to is.1, tt)) (rw reads refl)
+
+-- a line of words says what the words say
+pub printed_is_read : PrintedIsRead
+printed_is_read e is =
+    let p = printed e is in
+    ap (λ (t : List ℕ). command (line_words t)) p.text ∙ ap command (line_words-joined p.first p.words p.is p.are) ∙ p.says

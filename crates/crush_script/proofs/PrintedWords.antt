@@ -10,9 +10,9 @@ use Rattle.crush_script.proofs.Cuts.{kept}
 
 -- the bytes of the words that are printed, and those of a line of them
 abbrev pub is_word_byte : ℕ → Bool
-is_word_byte b = is_name_byte b || b == 61
+is_word_byte b = is_name_byte b || b == 61 || b == 37
 
-abbrev is_line_byte : ℕ → Bool
+abbrev pub is_line_byte : ℕ → Bool
 is_line_byte b = is_word_byte b || b == 32
 
 pub record IsWord (word : List ℕ) : Type 0 where
@@ -82,7 +82,7 @@ line_bytes (b ∷ bs) h =
     let first = line_byte b p.0 in
     rw (first, line_bytes bs p.1) refl
 
-bytes-joined : (word : List ℕ) (words : List (List ℕ)) → IsWord word → AreWords words → list_all is_line_byte (joined word words) ≡ true
+pub bytes-joined : (word : List ℕ) (words : List (List ℕ)) → IsWord word → AreWords words → list_all is_line_byte (joined word words) ≡ true
 bytes-joined word [] is others = line_bytes word is.bytes
 bytes-joined word (next ∷ words) is others =
     list_all-append is_line_byte word (32 ∷ joined next words) ∙ rw (line_bytes word is.bytes, bytes-joined next words others.0 others.1) refl

@@ -5,6 +5,7 @@ pub mod JobText
 pub mod Lines
 pub mod MapPart
 pub mod Printed
+pub mod ScriptsText
 pub mod Sections
 pub mod Steps
 pub mod Words

@@ -11,4 +11,4 @@ mod word;
 
 pub use fault::JobFault;
 pub use job::{Job, read_job};
-pub use law::printed_is_read;
+pub use law::{printed_is_read, scripts_are_read_back};

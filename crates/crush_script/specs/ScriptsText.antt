@@ -1,0 +1,63 @@
+-- Scripts as the sections of a job, and that they are read back.
+use Rattle.std.specs.Prelude.{◌≡◌, ℕ, ◌≤◌, List, [], ◌∷◌, ◌++◌, Bool, true, false, ◌==◌, All, AllPairs, bytes_eq, codes, length, map, flat_map}
+use Rattle.crush_units.specs.Name.{IsName}
+use Rattle.crush_units.specs.declared.limits.TheConstants.{MOST_CALLS, MOST_EDITS, MOST_OPERATORS, LONGEST_JOB}
+use Rattle.crush_table.specs.Table.{Row}
+use Rattle.crush_edits.specs.Setting.{SettingData}
+use Rattle.crush_text.specs.Document.{IsMapText}
+use Rattle.crush_calls.specs.declared.call.Call.{Call}
+use Rattle.crush_calls.specs.declared.call.Call.TheVariants.{One, Batch}
+use Rattle.crush_calls.specs.Script.{ScriptData, call_count}
+use Rattle.crush_calls.specs.HistoryText.{edit_text, names_of}
+use Rattle.crush_script.specs.Lines.{length_to_section}
+use Rattle.crush_script.specs.Printed.{IsSaid}
+use Rattle.crush_script.specs.Job.{IsJob, JobData}
+
+-- a line for an edit, and of a batch one before its edits and one behind them
+abbrev pub call_lines : Call → List (List ℕ)
+call_lines (One e) = edit_text e ∷ []
+call_lines (Batch es) = codes "begin" ∷ (map edit_text es ++ codes "commit" ∷ [])
+
+-- the section of an operator
+abbrev pub script_lines : ScriptData → List (List ℕ)
+script_lines s = (codes "%operator " ++ s.name) ∷ flat_map call_lines s.calls
+
+-- SCRIPTS TEXT: the sections one after the other, each line with its line feed
+abbrev pub scripts_text : List ScriptData → List ℕ
+scripts_text scripts = flat_map (λ (line : List ℕ). line ++ codes "\n") (flat_map script_lines scripts)
+
+-- the edits of a call can be said, and those of a batch are not too many
+abbrev pub IsSaidCall : Call → Type 0
+IsSaidCall (One e) = IsSaid e
+IsSaidCall (Batch es) = All IsSaid es × (length es ≤ MOST_EDITS)
+
+pub record IsSaidScript (x : ScriptData) : Type 0 where
+  pub name : IsName x.name
+  pub calls : All IsSaidCall x.calls
+
+-- scripts that a job can have: few, with few calls, that can be said, no two of one name
+pub record AreScripts (scripts : List ScriptData) : Type 0 where
+  pub few : length scripts ≤ MOST_OPERATORS
+  pub calls : call_count scripts ≤ MOST_CALLS
+  pub said : All IsSaidScript scripts
+  pub names : AllPairs (λ (a b : List ℕ). bytes_eq a b ≡ false) (names_of scripts)
+
+-- whether a line begins behind the bytes; the first argument says whether one begins before them
+abbrev pub ends_line : Bool → List ℕ → Bool
+ends_line starts [] = starts
+ends_line starts (b ∷ bs) = ends_line (b == 10) bs
+
+-- a text that sections may stand behind: none of its lines begins with `%`, and its last one ends
+pub record IsMapPart (text : List ℕ) : Type 0 where
+  pub whole : length_to_section true text ≡ length text
+  pub ended : ends_line true text ≡ true
+
+-- JOBS ARE READ BACK: a map's text with scripts behind it is the job of that map with these scripts
+abbrev pub JobsAreReadBack : Type 0
+JobsAreReadBack = (text : List ℕ) (s : SettingData) (t : List Row) (adjusted : ℕ) (scripts : List ScriptData) → IsMapText text s t adjusted → IsMapPart text
+    → AreScripts scripts → length (text ++ scripts_text scripts) ≤ LONGEST_JOB
+    → IsJob (text ++ scripts_text scripts) (record { setting = s; table = t; adjusted = adjusted; scripts = scripts })
+
+-- and whatever job is read has scripts that are read back so
+abbrev pub ReadScriptsAreSuch : Type 0
+ReadScriptsAreSuch = (bytes : List ℕ) (job : JobData) → IsJob bytes job → AreScripts job.scripts
