@@ -1,6 +1,7 @@
 -- The first word of a statement, and the end of the text in its place.
 use Rattle.std.proofs.Common.{◌≡◌, ℕ, Bool, true, false, List, Ok, Err, refl, sym, ap, subst, ◌∙◌, inr}
 use Rattle.crush_map.specs.Built.{Draft}
+use Rattle.crush_map.specs.Building.{BuilderData}
 use Rattle.crush_bytes.specs.Words.{Text, first as first_word, stopped, ended, bad}
 use Rattle.crush_text.specs.declared.fault.TextFaultKind.TheVariants.{BadWord}
 use Rattle.crush_text.specs.declared.fault.TextFault.{TextFault}
@@ -10,7 +11,9 @@ use Rattle.crush_text.specs.Form.{at}
 use Rattle.crush_text.specs.Grammar.{statement, lines}
 use Rattle.crush_text.specs.Tests.{word_for}
 use Rattle.crush_text.specs.Flow.{◌>>=◌, between, placed, arrive, step, run, outcome, Reaches}
-use Rattle.crush_text.specs.Reads.{and_rest, next_at, word_at, line_at, then_on, behind, Leads}
+use Rattle.crush_text.specs.Reads.{and_rest, next_at, word_at, line_at, then_on, Leads}
+use Rattle.crush_text.specs.ReadsLines.{IsIdle, StandsAt}
+use Rattle.crush_text.specs.ReadsStatements.{behind}
 use Rattle.crush_text.proofs.LineByLine.{word_goes, line_goes}
 use Rattle.crush_text.proofs.Weighed.{told_ok}
 
@@ -60,3 +63,8 @@ opening_end d late t place is = ap (outcome (between (at (behind late) d))) is �
 pub opening_bad : (d : Draft) (late : Bool) (t : Text) (place : ℕ) → t ≡ stopped (bad place) → outcome (between (at (behind late) d)) t ≡ Err (record { kind = BadWord; place = place })
 unfolding run outcome
 opening_bad d late t place is = ap (outcome (between (at (behind late) d))) is
+
+-- behind a statement the builder is between two
+pub idle_behind : (late : Bool) (b : BuilderData) → StandsAt (behind late) b → IsIdle b
+idle_behind true b h = h
+idle_behind false b h = h

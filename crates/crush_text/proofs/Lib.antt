@@ -4,6 +4,7 @@ pub mod Laws
 pub mod LineByLine
 pub mod LineEnds
 pub mod Reached
+pub mod Refused
 pub mod Reserved
 pub mod Steps
 pub mod TheTable

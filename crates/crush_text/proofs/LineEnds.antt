@@ -12,7 +12,8 @@ use Rattle.crush_text.specs.Form.{first, numbered, at, Form, done, word, optiona
 use Rattle.crush_text.specs.Grammar.{tunable_line, type_line, device_line, device_class, class_id_line}
 use Rattle.crush_text.specs.Tests.{Test, ◌when◌, a_word, tests, unless, word_for}
 use Rattle.crush_text.specs.Flow.{◌>>=◌, placed}
-use Rattle.crush_text.specs.Reads.{IsIdle, and_rest, next_at, word_at, line_at}
+use Rattle.crush_text.specs.Reads.{and_rest, next_at, word_at, line_at}
+use Rattle.crush_text.specs.ReadsLines.{IsIdle}
 
 -- what leaves the pending part alone leaves the builder between two statements
 pub still_idle : (old new : BuilderData) (d e : Draft) → old.pending ≡ nothing → IsDraft old d → IsDraft new e → e.pending ≡ d.pending → IsIdle new

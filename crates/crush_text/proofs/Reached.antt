@@ -13,7 +13,9 @@ use Rattle.crush_text.specs.Grammar.{lines}
 use Rattle.crush_text.specs.Tests.{◌when◌, unless, word_for}
 use Rattle.crush_text.specs.Flow.{State, ◌>>=◌, placed, between, amid, arrive, step, is_idle, outcome, Reaches}
 use Rattle.crush_text.specs.Flaw.{IsWant}
-use Rattle.crush_text.specs.Reads.{and_rest, next_of, next_at, word_at, line_at, then_on, StoodAt, Leads, Fails, FailsIn, ReadsOn}
+use Rattle.crush_text.specs.Reads.{and_rest, next_of, next_at, word_at, line_at, then_on, Leads, Fails, FailsIn}
+use Rattle.crush_text.specs.ReadsWords.{StoodAt}
+use Rattle.crush_text.specs.ReadsLines.{Goes}
 use Rattle.crush_text.proofs.LineByLine.{line_goes, next_goes}
 
 -- what a word says of the state behind it
@@ -148,6 +150,6 @@ fails_line f d g t (inl h) = inl h
 fails_line f d g t (inr h) = inr (line_goes d g t.words t.stop ∙ ap then_on h)
 
 -- a call that goes on where others ended
-pub goes_on : (m : Mode) (r : Result (Unit {0}) TextFault) (b : BuilderData) (rest : Text) (s n : State) (t u : Text) → Leads s t n u → ReadsOn m r b rest n u → ReadsOn m r b rest s t
+pub goes_on : {X : Type 0} (m : X → Mode) (r : Result X TextFault) (b : BuilderData) (rest : Text) (s n : State) (t u : Text) → Leads s t n u → Goes m r b rest n u → Goes m r b rest s t
 goes_on m (Ok x) b rest s n t u a h = (h.0, h.1, leads_then s n _ t u rest a h.2)
 goes_on m (Err f) b rest s n t u a h = fails_then f s n t u a h

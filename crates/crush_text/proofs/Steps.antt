@@ -1,6 +1,6 @@
 -- The lines of class ids and of rules, word by word.
 use Rattle.std.proofs.Common.{◌≡◌, ◌+◌, ◌<◌, arith, None, false, ℕ, Bool, List, [], ◌∷◌, ◌++◌, length, map, Result, Ok, Err, refl, sym, ap, ◌∙◌, inl, inr, true, subst, ◌⊎◌}
-use Rattle.std.specs.Prelude.{Some, codes, nat_le, Option, IfOk, IfErr}
+use Rattle.std.specs.Prelude.{Some, codes, nat_le, unwrap_or, Option, IfOk, IfErr}
 use Rattle.crush_map.specs.declared.fault.BuildFault.{BuildFault}
 use Rattle.crush_map.specs.declared.fault.RulePart.TheVariants.{Step as AtStep}
 use Rattle.std.proofs.lemmas.List.{map-append}
@@ -11,16 +11,17 @@ use Rattle.crush_map.specs.Built.{Draft}
 use Rattle.crush_edits.specs.declared.rule.Rule.{Rule}
 use Rattle.crush_units.specs.declared.limits.TheConstants.{MOST_STEPS}
 use Rattle.crush_map.specs.Building.{BuilderData, IsDraft}
-use Rattle.crush_map.specs.Rules.{kept_step, kept_rule, has_rule_name, has_rule_id, step_fault, word_fault, steps_fault, or_later}
+use Rattle.crush_map.specs.Rules.{bucket_named, taken_number, kept_step, kept_rule, has_rule_name, has_rule_id, step_fault, word_fault, steps_fault, or_later}
 use Rattle.crush_text.specs.Room.{IsFreeRule, IsHead}
 use Rattle.crush_bytes.specs.Words.{Text}
 use Rattle.crush_text.specs.declared.fault.TextFault.{TextFault}
-use Rattle.crush_text.specs.Role.{StepWord, key, any_word, id_or_alg, rule_name, rule_id_key, rule_id, step_or_end, step_word}
+use Rattle.crush_text.specs.Role.{StepWord, bucket_of, taken_bucket, key, any_word, id_or_alg, rule_name, rule_id_key, rule_id, step_or_end, step_word}
 use Rattle.crush_text.specs.Form.{numbered, ruled, at, Progress, Form, done, word}
 use Rattle.crush_text.specs.Grammar.{id_or_alg_line, new_rule, rule_line, sizes, step_behind, step_or_brace, lines}
 use Rattle.crush_text.specs.Flow.{◌>>=◌, arrive, Reaches}
 use Rattle.crush_text.specs.Flaw.{IsWant}
-use Rattle.crush_text.specs.Reads.{Gives, GivesLine, FailsIn, StoodAt, word_at, line_at}
+use Rattle.crush_text.specs.Reads.{Gives, GivesLine, FailsIn, word_at, line_at}
+use Rattle.crush_text.specs.ReadsWords.{StoodAt}
 use Rattle.crush_text.proofs.Reached.{reaches_word, reaches_on}
 
 -- a step goes on as its first word says
@@ -53,6 +54,14 @@ id_or_alg_fails f d more t rest is (inr h) = inr (id_or_alg_goes d more t rest i
 pub done_reads : (d : Draft) (p : Progress) (t : Text) → line_at d (done p) t ≡ Ok (p, t)
 unfolding line_at
 done_reads d p t = refl
+
+-- a bucket that is taken, by its number
+pub bucket_taken : (d : Draft) (x : List ℕ) (t rest : Text) → word_at d taken_bucket t ≡ Ok (bucket_of d x, rest) → word_at d taken_bucket t ≡ Ok (taken_number (bucket_named d x), rest)
+bucket_taken d x t rest e = e ∙ ap (λ (n : ℕ). Ok (n, rest)) (by_it (bucket_named d x))
+  where
+    by_it : (o : Option ℕ) → unwrap_or o 0 ≡ taken_number o
+    by_it None = refl
+    by_it (Some b) = refl
 
 -- the head of a rule up to its sizes
 pub head_goes : (d : Draft) (x : List ℕ) (n : ℕ) (k : List ℕ) (t t1 t2 t3 t4 t5 t6 : Text) → word_at d rule_name t ≡ Ok (x, t1) → word_at d (key (codes "{")) t1 ≡ Ok (tt, t2) → word_at d rule_id_key t2 ≡ Ok (tt, t3)

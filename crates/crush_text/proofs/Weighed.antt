@@ -19,7 +19,8 @@ use Rattle.crush_text.specs.Form.{filling, at, Form, done, word}
 use Rattle.crush_text.specs.Grammar.{item_weight, weighed_item, weightless_item, item_line, item_or_brace, lines}
 use Rattle.crush_text.specs.Tests.{is_weight_for, word_for}
 use Rattle.crush_text.specs.Flow.{◌>>=◌, placed, arrive, Reaches}
-use Rattle.crush_text.specs.Reads.{own_weight, unless_heavy, and_rest, next_of, next_at, word_at, line_at, FailsIn, Adds, Reads}
+use Rattle.crush_text.specs.Reads.{own_weight, unless_heavy, and_rest, next_of, next_at, word_at, line_at, FailsIn}
+use Rattle.crush_text.specs.ReadsLines.{Adds, LineGoes}
 use Rattle.crush_text.proofs.Reached.{reaches_word, reaches_on, key_taken}
 
 -- what comes of a weight that was told, with the item in its bucket
@@ -142,30 +143,30 @@ reaches_weight d t rest w i p n b e h =
 
 -- a weight that was read is the item's
 pub weighed_reads : (d : Draft) (t rest two : Text) (w : Word) (i : ItemId) (r : Result (Unit {0}) TextFault) (b : BuilderData) (u : Text) → next_at t ≡ Ok (w, rest) → true ≡ begins (codes "weight") rest → two ≡ past rest
-    → Ok i ≡ placed w.place (word_for d item w.text) → Reads (filling true) r b u d (item_weight d i) two → Reads (filling true) r b u d (item_line d) t
+    → Ok i ≡ placed w.place (word_for d item w.text) → LineGoes (λ _. filling true) r b u d (item_weight d i) two → LineGoes (λ _. filling true) r b u d (item_line d) t
 unfolding line_at
-weighed_reads d t rest two w i r b u n k is e h = by_it r (subst (λ (x : Text). Reads (filling true) r b u d (item_weight d i) x) is h)
+weighed_reads d t rest two w i r b u n k is e h = by_it r (subst (λ (x : Text). LineGoes (λ _. filling true) r b u d (item_weight d i) x) is h)
   where
     goes : line_at d (item_line d) t ≡ line_at d (item_weight d i) (past rest)
     goes = weighed_goes d t rest w i n k e ∙ ap (λ q. q >>= λ x. line_at d (item_weight d i) x.1) (key_taken d (codes "weight") rest k)
 
-    by_it : (q : Result (Unit {0}) TextFault) → Reads (filling true) q b u d (item_weight d i) (past rest) → Reads (filling true) q b u d (item_line d) t
+    by_it : (q : Result (Unit {0}) TextFault) → LineGoes (λ _. filling true) q b u d (item_weight d i) (past rest) → LineGoes (λ _. filling true) q b u d (item_line d) t
     by_it (Ok x) h = (h.0, h.1, goes ∙ h.2)
     by_it (Err f) (inl h) = inl (h.0, reaches_weight d t rest w i f.place n k e h.1)
     by_it (Err f) (inr h) = inr (goes ∙ h)
 
 -- an item that was put into the bucket ends its line
 added : (d : Draft) (i : ItemId) (w : Option ℕ) (p : ℕ) (rest : Text) (r : Result (Unit {0}) TextFault) (b : BuilderData) (g : Form) (t : Text) → line_at d g t ≡ (placed p (unless_heavy (with_item d i w)) >>= λ e. Ok (at (filling true) e, rest))
-    → (is_too_heavy (with_item d i w).table ≡ false → Reaches p (arrive d t.words g) t.words) → Adds r b (with_item d i w) p (unless_heavy (with_item d i w)) → Reads (filling true) r b rest d g t
+    → (is_too_heavy (with_item d i w).table ≡ false → Reaches p (arrive d t.words g) t.words) → Adds r b (with_item d i w) p (unless_heavy (with_item d i w)) → LineGoes (λ _. filling true) r b rest d g t
 added d i w p rest (Ok x) b g t e reached h = (with_item d i w, h.0, e ∙ ap (λ q. placed p q >>= λ y. Ok (at (filling true) y, rest)) h.1)
 added d i w p rest (Err f) b g t e reached (inl h) = inl (h.0, subst (λ (q : ℕ). Reaches q (arrive d t.words g) t.words) (sym h.1) (reached h.2))
 added d i w p rest (Err f) b g t e reached (inr h) = inr (e ∙ ap (λ q. q >>= λ y. Ok (at (filling true) y, rest)) h)
 
 -- an item without a weight
 pub lone_reads : (d : Draft) (t rest two : Text) (w : Word) (i : ItemId) (r : Result (Unit {0}) TextFault) (b : BuilderData) → next_at t ≡ Ok (w, rest) → false ≡ begins (codes "weight") rest → two ≡ rest → Ok i ≡ placed w.place (word_for d item w.text)
-    → Adds r b (with_item d i None) w.place (unless_heavy (with_item d i None)) → Reads (filling true) r b two d (item_line d) t
+    → Adds r b (with_item d i None) w.place (unless_heavy (with_item d i None)) → LineGoes (λ _. filling true) r b two d (item_line d) t
 unfolding line_at
-lone_reads d t rest two w i r b n none same e h = subst (λ (u : Text). Reads (filling true) r b u d (item_line d) t) (sym same) (
+lone_reads d t rest two w i r b n none same e h = subst (λ (u : Text). LineGoes (λ _. filling true) r b u d (item_line d) t) (sym same) (
     added d i None w.place rest r b (item_line d) t
     (item_is d t false (behind_name t rest w false n none) ∙ form_goes d lone_item (λ j. done (at (filling true) (with_item d j None))) t rest w n
     ∙ ap (λ q. placed w.place q >>= λ j. line_at d (done (at (filling true) (with_item d j None))) rest) (lone_then d w.text ∙ ap (without_weight d) (told_ok w.place i (word_for d item w.text) e))
@@ -196,7 +197,7 @@ weight_fault d i t rest w f n e = inr (
 
 -- one with which the item is put into the bucket
 pub weight_reads : (d : Draft) (i : ItemId) (t rest : Text) (w : Word) (x : ℕ) (r : Result (Unit {0}) TextFault) (b : BuilderData) → next_at t ≡ Ok (w, rest) → Ok x ≡ placed w.place (own_weight d i w.text)
-    → Adds r b (with_item d i (Some x)) w.place (unless_heavy (with_item d i (Some x))) → Reads (filling true) r b rest d (item_weight d i) t
+    → Adds r b (with_item d i (Some x)) w.place (unless_heavy (with_item d i (Some x))) → LineGoes (λ _. filling true) r b rest d (item_weight d i) t
 unfolding line_at
 weight_reads d i t rest w x r b n e h =
     added d i (Some x) w.place rest r b (item_weight d i) t

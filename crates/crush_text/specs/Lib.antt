@@ -6,6 +6,10 @@ pub mod Form
 pub mod Forms
 pub mod Grammar
 pub mod Reads
+pub mod ReadsLines
+pub mod ReadsRules
+pub mod ReadsStatements
+pub mod ReadsWords
 pub mod Role
 pub mod Room
 pub mod Rows

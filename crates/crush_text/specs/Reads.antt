@@ -1,13 +1,10 @@
--- What the functions of the reader promise.
-use Rattle.std.specs.Prelude.{◌≡◌, ◌⊎◌, ℕ, ◌<◌, List, [], ◌∷◌, Bool, true, false, Option, Some, None, Result, Ok, Err, length, bytes_eq, nat_eq, codes, if◌then◌else◌}
-use Rattle.std.specs.List.{starts_with}
+-- What comes of words and lines as the reader takes them.
+use Rattle.std.specs.Prelude.{◌≡◌, ◌⊎◌, ℕ, List, [], ◌∷◌, Bool, Option, Some, None, Result, Ok, Err, bytes_eq, codes, if◌then◌else◌}
 use Rattle.crush_units.specs.declared.id.ItemId.{ItemId}
-use Rattle.crush_units.specs.Name.{IsName}
 use Rattle.crush_table.specs.Lawful.{is_too_heavy}
 use Rattle.crush_edits.specs.declared.rule.Step.{Step}
-use Rattle.crush_edits.specs.Setting.{RuleData, kind_number}
-use Rattle.crush_map.specs.Built.{Draft, Pending, nothing, add_rule}
-use Rattle.crush_map.specs.Building.{BuilderData, IsDraft, is_numbered, is_filling}
+use Rattle.crush_edits.specs.Setting.{RuleData}
+use Rattle.crush_map.specs.Built.{Draft}
 use Rattle.crush_map.specs.Rules.{kept_step}
 use Rattle.crush_text.specs.declared.fault.TextFaultKind.{TextFaultKind}
 use Rattle.crush_text.specs.declared.fault.TextFaultKind.TheVariants.{BadWord, Ended, SumTooLarge}
@@ -17,14 +14,16 @@ use Rattle.crush_text.specs.declared.reader.word.PlacedWord.{PlacedWord}
 use Rattle.crush_text.specs.declared.reader.step.FirstOfStep.{FirstOfStep}
 use Rattle.crush_text.specs.declared.reader.step.FirstOfStep.TheVariants as steps
 use Rattle.crush_units.specs.declared.limits.TheConstants.{LARGEST_RULE_NUMBER}
-use Rattle.crush_text.specs.declared.opening.Opening.{Opening}
-use Rattle.crush_text.specs.declared.opening.Opening.TheVariants as openings
 use Rattle.crush_text.specs.Role.{Role, El, units, key, number, StepWord, takes, chooses, sets, emits}
-use Rattle.crush_text.specs.Form.{Mode, first, second, numbered, filling, ruled, Progress, at, Form, done, word, optional, ahead}
+use Rattle.crush_text.specs.Form.{ruled, Progress, at, Form, done, word, optional, ahead}
 use Rattle.crush_text.specs.Tests.{unless, weight_tests, word_for}
 use Rattle.crush_text.specs.Grammar.{with_step}
 use Rattle.crush_text.specs.Flow.{State, ◌>>=◌, placed, between, arrive, outcome, Reaches}
 use Rattle.crush_text.specs.Flaw.{IsWant}
+
+-- a word that was read
+abbrev pub word_of : PlacedWord → Word
+word_of w = record { place = w.place; text = w.text.now }
 
 -- a value, and the rest of the text
 abbrev pub and_rest : {A : Type 0} → Text → A → Result (A × Text) TextFault
@@ -92,17 +91,6 @@ abbrev pub GivesOn : {X Y : Type 0} → (X → Result Y TextFault) → Result X 
 GivesOn go (Ok x) read = read ≡ go x
 GivesOn go (Err f) read = read ≡ Err f
 
--- the word that was read stood here
-abbrev pub StoodAt : Text → Text → ℕ → Type 0
-StoodAt old new place = (text : List ℕ) × (next_at old ≡ Ok (record { place = place; text = text }, new))
-
--- the first word of a step has the form of what it sets, and its place
-abbrev pub IsFirstOfStep : Text → Text → FirstOfStep → Type 0
-IsFirstOfStep old new steps.Take = Unit {0}
-IsFirstOfStep old new (steps.Choose leaf) = Unit {0}
-IsFirstOfStep old new (steps.Set w) = IsName w.text.now × (starts_with nat_eq w.text.now (codes "set_") ≡ true) × StoodAt old new w.place
-IsFirstOfStep old new steps.Emit = Unit {0}
-
 -- words lead on: what comes of the rest is what comes of all, and a place that is reached from there is reached
 pub record Leads (s : State) (old : Text) (m : State) (new : Text) : Type 0 where
   pub same : outcome s old ≡ outcome m new
@@ -120,96 +108,3 @@ FailsIn f d g t = (IsWant f × Reaches f.place (arrive d t.words g) t.words) ⊎
 abbrev pub GivesLine : {X : Type 0} → (X → Progress × Text) → Result X TextFault → Draft → Form → Text → Type 0
 GivesLine view (Ok x) d g t = line_at d g t ≡ Ok (view x)
 GivesLine view (Err f) d g t = FailsIn f d g t
-
--- a word that was read
-abbrev pub word_of : PlacedWord → Word
-word_of w = record { place = w.place; text = w.text.now }
-
--- the builder is at some draft, between two statements
-pub record IsIdle (b : BuilderData) : Type 0 where
-  pub part : b.pending ≡ nothing
-  pub some : (d : Draft) × IsDraft b d
-
--- or in a part of one
-pub record IsAmid (test : Pending → Bool) (b : BuilderData) : Type 0 where
-  pub part : test b.pending ≡ true
-  pub some : (d : Draft) × IsDraft b d
-
--- a line was read, behind which lines of this kind may come
-abbrev pub Reads : Mode → Result (Unit {0}) TextFault → BuilderData → Text → Draft → Form → Text → Type 0
-Reads m (Ok x) builder rest d g t = (e : Draft) × IsDraft builder e × (line_at d g t ≡ Ok (at m e, rest))
-Reads m (Err f) builder rest d g t = FailsIn f d g t
-
--- behind which lines of one kind or another may come, by what it was
-abbrev pub ReadsLine : (Bool → Mode) → Result Bool TextFault → BuilderData → Text → Draft → Form → Text → Type 0
-ReadsLine mode (Ok more) builder rest d g t = (e : Draft) × IsDraft builder e × (line_at d g t ≡ Ok (at (mode more) e, rest))
-ReadsLine mode (Err f) builder rest d g t = FailsIn f d g t
-
--- a class id was read, or the algorithm
-abbrev pub behind_id : Bool → Mode
-behind_id more = if more then numbered else filling false
-
--- and the builder waits for the algorithm still, or fills the bucket
-abbrev pub IsBehindId : Bool → BuilderData → Type 0
-IsBehindId true b = IsAmid is_numbered b
-IsBehindId false b = IsAmid is_filling b
-
--- an item was read, or the bucket's end
-abbrev pub behind_item : Bool → Mode
-behind_item more = if more then filling true else second
-
--- and the builder fills the bucket still, or is between two statements
-abbrev pub IsBehindItem : Bool → BuilderData → Type 0
-IsBehindItem true b = IsAmid is_filling b
-IsBehindItem false b = IsIdle b
-
--- an item is added by a line that ends with the word at this place, and the map is what was to come of it
-abbrev pub Adds : Result (Unit {0}) TextFault → BuilderData → Draft → ℕ → Result Draft TextFaultKind → Type 0
-Adds (Ok x) builder e place read = IsDraft builder e × (read ≡ Ok e)
-Adds (Err f) builder e place read = (IsWant f × (f.place ≡ place) × (is_too_heavy e.table ≡ false)) ⊎ (placed place read ≡ Err f)
-
--- lines were read, behind which lines of this kind may come
-abbrev pub ReadsOn : Mode → Result (Unit {0}) TextFault → BuilderData → Text → State → Text → Type 0
-ReadsOn m (Ok x) builder rest s t = (e : Draft) × IsDraft builder e × Leads s t (between (at m e)) rest
-ReadsOn m (Err f) builder rest s t = Fails f s t
-
--- a step of a rule was read, with which it is this one, or its brace at a place
-abbrev pub ReadsStep : Result (Option ℕ) TextFault → Draft → RuleData → Text → Form → Text → Type 0
-ReadsStep (Ok None) d r rest g t = line_at d g t ≡ Ok (at (ruled r) d, rest)
-ReadsStep (Ok (Some place)) d r rest g t = (line_at d g t ≡ Ok (at second (add_rule d r), rest)) × Reaches place (arrive d t.words g) t.words
-ReadsStep (Err f) d r rest g t = FailsIn f d g t
-
--- all steps of a rule were read, with which it is this one, and its brace at a place
-abbrev pub ReadsSteps : Result ℕ TextFault → Draft → RuleData → Text → State → Text → Type 0
-ReadsSteps (Ok place) d r rest s t = Leads s t (between (at second (add_rule d r))) rest × Reaches place s t.words
-ReadsSteps (Err f) d r rest s t = Fails f s t
-
--- a statement was read, behind which only buckets and rules may come, or all may
-abbrev pub behind : Bool → Mode
-behind late = if late then second else first
-
-abbrev pub ReadsTo : Result Bool TextFault → BuilderData → Text → State → Text → Type 0
-ReadsTo (Ok late) builder rest s t = (e : Draft) × IsDraft builder e × Leads s t (between (at (behind late) e)) rest
-ReadsTo (Err f) builder rest s t = Fails f s t
-
--- or the text is whole
-abbrev pub ReadsNext : Result (Option Bool) TextFault → BuilderData → Text → State → Text → Type 0
-ReadsNext (Ok None) builder rest s t = (e : Draft) × IsDraft builder e × (outcome s t ≡ Ok e)
-ReadsNext (Ok (Some late)) builder rest s t = (e : Draft) × IsDraft builder e × Leads s t (between (at (behind late) e)) rest
-ReadsNext (Err f) builder rest s t = Fails f s t
-
--- statements were read to the end of the text
-abbrev pub ReadsAll : Result (Unit {0}) TextFault → BuilderData → State → Text → Type 0
-ReadsAll (Ok x) builder s t = (e : Draft) × IsDraft builder e × (outcome s t ≡ Ok e)
-ReadsAll (Err f) builder s t = Fails f s t
-
--- a first word that opens a bucket is the name of its type
-abbrev pub IsKnown : Draft → Opening → List ℕ → Type 0
-IsKnown d (openings.Bucket k) w = kind_number d.setting w ≡ Some k
-IsKnown d o w = Unit {0}
-
--- words are used up where a statement is read
-abbrev pub Shortens : Result (Option Bool) TextFault → Text → Text → Type 0
-Shortens (Ok None) old new = Unit {0}
-Shortens (Ok (Some late)) old new = length new.words < length old.words
-Shortens (Err f) old new = Unit {0}

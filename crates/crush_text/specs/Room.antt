@@ -1,14 +1,19 @@
 -- Whether what a first word opens has room, and an item or a rule is free of faults.
-use Rattle.std.specs.Prelude.{◌≡◌, ℕ, List, [], Option, None, true, false, nat_lt}
+use Rattle.std.specs.Prelude.{◌≡◌, ℕ, ◌<◌, ◌≤◌, List, [], Option, None, true, false, is_some, nat_lt}
 use Rattle.crush_units.specs.declared.id.ItemId.{ItemId}
-use Rattle.crush_table.specs.Table.{is_placed}
+use Rattle.crush_units.specs.declared.id.ItemId.TheVariants.{Device}
+use Rattle.crush_units.specs.declared.limits.TheConstants.{LARGEST_RULE_NUMBER}
+use Rattle.crush_table.specs.Table.{is_there, is_placed}
+use Rattle.crush_edits.specs.Setting.{kind_number}
+use Rattle.crush_edits.specs.Fits.{is_reserved}
 use Rattle.crush_map.specs.Built.{Draft}
-use Rattle.crush_map.specs.Building.{is_full_of_tunables, is_full_of_devices, is_full_of_kinds, is_full_of_buckets}
+use Rattle.crush_map.specs.Building.{has_tunable, has_kind_number, has_kind_name, has_name, has_bucket_id, has_class, is_full_of_class_ids, is_full_of_tunables, is_full_of_devices, is_full_of_kinds, is_full_of_buckets}
 use Rattle.crush_map.specs.Faults.{is_closed}
-use Rattle.crush_map.specs.Rules.{is_full_of_rules, has_rule_name, has_rule_id, steps_fault}
+use Rattle.crush_map.specs.Rules.{bucket_named, is_full_of_rules, has_rule_name, has_rule_id, steps_fault}
 use Rattle.crush_edits.specs.declared.rule.Rule.{Rule}
 use Rattle.crush_text.specs.declared.opening.Opening.{Opening}
 use Rattle.crush_text.specs.declared.opening.Opening.TheVariants as openings
+use Rattle.crush_text.specs.Role.{Role, El, number, tunable_name, type_number, type_name, device_id, new_name, bucket_id, id_or_alg, id_class, rule_name, rule_id, taken_bucket, step_type}
 
 -- a map has room for one more, and a bucket is of a type of buckets
 abbrev pub HasRoom : Draft → Opening → Type 0
@@ -17,6 +22,32 @@ HasRoom d openings.Device = is_full_of_devices d ≡ false
 HasRoom d openings.Type = is_full_of_kinds d ≡ false
 HasRoom d (openings.Bucket k) = (nat_lt 0 k ≡ true) × (is_full_of_buckets d ≡ false)
 HasRoom d openings.Rule = is_full_of_rules d ≡ false
+
+-- a name that was read is one that may stand there
+abbrev pub IsFreeWord : Draft → Role → List ℕ → Type 0
+IsFreeWord d tunable_name w = has_tunable d.setting w ≡ false
+IsFreeWord d (type_name n) w = (0 < n → is_reserved w ≡ false) × (has_kind_name d.setting w ≡ false)
+IsFreeWord d new_name w = has_name d w ≡ false
+IsFreeWord d id_class w = has_class d w ≡ false
+IsFreeWord d rule_name w = has_rule_name d.setting w ≡ false
+IsFreeWord d taken_bucket w = is_some (bucket_named d w) ≡ true
+IsFreeWord d step_type w = is_some (kind_number d.setting w) ≡ true
+IsFreeWord d r w = Unit {0}
+
+-- a number is in its range
+abbrev pub IsInRange : (r : Role) → El r → Type 0
+IsInRange (number most) n = n ≤ most
+IsInRange rule_id n = n ≤ LARGEST_RULE_NUMBER
+IsInRange r v = Unit {0}
+
+-- and is one that may stand there, or a class id that is announced has room
+abbrev pub IsFreeValue : Draft → (r : Role) → El r → Type 0
+IsFreeValue d type_number n = has_kind_number d.setting n ≡ false
+IsFreeValue d device_id n = is_there d.table (Device n) ≡ false
+IsFreeValue d bucket_id b = has_bucket_id d b ≡ false
+IsFreeValue d id_or_alg more = more ≡ true → is_full_of_class_ids d ≡ false
+IsFreeValue d rule_id n = has_rule_id d.setting n ≡ false
+IsFreeValue d r v = Unit {0}
 
 -- a device, or a bucket that was closed, and no bucket holds it
 abbrev pub IsFreeItem : Draft → ItemId → Type 0

@@ -1,19 +1,15 @@
 //! The first lines of a bucket.
 
-ghost use Rattle.std.specs.Prelude.{◌≡◌, ◌≤◌, ◌<◌, length, true, false, IfOk, OnOk, Some, None, drop, if◌then◌else◌, ℕ, Ok};
+ghost use Rattle.std.specs.Prelude.{◌≡◌, false, IfOk, Some, None, drop, if◌then◌else◌};
 ghost use Rattle.std.specs.Str.Parse.{digits_value};
-ghost use Rattle.crush_units.specs.Name.{IsName};
-ghost use Rattle.crush_edits.specs.Setting.{kind_number};
-ghost use Rattle.crush_map.specs.Built.{Draft};
-ghost use Rattle.crush_map.specs.Building.{IsDraft, has_bucket_id, has_class, is_full_of_class_ids, is_begun, is_numbered, is_filling};
+ghost use Rattle.crush_map.specs.Building.{IsDraft, is_begun, is_numbered};
 ghost use Rattle.crush_text.specs.Forms.{is_negative};
-ghost use Rattle.crush_text.specs.Role.{bucket_id, id_or_alg, id_class, algorithm};
+ghost use Rattle.crush_text.specs.Role.{bucket_id, id_or_alg, id_class, algorithm, number_of};
 ghost use Rattle.crush_text.specs.Form.{second, begun, numbered, filling, at};
 ghost use Rattle.crush_text.specs.Grammar.{bucket_line, id_line, class_id_line, alg_line, lines};
 ghost use Rattle.crush_text.specs.Flow.{between, arrive};
-ghost use Rattle.crush_text.specs.declared.opening.Opening.TheVariants.{Bucket};
-ghost use Rattle.crush_text.specs.Room.{HasRoom};
-ghost use Rattle.crush_text.specs.Reads.{IsIdle, IsAmid, IsBehindId, behind_id, Gives, Reads, ReadsLine, ReadsOn, StoodAt, word_at, next_at, word_of};
+ghost use Rattle.crush_text.specs.ReadsWords.{StoodAt, ReadsWord, ReadsValue, AnyDraft};
+ghost use Rattle.crush_text.specs.ReadsLines.{IsAmid, behind_id, ReadsLine, ReadsOn, HasRoomForId, CanBegin};
 
 use crate::fault::{TextFault, TextFaultKind};
 use crate::reader::items::read_items;
@@ -32,15 +28,9 @@ pub(crate) fn read_bucket<A: Allocator + Clone>(
     builder: &mut MapBuilder<A>,
     kind: &[u8],
 ) -> Result<(), TextFault>
-    requires idle { IsIdle builder.old }
-    requires known { (d : Draft) → IsDraft builder.old d
-        → (k : ℕ) × (kind_number d.setting kind.now ≡ Some k) × HasRoom d (Bucket k) }
-    ensures idle { OnOk result (IsIdle builder.new) }
-    ensures reads { (d : Draft) (k : ℕ) → IsDraft builder.old d
-        → kind_number d.setting kind.now ≡ Some k
-        → ReadsOn second result builder.new reader.new
-        (arrive d reader.old.words (bucket_line d k)) reader.old }
-    ensures shorter { OnOk result (length reader.new.words ≤ length reader.old.words) }
+    requires { CanBegin kind.now builder.old }
+    ensures { ReadsOn (λ d. arrive d reader.old.words (bucket_line d (number_of d kind.now)))
+        (λ _. second) builder.old builder.new reader.old reader.new result }
 {
     read_name(reader, builder, kind)?;
     read_id(reader, builder)?;
@@ -55,14 +45,9 @@ fn read_name<A: Allocator + Clone>(
     builder: &mut MapBuilder<A>,
     kind: &[u8],
 ) -> Result<(), TextFault>
-    requires idle { IsIdle builder.old }
-    requires known { (d : Draft) → IsDraft builder.old d
-        → (k : ℕ) × (kind_number d.setting kind.now ≡ Some k) × HasRoom d (Bucket k) }
-    ensures begun { OnOk result (IsAmid is_begun builder.new) }
-    ensures reads { (d : Draft) (k : ℕ) → IsDraft builder.old d
-        → kind_number d.setting kind.now ≡ Some k
-        → Reads begun result builder.new reader.new d (bucket_line d k) reader.old }
-    ensures shorter { OnOk result (length reader.new.words ≤ length reader.old.words) }
+    requires { CanBegin kind.now builder.old }
+    ensures { ReadsLine (λ d. bucket_line d (number_of d kind.now)) (λ _. begun)
+        builder.old builder.new reader.old reader.new result }
 {
     let name = read_new_name(reader, builder)?;
     match builder.begin(kind, name.text) {
@@ -77,11 +62,9 @@ fn read_id<A: Allocator>(
     reader: &mut Reader<'_>,
     builder: &mut MapBuilder<A>,
 ) -> Result<(), TextFault>
-    requires begun { IsAmid is_begun builder.old }
-    ensures numbered { OnOk result (IsAmid is_numbered builder.new) }
-    ensures reads { (d : Draft) → IsDraft builder.old d
-        → Reads numbered result builder.new reader.new d (id_line d) reader.old }
-    ensures shorter { OnOk result (length reader.new.words ≤ length reader.old.words) }
+    requires { IsAmid is_begun builder.old }
+    ensures { ReadsLine id_line (λ _. numbered)
+        builder.old builder.new reader.old reader.new result }
 {
     read_key(reader, b"{")?;
     read_key(reader, b"id")?;
@@ -97,12 +80,9 @@ fn read_class_ids<A: Allocator + Clone>(
     reader: &mut Reader<'_>,
     builder: &mut MapBuilder<A>,
 ) -> Result<(), TextFault>
-    requires numbered { IsAmid is_numbered builder.old }
-    ensures filling { OnOk result (IsAmid is_filling builder.new) }
-    ensures reads { (d : Draft) → IsDraft builder.old d
-        → ReadsOn (filling false) result builder.new reader.new
-        (between (at numbered d)) reader.old }
-    ensures shorter { OnOk result (length reader.new.words ≤ length reader.old.words) }
+    requires { IsAmid is_numbered builder.old }
+    ensures { ReadsOn (λ d. between (at numbered d)) (λ _. filling false)
+        builder.old builder.new reader.old reader.new result }
 {
     'ids: loop {
         let more = read_id_line(reader, builder)?;
@@ -118,11 +98,9 @@ fn read_id_line<A: Allocator + Clone>(
     reader: &mut Reader<'_>,
     builder: &mut MapBuilder<A>,
 ) -> Result<bool, TextFault>
-    requires numbered { IsAmid is_numbered builder.old }
-    ensures after { IfOk result (λ more. IsBehindId more builder.new) }
-    ensures reads { (d : Draft) → IsDraft builder.old d
-        → ReadsLine behind_id result builder.new reader.new d (lines d numbered) reader.old }
-    ensures shorter { OnOk result (length reader.new.words < length reader.old.words) }
+    requires { IsAmid is_numbered builder.old }
+    ensures { ReadsLine (λ d. lines d numbered) behind_id
+        builder.old builder.new reader.old reader.new result }
 {
     let more = read_id_or_alg(reader, builder)?;
     if !more {
@@ -139,12 +117,9 @@ fn read_class_id<A: Allocator + Clone>(
     reader: &mut Reader<'_>,
     builder: &mut MapBuilder<A>,
 ) -> Result<(), TextFault>
-    requires numbered { IsAmid is_numbered builder.old }
-    requires room { (d : Draft) → IsDraft builder.old d → is_full_of_class_ids d ≡ false }
-    ensures numbered { OnOk result (IsAmid is_numbered builder.new) }
-    ensures reads { (d : Draft) → IsDraft builder.old d
-        → Reads numbered result builder.new reader.new d (class_id_line d) reader.old }
-    ensures shorter { OnOk result (length reader.new.words ≤ length reader.old.words) }
+    requires { HasRoomForId builder.old }
+    ensures { ReadsLine class_id_line (λ _. numbered)
+        builder.old builder.new reader.old reader.new result }
 {
     let id = read_bucket_id(reader, builder)?;
     read_key(reader, b"class")?;
@@ -161,11 +136,9 @@ fn read_alg<A: Allocator + Clone>(
     reader: &mut Reader<'_>,
     builder: &mut MapBuilder<A>,
 ) -> Result<(), TextFault>
-    requires numbered { IsAmid is_numbered builder.old }
-    ensures filling { OnOk result (IsAmid is_filling builder.new) }
-    ensures reads { (d : Draft) → IsDraft builder.old d
-        → Reads (filling false) result builder.new reader.new d (alg_line d) reader.old }
-    ensures shorter { OnOk result (length reader.new.words ≤ length reader.old.words) }
+    requires { IsAmid is_numbered builder.old }
+    ensures { ReadsLine alg_line (λ _. filling false)
+        builder.old builder.new reader.old reader.new result }
 {
     let (alg, place) = read_algorithm(reader)?;
     if reader.take_key(b"hash") {
@@ -186,11 +159,7 @@ fn read_bucket_id<A: Allocator>(
     reader: &mut Reader<'_>,
     builder: &MapBuilder<A>,
 ) -> Result<BucketId, TextFault>
-    ensures gives { (d : Draft) → IsDraft builder.now d
-        → Gives (λ x. (x, reader.new)) result (word_at d bucket_id reader.old) }
-    ensures free { IfOk result (λ b. (d : Draft) → IsDraft builder.now d
-        → has_bucket_id d b ≡ false) }
-    ensures shorter { OnOk result (length reader.new.words < length reader.old.words) }
+    ensures { ReadsValue bucket_id (λ b. b) (IsDraft builder.now) reader.old reader.new result }
 {
     let word = read_word(reader)?;
     let Some(id) = below_zero(word.text) else {
@@ -219,11 +188,7 @@ fn read_id_or_alg<A: Allocator>(
     reader: &mut Reader<'_>,
     builder: &MapBuilder<A>,
 ) -> Result<bool, TextFault>
-    ensures gives { (d : Draft) → IsDraft builder.now d
-        → Gives (λ x. (x, reader.new)) result (word_at d id_or_alg reader.old) }
-    ensures room { IfOk result (λ more. (d : Draft) → IsDraft builder.now d
-        → more ≡ true → is_full_of_class_ids d ≡ false) }
-    ensures shorter { OnOk result (length reader.new.words < length reader.old.words) }
+    ensures { ReadsValue id_or_alg (λ more. more) (IsDraft builder.now) reader.old reader.new result }
 {
     let word = next_word(reader)?;
     if word.is(b"id") {
@@ -244,13 +209,7 @@ fn read_id_class<'a, A: Allocator>(
     reader: &mut Reader<'a>,
     builder: &MapBuilder<A>,
 ) -> Result<PlacedWord<'a>, TextFault>
-    ensures gives { (d : Draft) → IsDraft builder.now d
-        → Gives (λ x. (x.text.now, reader.new)) result (word_at d id_class reader.old) }
-    ensures next { IfOk result (λ x. next_at reader.old ≡ Ok (word_of x, reader.new)) }
-    ensures named { IfOk result (λ x. IsName x.text.now) }
-    ensures free { IfOk result (λ x. (d : Draft) → IsDraft builder.now d
-        → has_class d x.text.now ≡ false) }
-    ensures shorter { OnOk result (length reader.new.words < length reader.old.words) }
+    ensures { ReadsWord id_class (IsDraft builder.now) reader.old reader.new result }
 {
     let word = read_word(reader)?;
     if builder.has_class(word.text) {
@@ -262,10 +221,8 @@ fn read_id_class<'a, A: Allocator>(
 /// An algorithm, and the place of its word.
 #[tactic(auto, unfolding(crate::specs::Reads::word_at))]
 fn read_algorithm(reader: &mut Reader<'_>) -> Result<(Alg, usize), TextFault>
-    ensures gives { (d : Draft)
-        → Gives (λ x. (x.0, reader.new)) result (word_at d algorithm reader.old) }
+    ensures alg { ReadsValue algorithm (λ x. x.0) AnyDraft reader.old reader.new result }
     ensures stood { IfOk result (λ x. StoodAt reader.old reader.new x.1) }
-    ensures shorter { OnOk result (length reader.new.words < length reader.old.words) }
 {
     let word = read_word(reader)?;
     match Alg::read(word.text) {

@@ -1,16 +1,14 @@
 //! The line of a device.
 
-ghost use Rattle.std.specs.Prelude.{◌≡◌, ◌≤◌, ◌<◌, length, false, IfOk, OnOk};
-ghost use Rattle.crush_map.specs.Built.{Draft};
-ghost use Rattle.crush_map.specs.Building.{IsDraft, is_full_of_devices};
-ghost use Rattle.crush_table.specs.Table.{is_there};
-ghost use Rattle.crush_units.specs.declared.id.ItemId.TheVariants.{Device};
+ghost use Rattle.crush_map.specs.Building.{IsDraft};
 ghost use Rattle.crush_text.specs.Role.{device_id};
 ghost use Rattle.crush_text.specs.Form.{first};
 ghost use Rattle.crush_text.specs.Grammar.{device_line};
-ghost use Rattle.crush_text.specs.Reads.{IsIdle, Gives, Reads, word_at};
+ghost use Rattle.crush_text.specs.ReadsWords.{ReadsValue};
+ghost use Rattle.crush_text.specs.ReadsLines.{ReadsLine, HasRoomFor};
 
 use crate::fault::{TextFault, TextFaultKind};
+use crate::opening::Opening;
 use crate::reader::roles::{read_new_name, read_word};
 use crush_bytes::Reader;
 use crush_bytes::number::number_up_to;
@@ -25,12 +23,9 @@ pub(crate) fn read_device<A: Allocator + Clone>(
     reader: &mut Reader<'_>,
     builder: &mut MapBuilder<A>,
 ) -> Result<(), TextFault>
-    requires idle { IsIdle builder.old }
-    requires room { (d : Draft) → IsDraft builder.old d → is_full_of_devices d ≡ false }
-    ensures idle { OnOk result (IsIdle builder.new) }
-    ensures reads { (d : Draft) → IsDraft builder.old d
-        → Reads first result builder.new reader.new d (device_line d) reader.old }
-    ensures shorter { OnOk result (length reader.new.words ≤ length reader.old.words) }
+    requires { HasRoomFor Opening.Device builder.old }
+    ensures { ReadsLine device_line (λ _. first)
+        builder.old builder.new reader.old reader.new result }
 {
     let id = read_device_id(reader, builder)?;
     let name = read_new_name(reader, builder)?;
@@ -53,11 +48,7 @@ fn read_device_id<A: Allocator>(
     reader: &mut Reader<'_>,
     builder: &MapBuilder<A>,
 ) -> Result<DeviceId, TextFault>
-    ensures gives { (d : Draft) → IsDraft builder.now d
-        → Gives (λ x. (x, reader.new)) result (word_at d device_id reader.old) }
-    ensures free { IfOk result (λ n. (d : Draft) → IsDraft builder.now d
-        → is_there d.table (Device n) ≡ false) }
-    ensures shorter { OnOk result (length reader.new.words < length reader.old.words) }
+    ensures { ReadsValue device_id (λ n. n) (IsDraft builder.now) reader.old reader.new result }
 {
     let word = read_word(reader)?;
     let Some(id) = number_up_to(LAST_DEVICE_ID, word.text).and_then(DeviceId::from_number) else {

@@ -1,7 +1,7 @@
 //! The items of a bucket.
 
-ghost use Rattle.std.specs.Prelude.{◌≡◌, ◌≤◌, ◌<◌, length, true, false, IfOk, IfSome, OnOk, Some, None};
-ghost use Rattle.crush_map.specs.Built.{Draft, with_item};
+ghost use Rattle.std.specs.Prelude.{◌≡◌, true, false, IfOk, IfSome, Some};
+ghost use Rattle.crush_map.specs.Built.{Draft};
 ghost use Rattle.crush_map.specs.Building.{IsDraft, is_filling, item_named};
 ghost use Rattle.crush_map.specs.Faults.{is_closed, is_heavy_device};
 ghost use Rattle.crush_text.specs.Role.{item_or_end, item};
@@ -10,7 +10,9 @@ ghost use Rattle.crush_text.specs.Grammar.{item_line, item_weight, lines};
 ghost use Rattle.crush_text.specs.Flow.{between, placed};
 ghost use Rattle.crush_text.specs.Tests.{word_for};
 ghost use Rattle.crush_text.specs.Room.{IsFreeItem};
-ghost use Rattle.crush_text.specs.Reads.{IsIdle, IsAmid, IsBehindItem, behind_item, Gives, Reads, ReadsLine, ReadsOn, Adds, own_weight, unless_heavy, word_at};
+ghost use Rattle.crush_text.specs.Reads.{own_weight};
+ghost use Rattle.crush_text.specs.ReadsWords.{ReadsValue, AnyDraft};
+ghost use Rattle.crush_text.specs.ReadsLines.{IsAmid, behind_item, ReadsLine, ReadsOn, CanTake, PutsItem};
 
 use crate::fault::{TextFault, TextFaultKind};
 use crate::reader::word::{PlacedWord, next_word};
@@ -24,12 +26,9 @@ pub(crate) fn read_items<A: Allocator>(
     reader: &mut Reader<'_>,
     builder: &mut MapBuilder<A>,
 ) -> Result<(), TextFault>
-    requires filling { IsAmid is_filling builder.old }
-    ensures idle { OnOk result (IsIdle builder.new) }
-    ensures reads { (d : Draft) → IsDraft builder.old d
-        → ReadsOn second result builder.new reader.new
-        (between (at (filling false) d)) reader.old }
-    ensures shorter { OnOk result (length reader.new.words ≤ length reader.old.words) }
+    requires { IsAmid is_filling builder.old }
+    ensures { ReadsOn (λ d. between (at (filling false) d)) (λ _. second)
+        builder.old builder.new reader.old reader.new result }
 {
     let mut any = false;
     'items: loop {
@@ -48,12 +47,9 @@ fn read_item_line<A: Allocator>(
     builder: &mut MapBuilder<A>,
     any: bool,
 ) -> Result<bool, TextFault>
-    requires filling { IsAmid is_filling builder.old }
-    ensures after { IfOk result (λ more. IsBehindItem more builder.new) }
-    ensures reads { (d : Draft) → IsDraft builder.old d
-        → ReadsLine behind_item result builder.new reader.new
-        d (lines d (filling any)) reader.old }
-    ensures shorter { OnOk result (length reader.new.words < length reader.old.words) }
+    requires { IsAmid is_filling builder.old }
+    ensures { ReadsLine (λ d. lines d (filling any)) behind_item
+        builder.old builder.new reader.old reader.new result }
 {
     let more = read_item_or_end(reader, any)?;
     if !more {
@@ -69,11 +65,9 @@ fn read_item<A: Allocator>(
     reader: &mut Reader<'_>,
     builder: &mut MapBuilder<A>,
 ) -> Result<(), TextFault>
-    requires filling { IsAmid is_filling builder.old }
-    ensures filling { OnOk result (IsAmid is_filling builder.new) }
-    ensures reads { (d : Draft) → IsDraft builder.old d
-        → Reads (filling true) result builder.new reader.new d (item_line d) reader.old }
-    ensures shorter { OnOk result (length reader.new.words ≤ length reader.old.words) }
+    requires { IsAmid is_filling builder.old }
+    ensures { ReadsLine item_line (λ _. filling true)
+        builder.old builder.new reader.old reader.new result }
 {
     let name = next_word(reader)?;
     let item = free_item(name, builder)?;
@@ -89,12 +83,9 @@ fn read_weight<A: Allocator>(
     builder: &mut MapBuilder<A>,
     item: ItemId,
 ) -> Result<(), TextFault>
-    requires filling { IsAmid is_filling builder.old }
-    requires free { (d : Draft) → IsDraft builder.old d → IsFreeItem d item }
-    ensures filling { OnOk result (IsAmid is_filling builder.new) }
-    ensures reads { (d : Draft) → IsDraft builder.old d
-        → Reads (filling true) result builder.new reader.new d (item_weight d item) reader.old }
-    ensures shorter { OnOk result (length reader.new.words ≤ length reader.old.words) }
+    requires { CanTake item builder.old }
+    ensures { ReadsLine (λ d. item_weight d item) (λ _. filling true)
+        builder.old builder.new reader.old reader.new result }
 {
     let word = next_word(reader)?;
     let weight = own_weight(word, &item)?;
@@ -108,13 +99,9 @@ fn add_item<A: Allocator>(
     weight: Option<Weight>,
     builder: &mut MapBuilder<A>,
 ) -> Result<(), TextFault>
-    requires filling { IsAmid is_filling builder.old }
-    requires free { (d : Draft) → IsDraft builder.old d → IsFreeItem d item }
+    requires can { CanTake item builder.old }
     requires light { is_heavy_device item weight ≡ false }
-    ensures filling { OnOk result (IsAmid is_filling builder.new) }
-    ensures adds { (d : Draft) → IsDraft builder.old d
-        → Adds result builder.new (with_item d item weight) word.entry.place
-        (unless_heavy (with_item d item weight)) }
+    ensures { PutsItem item weight word.entry.place builder.old builder.new result }
 {
     match builder.item(item, weight) {
         Ok(()) => Ok(()),
@@ -144,9 +131,7 @@ fn own_weight(word: PlacedWord<'_>, item: &ItemId) -> Result<Weight, TextFault>
 /// Whether one more item follows, or the bucket ends. `pos` behind an item isn't read.
 #[tactic(auto, unfolding(crate::specs::Reads::word_at))]
 fn read_item_or_end(reader: &mut Reader<'_>, any: bool) -> Result<bool, TextFault>
-    ensures gives { (d : Draft)
-        → Gives (λ x. (x, reader.new)) result (word_at d (item_or_end any) reader.old) }
-    ensures shorter { OnOk result (length reader.new.words < length reader.old.words) }
+    ensures { ReadsValue (item_or_end any) (λ more. more) AnyDraft reader.old reader.new result }
 {
     let word = next_word(reader)?;
     if word.is(b"item") {

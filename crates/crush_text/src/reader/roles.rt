@@ -1,12 +1,8 @@
 //! Words that several statements have, each by what it is for.
 
-ghost use Rattle.std.specs.Prelude.{◌≡◌, ◌<◌, ◌≤◌, length, false, IfOk, OnOk, Ok};
-ghost use Rattle.crush_units.specs.Name.{IsName};
-ghost use Rattle.crush_bytes.specs.Words.{is_brace_word};
-ghost use Rattle.crush_map.specs.Built.{Draft};
-ghost use Rattle.crush_map.specs.Building.{IsDraft, has_name};
+ghost use Rattle.crush_map.specs.Building.{IsDraft};
 ghost use Rattle.crush_text.specs.Role.{key, any_word, number, new_name};
-ghost use Rattle.crush_text.specs.Reads.{Gives, word_at, next_at, word_of};
+ghost use Rattle.crush_text.specs.ReadsWords.{ReadsWord, ReadsValue, AnyDraft};
 
 use crate::fault::{TextFault, TextFaultKind};
 use crate::reader::word::{PlacedWord, next_word};
@@ -18,9 +14,7 @@ use std::alloc::Allocator;
 /// The expected word.
 #[tactic(auto, unfolding(crate::specs::Reads::word_at))]
 pub(crate) fn read_key(reader: &mut Reader<'_>, expected: &[u8]) -> Result<(), TextFault>
-    ensures gives { (d : Draft)
-        → Gives (λ x. (x, reader.new)) result (word_at d (key expected.now) reader.old) }
-    ensures shorter { OnOk result (length reader.new.words < length reader.old.words) }
+    ensures { ReadsValue (key expected.now) (λ x. x) AnyDraft reader.old reader.new result }
 {
     let word = next_word(reader)?;
     if word.is(expected) {
@@ -33,12 +27,7 @@ pub(crate) fn read_key(reader: &mut Reader<'_>, expected: &[u8]) -> Result<(), T
 /// Any word but a brace.
 #[tactic(auto, unfolding(crate::specs::Reads::word_at))]
 pub(crate) fn read_word<'a>(reader: &mut Reader<'a>) -> Result<PlacedWord<'a>, TextFault>
-    ensures gives { (d : Draft)
-        → Gives (λ x. (x.text.now, reader.new)) result (word_at d any_word reader.old) }
-    ensures next { IfOk result (λ x. next_at reader.old ≡ Ok (word_of x, reader.new)) }
-    ensures plain { IfOk result (λ x. is_brace_word x.text.now ≡ false) }
-    ensures named { IfOk result (λ x. IsName x.text.now) }
-    ensures shorter { OnOk result (length reader.new.words < length reader.old.words) }
+    ensures { ReadsWord any_word AnyDraft reader.old reader.new result }
 {
     let word = next_word(reader)?;
     if word.is_brace() {
@@ -50,10 +39,7 @@ pub(crate) fn read_word<'a>(reader: &mut Reader<'a>) -> Result<PlacedWord<'a>, T
 /// A number up to `most`.
 #[tactic(auto, unfolding(crate::specs::Reads::word_at))]
 pub(crate) fn read_number(reader: &mut Reader<'_>, most: u32) -> Result<u32, TextFault>
-    ensures gives { (d : Draft)
-        → Gives (λ x. (x, reader.new)) result (word_at d (number most) reader.old) }
-    ensures most { IfOk result (λ x. x ≤ most) }
-    ensures shorter { OnOk result (length reader.new.words < length reader.old.words) }
+    ensures { ReadsValue (number most) (λ n. n) AnyDraft reader.old reader.new result }
 {
     let word = read_word(reader)?;
     match number_up_to(most, word.text) {
@@ -68,13 +54,7 @@ pub(crate) fn read_new_name<'a, A: Allocator>(
     reader: &mut Reader<'a>,
     builder: &MapBuilder<A>,
 ) -> Result<PlacedWord<'a>, TextFault>
-    ensures gives { (d : Draft) → IsDraft builder.now d
-        → Gives (λ x. (x.text.now, reader.new)) result (word_at d new_name reader.old) }
-    ensures next { IfOk result (λ x. next_at reader.old ≡ Ok (word_of x, reader.new)) }
-    ensures named { IfOk result (λ x. IsName x.text.now) }
-    ensures free { IfOk result (λ x. (d : Draft) → IsDraft builder.now d
-        → has_name d x.text.now ≡ false) }
-    ensures shorter { OnOk result (length reader.new.words < length reader.old.words) }
+    ensures { ReadsWord new_name (IsDraft builder.now) reader.old reader.new result }
 {
     let word = read_word(reader)?;
     if builder.has_name(word.text) {

@@ -1,22 +1,26 @@
 //! The lines of a rule.
 
-ghost use Rattle.std.specs.Prelude.{◌≡◌, ◌⊎◌, ◌≤◌, ◌<◌, length, map, true, false, None, Some, IfOk, IfErr, IfSome, OnOk, Option, ℕ, Ok};
+ghost use Rattle.std.specs.Prelude.{◌≡◌, ◌⊎◌, ◌≤◌, ◌<◌, length, true, IfOk, IfErr, IfSome, OnOk, Ok};
 ghost use Rattle.crush_units.specs.Name.{IsName};
 ghost use Rattle.crush_map.specs.Built.{Draft};
 ghost use Rattle.crush_map.specs.Building.{IsDraft};
-ghost use Rattle.crush_map.specs.Rules.{IsRuleForm, kept_rule, has_rule_name, has_rule_id, is_full_of_rules};
+ghost use Rattle.crush_map.specs.Rules.{IsRuleForm};
 ghost use Rattle.crush_units.specs.declared.limits.TheConstants.{LARGEST_RULE_NUMBER};
 ghost use Rattle.crush_units.specs.declared.limits.TheConstants.{MOST_STEPS};
 ghost use Rattle.crush_text.specs.declared.fault.TextFaultKind.TheVariants.{OutOfMemory};
 ghost use Rattle.crush_text.specs.Flaw.{IsWant};
-ghost use Rattle.crush_text.specs.Room.{IsFreeRule, IsHead};
+ghost use Rattle.crush_text.specs.Room.{IsHead};
 ghost use Rattle.crush_text.specs.Role.{rule_name, rule_id_key, rule_id, step_or_end};
-ghost use Rattle.crush_text.specs.Form.{Form, second, ruled, at};
-ghost use Rattle.crush_text.specs.Grammar.{rule_line, lines};
-ghost use Rattle.crush_text.specs.Flow.{between, arrive};
-ghost use Rattle.crush_text.specs.Reads.{IsIdle, Gives, GivesLine, GivesOn, ReadsOn, ReadsSteps, ReadsStep, number_behind, is_step, word_at, line_at, next_at, word_of};
+ghost use Rattle.crush_text.specs.Form.{second};
+ghost use Rattle.crush_text.specs.Grammar.{rule_line};
+ghost use Rattle.crush_text.specs.Flow.{arrive};
+ghost use Rattle.crush_text.specs.Reads.{Gives, is_step, word_at, next_at, word_of};
+ghost use Rattle.crush_text.specs.ReadsWords.{ReadsWord, ReadsValue, AnyDraft};
+ghost use Rattle.crush_text.specs.ReadsLines.{ReadsOn, HasRoomFor};
+ghost use Rattle.crush_text.specs.ReadsRules.{ReadsSteps, IsRightSoFar, ReadsStepLine, ReadsHead, ReadsSize};
 
 use crate::fault::{TextFault, TextFaultKind};
+use crate::opening::Opening;
 use crate::reader::roles::{read_key, read_number, read_word};
 use crate::reader::step::read_step;
 use crate::reader::word::{PlacedWord, next_word};
@@ -32,13 +36,9 @@ pub(crate) fn read_rule<A: Allocator>(
     builder: &mut MapBuilder<A>,
     machine: Global,
 ) -> Result<(), TextFault>
-    requires idle { IsIdle builder.old }
-    requires room { (d : Draft) → IsDraft builder.old d → is_full_of_rules d ≡ false }
-    ensures idle { OnOk result (IsIdle builder.new) }
-    ensures reads { (d : Draft) → IsDraft builder.old d
-        → ReadsOn second result builder.new reader.new
-        (arrive d reader.old.words (rule_line d)) reader.old }
-    ensures shorter { OnOk result (length reader.new.words ≤ length reader.old.words) }
+    requires { HasRoomFor Opening.Rule builder.old }
+    ensures { ReadsOn (λ d. arrive d reader.old.words (rule_line d)) (λ _. second)
+        builder.old builder.new reader.old reader.new result }
 {
     let mut rule = read_head(reader, builder, machine)?;
     let place = read_steps(reader, builder, machine, &mut rule)?;
@@ -69,12 +69,7 @@ fn read_head<A: Allocator>(
     builder: &MapBuilder<A>,
     machine: Global,
 ) -> Result<Rule, TextFault>
-    ensures form { IfOk result IsRuleForm }
-    ensures gives { (d : Draft) → IsDraft builder.now d
-        → GivesLine (λ r. (at (ruled (kept_rule d r)) d, reader.new)) result
-        d (rule_line d) reader.old }
-    ensures free { IfOk result (λ r. (d : Draft) → IsDraft builder.now d → IsFreeRule d r) }
-    ensures shorter { OnOk result (length reader.new.words ≤ length reader.old.words) }
+    ensures { ReadsHead builder.now reader.old reader.new result }
 {
     let name = read_rule_name(reader, builder)?;
     read_key(reader, b"{")?;
@@ -122,11 +117,7 @@ fn own_head(
 /// The size behind its key, if the key is next.
 #[tactic(auto, unfolding(crate::specs::Reads::line_at))]
 fn read_size(reader: &mut Reader<'_>, size: &[u8]) -> Result<Option<u32>, TextFault>
-    ensures most { IfOk result (λ n. IfSome n (λ k. k ≤ LARGEST_RULE_NUMBER)) }
-    ensures gives { (d : Draft) (more : Option ℕ → Form)
-        → GivesOn (λ n. line_at d (more n) reader.new) result
-        (line_at d (number_behind size.now more) reader.old) }
-    ensures shorter { OnOk result (length reader.new.words ≤ length reader.old.words) }
+    ensures { ReadsSize size.now reader.old reader.new result }
 {
     if !reader.take_key(size) {
         return Ok(None);
@@ -142,14 +133,8 @@ fn read_steps<A: Allocator>(
     machine: Global,
     rule: &mut Rule,
 ) -> Result<usize, TextFault>
-    requires form { IsRuleForm rule.old }
-    requires free { (d : Draft) → IsDraft builder.now d → IsFreeRule d rule.old }
-    ensures form { OnOk result (IsRuleForm rule.new) }
-    ensures free { OnOk result ((d : Draft) → IsDraft builder.now d → IsFreeRule d rule.new) }
-    ensures reads { (d : Draft) → IsDraft builder.now d
-        → ReadsSteps result d (kept_rule d rule.new) reader.new
-        (between (at (ruled (kept_rule d rule.old)) d)) reader.old }
-    ensures shorter { OnOk result (length reader.new.words ≤ length reader.old.words) }
+    requires { IsRightSoFar builder.now rule.old }
+    ensures { ReadsSteps builder.now rule.old rule.new reader.old reader.new result }
 {
     'steps: loop {
         let end = read_step_line(reader, builder, machine, rule)?;
@@ -168,14 +153,8 @@ fn read_step_line<A: Allocator>(
     machine: Global,
     rule: &mut Rule,
 ) -> Result<Option<usize>, TextFault>
-    requires form { IsRuleForm rule.old }
-    requires free { (d : Draft) → IsDraft builder.now d → IsFreeRule d rule.old }
-    ensures form { OnOk result (IsRuleForm rule.new) }
-    ensures free { OnOk result ((d : Draft) → IsDraft builder.now d → IsFreeRule d rule.new) }
-    ensures reads { (d : Draft) → IsDraft builder.now d
-        → ReadsStep result d (kept_rule d rule.new) reader.new
-        (lines d (ruled (kept_rule d rule.old))) reader.old }
-    ensures shorter { OnOk result (length reader.new.words < length reader.old.words) }
+    requires { IsRightSoFar builder.now rule.old }
+    ensures { ReadsStepLine builder.now rule.old rule.new reader.old reader.new result }
 {
     let word = read_step_or_end(reader, &rule.steps)?;
     if !word.is_step() {
@@ -226,13 +205,7 @@ fn read_rule_name<'a, A: Allocator>(
     reader: &mut Reader<'a>,
     builder: &MapBuilder<A>,
 ) -> Result<PlacedWord<'a>, TextFault>
-    ensures gives { (d : Draft) → IsDraft builder.now d
-        → Gives (λ x. (x.text.now, reader.new)) result (word_at d rule_name reader.old) }
-    ensures next { IfOk result (λ x. next_at reader.old ≡ Ok (word_of x, reader.new)) }
-    ensures named { IfOk result (λ x. IsName x.text.now) }
-    ensures free { IfOk result (λ x. (d : Draft) → IsDraft builder.now d
-        → has_rule_name d.setting x.text.now ≡ false) }
-    ensures shorter { OnOk result (length reader.new.words < length reader.old.words) }
+    ensures { ReadsWord rule_name (IsDraft builder.now) reader.old reader.new result }
 {
     let word = read_word(reader)?;
     if builder.has_rule_name(word.text) {
@@ -244,9 +217,7 @@ fn read_rule_name<'a, A: Allocator>(
 /// `id`, or `ruleset` as older releases print.
 #[tactic(auto, unfolding(crate::specs::Reads::word_at))]
 fn read_rule_id_key(reader: &mut Reader<'_>) -> Result<(), TextFault>
-    ensures gives { (d : Draft)
-        → Gives (λ x. (x, reader.new)) result (word_at d rule_id_key reader.old) }
-    ensures shorter { OnOk result (length reader.new.words < length reader.old.words) }
+    ensures { ReadsValue rule_id_key (λ x. x) AnyDraft reader.old reader.new result }
 {
     let word = next_word(reader)?;
     if word.is(b"id") || word.is(b"ruleset") {
@@ -262,12 +233,7 @@ fn read_rule_id<A: Allocator>(
     reader: &mut Reader<'_>,
     builder: &MapBuilder<A>,
 ) -> Result<u32, TextFault>
-    ensures gives { (d : Draft) → IsDraft builder.now d
-        → Gives (λ x. (x, reader.new)) result (word_at d rule_id reader.old) }
-    ensures most { IfOk result (λ n. n ≤ LARGEST_RULE_NUMBER) }
-    ensures free { IfOk result (λ n. (d : Draft) → IsDraft builder.now d
-        → has_rule_id d.setting n ≡ false) }
-    ensures shorter { OnOk result (length reader.new.words < length reader.old.words) }
+    ensures { ReadsValue rule_id (λ n. n) (IsDraft builder.now) reader.old reader.new result }
 {
     let word = read_word(reader)?;
     let Some(id) = number_up_to(LARGEST_RULE_NUMBER, word.text) else {

@@ -1,16 +1,13 @@
 //! Statements, one after the other.
 
-ghost use Rattle.std.specs.Prelude.{◌≡◌, ◌≤◌, Ok, Err, false, if◌then◌else◌, length, OnOk, IfOk, codes};
-ghost use Rattle.crush_map.specs.Built.{Draft};
-ghost use Rattle.crush_map.specs.Building.{IsDraft};
+ghost use Rattle.std.specs.Prelude.{◌≡◌, Ok, Err, false, if◌then◌else◌, IfOk};
 ghost use Rattle.crush_text.specs.declared.fault.TextFaultKind.TheVariants.{TooMany};
 ghost use Rattle.crush_text.specs.Role.{opening};
-ghost use Rattle.crush_text.specs.Form.{first, at};
 ghost use Rattle.crush_text.specs.Grammar.{statement};
-ghost use Rattle.crush_text.specs.Tests.{is_out_of_place, comes_first, word_for};
-ghost use Rattle.crush_text.specs.Flow.{between, arrive, placed};
-ghost use Rattle.crush_text.specs.Room.{HasRoom};
-ghost use Rattle.crush_text.specs.Reads.{IsIdle, IsKnown, Shortens, behind, ReadsTo, ReadsNext, ReadsAll};
+ghost use Rattle.crush_text.specs.Tests.{is_out_of_place, comes_first};
+ghost use Rattle.crush_text.specs.Flow.{arrive, placed};
+ghost use Rattle.crush_text.specs.ReadsLines.{IsIdle, ReadsOn};
+ghost use Rattle.crush_text.specs.ReadsStatements.{behind, ReadsNext, ReadsAll, Opens, CanOpen};
 
 use crate::fault::{TextFault, TextFaultKind};
 use crate::opening::Opening;
@@ -31,9 +28,7 @@ pub(crate) fn read_statements<A: Allocator + Clone>(
     machine: Global,
 ) -> Result<(), TextFault>
     requires { IsIdle builder.old }
-    ensures idle { OnOk result (IsIdle builder.new) }
-    ensures reads { (d : Draft) → IsDraft builder.old d
-        → ReadsAll result builder.new (between (at first d)) reader.old }
+    ensures { ReadsAll builder.old builder.new reader.old result }
 {
     let mut late = false;
     'statements: loop {
@@ -54,10 +49,7 @@ fn read_next<A: Allocator + Clone>(
     late: bool,
 ) -> Result<Option<bool>, TextFault>
     requires { IsIdle builder.old }
-    ensures idle { OnOk result (IsIdle builder.new) }
-    ensures reads { (d : Draft) → IsDraft builder.old d
-        → ReadsNext result builder.new reader.new (between (at (behind late) d)) reader.old }
-    ensures shorter { Shortens result reader.old reader.new }
+    ensures { ReadsNext late builder.old builder.new reader.old reader.new result }
 {
     match reader.next() {
         Token::Word { place, text } => {
@@ -81,15 +73,9 @@ fn read_statement<A: Allocator + Clone>(
     builder: &mut MapBuilder<A>,
     machine: Global,
 ) -> Result<bool, TextFault>
-    requires idle { IsIdle builder.old }
-    requires known { (d : Draft) → IsDraft builder.old d
-        → IsKnown d opening word.now }
-    requires room { (d : Draft) → IsDraft builder.old d → HasRoom d opening }
-    ensures idle { OnOk result (IsIdle builder.new) }
-    ensures reads { (d : Draft) → IsDraft builder.old d
-        → ReadsTo result builder.new reader.new
-        (arrive d reader.old.words (statement d opening)) reader.old }
-    ensures shorter { OnOk result (length reader.new.words ≤ length reader.old.words) }
+    requires { CanOpen opening word.now builder.old }
+    ensures { ReadsOn (λ d. arrive d reader.old.words (statement d opening)) behind
+        builder.old builder.new reader.old reader.new result }
 {
     match opening {
         Opening::Tunable => {
@@ -121,11 +107,7 @@ fn opening_of<A: Allocator>(
     builder: &MapBuilder<A>,
     late: bool,
 ) -> Result<Opening, TextFault>
-    ensures opens { (d : Draft) → IsDraft builder.now d
-        → result ≡ placed word.entry.place (word_for d (opening late) word.entry.text.now) }
-    ensures known { (d : Draft) → IsDraft builder.now d
-        → IfOk result (λ o. IsKnown d o word.entry.text.now) }
-    ensures room { IfOk result (λ o. (d : Draft) → IsDraft builder.now d → HasRoom d o) }
+    ensures { Opens word.entry late builder.now result }
 {
     if is_out_of_place(word, late) {
         return Err(word.fault(TextFaultKind::Unexpected));

@@ -1,18 +1,18 @@
 //! The steps of a rule.
 
-ghost use Rattle.std.specs.Prelude.{◌≡◌, ◌≤◌, ◌<◌, length, IfOk, OnOk, nat_eq, true, Some, None, is_some, if◌then◌else◌, codes, Ok};
+ghost use Rattle.std.specs.Prelude.{◌≡◌, ◌≤◌, length, IfOk, OnOk, nat_eq, true, Some, None, if◌then◌else◌, codes};
 ghost use Rattle.std.specs.List.{starts_with};
-ghost use Rattle.crush_units.specs.Name.{IsName};
-ghost use Rattle.crush_edits.specs.Setting.{RuleData, kind_number};
-ghost use Rattle.crush_edits.specs.Fits.{IsSet};
+ghost use Rattle.crush_edits.specs.Setting.{RuleData};
 ghost use Rattle.crush_map.specs.Built.{Draft};
 ghost use Rattle.crush_map.specs.Building.{IsDraft};
-ghost use Rattle.crush_map.specs.Rules.{IsStepForm, kept_step, bucket_named, taken_number, word_fault};
+ghost use Rattle.crush_map.specs.Rules.{IsStepForm, word_fault};
 ghost use Rattle.crush_text.specs.Forms.{is_signed, signed_value};
 ghost use Rattle.crush_text.specs.Role.{step_word, taken_bucket, step_order, step_count, step_type};
 ghost use Rattle.crush_text.specs.Form.{word};
 ghost use Rattle.crush_text.specs.Grammar.{step_behind, take_step, choose_step, set_step};
-ghost use Rattle.crush_text.specs.Reads.{Gives, GivesLine, behind_step, first_of_step, IsFirstOfStep, word_at, line_at, next_at, word_of};
+ghost use Rattle.crush_text.specs.Reads.{Gives, behind_step, first_of_step, line_at};
+ghost use Rattle.crush_text.specs.ReadsWords.{IsFirstOfStep, ReadsWord, ReadsValue, AnyDraft};
+ghost use Rattle.crush_text.specs.ReadsRules.{GivesStep};
 
 use crate::fault::{TextFault, TextFaultKind};
 use crate::reader::roles::{read_key, read_number, read_word};
@@ -47,13 +47,8 @@ pub(crate) fn read_step<A: Allocator>(
     builder: &MapBuilder<A>,
     machine: Global,
 ) -> Result<Step, TextFault>
-    ensures form { IfOk result IsStepForm }
-    ensures gives { (d : Draft) (r : RuleData) → IsDraft builder.now d
-        → GivesLine (λ s. (behind_step d r s, reader.new)) result
-        d (word step_word (step_behind d r)) reader.old }
-    ensures free { IfOk result (λ s. (d : Draft) → IsDraft builder.now d
-        → word_fault d s ≡ None) }
-    ensures shorter { OnOk result (length reader.new.words ≤ length reader.old.words) }
+    ensures { GivesStep (λ d r. word step_word (step_behind d r)) builder.now
+        reader.old reader.new result }
 {
     match read_first(reader)? {
         FirstOfStep::Take => read_take(reader, builder, machine),
@@ -73,13 +68,7 @@ fn read_take<A: Allocator>(
     builder: &MapBuilder<A>,
     machine: Global,
 ) -> Result<Step, TextFault>
-    ensures form { IfOk result IsStepForm }
-    ensures gives { (d : Draft) (r : RuleData) → IsDraft builder.now d
-        → GivesLine (λ s. (behind_step d r s, reader.new)) result
-        d (take_step d r) reader.old }
-    ensures free { IfOk result (λ s. (d : Draft) → IsDraft builder.now d
-        → word_fault d s ≡ None) }
-    ensures shorter { OnOk result (length reader.new.words ≤ length reader.old.words) }
+    ensures { GivesStep take_step builder.now reader.old reader.new result }
 {
     let bucket = read_taken_bucket(reader, builder)?;
     let bucket = bucket.own_name(machine)?;
@@ -99,13 +88,8 @@ fn read_choose<A: Allocator>(
     machine: Global,
     leaf: bool,
 ) -> Result<Step, TextFault>
-    ensures form { IfOk result IsStepForm }
-    ensures gives { (d : Draft) (r : RuleData) → IsDraft builder.now d
-        → GivesLine (λ s. (behind_step d r s, reader.new)) result
-        d (choose_step d r leaf) reader.old }
-    ensures free { IfOk result (λ s. (d : Draft) → IsDraft builder.now d
-        → word_fault d s ≡ None) }
-    ensures shorter { OnOk result (length reader.new.words ≤ length reader.old.words) }
+    ensures { GivesStep (λ d r. choose_step d r leaf) builder.now
+        reader.old reader.new result }
 {
     let firstn = read_order(reader)?;
     let count = read_count(reader)?;
@@ -138,10 +122,8 @@ fn read_set(reader: &mut Reader<'_>, name: Name<Global>) -> Result<Step, TextFau
 /// The first word of a step. Steps of the rules for multiple failures aren't read.
 #[tactic(auto, unfolding(crate::specs::Reads::word_at))]
 fn read_first<'a>(reader: &mut Reader<'a>) -> Result<FirstOfStep<'a>, TextFault>
-    ensures gives { (d : Draft)
-        → Gives (λ x. (first_of_step x, reader.new)) result (word_at d step_word reader.old) }
+    ensures word { ReadsValue step_word first_of_step AnyDraft reader.old reader.new result }
     ensures form { IfOk result (IsFirstOfStep reader.old reader.new) }
-    ensures shorter { OnOk result (length reader.new.words < length reader.old.words) }
 {
     let word = next_word(reader)?;
     if word.is(b"take") {
@@ -174,14 +156,7 @@ fn read_taken_bucket<'a, A: Allocator>(
     reader: &mut Reader<'a>,
     builder: &MapBuilder<A>,
 ) -> Result<PlacedWord<'a>, TextFault>
-    ensures gives { (d : Draft) → IsDraft builder.now d
-        → Gives (λ x. (taken_number (bucket_named d x.text.now), reader.new)) result
-        (word_at d taken_bucket reader.old) }
-    ensures next { IfOk result (λ x. next_at reader.old ≡ Ok (word_of x, reader.new)) }
-    ensures named { IfOk result (λ x. IsName x.text.now) }
-    ensures there { IfOk result (λ x. (d : Draft) → IsDraft builder.now d
-        → is_some (bucket_named d x.text.now) ≡ true) }
-    ensures shorter { OnOk result (length reader.new.words < length reader.old.words) }
+    ensures { ReadsWord taken_bucket (IsDraft builder.now) reader.old reader.new result }
 {
     let word = read_word(reader)?;
     match builder.bucket_named(word.text) {
@@ -193,9 +168,7 @@ fn read_taken_bucket<'a, A: Allocator>(
 /// Whether a lost item moves the others up, `firstn`, or each keeps its place, `indep`.
 #[tactic(auto, unfolding(crate::specs::Reads::word_at))]
 fn read_order(reader: &mut Reader<'_>) -> Result<bool, TextFault>
-    ensures gives { (d : Draft)
-        → Gives (λ x. (x, reader.new)) result (word_at d step_order reader.old) }
-    ensures shorter { OnOk result (length reader.new.words < length reader.old.words) }
+    ensures { ReadsValue step_order (λ b. b) AnyDraft reader.old reader.new result }
 {
     let word = next_word(reader)?;
     if word.is(b"firstn") {
@@ -210,9 +183,7 @@ fn read_order(reader: &mut Reader<'_>) -> Result<bool, TextFault>
 /// How many items are chosen: a number from -2147483648 to 2147483647.
 #[tactic(auto, unfolding(crate::specs::Reads::word_at))]
 fn read_count(reader: &mut Reader<'_>) -> Result<i32, TextFault>
-    ensures gives { (d : Draft)
-        → Gives (λ x. (x, reader.new)) result (word_at d step_count reader.old) }
-    ensures shorter { OnOk result (length reader.new.words < length reader.old.words) }
+    ensures { ReadsValue step_count (λ n. n) AnyDraft reader.old reader.new result }
 {
     let word = read_word(reader)?;
     match signed_number(word.text) {
@@ -243,13 +214,7 @@ fn read_type<'a, A: Allocator>(
     reader: &mut Reader<'a>,
     builder: &MapBuilder<A>,
 ) -> Result<PlacedWord<'a>, TextFault>
-    ensures gives { (d : Draft) → IsDraft builder.now d
-        → Gives (λ x. (x.text.now, reader.new)) result (word_at d step_type reader.old) }
-    ensures next { IfOk result (λ x. next_at reader.old ≡ Ok (word_of x, reader.new)) }
-    ensures named { IfOk result (λ x. IsName x.text.now) }
-    ensures there { IfOk result (λ x. (d : Draft) → IsDraft builder.now d
-        → is_some (kind_number d.setting x.text.now) ≡ true) }
-    ensures shorter { OnOk result (length reader.new.words < length reader.old.words) }
+    ensures { ReadsWord step_type (IsDraft builder.now) reader.old reader.new result }
 {
     let word = read_word(reader)?;
     match builder.kind_number(word.text) {

@@ -1,15 +1,14 @@
 //! The line of a tunable.
 
-ghost use Rattle.std.specs.Prelude.{◌≡◌, ◌≤◌, ◌<◌, length, false, IfOk, OnOk, Ok};
-ghost use Rattle.crush_units.specs.Name.{IsName};
-ghost use Rattle.crush_map.specs.Built.{Draft};
-ghost use Rattle.crush_map.specs.Building.{IsDraft, has_tunable, is_full_of_tunables};
+ghost use Rattle.crush_map.specs.Building.{IsDraft};
 ghost use Rattle.crush_text.specs.Role.{tunable_name};
 ghost use Rattle.crush_text.specs.Form.{first};
 ghost use Rattle.crush_text.specs.Grammar.{tunable_line};
-ghost use Rattle.crush_text.specs.Reads.{IsIdle, Gives, Reads, word_at, next_at, word_of};
+ghost use Rattle.crush_text.specs.ReadsWords.{ReadsWord};
+ghost use Rattle.crush_text.specs.ReadsLines.{ReadsLine, HasRoomFor};
 
 use crate::fault::{TextFault, TextFaultKind};
+use crate::opening::Opening;
 use crate::reader::roles::{read_number, read_word};
 use crate::reader::word::PlacedWord;
 use crush_bytes::Reader;
@@ -23,12 +22,9 @@ pub(crate) fn read_tunable<A: Allocator>(
     reader: &mut Reader<'_>,
     builder: &mut MapBuilder<A>,
 ) -> Result<(), TextFault>
-    requires idle { IsIdle builder.old }
-    requires room { (d : Draft) → IsDraft builder.old d → is_full_of_tunables d ≡ false }
-    ensures idle { OnOk result (IsIdle builder.new) }
-    ensures reads { (d : Draft) → IsDraft builder.old d
-        → Reads first result builder.new reader.new d (tunable_line d) reader.old }
-    ensures shorter { OnOk result (length reader.new.words ≤ length reader.old.words) }
+    requires { HasRoomFor Opening.Tunable builder.old }
+    ensures { ReadsLine tunable_line (λ _. first)
+        builder.old builder.new reader.old reader.new result }
 {
     let name = read_name(reader, builder)?;
     let value = read_number(reader, LARGEST_TUNABLE)?;
@@ -44,13 +40,7 @@ fn read_name<'a, A: Allocator>(
     reader: &mut Reader<'a>,
     builder: &MapBuilder<A>,
 ) -> Result<PlacedWord<'a>, TextFault>
-    ensures gives { (d : Draft) → IsDraft builder.now d
-        → Gives (λ x. (x.text.now, reader.new)) result (word_at d tunable_name reader.old) }
-    ensures next { IfOk result (λ x. next_at reader.old ≡ Ok (word_of x, reader.new)) }
-    ensures named { IfOk result (λ x. IsName x.text.now) }
-    ensures free { IfOk result (λ x. (d : Draft) → IsDraft builder.now d
-        → has_tunable d.setting x.text.now ≡ false) }
-    ensures shorter { OnOk result (length reader.new.words < length reader.old.words) }
+    ensures { ReadsWord tunable_name (IsDraft builder.now) reader.old reader.new result }
 {
     let word = read_word(reader)?;
     if builder.has_tunable(word.text) {

@@ -1,10 +1,10 @@
 //! One word of a map's text.
 
-ghost use Rattle.std.specs.Prelude.{◌≡◌, ◌<◌, ◌||◌, if◌then◌else◌, length, true, IfOk, IfErr, OnOk, Ok, Err, bytes_eq};
-ghost use Rattle.crush_units.specs.Name.{is_name, IsName};
+ghost use Rattle.std.specs.Prelude.{◌≡◌, IfOk, IfErr, bytes_eq};
+ghost use Rattle.crush_units.specs.Name.{IsName};
 ghost use Rattle.crush_bytes.specs.Words.{is_brace_word};
-ghost use Rattle.crush_text.specs.declared.fault.TextFaultKind.TheVariants.{Unexpected, OutOfMemory};
-ghost use Rattle.crush_text.specs.Reads.{Gives, word_of, next_at};
+ghost use Rattle.crush_text.specs.declared.fault.TextFaultKind.TheVariants.{OutOfMemory};
+ghost use Rattle.crush_text.specs.ReadsWords.{TakesWord};
 
 use crate::fault::{TextFault, TextFaultKind};
 use crush_bytes::{Reader, Token};
@@ -22,9 +22,7 @@ pub(crate) struct PlacedWord<'a> {
 /// The next word of a text, or the fault where there is none.
 #[tactic(auto, unfolding(crate::specs::Reads::next_at))]
 pub(crate) fn next_word<'a>(reader: &mut Reader<'a>) -> Result<PlacedWord<'a>, TextFault>
-    ensures gives { Gives (λ w. (word_of w, reader.new)) result (next_at reader.old) }
-    ensures formed { IfOk result (λ w. (is_brace_word w.text.now || is_name w.text.now) ≡ true) }
-    ensures shorter { OnOk result (length reader.new.words < length reader.old.words) }
+    ensures { TakesWord reader.old reader.new result }
 {
     match reader.next() {
         Token::Word { place, text } => Ok(PlacedWord { place, text }),

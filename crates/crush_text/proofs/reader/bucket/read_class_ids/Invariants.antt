@@ -4,7 +4,8 @@ use Rattle.crush_map.specs.Built.{Draft}
 use Rattle.crush_map.specs.Building.{IsDraft, is_numbered}
 use Rattle.crush_text.specs.Form.{numbered, at}
 use Rattle.crush_text.specs.Flow.{between}
-use Rattle.crush_text.specs.Reads.{IsAmid, Leads}
+use Rattle.crush_text.specs.Reads.{Leads}
+use Rattle.crush_text.specs.ReadsLines.{IsAmid}
 use Rattle.crush_text.proofs.reader.bucket.read_class_ids.Given as goal
 
 abbrev pub invariant-ids : goal.invariant-ids

@@ -1,5 +1,5 @@
 -- A device's line word by word, of which nothing speaks against the device.
-use Rattle.std.proofs.Common.{Bool, None, refl, sym, ap, ◌∙◌, inl}
+use Rattle.std.proofs.Common.{rules, Bool, None, refl, sym, ap, ◌∙◌, inl}
 use Rattle.std.specs.Prelude.{if◌then◌else◌}
 use Rattle.crush_bytes.specs.Words.{past}
 use Rattle.std.proofs.lemmas.Result.{err_from_is_err_and}
@@ -10,57 +10,63 @@ use Rattle.crush_text.proofs.LineEnds.{still_idle, word_fails, word_reads, devic
 use Rattle.crush_text.proofs.Reached.{part_taken, want_here, reaches_word, reaches_on, reaches_taken}
 use Rattle.crush_text.proofs.Steps.{done_reads}
 use Rattle.crush_text.proofs.Wants.{free_device}
+use Rattle.crush_text.proofs.Refused.{no_line}
 use Rattle.crush_text.proofs.reader.device.read_device.Goals as goal
 
-pub returns-in_err-id-clause-reads : goal.returns-in_err-id-clause-reads
-returns-in_err-id-clause-reads g c = λ d h.
+pub returns-in_err-id : goal.returns-in_err-id
+returns-in_err-id g c =
     let p = err_from_is_err_and c.from_residual.result c.from_residual.ensures.1 in
-    rw (p.1, p.2) (word_fails d _ _ _ _ (c.in_err-id.ensures.gives d h))
+    rw (p.1, p.2) (no_line _ _ _ _ _ _ _ (λ d h.
+    (word_fails d _ _ _ _ (c.in_err-id.ensures.gives d h))))
 
-pub returns-in_err-name-clause-reads : goal.returns-in_err-name-clause-reads
-returns-in_err-name-clause-reads g c = λ d h.
+pub returns-in_err-name : goal.returns-in_err-name
+returns-in_err-name g c =
     let p = err_from_is_err_and c.from_residual-in_err-name.result c.from_residual-in_err-name.ensures.1 in
-    rw (p.1, p.2) (fails_so _ _ _ (word_reads d _ _ _ _ _ (c.in_ok-id.ensures.gives d h)) (word_fails d _ _ _ _ (c.in_err-name.ensures.gives d h)))
+    rw (p.1, p.2) (no_line _ _ _ _ _ _ _ (λ d h.
+    (fails_so _ _ _ (word_reads d _ _ _ _ _ (c.in_ok-id.ensures.gives d h)) (word_fails d _ _ _ _ (c.in_err-name.ensures.gives d h)))))
 
-pub returns-in_err-class-clause-reads : goal.returns-in_err-class-clause-reads
-returns-in_err-class-clause-reads g c = λ d h.
+pub returns-in_err-class : goal.returns-in_err-class
+returns-in_err-class g c =
     let p = err_from_is_err_and c.from_residual-in_err-class.result c.from_residual-in_err-class.ensures.1 in
+    rw (p.1, p.2) (no_line _ _ _ _ _ _ _ (λ d h.
     let head = device_reads d _ _ _ _ _ (c.in_ok-id.ensures.gives d h) (c.in_ok-name.ensures.gives d h) in
-    rw (p.1, p.2) (fails_so _ _ _ (head ∙ part_taken d _ _ _ _ _ _ (sym c.if-take_key.true ∙ c.take_key.ensures.answer) (c.take_key.ensures.rest ∙ ap (λ (b : Bool). if b then past c.read_new_name.new.reader else c.read_new_name.new.reader) c.if-take_key.true)) (word_fails d _ _ _ _ (c.in_err-class.ensures.gives d)))
+    (fails_so _ _ _ (head ∙ part_taken d _ _ _ _ _ _ (sym c.if-take_key.true ∙ c.take_key.ensures.answer) (c.take_key.ensures.rest ∙ ap (λ (b : Bool). if b then past c.read_new_name.new.reader else c.read_new_name.new.reader) c.if-take_key.true)) (word_fails d _ _ _ _ (c.in_err-class.ensures.gives d tt)))))
 
 pub device_unchecked-requires-clause-clear : goal.device_unchecked-requires-clause-clear
 device_unchecked-requires-clause-clear g c d h = free_device d _ _ (c.in_ok-id.ensures.free d h) (c.in_ok-name.ensures.free d h) (c.requires.room d h)
 
-pub returns-in-Ok-clause-idle : goal.returns-in-Ok-clause-idle
-returns-in-Ok-clause-idle g c =
-    let d = c.requires.idle.some in
-    still_idle _ _ d.0 _ c.requires.idle.part d.1 (c.in-Ok.ensures d.0 d.1) refl
-
-pub returns-in-Ok-clause-reads : goal.returns-in-Ok-clause-reads
-returns-in-Ok-clause-reads g c = λ d h.
-    let head = device_reads d _ _ _ _ _ (c.in_ok-id.ensures.gives d h) (c.in_ok-name.ensures.gives d h) in
-    (with_device d _ _ _, c.in-Ok.ensures d h, head ∙ part_taken d _ _ _ _ _ _ (sym c.if-take_key.true ∙ c.take_key.ensures.answer) (c.take_key.ensures.rest ∙ ap (λ (b : Bool). if b then past c.read_new_name.new.reader else c.read_new_name.new.reader) c.if-take_key.true) ∙ class_reads d _ _ _ _ _ (c.in_ok-class.ensures.gives d))
+pub returns-in-Ok : goal.returns-in-Ok
+returns-in-Ok g c = record {
+  reads = λ d h.
+      let head = device_reads d _ _ _ _ _ (c.in_ok-id.ensures.gives d h) (c.in_ok-name.ensures.gives d h) in
+      (with_device d _ _ _, c.in-Ok.ensures d h, head ∙ part_taken d _ _ _ _ _ _ (sym c.if-take_key.true ∙ c.take_key.ensures.answer) (c.take_key.ensures.rest ∙ ap (λ (b : Bool). if b then past c.read_new_name.new.reader else c.read_new_name.new.reader) c.if-take_key.true) ∙ class_reads d _ _ _ _ _ (c.in_ok-class.ensures.gives d tt));
+  stands = let d = c.requires.idle.some in
+      still_idle _ _ d.0 _ c.requires.idle.part d.1 (c.in-Ok.ensures d.0 d.1) refl;
+  shorter = search rules;
+}
 
 pub device_unchecked-requires-2-clause-clear : goal.device_unchecked-requires-2-clause-clear
 device_unchecked-requires-2-clause-clear g c d h = free_device d _ _ (c.in_ok-id.ensures.free d h) (c.in_ok-name.ensures.free d h) (c.requires.room d h)
 
-pub returns-in-Ok-device_unchecked-clause-idle : goal.returns-in-Ok-device_unchecked-clause-idle
-returns-in-Ok-device_unchecked-clause-idle g c =
-    let d = c.requires.idle.some in
-    still_idle _ _ d.0 _ c.requires.idle.part d.1 (c.in-Ok-device_unchecked.ensures d.0 d.1) refl
+pub returns-in-Ok-device_unchecked : goal.returns-in-Ok-device_unchecked
+returns-in-Ok-device_unchecked g c = record {
+  reads = λ d h.
+      let head = device_reads d _ _ _ _ _ (c.in_ok-id.ensures.gives d h) (c.in_ok-name.ensures.gives d h) in
+      (with_device d _ _ _, c.in-Ok-device_unchecked.ensures d h, head ∙ part_taken d _ _ _ _ _ _ (sym c.if-take_key.false ∙ c.take_key.ensures.answer) (c.take_key.ensures.rest ∙ ap (λ (b : Bool). if b then past c.read_new_name.new.reader else c.read_new_name.new.reader) c.if-take_key.false) ∙ done_reads d _ _);
+  stands = let d = c.requires.idle.some in
+      still_idle _ _ d.0 _ c.requires.idle.part d.1 (c.in-Ok-device_unchecked.ensures d.0 d.1) refl;
+  shorter = search rules;
+}
 
-pub returns-in-Ok-device_unchecked-clause-reads : goal.returns-in-Ok-device_unchecked-clause-reads
-returns-in-Ok-device_unchecked-clause-reads g c = λ d h.
-    let head = device_reads d _ _ _ _ _ (c.in_ok-id.ensures.gives d h) (c.in_ok-name.ensures.gives d h) in
-    (with_device d _ _ _, c.in-Ok-device_unchecked.ensures d h, head ∙ part_taken d _ _ _ _ _ _ (sym c.if-take_key.false ∙ c.take_key.ensures.answer) (c.take_key.ensures.rest ∙ ap (λ (b : Bool). if b then past c.read_new_name.new.reader else c.read_new_name.new.reader) c.if-take_key.false) ∙ done_reads d _ _)
-
-pub returns-in-Err-clause-reads : goal.returns-in-Err-clause-reads
-returns-in-Err-clause-reads g c = λ d h.
+pub returns-in-Err : goal.returns-in-Err
+returns-in-Err g c =
+    no_line _ _ _ _ _ _ _ (λ d h.
     inl (want_here _ _ _ _ c.fault.ensures
     (reaches_on d _ _ _ _ _ _ (c.in_ok-id.ensures.gives d h)
     (reaches_on d _ _ _ _ _ _ (c.in_ok-name.ensures.gives d h)
-    (reaches_taken d _ _ (done (at first (with_device d c.in_ok-id.id c.in_ok-name.name.text.now None))) _ _ _ _ (sym c.if-take_key.true ∙ c.take_key.ensures.answer) (c.take_key.ensures.rest ∙ ap (λ (b : Bool). if b then past c.read_new_name.new.reader else c.read_new_name.new.reader) c.if-take_key.true) (reaches_word d _ _ _ _ _ _ _ (c.in_ok-class.ensures.gives d) (_, c.in_ok-class.ensures.next))))))
+    (reaches_taken d _ _ (done (at first (with_device d c.in_ok-id.id c.in_ok-name.name.text.now None))) _ _ _ _ (sym c.if-take_key.true ∙ c.take_key.ensures.answer) (c.take_key.ensures.rest ∙ ap (λ (b : Bool). if b then past c.read_new_name.new.reader else c.read_new_name.new.reader) c.if-take_key.true) (reaches_word d _ _ _ _ _ _ _ (c.in_ok-class.ensures.gives d tt) (_, c.in_ok-class.ensures.next)))))))
 
-pub returns-in-Err-device_unchecked-clause-reads : goal.returns-in-Err-device_unchecked-clause-reads
-returns-in-Err-device_unchecked-clause-reads g c = λ d h.
-    inl (want_here _ _ _ _ c.fault-in-Err-device_unchecked.ensures (reaches_on d _ _ _ _ _ _ (c.in_ok-id.ensures.gives d h) (reaches_word d _ _ _ _ _ _ _ (c.in_ok-name.ensures.gives d h) (_, c.in_ok-name.ensures.next))))
+pub returns-in-Err-device_unchecked : goal.returns-in-Err-device_unchecked
+returns-in-Err-device_unchecked g c =
+    no_line _ _ _ _ _ _ _ (λ d h.
+    inl (want_here _ _ _ _ c.fault-in-Err-device_unchecked.ensures (reaches_on d _ _ _ _ _ _ (c.in_ok-id.ensures.gives d h) (reaches_word d _ _ _ _ _ _ _ (c.in_ok-name.ensures.gives d h) (_, c.in_ok-name.ensures.next)))))

@@ -2,9 +2,10 @@ use Rattle.std.proofs.Common.{refl}
 use Rattle.std.proofs.lemmas.Result.{err_from_is_err_and}
 use Rattle.crush_text.specs.Role.{rule_id}
 use Rattle.crush_text.proofs.LineEnds.{operand_fails}
+use Rattle.crush_text.proofs.Refused.{no_value}
 use Rattle.crush_text.proofs.reader.rule.read_rule_id.Goals as goal
 
-pub returns-in_err-word-clause-gives : goal.returns-in_err-word-clause-gives
-returns-in_err-word-clause-gives g c = λ d h.
+pub returns-in_err-word : goal.returns-in_err-word
+returns-in_err-word g c =
     let p = err_from_is_err_and c.from_residual.result c.from_residual.ensures.1 in
-    rw (p.1, p.2) (operand_fails d rule_id _ _ (λ w. (_, refl)) (c.in_err-word.ensures.gives d))
+    rw (p.1, p.2) (no_value rule_id _ _ _ _ (λ d h. operand_fails d rule_id _ _ (λ w. (_, refl)) (c.in_err-word.ensures.gives d tt)))

@@ -1,34 +1,39 @@
 -- The steps one after the other, up to the brace.
-use Rattle.std.proofs.Common.{arith, refl, subst, ℕ, Option, Ok}
+use Rattle.std.proofs.Common.{rules, arith, refl, subst, ℕ, Option, Ok}
 use Rattle.std.proofs.lemmas.Result.{err_from_is_err_and}
 use Rattle.crush_map.specs.Rules.{kept_rule}
 use Rattle.crush_text.specs.Form.{ruled}
 use Rattle.crush_text.specs.Grammar.{lines}
-use Rattle.crush_text.specs.Reads.{ReadsStep}
+use Rattle.crush_text.specs.ReadsRules.{StepGoes}
 use Rattle.crush_text.proofs.Reached.{line_leads, next_leads, leads_then, fails_then, fails_line}
+use Rattle.crush_text.proofs.Refused.{no_steps}
 use Rattle.crush_text.proofs.reader.rule.read_steps.Goals as goal
 
-pub returns-in_err-end-clause-reads : goal.returns-in_err-end-clause-reads
-returns-in_err-end-clause-reads g c = λ d h.
+pub returns-in_err-end : goal.returns-in_err-end
+returns-in_err-end g c =
     let p = err_from_is_err_and c.from_residual.result c.from_residual.ensures.1 in
-    rw (p.1, p.2) (
+    rw (p.1, p.2) (no_steps _ _ _ _ _ _ (λ d h.
+    (
     fails_then _ _ _ _ _ (leads_then _ _ _ _ _ _ (c.steps.invariant.reads d h) (next_leads (ruled (kept_rule d c.steps.rule)) d _ refl))
     (fails_line _ d (lines d (ruled (kept_rule d c.steps.rule))) _ (c.in_err-end.ensures.reads d h))
-    )
+    )))
 
-pub returns-in-Some-clause-reads : goal.returns-in-Some-clause-reads
-returns-in-Some-clause-reads g c = λ d h.
-    let k = subst (λ (o : Option ℕ). ReadsStep (Ok o) d (kept_rule d c.read_step_line.new.rule) c.read_step_line.new.reader (lines d (ruled (kept_rule d c.steps.rule))) c.steps.reader) c.in-Some.is (c.in_ok-end.ensures.reads d h) in
-    let so_far = leads_then _ _ _ _ _ _ (c.steps.invariant.reads d h) (next_leads (ruled (kept_rule d c.steps.rule)) d _ refl) in
-    (leads_then _ _ _ _ _ _ so_far (line_leads d (lines d (ruled (kept_rule d c.steps.rule))) _ _ _ k.0), so_far.reaches _ k.1)
+pub returns-in-Some : goal.returns-in-Some
+returns-in-Some g c = record {
+  right = c.in_ok-end.ensures.right;
+  reads = λ d h.
+      let k = subst (λ (o : Option ℕ). StepGoes (Ok o) d (kept_rule d c.read_step_line.new.rule) c.read_step_line.new.reader (lines d (ruled (kept_rule d c.steps.rule))) c.steps.reader) c.in-Some.is (c.in_ok-end.ensures.reads d h) in
+      let so_far = leads_then _ _ _ _ _ _ (c.steps.invariant.reads d h) (next_leads (ruled (kept_rule d c.steps.rule)) d _ refl) in
+      (leads_then _ _ _ _ _ _ so_far (line_leads d (lines d (ruled (kept_rule d c.steps.rule))) _ _ _ k.0), so_far.reaches _ k.1);
+  shorter = search rules;
+}
 
 pub steps-preserved : goal.steps-preserved
 steps-preserved g c = record {
-  form = c.in_ok-end.ensures.form;
-  free = c.in_ok-end.ensures.free;
+  right = c.in_ok-end.ensures.right;
   shorter = omega (arith, c.steps.invariant.shorter, c.in_ok-end.ensures.shorter);
   reads = λ d h.
-      let k = subst (λ (o : Option ℕ). ReadsStep (Ok o) d (kept_rule d c.read_step_line.new.rule) c.read_step_line.new.reader (lines d (ruled (kept_rule d c.steps.rule))) c.steps.reader) c.in-None.is (c.in_ok-end.ensures.reads d h) in
+      let k = subst (λ (o : Option ℕ). StepGoes (Ok o) d (kept_rule d c.read_step_line.new.rule) c.read_step_line.new.reader (lines d (ruled (kept_rule d c.steps.rule))) c.steps.reader) c.in-None.is (c.in_ok-end.ensures.reads d h) in
       let so_far = leads_then _ _ _ _ _ _ (c.steps.invariant.reads d h) (next_leads (ruled (kept_rule d c.steps.rule)) d _ refl) in
       leads_then _ _ _ _ _ _ so_far (line_leads d (lines d (ruled (kept_rule d c.steps.rule))) _ _ _ k);
 }

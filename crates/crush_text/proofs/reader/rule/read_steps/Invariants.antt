@@ -2,17 +2,16 @@
 use Rattle.std.proofs.Common.{◌≤◌, length}
 use Rattle.crush_map.specs.Built.{Draft}
 use Rattle.crush_map.specs.Building.{IsDraft}
-use Rattle.crush_map.specs.Rules.{IsRuleForm, kept_rule}
+use Rattle.crush_map.specs.Rules.{kept_rule}
 use Rattle.crush_text.specs.Form.{ruled, at}
 use Rattle.crush_text.specs.Flow.{between}
 use Rattle.crush_text.specs.Reads.{Leads}
-use Rattle.crush_text.specs.Room.{IsFreeRule}
+use Rattle.crush_text.specs.ReadsRules.{IsRightSoFar}
 use Rattle.crush_text.proofs.reader.rule.read_steps.Given as goal
 
 abbrev pub invariant-steps : goal.invariant-steps
 invariant-steps g l = record {
-  form : IsRuleForm l.rule;
-  free : (d : Draft) → IsDraft l.fn.builder d → IsFreeRule d l.rule;
+  right : IsRightSoFar l.fn.builder l.rule;
   shorter : length l.reader.words ≤ length l.fn.reader.words;
   reads : (d : Draft) → IsDraft l.fn.builder d → Leads (between (at (ruled (kept_rule d l.fn.rule)) d)) l.fn.reader (between (at (ruled (kept_rule d l.rule)) d)) l.reader;
 }

@@ -1,73 +1,121 @@
 -- A statement by its first word.
-use Rattle.std.proofs.Common.{subst}
+use Rattle.std.proofs.Common.{◌≡◌, rules, ℕ, List, Option, ap, subst}
 use Rattle.std.proofs.lemmas.Result.{err_from_is_err_and}
-use Rattle.crush_text.specs.Grammar.{tunable_line, device_line, type_line}
-use Rattle.crush_text.specs.Reads.{IsKnown}
+use Rattle.std.specs.Prelude.{unwrap_or}
+use Rattle.crush_map.specs.Built.{Draft}
+use Rattle.crush_text.specs.declared.opening.Opening.TheVariants.{Bucket}
+use Rattle.crush_text.specs.declared.fault.TextFault.{TextFault}
+use Rattle.crush_bytes.specs.Words.{Text}
+use Rattle.crush_text.specs.Role.{number_of}
+use Rattle.crush_text.specs.Form.{second, at}
+use Rattle.crush_text.specs.Flow.{between, arrive}
+use Rattle.crush_text.specs.Grammar.{tunable_line, device_line, type_line, bucket_line}
+use Rattle.crush_text.specs.Reads.{Leads, Fails}
+use Rattle.crush_text.specs.ReadsStatements.{IsKnown}
 use Rattle.crush_text.specs.Room.{HasRoom}
 use Rattle.crush_text.proofs.Reached.{line_leads, fails_line}
+use Rattle.crush_text.proofs.Refused.{no_lines}
 use Rattle.crush_text.proofs.reader.statement.read_statement.Goals as goal
 
-pub returns-in_ok-read_tunable-in-Tunable-clause-reads : goal.returns-in_ok-read_tunable-in-Tunable-clause-reads
-returns-in_ok-read_tunable-in-Tunable-clause-reads g c = λ d h.
-    let k = c.in_ok-read_tunable-in-Tunable.ensures.reads d h in
-    rw c.in-Tunable.is (k.0, k.1, line_leads d (tunable_line d) _ _ _ k.2)
+pub returns-in_ok-read_tunable-in-Tunable : goal.returns-in_ok-read_tunable-in-Tunable
+returns-in_ok-read_tunable-in-Tunable g c = record {
+  reads = λ d h.
+      let k = c.in_ok-read_tunable-in-Tunable.ensures.reads d h in
+      rw c.in-Tunable.is (k.0, k.1, line_leads d (tunable_line d) _ _ _ k.2);
+  stands = c.in_ok-read_tunable-in-Tunable.ensures.stands;
+  shorter = search rules;
+}
 
-pub returns-in_err-read_tunable-in-Tunable-clause-reads : goal.returns-in_err-read_tunable-in-Tunable-clause-reads
-returns-in_err-read_tunable-in-Tunable-clause-reads g c = λ d h.
+pub returns-in_err-read_tunable-in-Tunable : goal.returns-in_err-read_tunable-in-Tunable
+returns-in_err-read_tunable-in-Tunable g c =
     let p = err_from_is_err_and c.from_residual.result c.from_residual.ensures.1 in
-    rw (p.1, p.2, c.in-Tunable.is) (fails_line _ d (tunable_line d) _ (c.in_err-read_tunable-in-Tunable.ensures.reads d h))
+    rw (p.1, p.2, c.in-Tunable.is) (no_lines _ _ _ _ _ _ _ (λ d h.
+    (fails_line _ d (tunable_line d) _ (c.in_err-read_tunable-in-Tunable.ensures.reads d h))))
 
-pub returns-in_ok-read_device-in-Device-clause-reads : goal.returns-in_ok-read_device-in-Device-clause-reads
-returns-in_ok-read_device-in-Device-clause-reads g c = λ d h.
-    let k = c.in_ok-read_device-in-Device.ensures.reads d h in
-    rw c.in-Device.is (k.0, k.1, line_leads d (device_line d) _ _ _ k.2)
+pub returns-in_ok-read_device-in-Device : goal.returns-in_ok-read_device-in-Device
+returns-in_ok-read_device-in-Device g c = record {
+  reads = λ d h.
+      let k = c.in_ok-read_device-in-Device.ensures.reads d h in
+      rw c.in-Device.is (k.0, k.1, line_leads d (device_line d) _ _ _ k.2);
+  stands = c.in_ok-read_device-in-Device.ensures.stands;
+  shorter = search rules;
+}
 
-pub returns-in_err-read_device-in-Device-clause-reads : goal.returns-in_err-read_device-in-Device-clause-reads
-returns-in_err-read_device-in-Device-clause-reads g c = λ d h.
+pub returns-in_err-read_device-in-Device : goal.returns-in_err-read_device-in-Device
+returns-in_err-read_device-in-Device g c =
     let p = err_from_is_err_and c.from_residual-in_err-read_device-in-Device.result c.from_residual-in_err-read_device-in-Device.ensures.1 in
-    rw (p.1, p.2, c.in-Device.is) (fails_line _ d (device_line d) _ (c.in_err-read_device-in-Device.ensures.reads d h))
+    rw (p.1, p.2, c.in-Device.is) (no_lines _ _ _ _ _ _ _ (λ d h.
+    (fails_line _ d (device_line d) _ (c.in_err-read_device-in-Device.ensures.reads d h))))
 
-pub returns-in_ok-read_type-in-Type-clause-reads : goal.returns-in_ok-read_type-in-Type-clause-reads
-returns-in_ok-read_type-in-Type-clause-reads g c = λ d h.
-    let k = c.in_ok-read_type-in-Type.ensures.reads d h in
-    rw c.in-Type.is (k.0, k.1, line_leads d (type_line d) _ _ _ k.2)
+pub returns-in_ok-read_type-in-Type : goal.returns-in_ok-read_type-in-Type
+returns-in_ok-read_type-in-Type g c = record {
+  reads = λ d h.
+      let k = c.in_ok-read_type-in-Type.ensures.reads d h in
+      rw c.in-Type.is (k.0, k.1, line_leads d (type_line d) _ _ _ k.2);
+  stands = c.in_ok-read_type-in-Type.ensures.stands;
+  shorter = search rules;
+}
 
-pub returns-in_err-read_type-in-Type-clause-reads : goal.returns-in_err-read_type-in-Type-clause-reads
-returns-in_err-read_type-in-Type-clause-reads g c = λ d h.
+pub returns-in_err-read_type-in-Type : goal.returns-in_err-read_type-in-Type
+returns-in_err-read_type-in-Type g c =
     let p = err_from_is_err_and c.from_residual-in_err-read_type-in-Type.result c.from_residual-in_err-read_type-in-Type.ensures.1 in
-    rw (p.1, p.2, c.in-Type.is) (fails_line _ d (type_line d) _ (c.in_err-read_type-in-Type.ensures.reads d h))
+    rw (p.1, p.2, c.in-Type.is) (no_lines _ _ _ _ _ _ _ (λ d h.
+    (fails_line _ d (type_line d) _ (c.in_err-read_type-in-Type.ensures.reads d h))))
 
-pub read_bucket-requires-clause-known : goal.read_bucket-requires-clause-known
-read_bucket-requires-clause-known g c = λ d h. (c.in-Bucket.field-0, subst (λ o. IsKnown d o c.args.word.now) c.in-Bucket.is (c.requires.known d h), subst (HasRoom d) c.in-Bucket.is (c.requires.room d h))
+-- a bucket's type by its name
+by_name : (d : Draft) (w : List ℕ) (k : ℕ) → IsKnown d (Bucket k) w → number_of d w ≡ k
+by_name d w k known = ap (λ (o : Option ℕ). unwrap_or o 0) known
 
-pub returns-in_ok-read_bucket-in-Bucket-clause-reads : goal.returns-in_ok-read_bucket-in-Bucket-clause-reads
-returns-in_ok-read_bucket-in-Bucket-clause-reads g c = λ d h.
-    let k = c.in_ok-read_bucket-in-Bucket.ensures.reads d _ h (subst (λ o. IsKnown d o c.args.word.now) c.in-Bucket.is (c.requires.known d h)) in
-    rw c.in-Bucket.is (k.0, k.1, k.2)
+-- and a fault of its first line
+fails_so_named : (f : TextFault) (d : Draft) (n k : ℕ) (t : Text) → n ≡ k → Fails f (arrive d t.words (bucket_line d n)) t → Fails f (arrive d t.words (bucket_line d k)) t
+fails_so_named f d n k t e h = subst (λ (m : ℕ). Fails f (arrive d t.words (bucket_line d m)) t) e h
 
-pub returns-in_err-read_bucket-in-Bucket-clause-reads : goal.returns-in_err-read_bucket-in-Bucket-clause-reads
-returns-in_err-read_bucket-in-Bucket-clause-reads g c = λ d h.
+pub read_bucket-requires : goal.read_bucket-requires
+read_bucket-requires g c = record {
+  idle = c.requires.idle;
+  known = λ d h. (c.in-Bucket.field-0, subst (λ o. IsKnown d o c.args.word.now) c.in-Bucket.is (c.requires.known d h), subst (HasRoom d) c.in-Bucket.is (c.requires.room d h));
+}
+
+pub returns-in_ok-read_bucket-in-Bucket : goal.returns-in_ok-read_bucket-in-Bucket
+returns-in_ok-read_bucket-in-Bucket g c = record {
+  reads = λ d h.
+      let k = c.in_ok-read_bucket-in-Bucket.ensures.reads d h in
+      let known = by_name d _ _ (subst (λ o. IsKnown d o c.args.word.now) c.in-Bucket.is (c.requires.known d h)) in
+      rw c.in-Bucket.is (k.0, k.1, subst (λ (n : ℕ). Leads (arrive d c.args.reader.now.words (bucket_line d n)) c.args.reader.now (between (at second k.0)) c.read_bucket.new.reader) known k.2);
+  stands = c.in_ok-read_bucket-in-Bucket.ensures.stands;
+  shorter = c.in_ok-read_bucket-in-Bucket.ensures.shorter;
+}
+
+pub returns-in_err-read_bucket-in-Bucket : goal.returns-in_err-read_bucket-in-Bucket
+returns-in_err-read_bucket-in-Bucket g c =
     let p = err_from_is_err_and c.from_residual-in_err-read_bucket-in-Bucket.result c.from_residual-in_err-read_bucket-in-Bucket.ensures.1 in
-    rw (p.1, p.2, c.in-Bucket.is) (c.in_err-read_bucket-in-Bucket.ensures.reads d _ h (subst (λ o. IsKnown d o c.args.word.now) c.in-Bucket.is (c.requires.known d h)))
+    rw (p.1, p.2, c.in-Bucket.is) (no_lines _ _ _ _ _ _ _ (λ d h.
+    let known = by_name d _ _ (subst (λ o. IsKnown d o c.args.word.now) c.in-Bucket.is (c.requires.known d h)) in
+    fails_so_named _ d _ _ _ known (c.in_err-read_bucket-in-Bucket.ensures.reads d h)))
 
-pub returns-in_ok-read_rule-in-Rule-clause-reads : goal.returns-in_ok-read_rule-in-Rule-clause-reads
-returns-in_ok-read_rule-in-Rule-clause-reads g c = λ d h.
-    let k = c.in_ok-read_rule-in-Rule.ensures.reads d h in
-    rw c.in-Rule.is (k.0, k.1, k.2)
+pub returns-in_ok-read_rule-in-Rule : goal.returns-in_ok-read_rule-in-Rule
+returns-in_ok-read_rule-in-Rule g c = record {
+  reads = λ d h.
+      let k = c.in_ok-read_rule-in-Rule.ensures.reads d h in
+      rw c.in-Rule.is (k.0, k.1, k.2);
+  stands = c.in_ok-read_rule-in-Rule.ensures.stands;
+  shorter = c.in_ok-read_rule-in-Rule.ensures.shorter;
+}
 
-pub returns-in_err-read_rule-in-Rule-clause-reads : goal.returns-in_err-read_rule-in-Rule-clause-reads
-returns-in_err-read_rule-in-Rule-clause-reads g c = λ d h.
+pub returns-in_err-read_rule-in-Rule : goal.returns-in_err-read_rule-in-Rule
+returns-in_err-read_rule-in-Rule g c =
     let p = err_from_is_err_and c.from_residual-in_err-read_rule-in-Rule.result c.from_residual-in_err-read_rule-in-Rule.ensures.1 in
-    rw (p.1, p.2, c.in-Rule.is) (c.in_err-read_rule-in-Rule.ensures.reads d h)
+    rw (p.1, p.2, c.in-Rule.is) (no_lines _ _ _ _ _ _ _ (λ d h.
+    (c.in_err-read_rule-in-Rule.ensures.reads d h)))
 
-pub read_tunable-requires-clause-room : goal.read_tunable-requires-clause-room
-read_tunable-requires-clause-room g c = λ d h. subst (HasRoom d) c.in-Tunable.is (c.requires.room d h)
+pub read_tunable-requires : goal.read_tunable-requires
+read_tunable-requires g c = record { idle = c.requires.idle; room = λ d h. subst (HasRoom d) c.in-Tunable.is (c.requires.room d h) }
 
-pub read_device-requires-clause-room : goal.read_device-requires-clause-room
-read_device-requires-clause-room g c = λ d h. subst (HasRoom d) c.in-Device.is (c.requires.room d h)
+pub read_device-requires : goal.read_device-requires
+read_device-requires g c = record { idle = c.requires.idle; room = λ d h. subst (HasRoom d) c.in-Device.is (c.requires.room d h) }
 
-pub read_type-requires-clause-room : goal.read_type-requires-clause-room
-read_type-requires-clause-room g c = λ d h. subst (HasRoom d) c.in-Type.is (c.requires.room d h)
+pub read_type-requires : goal.read_type-requires
+read_type-requires g c = record { idle = c.requires.idle; room = λ d h. subst (HasRoom d) c.in-Type.is (c.requires.room d h) }
 
-pub read_rule-requires-clause-room : goal.read_rule-requires-clause-room
-read_rule-requires-clause-room g c = λ d h. subst (HasRoom d) c.in-Rule.is (c.requires.room d h)
+pub read_rule-requires : goal.read_rule-requires
+read_rule-requires g c = record { idle = c.requires.idle; room = λ d h. subst (HasRoom d) c.in-Rule.is (c.requires.room d h) }

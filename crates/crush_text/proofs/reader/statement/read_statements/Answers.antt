@@ -1,11 +1,12 @@
 -- The statements one after the other.
-use Rattle.std.proofs.Common.{◌≡◌, ◌∙◌, refl, subst, Bool, Option, Some, None}
+use Rattle.std.proofs.Common.{◌≡◌, ◌∙◌, refl, subst, Bool, Option, Some, None, IfSome, length, ◌<◌}
 use Rattle.std.specs.Prelude.{Ok}
 use Rattle.std.proofs.lemmas.Result.{err_from_is_err_and}
 use Rattle.crush_text.specs.Form.{at}
 use Rattle.crush_text.specs.Flow.{between}
-use Rattle.crush_text.specs.Reads.{ReadsNext, Shortens, behind}
+use Rattle.crush_text.specs.ReadsStatements.{NextGoes, behind}
 use Rattle.crush_text.proofs.Reached.{leads_then, fails_then}
+use Rattle.crush_text.proofs.Refused.{no_end}
 use Rattle.crush_text.proofs.reader.statement.read_statements.Goals as goal
 
 pub statements-preserved : goal.statements-preserved
@@ -13,30 +14,31 @@ statements-preserved g c = record {
   idle = c.in_ok-more.ensures.idle;
   reads = λ d h.
       let s = c.statements.invariant.reads d h in
-      let k = subst (λ (o : Option Bool). ReadsNext (Ok o) c.read_next.new.builder c.read_next.new.reader (between (at (behind c.statements.late) s.0)) c.statements.reader) c.in-Some.is (c.in_ok-more.ensures.reads s.0 s.1) in
+      let k = subst (λ (o : Option Bool). NextGoes (Ok o) c.read_next.new.builder c.read_next.new.reader (between (at (behind c.statements.late) s.0)) c.statements.reader) c.in-Some.is (c.in_ok-more.ensures.reads s.0 s.1) in
       (k.0, k.1, leads_then _ _ _ _ _ _ s.2 k.2);
 }
 
-pub returns-in_err-more-clause-reads : goal.returns-in_err-more-clause-reads
-returns-in_err-more-clause-reads g c = λ d h.
-    let s = c.statements.invariant.reads d h in
+pub returns-in_err-more : goal.returns-in_err-more
+returns-in_err-more g c =
     let p = err_from_is_err_and c.from_residual.result c.from_residual.ensures.1 in
-    rw (p.1, p.2) (fails_then _ _ _ _ _ s.2 (c.in_err-more.ensures.reads s.0 s.1))
+    rw (p.1, p.2) (no_end _ _ _ _ (λ d h.
+    let s = c.statements.invariant.reads d h in
+    (fails_then _ _ _ _ _ s.2 (c.in_err-more.ensures.reads s.0 s.1))))
 
 pub statements-smaller : goal.statements-smaller
-statements-smaller g c = subst (λ (o : Option Bool). Shortens (Ok o) c.statements.reader c.read_next.new.reader) c.in-Some.is c.in_ok-more.ensures.shorter
+statements-smaller g c = subst (λ (o : Option Bool). IfSome o (λ _. length c.read_next.new.reader.words < length c.statements.reader.words)) c.in-Some.is c.in_ok-more.ensures.shorter
 
 -- what is not there is `None`
 none_there : (o : Option Bool) → ((x : Bool) → o ≡ Some x → ⊥) → o ≡ None
 none_there None other = refl
 none_there (Some x) other = absurd (other x refl)
 
-pub returns-in_default-clause-idle : goal.returns-in_default-clause-idle
-returns-in_default-clause-idle g c = c.in_ok-more.ensures.idle
-
-pub returns-in_default-clause-reads : goal.returns-in_default-clause-reads
-returns-in_default-clause-reads g c = λ d h.
-    let s = c.statements.invariant.reads d h in
-    let none = none_there _ c.in_default.not-Some in
-    let k = subst (λ (o : Option Bool). ReadsNext (Ok o) c.read_next.new.builder c.read_next.new.reader (between (at (behind c.statements.late) s.0)) c.statements.reader) none (c.in_ok-more.ensures.reads s.0 s.1) in
-    (k.0, k.1, s.2.same ∙ k.2)
+pub returns-in_default : goal.returns-in_default
+returns-in_default g c = record {
+  idle = c.in_ok-more.ensures.idle;
+  reads = λ d h.
+      let s = c.statements.invariant.reads d h in
+      let none = none_there _ c.in_default.not-Some in
+      let k = subst (λ (o : Option Bool). NextGoes (Ok o) c.read_next.new.builder c.read_next.new.reader (between (at (behind c.statements.late) s.0)) c.statements.reader) none (c.in_ok-more.ensures.reads s.0 s.1) in
+      (k.0, k.1, s.2.same ∙ k.2);
+}

@@ -4,7 +4,9 @@ use Rattle.crush_map.specs.Built.{Draft}
 use Rattle.crush_map.specs.Building.{IsDraft}
 use Rattle.crush_text.specs.Form.{first, at}
 use Rattle.crush_text.specs.Flow.{between}
-use Rattle.crush_text.specs.Reads.{IsIdle, behind, Leads}
+use Rattle.crush_text.specs.Reads.{Leads}
+use Rattle.crush_text.specs.ReadsLines.{IsIdle}
+use Rattle.crush_text.specs.ReadsStatements.{behind}
 use Rattle.crush_text.proofs.reader.statement.read_statements.Given as goal
 
 abbrev pub invariant-statements : goal.invariant-statements

@@ -1,5 +1,5 @@
 -- A tunable's line word by word, and what the builder refuses is want of memory.
-use Rattle.std.proofs.Common.{refl, inl}
+use Rattle.std.proofs.Common.{rules, refl, inl}
 use Rattle.std.proofs.lemmas.Result.{err_from_is_err_and}
 use Rattle.crush_map.specs.Built.{with_tunable}
 use Rattle.crush_map.specs.declared.fault.BuildFault.TheVariants.{DuplicateName, TooMany}
@@ -7,6 +7,7 @@ use Rattle.crush_text.proofs.LineByLine.{fails_so}
 use Rattle.crush_text.proofs.LineEnds.{still_idle, word_fails, word_reads, tunable_reads}
 use Rattle.crush_text.proofs.Reached.{want_here, reaches_word}
 use Rattle.crush_text.proofs.Wants.{want_of_two}
+use Rattle.crush_text.proofs.Refused.{no_line}
 use Rattle.crush_text.proofs.reader.tunable.read_tunable.Goals as goal
 
 pub want-requires : goal.want-requires
@@ -14,25 +15,28 @@ want-requires g c =
     let d = c.requires.idle.some in
     want_of_two DuplicateName TooMany _ _ _ (c.in_ok-name.ensures.free d.0 d.1) (c.requires.room d.0 d.1) (c.in-Err.ensures.refused d.0 d.1)
 
-pub returns-in-Ok-clause-idle : goal.returns-in-Ok-clause-idle
-returns-in-Ok-clause-idle g c =
-    let d = c.requires.idle.some in
-    still_idle _ _ d.0 _ c.requires.idle.part d.1 (c.in-Ok.ensures.ok d.0 d.1).1 refl
+pub returns-in-Ok : goal.returns-in-Ok
+returns-in-Ok g c = record {
+  reads = λ d h.
+      (with_tunable d _ _, (c.in-Ok.ensures.ok d h).1, tunable_reads d _ _ _ _ _ (c.in_ok-name.ensures.gives d h) (c.in_ok-value.ensures.gives d tt));
+  stands = let d = c.requires.idle.some in
+      still_idle _ _ d.0 _ c.requires.idle.part d.1 (c.in-Ok.ensures.ok d.0 d.1).1 refl;
+  shorter = search rules;
+}
 
-pub returns-in-Ok-clause-reads : goal.returns-in-Ok-clause-reads
-returns-in-Ok-clause-reads g c = λ d h.
-    (with_tunable d _ _, (c.in-Ok.ensures.ok d h).1, tunable_reads d _ _ _ _ _ (c.in_ok-name.ensures.gives d h) (c.in_ok-value.ensures.gives d))
+pub returns-in-Err : goal.returns-in-Err
+returns-in-Err g c =
+    no_line _ _ _ _ _ _ _ (λ d h.
+    inl (want_here _ _ _ _ c.want.ensures (reaches_word d _ _ _ _ _ _ _ (c.in_ok-name.ensures.gives d h) (_, c.in_ok-name.ensures.next))))
 
-pub returns-in-Err-clause-reads : goal.returns-in-Err-clause-reads
-returns-in-Err-clause-reads g c = λ d h.
-    inl (want_here _ _ _ _ c.want.ensures (reaches_word d _ _ _ _ _ _ _ (c.in_ok-name.ensures.gives d h) (_, c.in_ok-name.ensures.next)))
-
-pub returns-in_err-name-clause-reads : goal.returns-in_err-name-clause-reads
-returns-in_err-name-clause-reads g c = λ d h.
+pub returns-in_err-name : goal.returns-in_err-name
+returns-in_err-name g c =
     let p = err_from_is_err_and c.from_residual.result c.from_residual.ensures.1 in
-    rw (p.1, p.2) (word_fails d _ _ _ _ (c.in_err-name.ensures.gives d h))
+    rw (p.1, p.2) (no_line _ _ _ _ _ _ _ (λ d h.
+    (word_fails d _ _ _ _ (c.in_err-name.ensures.gives d h))))
 
-pub returns-in_err-value-clause-reads : goal.returns-in_err-value-clause-reads
-returns-in_err-value-clause-reads g c = λ d h.
+pub returns-in_err-value : goal.returns-in_err-value
+returns-in_err-value g c =
     let p = err_from_is_err_and c.from_residual-in_err-value.result c.from_residual-in_err-value.ensures.1 in
-    rw (p.1, p.2) (fails_so _ _ _ (word_reads d _ _ _ _ _ (c.in_ok-name.ensures.gives d h)) (word_fails d _ _ _ _ (c.in_err-value.ensures.gives d)))
+    rw (p.1, p.2) (no_line _ _ _ _ _ _ _ (λ d h.
+    (fails_so _ _ _ (word_reads d _ _ _ _ _ (c.in_ok-name.ensures.gives d h)) (word_fails d _ _ _ _ (c.in_err-value.ensures.gives d tt)))))

@@ -1,0 +1,65 @@
+-- What the functions that read a rule promise.
+use Rattle.std.specs.Prelude.{◌≡◌, ℕ, ◌<◌, ◌≤◌, List, Option, Some, None, Result, Ok, Err, IfOk, IfSome, OnOk, length}
+use Rattle.crush_edits.specs.declared.rule.Rule.{Rule}
+use Rattle.crush_edits.specs.declared.rule.Step.{Step}
+use Rattle.crush_edits.specs.Setting.{RuleData}
+use Rattle.crush_map.specs.Built.{Draft, add_rule}
+use Rattle.crush_map.specs.Building.{BuilderData, IsDraft}
+use Rattle.crush_map.specs.Rules.{IsStepForm, IsRuleForm, kept_rule, word_fault}
+use Rattle.crush_text.specs.declared.fault.TextFault.{TextFault}
+use Rattle.crush_bytes.specs.Words.{Text}
+use Rattle.crush_units.specs.declared.limits.TheConstants.{LARGEST_RULE_NUMBER}
+use Rattle.crush_text.specs.Role.{key}
+use Rattle.crush_text.specs.Form.{second, ruled, at, Form}
+use Rattle.crush_text.specs.Grammar.{rule_line, lines}
+use Rattle.crush_text.specs.Flow.{State, between, arrive, Reaches}
+use Rattle.crush_text.specs.Room.{IsFreeRule}
+use Rattle.crush_text.specs.Reads.{line_at, number_behind, behind_step, GivesOn, Leads, Fails, FailsIn, GivesLine}
+
+-- a step of a rule was read, with which it is this one, or its brace at a place
+abbrev pub StepGoes : Result (Option ℕ) TextFault → Draft → RuleData → Text → Form → Text → Type 0
+StepGoes (Ok None) d r rest g t = line_at d g t ≡ Ok (at (ruled r) d, rest)
+StepGoes (Ok (Some place)) d r rest g t = (line_at d g t ≡ Ok (at second (add_rule d r), rest)) × Reaches place (arrive d t.words g) t.words
+StepGoes (Err f) d r rest g t = FailsIn f d g t
+
+-- a rule of which all lines so far are right
+pub record IsRightSoFar (b : BuilderData) (r : Rule) : Type 0 where
+  pub form : IsRuleForm r
+  pub free : (d : Draft) → IsDraft b d → IsFreeRule d r
+
+-- THE HEAD of a rule was read
+pub record ReadsHead (b : BuilderData) (old new : Text) (x : Result Rule TextFault) : Type 0 where
+  pub form : IfOk x IsRuleForm
+  pub gives : (d : Draft) → IsDraft b d → GivesLine (λ r. (at (ruled (kept_rule d r)) d, new)) x d (rule_line d) old
+  pub free : IfOk x (λ r. (d : Draft) → IsDraft b d → IsFreeRule d r)
+  pub shorter : OnOk x (length new.words ≤ length old.words)
+
+-- a size was read, where its key is next
+pub record ReadsSize (key : List ℕ) (old new : Text) (x : Result (Option ℕ) TextFault) : Type 0 where
+  pub most : IfOk x (λ n. IfSome n (λ k. k ≤ LARGEST_RULE_NUMBER))
+  pub gives : (d : Draft) (more : Option ℕ → Form) → GivesOn (λ n. line_at d (more n) new) x (line_at d (number_behind key more) old)
+  pub shorter : OnOk x (length new.words ≤ length old.words)
+
+-- A STEP of a rule was read, of this form
+pub record GivesStep (line : Draft → RuleData → Form) (b : BuilderData) (old new : Text) (x : Result Step TextFault) : Type 0 where
+  pub form : IfOk x IsStepForm
+  pub gives : (d : Draft) (r : RuleData) → IsDraft b d → GivesLine (λ s. (behind_step d r s, new)) x d (line d r) old
+  pub free : IfOk x (λ s. (d : Draft) → IsDraft b d → word_fault d s ≡ None)
+  pub shorter : OnOk x (length new.words ≤ length old.words)
+
+-- all steps of a rule were read, with which it is this one, and its brace at a place
+abbrev pub StepsGo : Result ℕ TextFault → Draft → RuleData → Text → State → Text → Type 0
+StepsGo (Ok place) d r rest s t = Leads s t (between (at second (add_rule d r))) rest × Reaches place s t.words
+StepsGo (Err f) d r rest s t = Fails f s t
+
+-- a line of a rule was read: one more step, or the brace
+pub record ReadsStepLine (b : BuilderData) (r q : Rule) (old new : Text) (x : Result (Option ℕ) TextFault) : Type 0 where
+  pub right : OnOk x (IsRightSoFar b q)
+  pub reads : (d : Draft) → IsDraft b d → StepGoes x d (kept_rule d q) new (lines d (ruled (kept_rule d r))) old
+  pub shorter : OnOk x (length new.words < length old.words)
+
+-- the lines of a rule's steps were read, and the brace
+pub record ReadsSteps (b : BuilderData) (r q : Rule) (old new : Text) (x : Result ℕ TextFault) : Type 0 where
+  pub right : OnOk x (IsRightSoFar b q)
+  pub reads : (d : Draft) → IsDraft b d → StepsGo x d (kept_rule d q) new (between (at (ruled (kept_rule d r)) d)) old
+  pub shorter : OnOk x (length new.words ≤ length old.words)

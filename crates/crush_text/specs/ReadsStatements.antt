@@ -1,0 +1,60 @@
+-- What the functions that read statements promise.
+use Rattle.std.specs.Prelude.{◌≡◌, ℕ, ◌<◌, List, Bool, Option, Some, None, Result, Ok, Err, IfOk, IfSome, OnOk, length, if◌then◌else◌}
+use Rattle.crush_edits.specs.Setting.{kind_number}
+use Rattle.crush_map.specs.Built.{Draft}
+use Rattle.crush_map.specs.Building.{BuilderData, IsDraft}
+use Rattle.crush_text.specs.declared.fault.TextFault.{TextFault}
+use Rattle.crush_bytes.specs.Words.{Text}
+use Rattle.crush_text.specs.declared.reader.word.PlacedWord.{PlacedWord}
+use Rattle.crush_text.specs.declared.opening.Opening.{Opening}
+use Rattle.crush_text.specs.declared.opening.Opening.TheVariants as openings
+use Rattle.crush_text.specs.Role.{opening}
+use Rattle.crush_text.specs.Form.{Mode, first, second, at}
+use Rattle.crush_text.specs.Tests.{word_for}
+use Rattle.crush_text.specs.Flow.{State, placed, between, outcome}
+use Rattle.crush_text.specs.Room.{HasRoom}
+use Rattle.crush_text.specs.Reads.{Leads, Fails}
+use Rattle.crush_text.specs.ReadsLines.{IsIdle}
+
+-- a statement was read, behind which only buckets and rules may come, or all may
+abbrev pub behind : Bool → Mode
+behind late = if late then second else first
+
+-- what follows a statement, or the text is whole
+abbrev pub NextGoes : Result (Option Bool) TextFault → BuilderData → Text → State → Text → Type 0
+NextGoes (Ok None) builder rest s t = (e : Draft) × IsDraft builder e × (outcome s t ≡ Ok e)
+NextGoes (Ok (Some late)) builder rest s t = (e : Draft) × IsDraft builder e × Leads s t (between (at (behind late) e)) rest
+NextGoes (Err f) builder rest s t = Fails f s t
+
+-- A STATEMENT was read, or the end of the text
+pub record ReadsNext (late : Bool) (before after : BuilderData) (old new : Text) (x : Result (Option Bool) TextFault) : Type 0 where
+  pub idle : OnOk x (IsIdle after)
+  pub reads : (d : Draft) → IsDraft before d → NextGoes x after new (between (at (behind late) d)) old
+  pub shorter : IfOk x (λ more. IfSome more (λ _. length new.words < length old.words))
+
+-- all statements give a draft
+abbrev pub AllGo : Result (Unit {0}) TextFault → BuilderData → State → Text → Type 0
+AllGo (Ok x) builder s t = (e : Draft) × IsDraft builder e × (outcome s t ≡ Ok e)
+AllGo (Err f) builder s t = Fails f s t
+
+-- ALL STATEMENTS were read
+pub record ReadsAll (before after : BuilderData) (old : Text) (x : Result (Unit {0}) TextFault) : Type 0 where
+  pub idle : OnOk x (IsIdle after)
+  pub reads : (d : Draft) → IsDraft before d → AllGo x after (between (at first d)) old
+
+-- a first word that opens a bucket is the name of its type
+abbrev pub IsKnown : Draft → Opening → List ℕ → Type 0
+IsKnown d (openings.Bucket k) w = kind_number d.setting w ≡ Some k
+IsKnown d o w = Unit {0}
+
+-- between two statements, where this word opens one for which there is room
+pub record CanOpen (o : Opening) (w : List ℕ) (b : BuilderData) : Type 0 where
+  pub idle : IsIdle b
+  pub known : (d : Draft) → IsDraft b d → IsKnown d o w
+  pub room : (d : Draft) → IsDraft b d → HasRoom d o
+
+-- what a first word opens was found
+pub record Opens (w : PlacedWord) (late : Bool) (b : BuilderData) (x : Result Opening TextFault) : Type 0 where
+  pub opens : (d : Draft) → IsDraft b d → x ≡ placed w.place (word_for d (opening late) w.text.now)
+  pub known : (d : Draft) → IsDraft b d → IfOk x (λ o. IsKnown d o w.text.now)
+  pub room : IfOk x (λ o. (d : Draft) → IsDraft b d → HasRoom d o)

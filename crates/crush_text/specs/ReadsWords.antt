@@ -1,0 +1,50 @@
+-- What the functions that read one word promise.
+use Rattle.std.specs.Prelude.{◌≡◌, ◌||◌, ℕ, ◌<◌, List, true, false, Result, Ok, IfOk, OnOk, length, nat_eq, codes}
+use Rattle.std.specs.List.{starts_with}
+use Rattle.crush_units.specs.Name.{is_name, IsName}
+use Rattle.crush_map.specs.Built.{Draft}
+use Rattle.crush_text.specs.declared.fault.TextFault.{TextFault}
+use Rattle.crush_bytes.specs.Words.{Text, is_brace_word}
+use Rattle.crush_text.specs.declared.reader.word.PlacedWord.{PlacedWord}
+use Rattle.crush_text.specs.declared.reader.step.FirstOfStep.{FirstOfStep}
+use Rattle.crush_text.specs.declared.reader.step.FirstOfStep.TheVariants as steps
+use Rattle.crush_text.specs.Role.{Role, El, value}
+use Rattle.crush_text.specs.Room.{IsFreeWord, IsInRange, IsFreeValue}
+use Rattle.crush_text.specs.Reads.{word_of, next_at, word_at, Gives}
+
+-- a word was taken, a brace or a name
+pub record TakesWord (old new : Text) (x : Result PlacedWord TextFault) : Type 0 where
+  pub gives : Gives (λ w. (word_of w, new)) x (next_at old)
+  pub formed : IfOk x (λ w. (is_brace_word w.text.now || is_name w.text.now) ≡ true)
+  pub shorter : OnOk x (length new.words < length old.words)
+
+-- every draft, where a word doesn't depend on what was built
+abbrev pub AnyDraft : Draft → Type 0
+AnyDraft d = Unit {0}
+
+-- A WORD was read for this role, and it is a name: at each of these drafts it has the role's value, or the fault that is told
+pub record ReadsWord (r : Role) (drafts : Draft → Type 0) (old new : Text) (x : Result PlacedWord TextFault) : Type 0 where
+  pub gives : (d : Draft) → drafts d → Gives (λ w. (value d r w.text.now, new)) x (word_at d r old)
+  pub next : IfOk x (λ w. next_at old ≡ Ok (word_of w, new))
+  pub plain : IfOk x (λ w. is_brace_word w.text.now ≡ false)
+  pub named : IfOk x (λ w. IsName w.text.now)
+  pub free : IfOk x (λ w. (d : Draft) → drafts d → IsFreeWord d r w.text.now)
+  pub shorter : OnOk x (length new.words < length old.words)
+
+-- and what is returned has this value
+pub record ReadsValue {X : Type 0} (r : Role) (view : X → El r) (drafts : Draft → Type 0) (old new : Text) (x : Result X TextFault) : Type 0 where
+  pub gives : (d : Draft) → drafts d → Gives (λ v. (view v, new)) x (word_at d r old)
+  pub range : IfOk x (λ v. IsInRange r (view v))
+  pub free : IfOk x (λ v. (d : Draft) → drafts d → IsFreeValue d r (view v))
+  pub shorter : OnOk x (length new.words < length old.words)
+
+-- the word that was read stood here
+abbrev pub StoodAt : Text → Text → ℕ → Type 0
+StoodAt old new place = (text : List ℕ) × (next_at old ≡ Ok (record { place = place; text = text }, new))
+
+-- the first word of a step has the form of what it sets, and its place
+abbrev pub IsFirstOfStep : Text → Text → FirstOfStep → Type 0
+IsFirstOfStep old new steps.Take = Unit {0}
+IsFirstOfStep old new (steps.Choose leaf) = Unit {0}
+IsFirstOfStep old new (steps.Set w) = IsName w.text.now × (starts_with nat_eq w.text.now (codes "set_") ≡ true) × StoodAt old new w.place
+IsFirstOfStep old new steps.Emit = Unit {0}
