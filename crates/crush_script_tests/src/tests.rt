@@ -9,6 +9,7 @@ mod heaps;
 mod jobs;
 mod limits;
 mod lines;
+mod prefixes;
 mod reading;
 mod words;
 mod writing;
