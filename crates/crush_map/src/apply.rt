@@ -9,7 +9,7 @@ ghost use Rattle.crush_edits.specs.declared.refusal.Refusal.{Refusal as Declared
 ghost use Rattle.crush_edits.specs.Answer.{refused};
 ghost use Rattle.crush_edits.specs.Batch.{batch, batch_refused};
 ghost use Rattle.crush_edits.specs.Edit.{edit, takes_memory, sets_weights};
-ghost use Rattle.crush_apply.specs.Answered.{KeepsRooms};
+ghost use Rattle.crush_apply.specs.Answered.{KeepsRooms, leaves_no_room};
 ghost use Rattle.crush_apply.specs.Batched.{IsBatchDone};
 ghost use Rattle.crush_edits.specs.Outcome.{IsDone, IsChange};
 
@@ -24,8 +24,9 @@ impl<A: Allocator> CrushMap<A> {
     /// Where several refusals hold, the one of least number is told, and the map is as before, as
     /// it is where the edit changes nothing. Want of memory is told only of an edit that takes
     /// memory, where nothing speaks against it and the map would be another after it: so never of
-    /// new weights, of an exchange or of a removal. The map then has what it had. New weights leave
-    /// each place the room that it has, whatever is answered.
+    /// new weights, of an exchange or of a removal. The map then has what it had; an edit with a
+    /// location may leave room behind where its item was to come. New weights leave each place the
+    /// room that it has, whatever is answered.
     pub fn apply(&mut self, asked: &Edit) -> Result<Done, EditFault>
     where
         A: Clone,
@@ -43,6 +44,7 @@ impl<A: Allocator> CrushMap<A> {
         ensures unchanged { (r : DeclaredRefusal) → result ≡ Err (EditFault.Refused r)
             → self.new ≡ self.old }
         ensures still { IfOk result (λ d. d.changed ≡ false → self.new ≡ self.old) }
+        ensures exact { leaves_no_room asked.now ≡ true → OnErr result (self.new ≡ self.old) }
         ensures kept { OnErr result (IsSameForest self.new.forest self.old.forest) }
         ensures setting { self.new.setting ≡ self.old.setting }
     {
