@@ -4,6 +4,7 @@ pub mod Chains
 pub mod Changes
 pub mod Differ
 pub mod Edits
+pub mod FirstNumbers
 pub mod FitLaws
 pub mod Full
 pub mod Lawfuls
@@ -16,4 +17,5 @@ pub mod Routes
 pub mod SettingLaws
 pub mod Stops
 pub mod Tails
+pub mod TakenBuckets
 pub mod Worked

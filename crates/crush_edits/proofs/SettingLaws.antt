@@ -1,25 +1,20 @@
 -- Parts of a setting as they are kept, and in the lists that contracts see.
-use Rattle.std.proofs.Common.{◌≡◌, ℕ, Bool, true, false, cond, List, [], ◌∷◌, ◌++◌, ◌||◌, refl, ap, sym, subst, ◌∙◌, true≢false}
-use Rattle.std.proofs.Math.Bool.{or_assoc}
-use Rattle.std.proofs.lemmas.List.{append_assoc}
-use Rattle.std.specs.Cmp.{IsEquivalence}
+use Rattle.std.proofs.Common.{◌≡◌, ℕ, Bool, true, false, cond, List, [], ◌∷◌, ◌++◌, ◌||◌, nat_eq, refl, ap, sym, subst, ◌∙◌, true≢false, arith, length, ◌<◌}
+use Rattle.std.proofs.lemmas.List.{append_assoc, length-append, map-append}
+use Rattle.std.specs.Cmp.{IsEquivalence, nat_eq_equiv}
 use Rattle.std.specs.Cmp.Lexicographic.{nat_list_eq_equiv}
 use Rattle.std.specs.List.{AllByRecursion, IsDistinct, list_any}
 use Rattle.std.specs.Map.{keys_of, lookup}
-use Rattle.std.specs.Option.{is_some, option_map}
-use Rattle.std.specs.Prelude.{Option, Some, None, if◌then◌else◌, find, map, flat_map, bytes_eq, ◌==◌}
+use Rattle.std.specs.Option.{IsSome, is_some, option_map, option_to_list}
+use Rattle.std.specs.Prelude.{Option, Some, None, if◌then◌else◌, find, map, bytes_eq, ◌==◌}
 use Rattle.indexmap.specs.IndexMap.{IndexMap, insert_entry}
 use Rattle.indexmap.proofs.CallerLemmas.{insert_entry-new}
-use Rattle.crush_table.specs.Table.{member}
 use Rattle.crush_table.proofs.Climbs.{eqb_turned}
-use Rattle.crush_edits.specs.Setting.{KindData, TunableData, RuleData, bucket_taken}
-use Rattle.crush_edits.specs.declared.setting.KeptRule.{KeptRule}
-use Rattle.crush_edits.specs.declared.setting.KeptStep.{KeptStep}
-use Rattle.crush_edits.specs.declared.setting.KeptStep.TheVariants.{Take, Choose, Set, Emit}
-use Rattle.crush_edits.specs.SettingSeen.{kind_data, tunable_data, step_data, rule_data, takes_bucket}
+use Rattle.crush_edits.specs.Setting.{KindData, TunableData, first_name}
+use Rattle.crush_edits.specs.SettingSeen.{kind_data, tunable_data}
 
 -- the name of a type by its number
-pub name_got : (n : ℕ) (es : List (ℕ × List ℕ)) → lookup (λ k. n == k) es ≡ option_map (λ (k : KindData). k.name) (find (λ (k : KindData). k.number == n) (map kind_data es))
+pub name_got : (n : ℕ) (es : List (ℕ × List ℕ)) → lookup (λ k. n == k) es ≡ first_name (map kind_data es) n
 name_got n [] = refl
 name_got n (e ∷ es) = (λ j. cond (eqb_turned n e.0 j) (Some e.1) (name_got n es j)) ∙ by (e.0 == n)
   where
@@ -43,7 +38,7 @@ not_got (Some x) e = absurd (true≢false e)
 
 -- a map is copied entry by entry, since none of its keys is among those before it
 module _ {K X : Type 0} (eq : K → K → Bool) (laws : IsEquivalence eq) where
-  new_key : (done rest : List (K × X)) (k : K) (v : X) → IsDistinct eq (keys_of (done ++ (k, v) ∷ rest)) → lookup (eq k) done ≡ None
+  pub new_key : (done rest : List (K × X)) (k : K) (v : X) → IsDistinct eq (keys_of (done ++ (k, v) ∷ rest)) → lookup (eq k) done ≡ None
   unfolding IsDistinct
   new_key [] rest k v h = refl
   new_key (e ∷ done) rest k v h = λ j. cond ((laws.symm k e.0 ∙ apart done h.0) j) (Some e.1) (new_key done rest k v h.1 j)
@@ -62,26 +57,44 @@ pub map-push : {X Y : Type 0} (f : X → Y) (xs : List X) (x : X) → map f (xs 
 map-push f [] x = refl
 map-push f (y ∷ xs) x = ap (λ z. f y ∷ z) (map-push f xs x)
 
--- a number among those of two lists, and among those of the steps of rules
-member-++ : (b : ℕ) (xs ys : List ℕ) → member b (xs ++ ys) ≡ member b xs || member b ys
-member-++ b [] ys = refl
-member-++ b (x ∷ xs) ys = ap (λ z. (x == b) || z) (member-++ b xs ys) ∙ sym (or_assoc (x == b) (member b xs) (member b ys))
+-- a type of a new number comes last
+pub kind_pushed : {S : Type 0} (m n : IndexMap ℕ (List ℕ) S) (number : ℕ) (name : List ℕ) → first_name (map kind_data m.entries) number ≡ None
+    → n.entries ≡ insert_entry nat_eq m.entries number name → map kind_data n.entries ≡ map kind_data m.entries ++ kind_data (number, name) ∷ []
+kind_pushed m n number name none e =
+    ap (map kind_data) (e ∙ insert_entry-new nat_eq m number name (name_got number m.entries ∙ none)) ∙ map-push kind_data m.entries (number, name)
 
-or-false : (x : Bool) → x || false ≡ x
-or-false true = refl
-or-false false = refl
+-- types as entries of their numbers: none has the number of one before it
+abbrev kind_entry : KindData → ℕ × List ℕ
+kind_entry k = (k.number, k.name)
 
-step_taken : (b : ℕ) (x : KeptStep) → takes_bucket b x ≡ member b (bucket_taken (step_data x))
-step_taken b (Take taken class) = sym (or-false (taken == b))
-step_taken b (Choose leaf firstn count kind) = refl
-step_taken b (Set word value) = refl
-step_taken b Emit = refl
+seen_again : (kinds : List KindData) → map kind_data (map kind_entry kinds) ≡ kinds
+seen_again [] = refl
+seen_again (k ∷ kinds) = ap (λ ks. k ∷ ks) (seen_again kinds)
 
-steps_taken : (b : ℕ) (xs : List KeptStep) → list_any (takes_bucket b) xs ≡ member b (flat_map bucket_taken (map step_data xs))
-steps_taken b [] = refl
-steps_taken b (x ∷ xs) = ap (λ z. z || list_any (takes_bucket b) xs) (step_taken b x) ∙ ap (λ z. member b (bucket_taken (step_data x)) || z) (steps_taken b xs) ∙ sym (member-++ b (bucket_taken (step_data x)) (flat_map bucket_taken (map step_data xs)))
+kept_again : (es : List (ℕ × List ℕ)) → map kind_entry (map kind_data es) ≡ es
+kept_again [] = refl
+kept_again (e ∷ es) = ap (λ xs. e ∷ xs) (kept_again es)
 
--- the bucket is one that a rule takes
-pub rules_taken : (b : ℕ) (xs : List KeptRule) → list_any (λ (r : KeptRule). list_any (takes_bucket b) r.steps.items) xs ≡ member b (flat_map (λ (r : RuleData). flat_map bucket_taken r.steps) (map rule_data xs))
-rules_taken b [] = refl
-rules_taken b (r ∷ xs) = ap (λ z. z || list_any (λ (x : KeptRule). list_any (takes_bucket b) x.steps.items) xs) (steps_taken b r.steps.items) ∙ ap (λ z. member b (flat_map bucket_taken (map step_data r.steps.items)) || z) (rules_taken b xs) ∙ sym (member-++ b (flat_map bucket_taken (map step_data r.steps.items)) (flat_map (λ (x : RuleData). flat_map bucket_taken x.steps) (map rule_data xs)))
+pub new_number : (es : List (ℕ × List ℕ)) → IsDistinct nat_eq (keys_of es) → (done rest : List KindData) (k : KindData) → done ++ k ∷ rest ≡ map kind_data es → first_name done k.number ≡ None
+new_number es distinct done rest k e =
+    let kept : map kind_entry done ++ kind_entry k ∷ map kind_entry rest ≡ es = sym (map-append kind_entry done (k ∷ rest)) ∙ ap (map kind_entry) e ∙ kept_again es in
+    ap (λ ks. first_name ks k.number) (sym (seen_again done)) ∙ sym (name_got k.number (map kind_entry done))
+    ∙ new_key nat_eq nat_eq_equiv (map kind_entry done) (map kind_entry rest) k.number k.name (subst (λ xs. IsDistinct nat_eq (keys_of xs)) (sym kept) distinct)
+
+-- what was put last is taken off again
+abbrev front : {X : Type 0} → List X → List X
+front [] = []
+front (x ∷ []) = []
+front (x ∷ (y ∷ ys)) = x ∷ front (y ∷ ys)
+
+front-push : {X : Type 0} (xs : List X) (x : X) → front (xs ++ x ∷ []) ≡ xs
+front-push [] x = refl
+front-push (y ∷ []) x = refl
+front-push (y ∷ (z ∷ zs)) x = ap (λ l. y ∷ l) (front-push (z ∷ zs) x)
+
+pub popped : {X : Type 0} (xs ys : List X) (x : X) (o : Option X) → xs ++ x ∷ [] ≡ ys ++ option_to_list o → IsSome o → ys ≡ xs
+popped xs ys x None e some = absurd (true≢false (sym some))
+popped xs ys x (Some y) e some = sym (front-push ys y) ∙ ap front (sym e) ∙ front-push xs x
+
+pub some_left : {X : Type 0} (xs : List X) (x : X) → 0 < length (xs ++ x ∷ [])
+some_left xs x = omega (arith, length-append xs (x ∷ []))

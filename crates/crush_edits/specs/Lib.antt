@@ -4,6 +4,7 @@ pub mod Boxes
 pub mod Changed
 pub mod Edit
 pub mod Fits
+pub mod KindsTold
 pub mod LawBatch
 pub mod LawEdit
 pub mod LawOrder
@@ -19,6 +20,7 @@ pub mod Placing
 pub mod Pushed
 pub mod Put
 pub mod Refusal
+pub mod RulesTold
 pub mod Setting
 pub mod SettingSeen
 pub mod Stops

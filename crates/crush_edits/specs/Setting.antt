@@ -36,12 +36,19 @@ pub record SettingData : Type 0 where
   pub tunables : List TunableData
   pub rules : List RuleData
 
+-- of types in order, the number of the first of a name, and the name of the first of a number
+abbrev pub first_number : List KindData → List ℕ → Option ℕ
+first_number kinds n = option_map (λ (k : KindData). k.number) (find (λ (k : KindData). bytes_eq k.name n) kinds)
+
+abbrev pub first_name : List KindData → ℕ → Option (List ℕ)
+first_name kinds n = option_map (λ (k : KindData). k.name) (find (λ (k : KindData). k.number == n) kinds)
+
 -- the number of a type's name, and the name of a number
 abbrev pub kind_number : SettingData → List ℕ → Option ℕ
-kind_number s n = option_map (λ (k : KindData). k.number) (find (λ (k : KindData). bytes_eq k.name n) s.kinds)
+kind_number s n = first_number s.kinds n
 
 abbrev pub kind_name : SettingData → ℕ → Option (List ℕ)
-kind_name s n = option_map (λ (k : KindData). k.name) (find (λ (k : KindData). k.number == n) s.kinds)
+kind_name s n = first_name s.kinds n
 
 -- whether a tunable has the name
 abbrev pub has_tunable : SettingData → List ℕ → Bool
@@ -54,8 +61,11 @@ bucket_taken (choose leaf firstn count kind) = []
 bucket_taken (set word value) = []
 bucket_taken emit = []
 
+abbrev pub taken_by : List RuleData → List ℕ
+taken_by rules = flat_map (λ (r : RuleData). flat_map bucket_taken r.steps) rules
+
 abbrev pub taken_buckets : SettingData → List ℕ
-taken_buckets s = flat_map (λ (r : RuleData). flat_map bucket_taken r.steps) s.rules
+taken_buckets s = taken_by s.rules
 
 -- CODES: each of these as a value of one plain type, from which it can be told again
 abbrev pub coded_kind : Coded KindData

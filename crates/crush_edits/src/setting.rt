@@ -1,16 +1,19 @@
 //! The setting of a map: what it holds beside its items.
 
-ghost use Rattle.std.specs.Prelude.{◌≡◌, ◌∷◌, [], ◌++◌, map, find, bytes_eq, None, false, OnOk, OnErr, IfOk};
-ghost use Rattle.std.specs.Option.{option_copied, option_map};
+ghost use Rattle.std.specs.Prelude.{◌≡◌, ◌∷◌, [], ◌++◌, map, None, false, OnOk, OnErr, IfOk};
+ghost use Rattle.std.specs.Option.{option_copied};
 ghost use Rattle.crush_edits.specs.Fits.{is_reserved as is_reserved_name};
 ghost use Rattle.crush_edits.specs.Making.{is_taken_by_rule};
-ghost use Rattle.crush_edits.specs.Setting.{KindData, kind_number, kind_name, has_tunable};
-ghost use Rattle.crush_edits.specs.SettingSeen.{kind_data, tunable_data, rule_data, takes_bucket};
-ghost use Rattle.std.specs.List.{list_any};
-ghost use Rattle.crush_edits.specs.declared.setting.KeptRule.{KeptRule as DeclaredRule};
+ghost use Rattle.crush_edits.specs.Setting.{kind_number, kind_name, has_tunable};
+ghost use Rattle.crush_edits.specs.SettingSeen.{kind_data, tunable_data, rule_data};
+
+mod kinds;
+mod rules;
 
 use crush_units::{BucketId, Name, TypeId};
 use indexmap::IndexMap;
+use kinds::Kinds;
+use rules::Rules;
 use std::alloc::{AllocError, Global};
 use std::marker::Model;
 
@@ -64,9 +67,9 @@ pub enum KeptStep {
 /// lists.
 #[derive(Debug, Drop)]
 pub struct Setting {
-    kinds: IndexMap<TypeId, Name<Global>>,
+    kinds: Kinds,
     tunables: IndexMap<Name<Global>, u32>,
-    rules: Vec<KeptRule>,
+    rules: Rules,
 }
 
 impl Model for Setting {
@@ -77,12 +80,12 @@ impl Model for Setting {
     ghost coded = { coded_setting };
 
     ghost use Rattle.std.specs.Prelude.{map};
-    ghost use Rattle.crush_edits.specs.SettingSeen.{kind_data, tunable_data, rule_data};
+    ghost use Rattle.crush_edits.specs.SettingSeen.{tunable_data};
 
     ghost view = { λ s. record {
-      kinds = map kind_data s.kinds.entries;
+      kinds = s.kinds;
       tunables = map tunable_data s.tunables.entries;
-      rules = map rule_data s.rules.items;
+      rules = s.rules;
     } };
 }
 
@@ -145,9 +148,9 @@ impl Setting {
         } }
     {
         Setting {
-            kinds: IndexMap::new(alloc),
+            kinds: Kinds::new(alloc),
             tunables: IndexMap::new(alloc),
-            rules: Vec::new(alloc),
+            rules: Rules::new(alloc),
         }
     }
 
@@ -159,7 +162,7 @@ impl Setting {
             ≡ record self.old { kinds = self.old.kinds ++ kind_data (number, name) ∷ [] }) }
         ensures err { OnErr result (self.new ≡ self.old) }
     {
-        self.kinds.insert(number, name)?;
+        self.kinds.push(number, name)?;
         Ok(())
     }
 
@@ -189,7 +192,7 @@ impl Setting {
     pub fn kinds(&self) -> &IndexMap<TypeId, Name<Global>>
         ensures { map kind_data result.now.entries ≡ self.now.kinds }
     {
-        &self.kinds
+        self.kinds.names()
     }
 
     /// The tunables: the value of each name, in the order in which they were declared.
@@ -210,19 +213,19 @@ impl Setting {
     pub fn kind_number(&self, name: &[u8]) -> Option<TypeId>
         ensures { result ≡ kind_number self.now name.now }
     {
-        number_of(&self.kinds, name)
+        self.kinds.number(name)
     }
 
     /// The name of the type of this number, or `None` where the map has no such type.
     pub fn kind_name(&self, number: TypeId) -> Option<&Name<Global>>
         ensures { option_copied result ≡ kind_name self.now number }
     {
-        self.kinds.get(&number)
+        self.kinds.name(number)
     }
 
     /// The allocator that the setting was made with. No contract tells one from another.
     pub fn allocator(&self) -> Global {
-        *self.kinds.allocator()
+        self.kinds.allocator()
     }
 
     /// A copy of the setting. An Err is want of memory.
@@ -230,9 +233,9 @@ impl Setting {
         ensures { IfOk result (λ copy. copy ≡ self.now) }
     {
         Ok(Setting {
-            kinds: copy_kinds(&self.kinds, alloc)?,
+            kinds: self.kinds.try_copy(alloc)?,
             tunables: copy_tunables(&self.tunables, alloc)?,
-            rules: copy_rules(&self.rules, alloc)?,
+            rules: self.rules.try_copy(alloc)?,
         })
     }
 
@@ -240,7 +243,7 @@ impl Setting {
     pub fn takes(&self, bucket: BucketId) -> bool
         ensures { result ≡ is_taken_by_rule self.now bucket }
     {
-        is_taken(&self.rules, bucket)
+        self.rules.takes(bucket)
     }
 }
 
@@ -255,59 +258,6 @@ pub fn is_reserved(name: &[u8]) -> bool
         || b"rule".as_slice() == name
         || b"class".as_slice() == name
         || b"choose_args".as_slice() == name
-}
-
-/// The number of the first type of this name.
-fn number_of(kinds: &IndexMap<TypeId, Name<Global>>, name: &[u8]) -> Option<TypeId>
-    ensures { result ≡ option_map (λ (k : KindData). k.number)
-        (find (λ (k : KindData). bytes_eq k.name name.now) (map kind_data kinds.now.entries)) }
-{
-    for (number, kind) in kinds {
-        if kind.is(name) {
-            return Some(*number);
-        }
-    }
-    None
-}
-
-/// Whether a step of one of the rules takes the bucket.
-fn is_taken(rules: &[KeptRule], bucket: BucketId) -> bool
-    ensures { result ≡ list_any (λ (r : DeclaredRule). list_any (takes_bucket bucket) r.steps.items)
-        rules.now }
-{
-    rules.iter().any(|rule| rule_takes(rule, bucket))
-}
-
-/// Whether a step of the rule takes the bucket.
-fn rule_takes(rule: &KeptRule, bucket: BucketId) -> bool
-    ensures { result ≡ list_any (takes_bucket bucket) rule.now.steps.items }
-{
-    rule.steps.iter().any(|step| step_takes(step, bucket))
-}
-
-/// Whether the step takes the bucket.
-fn step_takes(step: &KeptStep, bucket: BucketId) -> bool
-    ensures { result ≡ takes_bucket bucket step.now }
-{
-    match step {
-        KeptStep::Take(taken, _) => *taken == bucket,
-        _ => false,
-    }
-}
-
-/// Copies of the types, in their order.
-fn copy_kinds(
-    kinds: &IndexMap<TypeId, Name<Global>>,
-    alloc: Global,
-) -> Result<IndexMap<TypeId, Name<Global>>, AllocError>
-    ensures { IfOk result (λ copies. copies.entries ≡ kinds.now.entries) }
-{
-    let mut copies = IndexMap::new(alloc);
-    for (number, name) in kinds {
-        let name = name.try_copy(alloc)?;
-        copies.insert(*number, name)?;
-    }
-    Ok(copies)
 }
 
 /// Copies of the tunables, in their order.
@@ -333,18 +283,6 @@ fn copy_steps(steps: &[KeptStep], alloc: Global) -> Result<Vec<KeptStep>, AllocE
     for step in steps {
         let step = step.try_copy(alloc)?;
         copies.push(step)?;
-    }
-    Ok(copies)
-}
-
-/// Copies of the rules, in their order.
-fn copy_rules(rules: &[KeptRule], alloc: Global) -> Result<Vec<KeptRule>, AllocError>
-    ensures { IfOk result (λ copies. map rule_data copies.items ≡ map rule_data rules.now) }
-{
-    let mut copies = Vec::new(alloc);
-    for rule in rules {
-        let rule = rule.try_copy(alloc)?;
-        copies.push(rule)?;
     }
     Ok(copies)
 }

@@ -1,7 +1,6 @@
 use Rattle.std.proofs.Common.{ap, ◌∙◌}
 use Rattle.crush_edits.specs.Making.{is_taken_by_rule}
-use Rattle.crush_edits.proofs.SettingLaws.{rules_taken}
 use Rattle.crush_edits.proofs.setting.Setting.takes.Goals as goal
 
 pub returns : goal.returns
-returns c = c.is_taken.ensures ∙ rw c.deref.ensures.value (rules_taken c.args.bucket c.self.inside.rules.items) ∙ ap (λ s. is_taken_by_rule s c.args.bucket) c.self.view_is
+returns c = c.takes.ensures ∙ ap (λ s. is_taken_by_rule s c.args.bucket) c.self.view_is

@@ -3,7 +3,7 @@ use Rattle.std.specs.Prelude.{map}
 use Rattle.std.proofs.lemmas.List.{take_more, take_all}
 use Rattle.crush_edits.specs.SettingSeen.{rule_data}
 use Rattle.crush_edits.proofs.SettingLaws.{map-push}
-use Rattle.crush_edits.proofs.setting.copy_rules.Goals as goal
+use Rattle.crush_edits.proofs.setting.rules.copy_rules.Goals as goal
 
 pub loop-rule-preserved : goal.loop-rule-preserved
 loop-rule-preserved c =

@@ -1,7 +1,7 @@
 use Rattle.std.proofs.Common.{◌≡◌, take}
 use Rattle.std.specs.Prelude.{map}
 use Rattle.crush_edits.specs.SettingSeen.{rule_data}
-use Rattle.crush_edits.proofs.setting.copy_rules.Given as goal
+use Rattle.crush_edits.proofs.setting.rules.copy_rules.Given as goal
 
 -- those so far are copied
 abbrev pub invariant-loop-rule : goal.invariant-loop-rule

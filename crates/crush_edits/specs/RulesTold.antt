@@ -1,0 +1,17 @@
+-- Which buckets are told to be taken, and when they are those that rules take.
+use Rattle.std.specs.Prelude.{◌≡◌, ◌||◌, ℕ, List}
+use Rattle.std.specs.BTreeSet.{BTreeSet, contains}
+use Rattle.std.specs.List.{list_any}
+use Rattle.std.specs.Ordering.{nat_cmp}
+use Rattle.crush_table.specs.Table.{member}
+use Rattle.crush_edits.specs.Setting.{RuleData, taken_by}
+use Rattle.crush_edits.specs.SettingSeen.{takes_bucket}
+use Rattle.crush_edits.specs.declared.setting.KeptStep.{KeptStep}
+
+-- TAKEN BUCKETS: those that a step of a rule takes, and no others
+abbrev pub AreTakenBy : List RuleData → BTreeSet ℕ → Type 0
+AreTakenBy rules taken = (b : ℕ) → contains nat_cmp taken b ≡ member b (taken_by rules)
+
+-- those that these steps take, with those that were taken before
+abbrev pub ComeAsTaken : List KeptStep → BTreeSet ℕ → BTreeSet ℕ → Type 0
+ComeAsTaken steps old new = (b : ℕ) → contains nat_cmp new b ≡ contains nat_cmp old b || list_any (takes_bucket b) steps

@@ -1,0 +1,127 @@
+//! The types of a setting, looked up by their numbers and by their names.
+
+ghost use Rattle.std.specs.Prelude.{◌≡◌, ◌∷◌, [], ◌++◌, map, None, OnOk, OnErr, IfOk};
+ghost use Rattle.std.specs.Option.{option_copied};
+ghost use Rattle.crush_edits.specs.KindsTold.{TellsFirst, TellsSame};
+ghost use Rattle.crush_edits.specs.Setting.{first_number, first_name};
+ghost use Rattle.crush_edits.specs.SettingSeen.{kind_data};
+
+use crush_units::{Name, TypeId};
+use indexmap::IndexMap;
+use std::alloc::{AllocError, Global};
+use std::collections::BTreeMap;
+use std::marker::Model;
+
+/// Types, in the order in which they were declared: no two of one number. Contracts see that list.
+///
+/// Beside it the number of each name is kept, of the first type where several have the name. Names
+/// come from strangers, so they are kept in order and not by a hash: no choice of them makes a
+/// look-up slow.
+#[derive(Debug, Drop)]
+pub(super) struct Kinds {
+    names: IndexMap<TypeId, Name<Global>>,
+    numbers: BTreeMap<Vec<u8>, TypeId>,
+}
+
+impl Model for Kinds {
+    ghost use Rattle.std.specs.Prelude.{List, map};
+    ghost use Rattle.std.specs.Coded.{coded_list};
+    ghost use Rattle.crush_edits.specs.Setting.{KindData, coded_kind};
+    ghost use Rattle.crush_edits.specs.SettingSeen.{kind_data};
+    ghost use Rattle.crush_edits.specs.KindsTold.{AreNumbersOf};
+
+    ghost Value = { List KindData };
+
+    ghost coded = { coded_list coded_kind };
+
+    ghost view = { λ k. map kind_data k.names.entries };
+
+    ghost invariant = { λ k. AreNumbersOf (map kind_data k.names.entries) k.numbers };
+}
+
+impl Kinds {
+    /// No types. Takes no memory.
+    pub(super) fn new(alloc: Global) -> Kinds
+        ensures { result ≡ [] }
+    {
+        Kinds {
+            names: IndexMap::new(alloc),
+            numbers: BTreeMap::new(alloc),
+        }
+    }
+
+    /// Adds a type of a number that no type has, after those that are there. An Err is want of
+    /// memory; nothing has changed then.
+    pub(super) fn push(&mut self, number: TypeId, name: Name<Global>) -> Result<(), AllocError>
+        requires { first_name self.old number ≡ None }
+        ensures ok { OnOk result (self.new ≡ self.old ++ kind_data (number, name) ∷ []) }
+        ensures err { OnErr result (self.new ≡ self.old) }
+    {
+        let key = name.as_bytes().to_vec(self.allocator())?;
+        self.names.insert(number, name)?;
+        match tell_first(&mut self.numbers, key, number) {
+            Ok(()) => Ok(()),
+            Err(refused) => {
+                self.names.pop();
+                Err(refused)
+            }
+        }
+    }
+
+    /// The name of each number, in the order in which the types were declared.
+    pub(super) fn names(&self) -> &IndexMap<TypeId, Name<Global>>
+        ensures { map kind_data result.now.entries ≡ self.now }
+    {
+        &self.names
+    }
+
+    /// The number of the first type of this name.
+    pub(super) fn number(&self, name: &[u8]) -> Option<TypeId>
+        ensures { result ≡ first_number self.now name.now }
+    {
+        match self.numbers.get(name) {
+            Some(number) => Some(*number),
+            None => None,
+        }
+    }
+
+    /// The name of the type of this number.
+    pub(super) fn name(&self, number: TypeId) -> Option<&Name<Global>>
+        ensures { option_copied result ≡ first_name self.now number }
+    {
+        self.names.get(&number)
+    }
+
+    /// The allocator that the types were made with. No contract tells one from another.
+    pub(super) fn allocator(&self) -> Global {
+        *self.names.allocator()
+    }
+
+    /// A copy of the types. An Err is want of memory.
+    pub(super) fn try_copy(&self, alloc: Global) -> Result<Kinds, AllocError>
+        ensures { IfOk result (λ copy. copy ≡ self.now) }
+    {
+        let mut copy = Kinds::new(alloc);
+        for (number, name) in &self.names {
+            let name = name.try_copy(alloc)?;
+            copy.push(*number, name)?;
+        }
+        Ok(copy)
+    }
+}
+
+/// Tells the number of a name that has none so far. An Err is want of memory; the same is told
+/// then.
+fn tell_first(
+    numbers: &mut BTreeMap<Vec<u8>, TypeId>,
+    name: Vec<u8>,
+    number: TypeId,
+) -> Result<(), AllocError>
+    ensures ok { OnOk result (TellsFirst numbers.old numbers.new name.items number) }
+    ensures err { OnErr result (TellsSame numbers.old numbers.new) }
+{
+    if !numbers.contains_key(&name) {
+        numbers.insert(name, number)?;
+    }
+    Ok(())
+}

@@ -1,0 +1,112 @@
+//! The rules of a setting, with the buckets that they take looked up by their ids.
+
+ghost use Rattle.std.specs.Prelude.{◌≡◌, ◌∷◌, [], ◌++◌, map, OnOk, OnErr, IfOk};
+ghost use Rattle.crush_table.specs.Table.{member};
+ghost use Rattle.crush_edits.specs.RulesTold.{ComeAsTaken};
+ghost use Rattle.crush_edits.specs.Setting.{taken_by};
+ghost use Rattle.crush_edits.specs.SettingSeen.{rule_data};
+
+use super::{KeptRule, KeptStep};
+use crush_units::BucketId;
+use std::alloc::{AllocError, Global};
+use std::collections::BTreeSet;
+use std::marker::Model;
+
+/// Rules, in the order in which they were declared. Contracts see that list.
+///
+/// Beside it is kept which buckets their steps take, each as its distance below 0, once and in
+/// order.
+#[derive(Debug, Drop)]
+pub(super) struct Rules {
+    rules: Vec<KeptRule>,
+    taken: BTreeSet<u32>,
+}
+
+impl Model for Rules {
+    ghost use Rattle.std.specs.Prelude.{List, map};
+    ghost use Rattle.std.specs.Coded.{coded_list};
+    ghost use Rattle.crush_edits.specs.Setting.{RuleData, coded_rule};
+    ghost use Rattle.crush_edits.specs.SettingSeen.{rule_data};
+    ghost use Rattle.crush_edits.specs.RulesTold.{AreTakenBy};
+
+    ghost Value = { List RuleData };
+
+    ghost coded = { coded_list coded_rule };
+
+    ghost view = { λ r. map rule_data r.rules.items };
+
+    ghost invariant = { λ r. AreTakenBy (map rule_data r.rules.items) r.taken };
+}
+
+impl Rules {
+    /// No rules. Takes no memory.
+    pub(super) fn new(alloc: Global) -> Rules
+        ensures { result ≡ [] }
+    {
+        Rules {
+            rules: Vec::new(alloc),
+            taken: BTreeSet::new(alloc),
+        }
+    }
+
+    /// Adds a rule after those that are there. An Err is want of memory; nothing has changed then.
+    pub(super) fn push(&mut self, rule: KeptRule) -> Result<(), AllocError>
+        ensures ok { OnOk result (self.new ≡ self.old ++ rule_data rule ∷ []) }
+        ensures err { OnErr result (self.new ≡ self.old) }
+    {
+        let mut taken = self.taken.clone()?;
+        take_all(&mut taken, &rule.steps)?;
+        self.rules.push(rule)?;
+        self.taken = taken;
+        Ok(())
+    }
+
+    /// The rules.
+    pub(super) fn as_slice(&self) -> &[KeptRule]
+        ensures { map rule_data result.now ≡ self.now }
+    {
+        self.rules.as_slice()
+    }
+
+    /// Whether a step of a rule takes the bucket, with or without a class.
+    pub(super) fn takes(&self, bucket: BucketId) -> bool
+        ensures { result ≡ member bucket (taken_by self.now) }
+    {
+        self.taken.contains(&bucket.distance())
+    }
+
+    /// A copy of the rules. An Err is want of memory.
+    pub(super) fn try_copy(&self, alloc: Global) -> Result<Rules, AllocError>
+        ensures { IfOk result (λ copy. copy ≡ self.now) }
+    {
+        Ok(Rules {
+            rules: copy_rules(&self.rules, alloc)?,
+            taken: self.taken.clone()?,
+        })
+    }
+}
+
+/// Puts the buckets that the steps take among those that are taken. After an Err, which is want of
+/// memory, some of them may lack.
+fn take_all(taken: &mut BTreeSet<u32>, steps: &[KeptStep]) -> Result<(), AllocError>
+    ensures { OnOk result (ComeAsTaken steps.now taken.old taken.new) }
+{
+    for step in steps {
+        if let KeptStep::Take(bucket, _) = step {
+            taken.insert(bucket.distance())?;
+        }
+    }
+    Ok(())
+}
+
+/// Copies of the rules, in their order.
+fn copy_rules(rules: &[KeptRule], alloc: Global) -> Result<Vec<KeptRule>, AllocError>
+    ensures { IfOk result (λ copies. map rule_data copies.items ≡ map rule_data rules.now) }
+{
+    let mut copies = Vec::new(alloc);
+    for rule in rules {
+        let rule = rule.try_copy(alloc)?;
+        copies.push(rule)?;
+    }
+    Ok(copies)
+}
