@@ -134,6 +134,43 @@ def long_absent_names(size):
     return filled(lines + [OPERATOR], size, lambda n: f"rm {long_name(n + 100000)}")
 
 
+def colliding(count):
+    """So many names whose hashes without keys agree in the bits that choose their place in a table of as many.
+
+    Without keys a name is hashed by SipHash-1-3 with keys of zeros, as Python from 3.11 on hashes bytes where
+    PYTHONHASHSEED is 0.
+    """
+    bits = max(count // 9, 1).bit_length()
+    found = subprocess.run([sys.executable, "-c", COLLIDING, str(count), str(bits)], stdout=subprocess.PIPE,
+                           env={**os.environ, "PYTHONHASHSEED": "0"}, check=True)
+    return found.stdout.decode().split()
+
+
+COLLIDING = """
+import sys
+if sys.hash_info.algorithm != "siphash13":
+    sys.exit("needs a Python that hashes by SipHash-1-3, as from 3.11 on")
+count, mask = int(sys.argv[1]), (1 << int(sys.argv[2])) - 1
+number = 0
+while count:
+    name = b"%020x" % number
+    key = hash(name)
+    if not (key ^ key >> 32) & mask:
+        print(name.decode())
+        count -= 1
+    number += 1
+"""
+
+
+def colliding_names(size):
+    """Devices whose names collide, and edits of names that collide with them and that none has."""
+    count = min(16000, size // 2 // 35)
+    names = colliding(count + count // 4)
+    lines = [f"device {number} {name}" for number, name in enumerate(names[:count])]
+    absent = names[count:]
+    return filled(lines + [OPERATOR], size, lambda n: f"rm {absent[n % len(absent)]}")
+
+
 def new_buckets(size):
     return filled(TYPES + [OPERATOR], size, lambda n: f"add-bucket b{n} rack", 32000)
 
@@ -261,11 +298,11 @@ def spaces_of_operators(size):
 
 INPUTS = {function.__name__: function for function in (
     hundred_deep_reweights, deep_reweights, deep_subtrees, deep_renames, deep_moves, deep_absent, deep_batches,
-    deep_pairs_of_edits, deep_swaps, devices_alone, long_names, long_absent_names, new_buckets, new_devices,
-    flat_batches, batches_of_two, refused_batches, one_batch, removals_at_the_front, moves_from_the_front,
-    moves_there_and_back, subtrees, large_swaps, take_steps, pairs_over_types, routes_without_room, class_ids,
-    new_buckets_of_class_ids, sixteen_operators, a_comment, a_word, blank_lines, comments_in_a_section,
-    blanks_in_a_line, spaces_of_operators)}
+    deep_pairs_of_edits, deep_swaps, devices_alone, long_names, long_absent_names, colliding_names, new_buckets,
+    new_devices, flat_batches, batches_of_two, refused_batches, one_batch, removals_at_the_front,
+    moves_from_the_front, moves_there_and_back, subtrees, large_swaps, take_steps, pairs_over_types,
+    routes_without_room, class_ids, new_buckets_of_class_ids, sixteen_operators, a_comment, a_word, blank_lines,
+    comments_in_a_section, blanks_in_a_line, spaces_of_operators)}
 
 
 def timed(program, job, limit):
