@@ -121,8 +121,14 @@ fn run_read<H: AllocGlobal + Threads + Wait + Sync, G: Gate + Sync, W: Write>(
     } = job;
     let scripts = scripts.as_slice();
     let closed = run_scripts(rt, gate, mode.in_turn, map, scripts)?;
-    let entries = closed.history.as_slice();
-    write_outcome(rt.alloc(), mode, &closed.map, scripts, entries, writer)?;
+    let Closed {
+        opening,
+        map,
+        history,
+    } = closed;
+    drop(opening);
+    let entries = history.as_slice();
+    write_outcome(rt.alloc(), mode, &map, scripts, entries, writer)?;
     Ok(Summary {
         adjusted,
         calls: entries.len() as u32,
@@ -188,7 +194,9 @@ where
 {
     let alloc = rt.alloc();
     let bytes = read_bytes(alloc, reader)?;
-    match read_job(alloc, drawn_hashing(rt), bytes.as_slice()) {
+    let read = read_job(alloc, drawn_hashing(rt), bytes.as_slice());
+    drop(bytes);
+    match read {
         Ok(job) => run_read(rt, gate, mode, job, writer),
         Err(fault) => Err(RunFault::from(fault)),
     }

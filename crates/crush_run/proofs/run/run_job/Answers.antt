@@ -22,18 +22,18 @@ returns-in_err-bytes-clause-output g c = λ bytes job all is.
     ended_early c.args.mode job _ _ _ p.1
 
 -- where there is no job, nothing was written, and the fault is one of the bytes
-pub returns-clause-output : goal.returns-clause-output
-returns-clause-output g c = λ bytes job all is. ended_early c.args.mode job _ c.from.result _ refl
+pub returns-in-Err-clause-output : goal.returns-in-Err-clause-output
+returns-in-Err-clause-output g c = λ bytes job all is. ended_early c.args.mode job _ c.from.result _ refl
 
 kept : (bytes : Option (List ℕ)) → Keeps bytes bytes
 kept None = tt
 kept (Some xs) = refl
 
-pub returns-clause-nothing : goal.returns-clause-nothing
-returns-clause-nothing g c = λ told. kept (g.W.Write.contents c.args.writer.now)
+pub returns-in-Err-clause-nothing : goal.returns-in-Err-clause-nothing
+returns-in-Err-clause-nothing g c = λ told. kept (g.W.Write.contents c.args.writer.now)
 
-pub returns-clause-fault : goal.returns-clause-fault
-returns-clause-fault g c =
+pub returns-in-Err-clause-fault : goal.returns-in-Err-clause-fault
+returns-in-Err-clause-fault g c =
     let bytes = as_read _ _ _ c.as_slice.ensures.value c.in_ok-bytes.ensures.bytes in
     subst (IsRunFault c.args.mode.in_turn _) (sym c.from.ensures) (is_run_fault c.args.mode.in_turn _ _ _ bytes c.in-Err.ensures.fault)
 
@@ -56,8 +56,8 @@ returns-in-Ok-clause-fault g c =
 pub returns-in-Ok-clause-taken : goal.returns-in-Ok-clause-taken
 returns-in-Ok-clause-taken g c = (c.in_ok-bytes.bytes.items, c.in_ok-bytes.ensures.few, c.in_ok-bytes.ensures.taken)
 
-pub returns-clause-taken : goal.returns-clause-taken
-returns-clause-taken g c = (c.in_ok-bytes.bytes.items, c.in_ok-bytes.ensures.few, c.in_ok-bytes.ensures.taken)
+pub returns-in-Err-clause-taken : goal.returns-in-Err-clause-taken
+returns-in-Err-clause-taken g c = (c.in_ok-bytes.bytes.items, c.in_ok-bytes.ensures.few, c.in_ok-bytes.ensures.taken)
 
 pub returns-in_err-bytes-clause-taken : goal.returns-in_err-bytes-clause-taken
 returns-in_err-bytes-clause-taken g c = c.in_err-bytes.ensures.front
