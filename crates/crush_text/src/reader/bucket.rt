@@ -84,12 +84,8 @@ fn read_class_ids<A: Allocator + Clone>(
     ensures { ReadsOn (λ d. between (at numbered d)) (λ _. filling false)
         builder.old builder.new reader.old reader.new result }
 {
-    'ids: loop {
-        let more = read_id_line(reader, builder)?;
-        if !more {
-            return Ok(());
-        }
-    }
+    'ids: while read_id_line(reader, builder)? {}
+    Ok(())
 }
 
 /// A class id or the algorithm of a bucket, and whether it was a class id.

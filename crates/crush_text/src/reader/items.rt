@@ -31,13 +31,10 @@ pub(crate) fn read_items<A: Allocator>(
         builder.old builder.new reader.old reader.new result }
 {
     let mut any = false;
-    'items: loop {
-        let more = read_item_line(reader, builder, any)?;
-        if !more {
-            return Ok(());
-        }
+    'items: while read_item_line(reader, builder, any)? {
         any = true;
     }
+    Ok(())
 }
 
 /// An item or the closing brace of a bucket, and whether it was an item.

@@ -137,10 +137,8 @@ fn read_steps<A: Allocator>(
     ensures { ReadsSteps builder.now rule.old rule.new reader.old reader.new result }
 {
     'steps: loop {
-        let end = read_step_line(reader, builder, machine, rule)?;
-        match end {
-            Some(place) => return Ok(place),
-            None => continue,
+        if let Some(place) = read_step_line(reader, builder, machine, rule)? {
+            return Ok(place);
         }
     }
 }

@@ -31,13 +31,10 @@ pub(crate) fn read_statements<A: Allocator + Clone>(
     ensures { ReadsAll builder.old builder.new reader.old result }
 {
     let mut late = false;
-    'statements: loop {
-        let more = read_next(reader, builder, machine, late)?;
-        let Some(more) = more else {
-            return Ok(());
-        };
+    'statements: while let Some(more) = read_next(reader, builder, machine, late)? {
         late = more;
     }
+    Ok(())
 }
 
 /// The next statement, and whether only buckets and rules may follow it; `None` where the text

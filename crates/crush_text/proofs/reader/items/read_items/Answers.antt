@@ -10,31 +10,31 @@ use Rattle.crush_text.proofs.Reached.{line_leads, next_leads, leads_then, fails_
 use Rattle.crush_text.proofs.Refused.{no_lines}
 use Rattle.crush_text.proofs.reader.items.read_items.Goals as goal
 
-pub returns-in_err-more : goal.returns-in_err-more
-returns-in_err-more g c =
+pub returns-in_err-read_item_line : goal.returns-in_err-read_item_line
+returns-in_err-read_item_line g c =
     let p = err_from_is_err_and c.from_residual.result c.from_residual.ensures.1 in
     rw (p.1, p.2) (no_lines _ _ _ _ _ _ _ (λ d h.
     let s = c.items.invariant.reads d h in
-    (fails_then _ _ _ _ _ (leads_then _ _ _ _ _ _ s.2 (next_leads (filling c.items.any) s.0 _ refl)) (fails_line _ s.0 (lines s.0 (filling c.items.any)) _ (c.in_err-more.ensures.reads s.0 s.1)))))
+    (fails_then _ _ _ _ _ (leads_then _ _ _ _ _ _ s.2 (next_leads (filling c.items.any) s.0 _ refl)) (fails_line _ s.0 (lines s.0 (filling c.items.any)) _ (c.in_err-read_item_line.ensures.reads s.0 s.1)))))
 
-pub returns-then-not-more : goal.returns-then-not-more
-returns-then-not-more g c = record {
+pub returns : goal.returns
+returns g c = record {
   reads = λ d h.
       let s = c.items.invariant.reads d h in
-      let k = c.in_ok-more.ensures.reads s.0 s.1 in
+      let k = c.in_ok-read_item_line.ensures.reads s.0 s.1 in
       let line = leads_then _ _ _ _ _ _ (leads_then _ _ _ _ _ _ s.2 (next_leads (filling c.items.any) s.0 _ refl)) (line_leads s.0 (lines s.0 (filling c.items.any)) _ _ _ k.2) in
-      (k.0, k.1, subst (λ (b : Bool). Leads (between (at (filling false) d)) c.args.reader.now (between (at (behind_item b) k.0)) c.read_item_line.new.reader) c.if-not-more.true line);
-  stands = subst (λ (b : Bool). StandsAt (behind_item b) c.read_item_line.new.builder) c.if-not-more.true c.in_ok-more.ensures.stands;
+      (k.0, k.1, subst (λ (b : Bool). Leads (between (at (filling false) d)) c.args.reader.now (between (at (behind_item b) k.0)) c.read_item_line.new.reader) c.if-branch.false line);
+  stands = subst (λ (b : Bool). StandsAt (behind_item b) c.read_item_line.new.builder) c.if-branch.false c.in_ok-read_item_line.ensures.stands;
   shorter = search rules;
 }
 
 pub items-preserved : goal.items-preserved
 items-preserved g c = record {
-  part = subst (λ (b : Bool). StandsAt (behind_item b) c.read_item_line.new.builder) c.if-not-more.false c.in_ok-more.ensures.stands;
-  shorter = omega (arith, c.items.invariant.shorter, c.in_ok-more.ensures.shorter);
+  part = subst (λ (b : Bool). StandsAt (behind_item b) c.read_item_line.new.builder) c.if-branch.true c.in_ok-read_item_line.ensures.stands;
+  shorter = omega (arith, c.items.invariant.shorter, c.in_ok-read_item_line.ensures.shorter);
   reads = λ d h.
       let s = c.items.invariant.reads d h in
-      let k = c.in_ok-more.ensures.reads s.0 s.1 in
+      let k = c.in_ok-read_item_line.ensures.reads s.0 s.1 in
       let line = leads_then _ _ _ _ _ _ (leads_then _ _ _ _ _ _ s.2 (next_leads (filling c.items.any) s.0 _ refl)) (line_leads s.0 (lines s.0 (filling c.items.any)) _ _ _ k.2) in
-      (k.0, k.1, subst (λ (b : Bool). Leads (between (at (filling false) d)) c.args.reader.now (between (at (behind_item b) k.0)) c.read_item_line.new.reader) c.if-not-more.false line);
+      (k.0, k.1, subst (λ (b : Bool). Leads (between (at (filling false) d)) c.args.reader.now (between (at (behind_item b) k.0)) c.read_item_line.new.reader) c.if-branch.true line);
 }

@@ -1,5 +1,5 @@
 -- The steps one after the other, up to the brace.
-use Rattle.std.proofs.Common.{rules, arith, refl, subst, ℕ, Option, Ok}
+use Rattle.std.proofs.Common.{◌≡◌, None, Some, rules, arith, refl, subst, ℕ, Option, Ok}
 use Rattle.std.proofs.lemmas.Result.{err_from_is_err_and}
 use Rattle.crush_map.specs.Rules.{kept_rule}
 use Rattle.crush_text.specs.Form.{ruled}
@@ -9,31 +9,36 @@ use Rattle.crush_text.proofs.Reached.{line_leads, next_leads, leads_then, fails_
 use Rattle.crush_text.proofs.Refused.{no_steps}
 use Rattle.crush_text.proofs.reader.rule.read_steps.Goals as goal
 
-pub returns-in_err-end : goal.returns-in_err-end
-returns-in_err-end g c =
+pub returns-in_err-place : goal.returns-in_err-place
+returns-in_err-place g c =
     let p = err_from_is_err_and c.from_residual.result c.from_residual.ensures.1 in
     rw (p.1, p.2) (no_steps _ _ _ _ _ _ (λ d h.
     (
     fails_then _ _ _ _ _ (leads_then _ _ _ _ _ _ (c.steps.invariant.reads d h) (next_leads (ruled (kept_rule d c.steps.rule)) d _ refl))
-    (fails_line _ d (lines d (ruled (kept_rule d c.steps.rule))) _ (c.in_err-end.ensures.reads d h))
+    (fails_line _ d (lines d (ruled (kept_rule d c.steps.rule))) _ (c.in_err-place.ensures.reads d h))
     )))
 
 pub returns-in-Some : goal.returns-in-Some
 returns-in-Some g c = record {
-  right = c.in_ok-end.ensures.right;
+  right = c.in_ok-place.ensures.right;
   reads = λ d h.
-      let k = subst (λ (o : Option ℕ). StepGoes (Ok o) d (kept_rule d c.read_step_line.new.rule) c.read_step_line.new.reader (lines d (ruled (kept_rule d c.steps.rule))) c.steps.reader) c.in-Some.is (c.in_ok-end.ensures.reads d h) in
+      let k = subst (λ (o : Option ℕ). StepGoes (Ok o) d (kept_rule d c.read_step_line.new.rule) c.read_step_line.new.reader (lines d (ruled (kept_rule d c.steps.rule))) c.steps.reader) c.in-Some.is (c.in_ok-place.ensures.reads d h) in
       let so_far = leads_then _ _ _ _ _ _ (c.steps.invariant.reads d h) (next_leads (ruled (kept_rule d c.steps.rule)) d _ refl) in
       (leads_then _ _ _ _ _ _ so_far (line_leads d (lines d (ruled (kept_rule d c.steps.rule))) _ _ _ k.0), so_far.reaches _ k.1);
   shorter = search rules;
 }
 
+-- what is not there is `None`
+none_there : (o : Option ℕ) → ((x : ℕ) → o ≡ Some x → ⊥) → o ≡ None
+none_there None other = refl
+none_there (Some x) other = absurd (other x refl)
+
 pub steps-preserved : goal.steps-preserved
 steps-preserved g c = record {
-  right = c.in_ok-end.ensures.right;
-  shorter = omega (arith, c.steps.invariant.shorter, c.in_ok-end.ensures.shorter);
+  right = c.in_ok-place.ensures.right;
+  shorter = omega (arith, c.steps.invariant.shorter, c.in_ok-place.ensures.shorter);
   reads = λ d h.
-      let k = subst (λ (o : Option ℕ). StepGoes (Ok o) d (kept_rule d c.read_step_line.new.rule) c.read_step_line.new.reader (lines d (ruled (kept_rule d c.steps.rule))) c.steps.reader) c.in-None.is (c.in_ok-end.ensures.reads d h) in
+      let k = subst (λ (o : Option ℕ). StepGoes (Ok o) d (kept_rule d c.read_step_line.new.rule) c.read_step_line.new.reader (lines d (ruled (kept_rule d c.steps.rule))) c.steps.reader) (none_there _ c.in_default.not-Some) (c.in_ok-place.ensures.reads d h) in
       let so_far = leads_then _ _ _ _ _ _ (c.steps.invariant.reads d h) (next_leads (ruled (kept_rule d c.steps.rule)) d _ refl) in
       leads_then _ _ _ _ _ _ so_far (line_leads d (lines d (ruled (kept_rule d c.steps.rule))) _ _ _ k);
 }

@@ -1,5 +1,5 @@
 -- The statements one after the other.
-use Rattle.std.proofs.Common.{◌≡◌, ◌∙◌, refl, subst, Bool, Option, Some, None, IfSome, length, ◌<◌}
+use Rattle.std.proofs.Common.{◌∙◌, subst, Bool, Option, Some, IfSome, length, ◌<◌}
 use Rattle.std.specs.Prelude.{Ok}
 use Rattle.std.proofs.lemmas.Result.{err_from_is_err_and}
 use Rattle.crush_text.specs.Form.{at}
@@ -27,18 +27,3 @@ returns-in_err-more g c =
 
 pub statements-smaller : goal.statements-smaller
 statements-smaller g c = subst (λ (o : Option Bool). IfSome o (λ _. length c.read_next.new.reader.words < length c.statements.reader.words)) c.in-Some.is c.in_ok-more.ensures.shorter
-
--- what is not there is `None`
-none_there : (o : Option Bool) → ((x : Bool) → o ≡ Some x → ⊥) → o ≡ None
-none_there None other = refl
-none_there (Some x) other = absurd (other x refl)
-
-pub returns-in_default : goal.returns-in_default
-returns-in_default g c = record {
-  idle = c.in_ok-more.ensures.idle;
-  reads = λ d h.
-      let s = c.statements.invariant.reads d h in
-      let none = none_there _ c.in_default.not-Some in
-      let k = subst (λ (o : Option Bool). NextGoes (Ok o) c.read_next.new.builder c.read_next.new.reader (between (at (behind c.statements.late) s.0)) c.statements.reader) none (c.in_ok-more.ensures.reads s.0 s.1) in
-      (k.0, k.1, s.2.same ∙ k.2);
-}
