@@ -6,8 +6,10 @@ A library that is preloaded answers the Nth request by nothing, for N from 1 unt
 such run has to end with status 4, nothing on standard output and its one line on standard error, or exactly as
 the run without a refusal. Each job runs at once and with --in-turn. Where several operators run at once the
 history may be another in each run: there the same calls of each operator, in order, count as the same ending.
-With words only jobs whose names have one of them are run. Needs a C compiler, `cc` or what CC names.
-Prints how many requests were refused, and ends with status 1 at the first run that ends otherwise.
+A worker that lacks memory lets the others finish: the run waits for them all, so it has to end by itself, and
+at its end the library looks whether a thread is left. With words only jobs whose names have one of them are
+run. Needs a C compiler, `cc` or what CC names, and the /proc of Linux. Prints how many requests were refused,
+and ends with status 1 at the first run that ends otherwise.
 """
 
 import os
@@ -21,7 +23,7 @@ EXAMPLES = pathlib.Path(__file__).resolve().parent.parent / "examples"
 NO_MEMORY = {b"crushedit: out of memory\n", b"crushedit: no thread\n"}
 LIBRARY = r"""
 #define _GNU_SOURCE
-#include <dlfcn.h>
+#include <dirent.h>
 #include <errno.h>
 #include <fcntl.h>
 #include <stdatomic.h>
@@ -35,20 +37,45 @@ extern void *__libc_memalign(size_t align, size_t size);
 
 static atomic_long asked;
 static long refused;
-static const char *told;
+static const char *told, *left;
 
 __attribute__((constructor)) static void begin(void) {
     told = getenv("REFUSED_FILE");
+    left = getenv("LEFT_FILE");
     const char *number = getenv("REFUSED_NUMBER");
     atomic_store(&asked, 0);
     refused = number ? atol(number) : 0;
+}
+
+static void tell(const char *name) { close(open(name, O_CREAT | O_WRONLY, 0600)); }
+
+static int threads(void) {
+    int count = 0;
+    DIR *tasks = opendir("/proc/self/task");
+    if (tasks == NULL)
+        return 1;
+    for (struct dirent *task = readdir(tasks); task != NULL; task = readdir(tasks))
+        count += task->d_name[0] != '.';
+    closedir(tasks);
+    return count;
+}
+
+/* Tells where a thread is left at the end. One that was joined may be there for a moment more. */
+__attribute__((destructor)) static void end(void) {
+    refused = 0;
+    for (int wait = 0; wait < 1000; wait++) {
+        if (threads() == 1)
+            return;
+        usleep(1000);
+    }
+    tell(left);
 }
 
 /* Whether this request is the one to be refused; then the file is made by which that is told. */
 static int is_refused(void) {
     if (refused == 0 || atomic_fetch_add(&asked, 1) + 1 != refused)
         return 0;
-    close(open(told, O_CREAT | O_WRONLY, 0600));
+    tell(told);
     errno = ENOMEM;
     return 1;
 }
@@ -72,7 +99,7 @@ def built_library(folder):
     source, library = folder / "refuse.c", folder / "refuse.so"
     source.write_text(LIBRARY)
     compiler = os.environ.get("CC", "cc")
-    subprocess.run([compiler, "-O1", "-shared", "-fPIC", "-o", library, source, "-ldl"], check=True)
+    subprocess.run([compiler, "-O1", "-shared", "-fPIC", "-o", library, source], check=True)
     return library
 
 
@@ -90,12 +117,14 @@ def is_same(run, whole, is_at_once):
 
 class Refuser:
     def __init__(self, program, folder):
-        self.program, self.library, self.told = program, built_library(folder), folder / "told"
+        self.program, self.library = program, built_library(folder)
+        self.told, self.left = folder / "told", folder / "left"
 
     def run(self, job, flags, number):
         """The run in which this request is refused, and whether there was such a request; 0 refuses none."""
         self.told.unlink(missing_ok=True)
-        environment = {"LD_PRELOAD": str(self.library), "REFUSED_FILE": str(self.told), "REFUSED_NUMBER": str(number)}
+        files = {"REFUSED_FILE": str(self.told), "LEFT_FILE": str(self.left)}
+        environment = {"LD_PRELOAD": str(self.library), "REFUSED_NUMBER": str(number), **files}
         run = subprocess.run([self.program, *flags], input=job, capture_output=True, env=environment, timeout=60)
         return run, self.told.exists()
 
@@ -109,6 +138,8 @@ class Refuser:
             if not was_refused:
                 return number, wanting
             number += 1
+            if self.left.exists():
+                sys.exit(f"{name} {' '.join(flags)}: request {number} refused: a thread is left")
             if run.returncode == 4 and not run.stdout and run.stderr in NO_MEMORY:
                 wanting += 1
             elif not is_same(run, whole, is_at_once):

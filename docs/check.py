@@ -45,7 +45,7 @@ COMMAND_LINE = "crates/crush_options/src/command_line.rt"
 VERSIONS = {"CHANGELOG.md": "## {}\n", "docs/crushedit.1": '"crushedit {}"', "docs/FORMATS.md": "`crushedit {}`"}
 # Crates whose functions are public for the tree alone, and those of which nobody calls a function.
 INSIDE = {"crush_nodes", "crush_changes"}
-PROGRAMS = {"crush_examples", "crush_one_edit", "crush_two_operators", "crushedit"}
+PROGRAMS = {"crush_examples", "crush_growths", "crush_one_edit", "crush_two_operators", "crushedit"}
 # Pages that name words of jobs and of Ceph beside names of the code.
 WORDS_OF_TEXTS = {"FORMATS.md", "OPERATING.md", "DECISIONS.md", "README.md"}
 

@@ -11,8 +11,9 @@ maps/ that is no refused one, what is written is run again and gives the same ma
 job's map alone is printed as it is, or, where there is a NAME.map, as that (NAME.alone.job). What a run is
 summed up as is counted here from the history. Each row of a table of refused/ is a job that is refused; these
 are one file, `records`, in which a record separator stands between two. Behind them stand jobs of chance, of one
-seed, with what the plain model of bench/model.py prints of them. With --check nothing is written, and
-the status is 1 where the crate has other files or other bytes.
+seed, with what the plain model of bench/model.py prints of them. What crush_growths runs and prints is written
+beside that (`growths`). With --check nothing is written, and the status is 1 where a crate has other files or
+other bytes.
 """
 import pathlib
 import re
@@ -24,8 +25,11 @@ sys.path.insert(0, str(HERE.parent / "bench"))
 from chance import numbered  # noqa: E402
 
 CRATE = HERE.parent / "crates/crush_examples"
+GROWTHS = HERE.parent / "crates/crush_growths"
 # What stands between two jobs that are refused: no text and no command has it.
 SEPARATOR = "\x1e"
+# What stands between the parts of a job of crush_growths.
+PART_SEPARATOR = "\x1f"
 # How many jobs of chance there are, and of which seed.
 CHANCE, SEED = 200, 1
 # The words before a job's name, for each run of a job that has more than one.
@@ -138,12 +142,24 @@ def wanted():
     return files | {CRATE / "data/jobs": "".join(lines), CRATE / "stdout": "".join(stdout)}
 
 
+def growths():
+    """What crush_growths runs, and what it must print: each job of this folder and of worked/ whose output has its
+    whole history and is the only one, as its name, its map's text, the job and the output."""
+    jobs = [job for folder in (HERE, HERE / "worked") for job in sorted(folder.glob("*.job"))]
+    runs = [(job.stem, lines_before(read(job), "%"), read(job), read(job.with_suffix(".out"))) for job in jobs]
+    runs = [run for run in runs if run[3]]
+    return {
+        GROWTHS / "stdin": SEPARATOR.join(PART_SEPARATOR.join(run) for run in runs),
+        GROWTHS / "stdout": "".join(f"{name}: each growth was refused\n" for name, *_ in runs),
+    }
+
+
 def main():
-    files = wanted()
-    there = {CRATE / "stdout", *(CRATE / "data").glob("*")}
+    files = wanted() | growths()
+    there = {CRATE / "stdout", *(CRATE / "data").glob("*"), GROWTHS / "stdin", GROWTHS / "stdout"}
     if sys.argv[1:] == ["--check"]:
         same = there == files.keys() and all(read(path) == text for path, text in files.items())
-        sys.exit(0 if same else f"{CRATE.name} is older than the examples: run examples/as_tests.py")
+        sys.exit(0 if same else "crush_examples or crush_growths is older than the examples: run examples/as_tests.py")
     (CRATE / "data").mkdir(exist_ok=True)
     for path in there - files.keys():
         path.unlink()

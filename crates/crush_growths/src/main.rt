@@ -1,0 +1,45 @@
+//! Runs jobs whose output is known with each request for memory refused in turn: the first, then the
+//! second, until none is left.
+//!
+//! Standard input has the jobs. A map's items are in memory that refuses one request, and what asked
+//! for it is asked once more: so each run has to come to the known output, whichever was refused.
+#![tactic(auto)]
+
+use anyhow::{Context, ensure};
+use crush_bytes::put;
+use crush_memory::Refusing;
+use job::{Parts, read_parts};
+use run::run_each;
+use std::io;
+
+mod job;
+mod run;
+
+/// What stands between two jobs.
+const RECORD_SEPARATOR: u8 = 0x1e;
+
+fn main(rt: HostRuntime) -> anyhow::Result<()> {
+    let records = io::read_to_string(rt.alloc(), rt.stdin())?;
+    let done = run_records(&rt, records.as_bytes());
+    drop(records);
+    done
+}
+
+/// Runs each job, and prints its name.
+fn run_records(rt: &HostRuntime, records: &[u8]) -> anyhow::Result<()> {
+    for record in records.split(|byte| *byte == RECORD_SEPARATOR) {
+        let parts = read_parts(record).context("a part is missing")?;
+        put(&mut rt.stdout(), parts.name)?;
+        run_record(rt, &parts)?;
+        println!(rt; ": each growth was refused")?;
+    }
+    Ok(())
+}
+
+/// Runs a job with each request refused. There are no fewer than items, since each has a name.
+fn run_record(rt: &HostRuntime, parts: &Parts) -> anyhow::Result<()> {
+    let memory = Refusing::new(rt.alloc());
+    let (refused, items) = run_each(rt.alloc(), &memory, parts)?;
+    ensure!(refused >= items, "too few requests");
+    Ok(())
+}
