@@ -1,14 +1,12 @@
 -- What is answered, by the way in which a call ends.
-use Rattle.std.proofs.Common.{◌≡◌, ◌≢◌, ℕ, Bool, true, false, List, ap, sym, subst, ◌∙◌, refl}
-use Rattle.std.specs.Prelude.{not, length, Result, Ok, Err, IsErrAnd, OnErr}
+use Rattle.std.proofs.Common.{◌≡◌, ℕ, Bool, true, false, List, ap, sym, subst, ◌∙◌, refl}
+use Rattle.std.specs.Prelude.{not, length, Result, Ok, Err, IsErrAnd}
 use Rattle.crush_table.specs.Table.{Row}
 use Rattle.crush_table.specs.Forest.{ForestData}
 use Rattle.crush_table.specs.Stands.{Stands}
 use Rattle.crush_table.specs.Lawful.{Lawful, is_too_heavy, has_too_many}
 use Rattle.crush_table.proofs.Passing.{lawful_room}
 use Rattle.crush_table.proofs.Weighs.{lawful_light}
-use Rattle.crush_nodes.specs.Ops.{forest_without_capacity}
-use Rattle.crush_tree.specs.Sameness.{IsSameForest}
 use Rattle.crush_edits.specs.declared.refusal.Refusal.{Refusal}
 use Rattle.crush_edits.specs.declared.refusal.Refusal.TheVariants.{NoRoom, SumTooLarge}
 use Rattle.crush_edits.specs.declared.refusal.Done.{Done}
@@ -27,7 +25,7 @@ use Rattle.crush_apply.proofs.Refused.{same_refusal, no_want, no_refusal}
 
 -- THE WAYS to end: done, refused, or for want of memory
 pub when_done : (a : List Row → Answer) (f g : ForestData) (d : Done) → (d.changed ≡ false → g ≡ f) → ((t : List Row) → Stands f t → IsDone (Stands g) (a t) d) → AnswersAs a f g (Ok d)
-when_done a f g d still h = record { done = h; refused = λ r is. absurd cc; change = λ is. absurd cc; unchanged = λ r is. absurd cc; still = still; kept = tt }
+when_done a f g d still h = record { done = h; refused = λ r is. absurd cc; change = λ is. absurd cc; unchanged = tt; still = still }
 
 pub when_changed : (a : List Row → Answer) (f g : ForestData) (m : ℕ) → ((t : List Row) → Stands f t → IsDone (Stands g) (a t) (record { changed = true; made = m })) → AnswersAs a f g (Ok (record { changed = true; made = m }))
 when_changed a f g m h = when_done a f g _ (λ is. absurd cc) h
@@ -41,27 +39,19 @@ when_refused a f g q (Err e) h same told = record {
   done = tt;
   refused = λ r is t st. told t st ∙ ap refused (same_refusal q r (Err e) h is);
   change = λ is. absurd (no_want q (Err e) h is);
-  unchanged = λ r is. same;
+  unchanged = same;
   still = tt;
-  kept = ap forest_without_capacity same;
 }
 
-pub when_lacking : (a : List Row → Answer) (f g : ForestData) (x : Result Done EditFault) → IsErrAnd x (λ e. e ≡ OutOfMemory) → IsSameForest g f → ((t : List Row) → Stands f t → IsChange (a t)) → AnswersAs a f g x
+pub when_lacking : (a : List Row → Answer) (f g : ForestData) (x : Result Done EditFault) → IsErrAnd x (λ e. e ≡ OutOfMemory) → g ≡ f → ((t : List Row) → Stands f t → IsChange (a t)) → AnswersAs a f g x
 when_lacking a f g (Ok d) h same changes = elim h [ ]
 when_lacking a f g (Err e) h same changes = record {
   done = tt;
   refused = λ r is. absurd (no_refusal r (Err e) h is);
   change = λ is. changes;
-  unchanged = λ r is. absurd (no_refusal r (Err e) h is);
+  unchanged = same;
   still = tt;
-  kept = same;
 }
-
--- what never lacks memory leaves all as it was on every Err
-pub exact_but_lacking : (a : List Row → Answer) (f g : ForestData) (x : Result Done EditFault) → AnswersAs a f g x → x ≢ Err OutOfMemory → OnErr x (g ≡ f)
-exact_but_lacking a f g (Ok d) told never = tt
-exact_but_lacking a f g (Err (Refused r)) told never = told.unchanged r refl
-exact_but_lacking a f g (Err OutOfMemory) told never = absurd (never refl)
 
 -- what the table answers alike
 pub when_same : (a b : List Row → Answer) (f g : ForestData) (x : Result Done EditFault) → ((t : List Row) → Stands f t → a t ≡ b t) → AnswersAs b f g x → AnswersAs a f g x
@@ -71,7 +61,6 @@ when_same a b f g (Ok d) same told = record {
   change = λ is. absurd cc;
   unchanged = told.unchanged;
   still = told.still;
-  kept = told.kept;
 }
 when_same a b f g (Err e) same told = record {
   done = tt;
@@ -79,7 +68,6 @@ when_same a b f g (Err e) same told = record {
   change = λ is t st. subst IsChange (sym (same t st)) (told.change is t st);
   unchanged = told.unchanged;
   still = told.still;
-  kept = told.kept;
 }
 
 -- THE LAST ANSWER, where only the table after can refuse

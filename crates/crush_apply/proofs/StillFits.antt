@@ -1,5 +1,5 @@
 -- A setting that fits the hierarchy fits it after an edit.
-use Rattle.std.proofs.Common.{◌≡◌, ℕ, Bool, List, ap, sym, subst, ◌∙◌, refl}
+use Rattle.std.proofs.Common.{◌≡◌, ℕ, Bool, List, sym, subst, ◌∙◌, refl}
 use Rattle.std.specs.Prelude.{Option, Some, None, Result, Ok, Err, IfOk, OnErr}
 use Rattle.std.proofs.lemmas.List.Elements.{All-weaker}
 use Rattle.crush_units.specs.declared.id.ItemId.TheVariants.{Bucket}
@@ -12,8 +12,6 @@ use Rattle.crush_table.proofs.Found.{is_there-same}
 use Rattle.crush_table.proofs.Reorder.{reordered-All}
 use Rattle.crush_table.proofs.Same.{Same-sym}
 use Rattle.crush_table.proofs.Stands.{stands_for_rows}
-use Rattle.crush_nodes.proofs.CopyLaws.{rows_of-copied}
-use Rattle.crush_tree.specs.Sameness.{IsSameForest}
 use Rattle.crush_edits.specs.declared.refusal.EditFault.{EditFault}
 use Rattle.crush_edits.specs.declared.refusal.Refusal.{Refusal}
 use Rattle.crush_edits.specs.declared.refusal.Done.{Done}
@@ -48,11 +46,7 @@ fits_after s f g e d sound form fits made =
     let keeps : Keeps s one.0 = done_keeps s (rows_of f) one.0 e d.changed d.made (record { lawful = sound.lawful; fits = fits }) form one.1 in
     Fits-same s one.0 (rows_of g) keeps.lawful (Same-sym (rows_of g) one.0 one.2.same) keeps.fits
 
--- the rows of what is the same but for its room
-pub same_rows : (f g : ForestData) → IsSound f → IsSameForest g f → rows_of g ≡ rows_of f
-same_rows f g sound same = rows_of-copied f g sound (ap (λ (x : ForestData). x.roots) same) (ap (λ (x : ForestData). x.unplaced) same)
-
 -- the setting fits what was to be edited, whatever was answered
-pub fits_answered : (s : SettingData) (f g : ForestData) (e : Edit) (x : Result Done EditFault) → IsSound f → IsEdit e → Fits s (rows_of f) → IfOk x (λ d. (t : List Row) → Stands f t → IsDone (Stands g) (edit s t e) d) → OnErr x (IsSameForest g f) → Fits s (rows_of g)
-fits_answered s f g e (Ok d) sound form fits made kept = fits_after s f g e d sound form fits made
-fits_answered s f g e (Err r) sound form fits made kept = subst (Fits s) (sym (same_rows f g sound kept)) fits
+pub fits_answered : (s : SettingData) (f g : ForestData) (e : Edit) (x : Result Done EditFault) → IsSound f → IsEdit e → Fits s (rows_of f) → IfOk x (λ d. (t : List Row) → Stands f t → IsDone (Stands g) (edit s t e) d) → OnErr x (g ≡ f) → Fits s (rows_of g)
+fits_answered s f g e (Ok d) sound form fits made same = fits_after s f g e d sound form fits made
+fits_answered s f g e (Err r) sound form fits made same = subst (λ (x : ForestData). Fits s (rows_of x)) (sym same) fits

@@ -1,13 +1,10 @@
 -- What a call answers of an edit, beside what the table answers.
-use Rattle.std.specs.Prelude.{◌≡◌, Bool, true, false, List, [], ◌∷◌, Option, Result, Err, IfOk, OnErr}
+use Rattle.std.specs.Prelude.{◌≡◌, false, List, [], ◌∷◌, Option, Result, Err, IfOk, OnErr}
 use Rattle.crush_table.specs.Table.{Row}
 use Rattle.crush_table.specs.Forest.{ForestData}
 use Rattle.crush_table.specs.Stands.{Stands}
 use Rattle.crush_nodes.specs.Room.{room}
 use Rattle.crush_nodes.specs.declared.place.Place.{Place}
-use Rattle.crush_tree.specs.Sameness.{IsSameForest}
-use Rattle.crush_edits.specs.declared.edit.Edit.{Edit}
-use Rattle.crush_edits.specs.declared.edit.Edit.TheVariants.{Insert, CreateOrMove, Update, Move, Swap, Reweight, ReweightSubtree, Remove, AddBucket, Rename}
 use Rattle.crush_edits.specs.declared.refusal.Refusal.{Refusal}
 use Rattle.crush_edits.specs.declared.refusal.Done.{Done}
 use Rattle.crush_edits.specs.declared.refusal.EditFault.{EditFault}
@@ -15,31 +12,17 @@ use Rattle.crush_edits.specs.declared.refusal.EditFault.TheVariants.{Refused, Ou
 use Rattle.crush_edits.specs.Answer.{After, Answer, refused, answer, first_refusal, room_test, sum_test}
 use Rattle.crush_edits.specs.Outcome.{IsDone, IsChange}
 
--- of each table for which the hierarchy f stood the call answers what the table answers, and leaves the hierarchy g: f itself after a refusal and where nothing has changed, and f but for its room after want of memory
+-- of each table for which the hierarchy f stood the call answers what the table answers, and leaves the hierarchy g: f itself, also its room, after every Err and where nothing has changed
 pub record AnswersAs (a : List Row → Answer) (f g : ForestData) (x : Result Done EditFault) : Type 0 where
   pub done : IfOk x (λ d. (t : List Row) → Stands f t → IsDone (Stands g) (a t) d)
   pub refused : (r : Refusal) → x ≡ Err (Refused r) → (t : List Row) → Stands f t → a t ≡ refused r
   pub change : x ≡ Err OutOfMemory → (t : List Row) → Stands f t → IsChange (a t)
-  pub unchanged : (r : Refusal) → x ≡ Err (Refused r) → g ≡ f
+  pub unchanged : OnErr x (g ≡ f)
   pub still : IfOk x (λ d. d.changed ≡ false → g ≡ f)
-  pub kept : OnErr x (IsSameForest g f)
 
 -- each place has the room in g that it had in f
 abbrev pub KeepsRooms : ForestData → ForestData → Type 0
 KeepsRooms f g = (p : Place) → room g p ≡ room f p
-
--- whether want of memory leaves no room behind: an edit with a location may have made some where its item was to come
-abbrev pub leaves_no_room : Edit → Bool
-leaves_no_room (Insert d n w l) = false
-leaves_no_room (CreateOrMove d n w l) = false
-leaves_no_room (Update d n w l) = false
-leaves_no_room (Move n l) = false
-leaves_no_room (Swap m n) = true
-leaves_no_room (Reweight n w) = true
-leaves_no_room (ReweightSubtree n w) = true
-leaves_no_room (Remove n) = true
-leaves_no_room (AddBucket n kind) = true
-leaves_no_room (Rename from to) = true
 
 -- the refusal of the table after, if there is one
 abbrev pub last_refusal : After → Option Refusal

@@ -1,6 +1,6 @@
 //! A new bucket that no other holds.
 
-ghost use Rattle.std.specs.Prelude.{◌≡◌, List, Some, [], ◌∷◌, IfOk, IfErr, OnErr};
+ghost use Rattle.std.specs.Prelude.{◌≡◌, List, Some, [], ◌∷◌, IfOk, IfErr};
 ghost use Rattle.crush_table.specs.Table.{Row, free_ids};
 ghost use Rattle.crush_table.specs.Forest.{rows_of};
 ghost use Rattle.crush_table.specs.Stands.{Stands};
@@ -65,9 +65,8 @@ pub(crate) fn add_bucket<A: Allocator + Clone>(
     kind: &Name<Global>,
 ) -> Result<Done, EditFault>
     requires { Fits setting.now (rows_of hierarchy.old) }
-    ensures answers { AnswersAs (λ t. edit setting.now t (AddBucket name.now kind.now))
+    ensures { AnswersAs (λ t. edit setting.now t (AddBucket name.now kind.now))
         hierarchy.old hierarchy.new result }
-    ensures exact { OnErr result (hierarchy.new ≡ hierarchy.old) }
 {
     hierarchy.recall_invariant();
     let _form = name.as_bytes();

@@ -4,14 +4,13 @@ ghost use Rattle.std.specs.Prelude.{◌≡◌, List, IfOk, OnErr, true, false};
 ghost use Rattle.crush_table.specs.Table.{Row};
 ghost use Rattle.crush_table.specs.Forest.{rows_of};
 ghost use Rattle.crush_table.specs.Stands.{Stands};
-ghost use Rattle.crush_tree.specs.Sameness.{IsSameForest};
 ghost use Rattle.crush_edits.specs.declared.refusal.Refusal.{Refusal as DeclaredRefusal};
 ghost use Rattle.crush_edits.specs.Answer.{refused};
 ghost use Rattle.crush_edits.specs.Edit.{edit, takes_memory, sets_weights};
 ghost use Rattle.crush_edits.specs.Fits.{Fits};
 ghost use Rattle.crush_edits.specs.LawEdit.{IsEdit};
 ghost use Rattle.crush_edits.specs.Outcome.{IsDone, IsChange};
-ghost use Rattle.crush_apply.specs.Answered.{AnswersAs, KeepsRooms, leaves_no_room};
+ghost use Rattle.crush_apply.specs.Answered.{AnswersAs, KeepsRooms};
 
 use crate::add_bucket::add_bucket;
 use crate::create_or_move::create_or_move;
@@ -30,11 +29,10 @@ use std::alloc::Allocator;
 
 /// Makes the edit on the hierarchy, by the setting, or tells why it isn't made.
 ///
-/// Where several refusals hold, the one of least number is told, and the hierarchy is as before, as
-/// it is where the edit changes nothing. Want of memory is told only of an edit that takes memory,
-/// where nothing speaks against it and the hierarchy would be another after it: so never of new
-/// weights, of an exchange or of a removal. The hierarchy is then as before, too; but an edit with a
-/// location may leave room behind where its item was to come.
+/// Where several refusals hold, the one of least number is told. Want of memory is told only of an
+/// edit that takes memory, where nothing speaks against it and the hierarchy would be another after
+/// it: so never of new weights, of an exchange or of a removal. After an Err the hierarchy is as
+/// before, also its room, as it is where the edit changes nothing.
 pub fn apply_edit<A: Allocator + Clone>(
     hierarchy: &mut Hierarchy<A>,
     setting: &Setting,
@@ -50,12 +48,8 @@ pub fn apply_edit<A: Allocator + Clone>(
         → IsChange (edit setting.now t asked.now) }
     ensures memory { result ≡ Err EditFault.OutOfMemory → takes_memory asked.now ≡ true }
     ensures rooms { sets_weights asked.now ≡ true → KeepsRooms hierarchy.old hierarchy.new }
-    ensures unchanged { (r : DeclaredRefusal) → result ≡ Err (EditFault.Refused r)
-        → hierarchy.new ≡ hierarchy.old }
+    ensures unchanged { OnErr result (hierarchy.new ≡ hierarchy.old) }
     ensures still { IfOk result (λ d. d.changed ≡ false → hierarchy.new ≡ hierarchy.old) }
-    ensures exact { leaves_no_room asked.now ≡ true
-        → OnErr result (hierarchy.new ≡ hierarchy.old) }
-    ensures kept { OnErr result (IsSameForest hierarchy.new hierarchy.old) }
     ensures fits { Fits setting.now (rows_of hierarchy.new) }
 {
     hierarchy.recall_invariant();
@@ -114,8 +108,6 @@ fn make<A: Allocator + Clone>(
         hierarchy.old hierarchy.new result }
     ensures memory { result ≡ Err EditFault.OutOfMemory → takes_memory asked.now ≡ true }
     ensures rooms { sets_weights asked.now ≡ true → KeepsRooms hierarchy.old hierarchy.new }
-    ensures exact { leaves_no_room asked.now ≡ true
-        → OnErr result (hierarchy.new ≡ hierarchy.old) }
 {
     match asked {
         Edit::Insert {

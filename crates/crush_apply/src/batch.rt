@@ -1,6 +1,6 @@
 //! Several edits, of which all are made or none.
 
-ghost use Rattle.std.specs.Prelude.{◌≡◌, ℕ, ◌+◌, ◌*◌, ◌<◌, ◌≤◌, List, All, true, false, length, IfOk, OnErr};
+ghost use Rattle.std.specs.Prelude.{◌≡◌, ℕ, ◌+◌, ◌*◌, ◌<◌, ◌≤◌, List, length, IfOk, OnErr};
 ghost use Rattle.crush_units.specs.declared.limits.TheConstants.{MOST_EDITS};
 ghost use Rattle.crush_table.specs.Table.{Row};
 ghost use Rattle.crush_table.specs.Forest.{rows_of};
@@ -8,7 +8,6 @@ ghost use Rattle.crush_table.specs.Stands.{Stands};
 ghost use Rattle.crush_edits.specs.declared.refusal.Refusal.{Refusal as DeclaredRefusal};
 ghost use Rattle.crush_edits.specs.Batch.{batch, batch_refused, with_done};
 ghost use Rattle.crush_edits.specs.Fits.{Fits};
-ghost use Rattle.crush_apply.specs.Answered.{leaves_no_room};
 ghost use Rattle.crush_apply.specs.Batched.{IsBatchDone};
 
 use crate::apply::apply_edit;
@@ -20,9 +19,9 @@ use std::alloc::Allocator;
 /// most 65,536.
 ///
 /// They are made on a copy of the hierarchy, which takes its place when all are done; so there is
-/// memory for no more items than there are. No edit, and one without a location, need no copy.
-/// Where one is refused, its index, from 0, and its refusal are told, and the hierarchy is as before
-/// the first. Want of memory may be told of a batch of which a later edit would be refused.
+/// memory for no more items than there are. A single edit needs no copy. Where one is refused, its
+/// index, from 0, and its refusal are told, and the hierarchy is as before the first. Want of memory
+/// may be told of a batch of which a later edit would be refused.
 pub fn apply_batch<A: Allocator + Clone>(
     hierarchy: &mut Hierarchy<A>,
     setting: &Setting,
@@ -38,7 +37,7 @@ pub fn apply_batch<A: Allocator + Clone>(
     ensures unchanged { OnErr result (hierarchy.new ≡ hierarchy.old) }
     ensures fits { Fits setting.now (rows_of hierarchy.new) }
 {
-    if !needs_copy(edits) {
+    if edits.len() <= 1 {
         return make_all(hierarchy, setting, edits);
     }
     let Ok(mut copy) = hierarchy.try_copy() else {
@@ -49,32 +48,8 @@ pub fn apply_batch<A: Allocator + Clone>(
     Ok(dones)
 }
 
-/// Whether a batch is made on a copy. No edit changes nothing, and one without a location leaves the
-/// hierarchy as it was where it isn't made.
-fn needs_copy(edits: &[Edit]) -> bool
-    ensures few { result ≡ false → length edits.now ≤ 1 }
-    ensures exact { result ≡ false → All (λ e. leaves_no_room e ≡ true) edits.now }
-{
-    match edits {
-        [] => false,
-        [asked] => !leaves_no_room(asked),
-        _ => true,
-    }
-}
-
-/// Whether the edit leaves no room behind where memory lacks: whether it has no location.
-fn leaves_no_room(asked: &Edit) -> bool
-    ensures { result ≡ leaves_no_room asked.now }
-{
-    match asked {
-        Edit::Insert { .. } | Edit::CreateOrMove { .. } | Edit::Update { .. } | Edit::Move { .. } =>
-            false,
-        _ => true,
-    }
-}
-
-/// Makes the edits one after the other until one isn't made. Where that is the first, and has no
-/// location, nothing has changed.
+/// Makes the edits one after the other until one isn't made. Where that is the only one, nothing has
+/// changed.
 fn make_all<A: Allocator + Clone>(
     hierarchy: &mut Hierarchy<A>,
     setting: &Setting,
@@ -87,8 +62,7 @@ fn make_all<A: Allocator + Clone>(
     ensures refused { (index : ℕ) (r : DeclaredRefusal)
         → result ≡ Err (BatchFault.Refused index r) → (t : List Row) → Stands hierarchy.old t
         → batch setting.now t edits.now ≡ batch_refused index r }
-    ensures alone { length edits.now ≤ 1 → All (λ e. leaves_no_room e ≡ true) edits.now
-        → OnErr result (hierarchy.new ≡ hierarchy.old) }
+    ensures alone { length edits.now ≤ 1 → OnErr result (hierarchy.new ≡ hierarchy.old) }
     ensures fits { Fits setting.now (rows_of hierarchy.new) }
 {
     let mut dones = Dones {

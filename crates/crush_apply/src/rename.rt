@@ -1,6 +1,6 @@
 //! A new name for a bucket.
 
-ghost use Rattle.std.specs.Prelude.{◌≡◌, List, Some, IfOk, IfErr, OnErr};
+ghost use Rattle.std.specs.Prelude.{◌≡◌, List, Some, IfOk, IfErr};
 ghost use Rattle.crush_table.specs.Table.{Row};
 ghost use Rattle.crush_table.specs.Stands.{Stands};
 ghost use Rattle.crush_edits.specs.Setting.{SettingData};
@@ -47,9 +47,8 @@ pub(crate) fn rename<A: Allocator + Clone>(
     from: &Name<Global>,
     to: &Name<Global>,
 ) -> Result<Done, EditFault>
-    ensures answers { (s : SettingData) → AnswersAs (λ t. edit s t (Rename from.now to.now))
+    ensures { (s : SettingData) → AnswersAs (λ t. edit s t (Rename from.now to.now))
         hierarchy.old hierarchy.new result }
-    ensures exact { OnErr result (hierarchy.new ≡ hierarchy.old) }
 {
     hierarchy.recall_invariant();
     let bucket = check_rename(hierarchy, from, to)?;

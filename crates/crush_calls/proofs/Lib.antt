@@ -1,7 +1,6 @@
 pub mod Writing
 pub mod Histories
 pub mod RunLaws
-pub mod SameForests
 pub mod InTurn
 pub mod EntryLines
 pub mod Examples

@@ -1,5 +1,5 @@
 -- A builder that is at one draft is at each with the same table.
-use Rattle.std.proofs.Common.{◌≡◌, ℕ, ◌<◌, ◌≤◌, false, List, [], refl, sym, subst, ◌∙◌, arith}
+use Rattle.std.proofs.Common.{◌≡◌, ℕ, ◌<◌, ◌≤◌, false, List, [], refl, ap, sym, subst, ◌∙◌, arith}
 use Rattle.std.proofs.lemmas.List.Elements.{All-nil, All-weaker}
 use Rattle.crush_units.specs.declared.id.ItemId.TheVariants.{Bucket}
 use Rattle.crush_table.specs.Items.{ShadowData}
@@ -14,8 +14,8 @@ use Rattle.crush_table.proofs.Found.{is_named-same, is_there-same, parent_of-sam
 use Rattle.crush_table.proofs.Same.{Same-sym, bucket_count-same, used-same}
 use Rattle.crush_edits.proofs.FitLaws.{Fits-same}
 use Rattle.crush_table.proofs.Stands.{stands_for_rows, same_stands}
+use Rattle.crush_nodes.proofs.CopyLaws.{rows_of-copied}
 use Rattle.crush_tree.specs.Sameness.{IsSameForest}
-use Rattle.crush_apply.proofs.StillFits.{same_rows}
 use Rattle.crush_map.specs.Built.{Pending, nothing, begun, numbered, filling, Draft, empty_draft}
 use Rattle.crush_map.specs.Building.{BuilderData, CanBegin, CanNumber, IsRoot, IsPending, IsDraft, BuilderFits, own_draft, held_buckets}
 use Rattle.crush_map.proofs.Held.{held-same}
@@ -92,7 +92,7 @@ own_is_draft b sound keeps = record {
 -- what it keeps it keeps where its forest has other room
 pub kept_fits : (b : BuilderData) (f : ForestData) → IsSound b.forest → IsSameForest f b.forest → BuilderFits b → BuilderFits (record b { forest = f })
 kept_fits b f sound same keeps =
-    let is : rows_of b.forest ≡ rows_of f = sym (same_rows b.forest f sound same) in
+    let is : rows_of b.forest ≡ rows_of f = sym (rows_of-copied b.forest f sound (ap (λ (x : ForestData). x.roots) same) (ap (λ (x : ForestData). x.unplaced) same)) in
     record {
       fits = subst (Fits b.setting) is keeps.fits;
       part = subst (λ (t : List Row). IsPending b.setting t b.pending) is keeps.part;

@@ -4,12 +4,11 @@ ghost use Rattle.std.specs.Prelude.{◌≡◌, ℕ, ◌≤◌, List, length, IfO
 ghost use Rattle.crush_units.specs.declared.limits.TheConstants.{MOST_EDITS};
 ghost use Rattle.crush_table.specs.Table.{Row};
 ghost use Rattle.crush_table.specs.Stands.{Stands};
-ghost use Rattle.crush_tree.specs.Sameness.{IsSameForest};
 ghost use Rattle.crush_edits.specs.declared.refusal.Refusal.{Refusal as DeclaredRefusal};
 ghost use Rattle.crush_edits.specs.Answer.{refused};
 ghost use Rattle.crush_edits.specs.Batch.{batch, batch_refused};
 ghost use Rattle.crush_edits.specs.Edit.{edit, takes_memory, sets_weights};
-ghost use Rattle.crush_apply.specs.Answered.{KeepsRooms, leaves_no_room};
+ghost use Rattle.crush_apply.specs.Answered.{KeepsRooms};
 ghost use Rattle.crush_apply.specs.Batched.{IsBatchDone};
 ghost use Rattle.crush_edits.specs.Outcome.{IsDone, IsChange};
 
@@ -21,12 +20,11 @@ use std::alloc::Allocator;
 impl<A: Allocator> CrushMap<A> {
     /// Makes the edit, or tells why it isn't made.
     ///
-    /// Where several refusals hold, the one of least number is told, and the map is as before, as
-    /// it is where the edit changes nothing. Want of memory is told only of an edit that takes
-    /// memory, where nothing speaks against it and the map would be another after it: so never of
-    /// new weights, of an exchange or of a removal. The map then has what it had; an edit with a
-    /// location may leave room behind where its item was to come. New weights leave each place the
-    /// room that it has, whatever is answered.
+    /// Where several refusals hold, the one of least number is told. Want of memory is told only of
+    /// an edit that takes memory, where nothing speaks against it and the map would be another after
+    /// it: so never of new weights, of an exchange or of a removal. After an Err the map is as
+    /// before, also its room, as it is where the edit changes nothing. New weights leave each place
+    /// the room that it has, whatever is answered.
     pub fn apply(&mut self, asked: &Edit) -> Result<Done, EditFault>
     where
         A: Clone,
@@ -41,11 +39,8 @@ impl<A: Allocator> CrushMap<A> {
         ensures memory { result ≡ Err EditFault.OutOfMemory → takes_memory asked.now ≡ true }
         ensures rooms { sets_weights asked.now ≡ true
             → KeepsRooms self.old.forest self.new.forest }
-        ensures unchanged { (r : DeclaredRefusal) → result ≡ Err (EditFault.Refused r)
-            → self.new ≡ self.old }
+        ensures unchanged { OnErr result (self.new ≡ self.old) }
         ensures still { IfOk result (λ d. d.changed ≡ false → self.new ≡ self.old) }
-        ensures exact { leaves_no_room asked.now ≡ true → OnErr result (self.new ≡ self.old) }
-        ensures kept { OnErr result (IsSameForest self.new.forest self.old.forest) }
         ensures setting { self.new.setting ≡ self.old.setting }
     {
         apply_edit(&mut self.hierarchy, &self.setting, asked)

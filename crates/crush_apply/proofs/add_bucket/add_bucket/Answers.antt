@@ -1,4 +1,4 @@
-use Rattle.std.proofs.Common.{List, [], ◌∷◌, ◌++◌, sym, ap, subst, refl}
+use Rattle.std.proofs.Common.{List, [], ◌∷◌, ◌++◌, sym, subst, refl}
 use Rattle.std.specs.Prelude.{None}
 use Rattle.crush_table.specs.Items.{Items}
 use Rattle.crush_table.specs.ItemRows.{rows, bucket_row}
@@ -7,7 +7,6 @@ use Rattle.crush_table.specs.Lawful.{Lawful}
 use Rattle.crush_table.specs.Forest.{rows_of}
 use Rattle.crush_table.specs.Stands.{Stands}
 use Rattle.crush_table.proofs.Stands.{stands_for_rows}
-use Rattle.crush_nodes.specs.Ops.{forest_without_capacity}
 use Rattle.crush_edits.specs.declared.edit.Edit.TheVariants.{AddBucket}
 use Rattle.crush_edits.specs.Put.{new_header}
 use Rattle.crush_apply.proofs.Answered.{when_changed, when_refused, when_lacking}
@@ -15,19 +14,19 @@ use Rattle.crush_apply.proofs.Singles.{add_bucket_done, add_bucket_lawful}
 use Rattle.crush_apply.proofs.Weights.{refused_edit}
 use Rattle.crush_apply.proofs.add_bucket.add_bucket.Goals as goal
 
-pub returns-in_err-number-clause-answers : goal.returns-in_err-number-clause-answers
-returns-in_err-number-clause-answers g c =
+pub returns-in_err-number : goal.returns-in_err-number
+returns-in_err-number g c =
     when_refused _ _ _ _ _ c.from_residual.ensures.1 refl
     (λ t st. refused_edit c.args.setting.now t (AddBucket c.args.name.now c.args.kind.now) _ (c.in_err-number.ensures.refused t st))
 
-pub returns-in_err-node-clause-answers : goal.returns-in_err-node-clause-answers
-returns-in_err-node-clause-answers g c =
+pub returns-in_err-node : goal.returns-in_err-node
+returns-in_err-node g c =
     when_lacking _ _ _ _ c.from_residual-in_err-node.ensures.1 refl
     (λ t st. (1, _, add_bucket_done c.args.setting.now t c.args.name.now c.args.kind.now c.in_ok-number.number c.first_free-id.result st.lawful (c.in_ok-number.ensures.can t st) (c.first_free-id.ensures t st)))
 
-pub returns-in_err-add-clause-answers : goal.returns-in_err-add-clause-answers
-returns-in_err-add-clause-answers g c =
-    when_lacking _ _ _ _ c.from_residual-in_err-add.ensures.1 (ap forest_without_capacity c.in_err-add.ensures.err)
+pub returns-in_err-add : goal.returns-in_err-add
+returns-in_err-add g c =
+    when_lacking _ _ _ _ c.from_residual-in_err-add.ensures.1 c.in_err-add.ensures.err
     (λ t st. (1, _, add_bucket_done c.args.setting.now t c.args.name.now c.args.kind.now c.in_ok-number.number c.first_free-id.result st.lawful (c.in_ok-number.ensures.can t st) (c.first_free-id.ensures t st)))
 
 pub add-requires-clause-fits : goal.add-requires-clause-fits
@@ -37,8 +36,8 @@ add-requires-clause-fits g c =
     let lawful = add_bucket_lawful c.args.setting.now t c.args.name.now c.args.kind.now c.in_ok-number.number c.first_free-id.result c.recall_invariant.ensures.lawful c.requires c.as_bytes-form.ensures.name (c.in_ok-number.ensures.can t st) (c.first_free-id.ensures t st) in
     subst (λ (n : Items). Lawful (t ++ rows None n)) (sym c.in_ok-node.ensures) lawful
 
-pub returns-clause-answers : goal.returns-clause-answers
-returns-clause-answers g c =
+pub returns : goal.returns
+returns g c =
     when_changed _ _ _ _
     (λ t st. (
       t ++ bucket_row None (new_header (record { id = c.first_free-id.result; kind = c.in_ok-number.number; name = c.args.name.now })) ∷ [],

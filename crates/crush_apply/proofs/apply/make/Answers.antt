@@ -1,6 +1,6 @@
 use Rattle.std.proofs.Common.{ap}
 use Rattle.crush_edits.specs.Edit.{edit}
-use Rattle.crush_apply.proofs.Answered.{when_same, exact_but_lacking}
+use Rattle.crush_apply.proofs.Answered.{when_same}
 use Rattle.crush_apply.proofs.apply.make.Goals as goal
 
 pub returns-in-Insert-clause-made : goal.returns-in-Insert-clause-made
@@ -16,10 +16,10 @@ pub returns-in-Move-clause-made : goal.returns-in-Move-clause-made
 returns-in-Move-clause-made g c = when_same _ _ _ _ _ (λ t st. ap (edit c.args.setting.now t) c.in-Move.is) c.relocate.ensures
 
 pub returns-in-AddBucket-clause-made : goal.returns-in-AddBucket-clause-made
-returns-in-AddBucket-clause-made g c = when_same _ _ _ _ _ (λ t st. ap (edit c.args.setting.now t) c.in-AddBucket.is) c.add_bucket.ensures.answers
+returns-in-AddBucket-clause-made g c = when_same _ _ _ _ _ (λ t st. ap (edit c.args.setting.now t) c.in-AddBucket.is) c.add_bucket.ensures
 
 pub returns-in-Rename-clause-made : goal.returns-in-Rename-clause-made
-returns-in-Rename-clause-made g c = when_same _ _ _ _ _ (λ t st. ap (edit c.args.setting.now t) c.in-Rename.is) (c.rename.ensures.answers c.args.setting.now)
+returns-in-Rename-clause-made g c = when_same _ _ _ _ _ (λ t st. ap (edit c.args.setting.now t) c.in-Rename.is) (c.rename.ensures c.args.setting.now)
 
 pub returns-in-Swap-clause-made : goal.returns-in-Swap-clause-made
 returns-in-Swap-clause-made g c = when_same _ _ _ _ _ (λ t st. ap (edit c.args.setting.now t) c.in-Swap.is) (c.swap.ensures.answers c.args.setting.now)
@@ -44,21 +44,3 @@ returns-in-Remove-clause-made g c = when_same _ _ _ _ _ (λ t st. ap (edit c.arg
 
 pub returns-in-Remove-clause-memory : goal.returns-in-Remove-clause-memory
 returns-in-Remove-clause-memory g c = λ is. absurd (c.remove.ensures.memory is)
-
-pub returns-in-Swap-clause-exact : goal.returns-in-Swap-clause-exact
-returns-in-Swap-clause-exact g c = λ is. exact_but_lacking _ _ _ _ (c.swap.ensures.answers c.args.setting.now) c.swap.ensures.memory
-
-pub returns-in-Reweight-clause-exact : goal.returns-in-Reweight-clause-exact
-returns-in-Reweight-clause-exact g c = λ is. exact_but_lacking _ _ _ _ (c.reweight.ensures.answers c.args.setting.now) c.reweight.ensures.memory
-
-pub returns-in-ReweightSubtree-clause-exact : goal.returns-in-ReweightSubtree-clause-exact
-returns-in-ReweightSubtree-clause-exact g c = λ is. exact_but_lacking _ _ _ _ (c.reweight_subtree.ensures.answers c.args.setting.now) c.reweight_subtree.ensures.memory
-
-pub returns-in-Remove-clause-exact : goal.returns-in-Remove-clause-exact
-returns-in-Remove-clause-exact g c = λ is. exact_but_lacking _ _ _ _ c.remove.ensures.answers c.remove.ensures.memory
-
-pub returns-in-AddBucket-clause-exact : goal.returns-in-AddBucket-clause-exact
-returns-in-AddBucket-clause-exact g c = λ is. c.add_bucket.ensures.exact
-
-pub returns-in-Rename-clause-exact : goal.returns-in-Rename-clause-exact
-returns-in-Rename-clause-exact g c = λ is. c.rename.ensures.exact

@@ -1,9 +1,7 @@
-use Rattle.std.proofs.Common.{◌≡◌, ◌+◌, true, ap, sym, subst, ◌∙◌, arith}
-use Rattle.std.proofs.lemmas.List.Elements.{All-get_or}
+use Rattle.std.proofs.Common.{◌+◌, ap, sym, ◌∙◌, arith}
 use Rattle.std.specs.Prelude.{drop, Err}
 use Rattle.crush_nodes.proofs.Steps.{drop_at}
 use Rattle.crush_edits.specs.Batch.{batch_refused, batch_from}
-use Rattle.crush_apply.specs.Answered.{leaves_no_room}
 use Rattle.crush_apply.proofs.Batching.{fault_parts, stops_at, goes_on, on_err}
 use Rattle.crush_apply.proofs.batch.make_all.Goals as goal
 
@@ -19,14 +17,13 @@ returns-in-Err-Refused-clause-refused g c = λ index r told t st.
     ∙ (λ i. batch_refused (parts.0 i) ((sym c.in-Err-Refused.refusal-is ∙ parts.1) i))
 
 pub returns-in-Err-Refused-clause-alone : goal.returns-in-Err-Refused-clause-alone
-returns-in-Err-Refused-clause-alone g c = λ few exact.
-    c.apply_edit.ensures.unchanged c.in-Err-Refused.refusal (c.in-Err-Refused.is ∙ ap Err c.in-Err-Refused.field-0-is)
+returns-in-Err-Refused-clause-alone g c = λ few.
+    on_err c.apply_edit.result _ c.in-Err-Refused.is c.apply_edit.ensures.unchanged
     ∙ c.loop-asked.invariant.3 (omega (arith, few, c.loop-asked-test.true))
 
 pub returns-in-Err-OutOfMemory-clause-alone : goal.returns-in-Err-OutOfMemory-clause-alone
-returns-in-Err-OutOfMemory-clause-alone g c = λ few exact.
-    let alone : leaves_no_room c.asked-item.result ≡ true = subst (λ e. leaves_no_room e ≡ true) (sym c.asked-item.is) (All-get_or (λ e. leaves_no_room e ≡ true) c.args.edits.now c.loop-asked.asked-index c.asked-item.result c.loop-asked-test.true exact) in
-    on_err c.apply_edit.result _ (c.in-Err-OutOfMemory.is) (c.apply_edit.ensures.exact alone)
+returns-in-Err-OutOfMemory-clause-alone g c = λ few.
+    on_err c.apply_edit.result _ c.in-Err-OutOfMemory.is c.apply_edit.ensures.unchanged
     ∙ c.loop-asked.invariant.3 (omega (arith, few, c.loop-asked-test.true))
 
 pub loop-asked-preserved : goal.loop-asked-preserved

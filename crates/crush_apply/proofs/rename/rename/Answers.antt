@@ -1,4 +1,4 @@
-use Rattle.std.proofs.Common.{List, ap, sym, subst, refl}
+use Rattle.std.proofs.Common.{List, sym, subst, refl}
 use Rattle.crush_units.specs.declared.id.ItemId.TheVariants.{Bucket}
 use Rattle.crush_table.specs.Table.{Row}
 use Rattle.crush_table.specs.Columns.{set_name}
@@ -6,7 +6,6 @@ use Rattle.crush_table.specs.Lawful.{Lawful}
 use Rattle.crush_table.specs.Forest.{rows_of}
 use Rattle.crush_table.specs.Stands.{Stands}
 use Rattle.crush_table.proofs.Stands.{stands_for_rows}
-use Rattle.crush_nodes.specs.Ops.{forest_without_capacity}
 use Rattle.crush_edits.specs.declared.edit.Edit.TheVariants.{Rename}
 use Rattle.crush_apply.proofs.Answered.{when_changed, when_refused, when_lacking}
 use Rattle.crush_apply.proofs.Found.{there_by_name}
@@ -14,17 +13,17 @@ use Rattle.crush_apply.proofs.Names.{rename_done, rename_lawful}
 use Rattle.crush_apply.proofs.Weights.{refused_edit}
 use Rattle.crush_apply.proofs.rename.rename.Goals as goal
 
-pub returns-in_err-bucket-clause-answers : goal.returns-in_err-bucket-clause-answers
-returns-in_err-bucket-clause-answers g c = λ s.
+pub returns-in_err-bucket : goal.returns-in_err-bucket
+returns-in_err-bucket g c = λ s.
     when_refused _ _ _ _ _ c.from_residual.ensures.1 refl (λ t st. refused_edit s t (Rename c.args.from.now c.args.to.now) _ (c.in_err-bucket.ensures.refused s t st))
 
-pub returns-in_err-clone-clause-answers : goal.returns-in_err-clone-clause-answers
-returns-in_err-clone-clause-answers g c = λ s.
+pub returns-in_err-clone : goal.returns-in_err-clone
+returns-in_err-clone g c = λ s.
     when_lacking _ _ _ _ c.from_residual-in_err-clone.ensures.1 refl
     (λ t st. (0, set_name (Bucket c.in_ok-bucket.bucket) c.args.to.now t, rename_done s t c.args.from.now c.args.to.now c.in_ok-bucket.bucket st.lawful (c.in_ok-bucket.ensures.can t st)))
 
-pub returns-in_err-name-clause-answers : goal.returns-in_err-name-clause-answers
-returns-in_err-name-clause-answers g c = λ s.
+pub returns-in_err-name : goal.returns-in_err-name
+returns-in_err-name g c = λ s.
     when_lacking _ _ _ _ c.from_residual-in_err-name.ensures.1 refl
     (λ t st. (0, set_name (Bucket c.in_ok-bucket.bucket) c.args.to.now t, rename_done s t c.args.from.now c.args.to.now c.in_ok-bucket.bucket st.lawful (c.in_ok-bucket.ensures.can t st)))
 
@@ -39,13 +38,13 @@ rename-requires-clause-fits g c =
     subst (λ n. Lawful (set_name (Bucket c.in_ok-bucket.bucket) n t)) (sym c.in_ok-name.ensures)
     (rename_lawful t c.args.from.now c.args.to.now c.in_ok-bucket.bucket c.recall_invariant.ensures.lawful c.as_bytes-form.ensures.name can)
 
-pub returns-in_err-rename-clause-answers : goal.returns-in_err-rename-clause-answers
-returns-in_err-rename-clause-answers g c = λ s.
-    when_lacking _ _ _ _ c.from_residual-in_err-rename.ensures.1 (ap forest_without_capacity c.in_err-rename.ensures.err)
+pub returns-in_err-rename : goal.returns-in_err-rename
+returns-in_err-rename g c = λ s.
+    when_lacking _ _ _ _ c.from_residual-in_err-rename.ensures.1 c.in_err-rename.ensures.err
     (λ t st. (0, set_name (Bucket c.in_ok-bucket.bucket) c.args.to.now t, rename_done s t c.args.from.now c.args.to.now c.in_ok-bucket.bucket st.lawful (c.in_ok-bucket.ensures.can t st)))
 
-pub returns-clause-answers : goal.returns-clause-answers
-returns-clause-answers g c = λ s.
+pub returns : goal.returns
+returns g c = λ s.
     let b = c.in_ok-bucket.bucket in
     when_changed _ _ _ _
     (λ t st. (

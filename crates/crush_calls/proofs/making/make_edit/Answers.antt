@@ -1,10 +1,9 @@
--- A refused edit: the reply is the table's, and the map is as before. For want of memory only its room may differ.
-use Rattle.std.proofs.Common.{◌≡◌, ap, sym, subst, ◌∙◌, Err}
+-- A refused edit: the reply is the table's, and the map is as before.
+use Rattle.std.proofs.Common.{◌≡◌, ap, sym, subst, Err}
 use Rattle.crush_edits.specs.Answer.{Answer, refused}
 use Rattle.crush_edits.specs.Edit.{edit}
 use Rattle.crush_map.specs.MapData.{MapData, MapStands}
 use Rattle.crush_calls.specs.History.{edit_outcome}
-use Rattle.crush_calls.proofs.SameForests.{stands_same_forest}
 use Rattle.crush_calls.proofs.making.make_edit.Goals as goal
 
 pub returns-in-Err-Refused-clause-made : goal.returns-in-Err-Refused-clause-made
@@ -14,13 +13,5 @@ returns-in-Err-Refused-clause-made g c s t st =
     let told = arm.ensures.refused arm.refusal (ap Err arm.field-0-is) t st.forest in
     let is : edit s t e ≡ refused arm.refusal = subst (λ z. edit z t e ≡ refused arm.refusal) st.setting told in (
       sym (ap (λ (a : Answer). (edit_outcome t a).reply) is),
-      subst (λ (a : Answer). MapStands c.apply.new.self s (edit_outcome t a).table) (sym is) (subst (λ (m : MapData). MapStands m s t) (sym (arm.ensures.unchanged arm.refusal (ap Err arm.field-0-is))) st),
+      subst (λ (a : Answer). MapStands c.apply.new.self s (edit_outcome t a).table) (sym is) (subst (λ (m : MapData). MapStands m s t) (sym arm.ensures.unchanged) st),
     )
-
-pub returns-in-Err-OutOfMemory-clause-kept : goal.returns-in-Err-OutOfMemory-clause-kept
-returns-in-Err-OutOfMemory-clause-kept g c s t st =
-    let arm = c.in-Err-OutOfMemory in
-    record {
-      setting = arm.ensures.setting ∙ st.setting;
-      forest = stands_same_forest c.args.map.now.forest c.apply.new.self.forest t arm.ensures.kept st.forest;
-    }

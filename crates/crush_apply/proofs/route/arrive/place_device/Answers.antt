@@ -59,7 +59,7 @@ put_device-requires-clause-can g c = λ t r st found.
 
 pub returns-in_err-put_device : goal.returns-in_err-put_device
 returns-in_err-put_device g c =
-    when_lacking _ _ _ _ c.from_residual.ensures.1 c.in_err-put_device.ensures.kept
+    when_lacking _ _ _ _ c.from_residual.ensures.1 c.in_err-put_device.ensures.unchanged
     (λ t st.
     let w = c.args.arrival.now.weight in
     let can = c.requires.can t st in

@@ -32,7 +32,7 @@ put_item-requires-clause-can g c = λ t r st found.
 
 pub returns-in_err-put_item : goal.returns-in_err-put_item
 returns-in_err-put_item g c =
-    when_lacking _ _ _ _ c.from_residual.ensures.1 c.in_err-put_item.ensures.kept
+    when_lacking _ _ _ _ c.from_residual.ensures.1 c.in_err-put_item.ensures.unchanged
     (λ t st.
     let can = c.requires.can t st in
     let item = own_item t c.args.id c.args.to.now st.lawful can (c.requires.free t st) in

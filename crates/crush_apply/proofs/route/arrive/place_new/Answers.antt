@@ -47,7 +47,7 @@ put_new-requires-clause-can g c = λ t st.
 
 pub returns-in_err-put_new : goal.returns-in_err-put_new
 returns-in_err-put_new g c =
-    when_lacking _ _ _ _ c.from_residual-in_err-put_new.ensures.1 c.in_err-put_new.ensures.kept
+    when_lacking _ _ _ _ c.from_residual-in_err-put_new.ensures.1 c.in_err-put_new.ensures.unchanged
     (λ t st. (c.args.to.now.fresh, put t (device_row None (new_leaf c.args.arrival.now.device c.args.arrival.now.name.now c.args.arrival.now.weight)) c.args.to.now.stops, both_pass (new_is_put t c.args.arrival.now.device c.args.arrival.now.name.now c.args.arrival.now.weight c.args.to.now st.lawful (c.requires.can t st) (c.requires.free t st) (c.requires.gone t st)) (c.lacks_room_for_new.ensures t (new_leaf c.args.arrival.now.device c.args.arrival.now.name.now c.args.arrival.now.weight) st (c.requires.can t st).leads (c.requires.gone t st)) c.if-lacks_room_for_new.false (λ room. c.fits_put_new.ensures t (new_leaf c.args.arrival.now.device c.args.arrival.now.name.now c.args.arrival.now.weight) st (c.requires.gone t st) refl) c.if-not-fits_put_new.false))
 
 pub returns : goal.returns
