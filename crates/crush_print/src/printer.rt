@@ -15,8 +15,7 @@ mod tunables;
 
 use buckets::push_roots;
 use crush_bytes::{WriteFault, put};
-use crush_map::{CrushMap, Setting};
-use crush_tree::Forest;
+use crush_map::CrushMap;
 use devices::push_devices;
 use kinds::push_kinds;
 use rules::push_rules;
@@ -41,7 +40,7 @@ pub fn write_map<A: Allocator, W: Write>(
         → Keeps (W.contents out.old) (W.contents out.new) }
 {
     let mut text = Vec::new(alloc);
-    if push_map(alloc, map.setting(), map.forest(), &mut text).is_err() {
+    if push_map(alloc, map, &mut text).is_err() {
         return Err(WriteFault::OutOfMemory);
     }
     put(out, text.as_slice())
@@ -59,20 +58,21 @@ pub fn taken_buckets_are_named()
     ensures { TakenBucketsAreNamed }
 {}
 
-/// The whole text of a map with this setting and this hierarchy.
+/// The whole text of a map.
 fn push_map<A: Allocator>(
     alloc: Global,
-    setting: &Setting,
-    forest: &Forest<A>,
+    map: &CrushMap<A>,
     out: &mut Vec<u8>,
 ) -> Result<(), AllocError>
-    ensures { (t : List Row) → Stands forest.now t
-        → OnOk result (out.new.items ≡ out.old.items ++ map_text setting.now t) }
+    ensures { (t : List Row) → Stands map.now.forest t
+        → OnOk result (out.new.items ≡ out.old.items ++ map_text map.now.setting t) }
 {
+    let setting = map.setting();
+    let forest = map.forest();
     push_tunables(setting, out)?;
     push_devices(alloc, forest, out)?;
     push_kinds(alloc, setting, out)?;
     push_roots(alloc, setting, forest, out)?;
-    push_rules(setting, forest, out)?;
+    push_rules(setting, map, out)?;
     out.extend_from_slice(b"\n# end crush map\n")
 }

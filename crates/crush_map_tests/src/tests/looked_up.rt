@@ -39,10 +39,21 @@ fn weight_found(map: &CrushMap<Global>, id: Option<ItemId>) -> Option<Weight> {
     }
 }
 
-/// Whether the item of a name, and what it weighs, is looked up as a search finds it.
+/// Whether the item of the id, if there is one, has the name.
+fn has_name(map: &CrushMap<Global>, id: Option<ItemId>, name: &str) -> bool {
+    match id {
+        Some(id) => map.name_of(id) == Some(name),
+        None => true,
+    }
+}
+
+/// Whether the item of a name, and what it weighs, is looked up as a search finds it, and by its id
+/// the name.
 fn is_looked_up(map: &CrushMap<Global>, name: &str) -> bool {
     let id = map.forest().id_of(name);
-    map.locate(name) == id && map.weight_of(name) == weight_found(map, id)
+    map.locate(name) == id
+        && map.weight_of(name) == weight_found(map, id)
+        && has_name(map, id, name)
 }
 
 /// Whether all names are.

@@ -9,38 +9,38 @@ ghost use Rattle.crush_print.specs.RuleLines.{bucket_name, choice_text, choose_l
 
 use crate::lines::push_all;
 use crush_edits::{KeptRule, KeptStep, Setting};
-use crush_tree::Forest;
+use crush_map::CrushMap;
 use crush_units::{BucketId, ItemId, Name};
 use itoa::Buffer;
 use std::alloc::{AllocError, Allocator, Global};
 
 /// The rules, in their order, behind their heading. A bucket that a step takes has the name that it
-/// has in the forest.
+/// has in the map.
 #[tactic(auto, unfolding(crate::specs::MapText::rule_section))]
 pub(crate) fn push_rules<A: Allocator>(
     setting: &Setting,
-    forest: &Forest<A>,
+    from: &CrushMap<A>,
     out: &mut Vec<u8>,
 ) -> Result<(), AllocError>
-    ensures { (t : List Row) → Stands forest.now t
+    ensures { (t : List Row) → Stands from.now.forest t
         → OnOk result (out.new.items ≡ out.old.items ++ rule_section setting.now t) }
 {
     out.extend_from_slice(b"\n# rules\n")?;
     let rules = setting.rules();
-    push_all_rules(rules, forest, out)
+    push_all_rules(rules, from, out)
 }
 
 /// The rules, in their order.
 fn push_all_rules<A: Allocator>(
     rules: &[KeptRule],
-    forest: &Forest<A>,
+    from: &CrushMap<A>,
     out: &mut Vec<u8>,
 ) -> Result<(), AllocError>
-    ensures { (t : List Row) → Stands forest.now t → OnOk result
+    ensures { (t : List Row) → Stands from.now.forest t → OnOk result
         (out.new.items ≡ out.old.items ++ flat_map (rule_lines t) (map rule_data rules.now)) }
 {
     for rule in rules {
-        push_rule(rule, forest, out)?;
+        push_rule(rule, from, out)?;
     }
     Ok(())
 }
@@ -49,16 +49,16 @@ fn push_all_rules<A: Allocator>(
 #[tactic(auto, unfolding(crate::specs::RuleLines::rule_lines))]
 fn push_rule<A: Allocator>(
     rule: &KeptRule,
-    forest: &Forest<A>,
+    from: &CrushMap<A>,
     out: &mut Vec<u8>,
 ) -> Result<(), AllocError>
-    ensures { (t : List Row) → Stands forest.now t
+    ensures { (t : List Row) → Stands from.now.forest t
         → OnOk result (out.new.items ≡ out.old.items ++ rule_lines t (rule_data rule.now)) }
 {
     push_head(rule, out)?;
     push_size(b"\tmin_size ", rule.min_size, out)?;
     push_size(b"\tmax_size ", rule.max_size, out)?;
-    push_steps(rule.steps.as_slice(), forest, out)?;
+    push_steps(rule.steps.as_slice(), from, out)?;
     out.extend_from_slice(b"}\n")
 }
 
@@ -101,14 +101,14 @@ fn push_size(key: &[u8], size: Option<u32>, out: &mut Vec<u8>) -> Result<(), All
 /// The lines of a rule's steps.
 fn push_steps<A: Allocator>(
     steps: &[KeptStep],
-    forest: &Forest<A>,
+    from: &CrushMap<A>,
     out: &mut Vec<u8>,
 ) -> Result<(), AllocError>
-    ensures { (t : List Row) → Stands forest.now t → OnOk result
+    ensures { (t : List Row) → Stands from.now.forest t → OnOk result
         (out.new.items ≡ out.old.items ++ flat_map (step_line t) (map step_data steps.now)) }
 {
     for step in steps {
-        push_step(step, forest, out)?;
+        push_step(step, from, out)?;
     }
     Ok(())
 }
@@ -116,14 +116,14 @@ fn push_steps<A: Allocator>(
 /// The line of a step.
 fn push_step<A: Allocator>(
     step: &KeptStep,
-    forest: &Forest<A>,
+    from: &CrushMap<A>,
     out: &mut Vec<u8>,
 ) -> Result<(), AllocError>
-    ensures { (t : List Row) → Stands forest.now t
+    ensures { (t : List Row) → Stands from.now.forest t
         → OnOk result (out.new.items ≡ out.old.items ++ step_line t (step_data step.now)) }
 {
     match step {
-        KeptStep::Take(bucket, class) => { push_take(name_of(forest, *bucket), class, out) }
+        KeptStep::Take(bucket, class) => { push_take(name_of(from, *bucket), class, out) }
         KeptStep::Choose {
             leaf,
             firstn,
@@ -137,10 +137,10 @@ fn push_step<A: Allocator>(
 
 /// The name that a bucket has now.
 #[tactic(auto, unfolding(crate::specs::RuleLines::bucket_name))]
-fn name_of<A: Allocator>(forest: &Forest<A>, bucket: BucketId) -> &[u8]
-    ensures { (t : List Row) → Stands forest.now t → result.now ≡ bucket_name t bucket }
+fn name_of<A: Allocator>(from: &CrushMap<A>, bucket: BucketId) -> &[u8]
+    ensures { (t : List Row) → Stands from.now.forest t → result.now ≡ bucket_name t bucket }
 {
-    match forest.name(ItemId::Bucket(bucket)) {
+    match from.name_of(ItemId::Bucket(bucket)) {
         Some(name) => name.as_bytes(),
         None => b"".as_slice(),
     }

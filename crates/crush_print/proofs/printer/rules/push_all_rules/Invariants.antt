@@ -7,4 +7,4 @@ use Rattle.crush_print.specs.RuleLines.{rule_lines}
 use Rattle.crush_print.proofs.printer.rules.push_all_rules.Given as goal
 
 abbrev pub invariant-loop-rule : goal.invariant-loop-rule
-invariant-loop-rule g l = (t : List Row) → Stands l.forest t → l.out.items ≡ l.fn.out.items ++ flat_map (rule_lines t) (map rule_data (take l.rule-index l.rules))
+invariant-loop-rule g l = (t : List Row) → Stands l.from.forest t → l.out.items ≡ l.fn.out.items ++ flat_map (rule_lines t) (map rule_data (take l.rule-index l.rules))

@@ -7,4 +7,4 @@ use Rattle.crush_print.specs.RuleLines.{step_line}
 use Rattle.crush_print.proofs.printer.rules.push_steps.Given as goal
 
 abbrev pub invariant-loop-step : goal.invariant-loop-step
-invariant-loop-step g l = (t : List Row) → Stands l.forest t → l.out.items ≡ l.fn.out.items ++ flat_map (step_line t) (map step_data (take l.step-index l.steps))
+invariant-loop-step g l = (t : List Row) → Stands l.from.forest t → l.out.items ≡ l.fn.out.items ++ flat_map (step_line t) (map step_data (take l.step-index l.steps))
