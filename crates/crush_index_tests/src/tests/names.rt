@@ -11,13 +11,13 @@ fn bucket(distance: u32) -> Option<ItemId> {
     Some(ItemId::Bucket(id))
 }
 
-fn device(number: u32) -> Option<ItemId> {
+pub(super) fn device(number: u32) -> Option<ItemId> {
     let id = DeviceId::from_number(number)?;
     Some(ItemId::Device(id))
 }
 
 /// Adds an item of this name. Whether that was done.
-fn add(names: &mut Names, alloc: Global, text: &[u8], id: Option<ItemId>) -> bool {
+pub(super) fn add(names: &mut Names, alloc: Global, text: &[u8], id: Option<ItemId>) -> bool {
     let Some(id) = id else {
         return false;
     };

@@ -1,0 +1,70 @@
+//! Names that collide under the plain hash.
+//!
+//! Each is of six letters and digits. They are the first, by the alphabet and then the digits, whose
+//! hash without keys, folded to 32 bits as a table folds it, has the same lowest 16 bits and the
+//! same highest 8 as that of `aaaaaa`: SipHash-1-3 with keys of zeros. The lowest bits choose where
+//! in the table a name is looked for, and the
+//! highest are the mark by which it is told from others there. So all are looked for in one place,
+//! and none is told from another by its mark.
+
+use super::names::{add, device};
+use crush_index::{Hashing, Names};
+use crush_units::Name;
+use std::alloc::Global;
+
+/// Adds a device of each name, the first with the id 0. Whether that was done.
+fn add_each(names: &mut Names, alloc: Global, texts: &[&str]) -> bool {
+    for (number, text) in (0u32..32).zip(texts) {
+        if !add(names, alloc, text.as_bytes(), device(number)) {
+            return false;
+        }
+    }
+    true
+}
+
+/// Whether each name has its device, but one that has none.
+fn tell_each(names: &Names, texts: &[&str], gone: Option<u32>) -> bool {
+    for (number, text) in (0u32..32).zip(texts) {
+        let id = if gone == Some(number) {
+            None
+        } else {
+            device(number)
+        };
+        if names.id_of(text.as_bytes()) != id {
+            return false;
+        }
+    }
+    true
+}
+
+/// Gives the item of one name another, which no item has. Whether that was done.
+fn rename(names: &mut Names, alloc: Global, from: &str, to: &str) -> bool {
+    if names.id_of(to.as_bytes()).is_some() {
+        return false;
+    }
+    let Some(id) = names.id_of(from.as_bytes()) else {
+        return false;
+    };
+    match Name::read(alloc, to.as_bytes()) {
+        Ok(name) => names.rename(from.as_bytes(), name, id).is_ok(),
+        Err(_) => false,
+    }
+}
+
+#[test]
+fn names_that_collide_are_told_apart(rt: HostRuntime) {
+    let texts = [
+        "aaaaaa", "apa50m", "ax9j6p", "a2x98l", "a6pmll", "bi9awp", "cdp2k2", "csly6h", "csn3gp",
+        "csstpo", "csy3ji", "c5tena", "ddq6n7", "dl1lw0", "dmo1du", "dqdrnl", "dqkeh7", "drqj0u",
+        "d3akce", "d4tm4l", "d9k551", "egtkbb", "eg3dy9", "eklniw", "evcf8y", "e4e57m", "fndcdg",
+        "ftlnew", "gmmf65", "gnmch3", "g2iytj", "hixqgc",
+    ];
+    let mut names = Names::new(rt.alloc(), Hashing::plain());
+    assert!(rt; add_each(&mut names, rt.alloc(), &texts) && tell_each(&names, &texts, None));
+    assert!(rt; rename(&mut names, rt.alloc(), "csstpo", "h6rr65"));
+    assert!(rt; names.id_of(b"h6rr65") == device(9) && tell_each(&names, &texts, Some(9)));
+    assert!(rt; rename(&mut names, rt.alloc(), "h6rr65", "csstpo"));
+    names.remove(b"d9k551");
+    assert!(rt; names.id_of(b"h6rr65").is_none() && tell_each(&names, &texts, Some(20)));
+    drop(names);
+}
