@@ -1,11 +1,10 @@
 //! Names that collide under the plain hash.
 //!
 //! Each is of six letters and digits. They are the first, by the alphabet and then the digits, whose
-//! hash without keys, folded to 32 bits as a table folds it, has the same lowest 16 bits and the
-//! same highest 8 as that of `aaaaaa`: SipHash-1-3 with keys of zeros. The lowest bits choose where
-//! in the table a name is looked for, and the
-//! highest are the mark by which it is told from others there. So all are looked for in one place,
-//! and none is told from another by its mark.
+//! hash without keys (SipHash-1-3 with keys of zeros), folded to 32 bits as a table folds it, has the
+//! same lowest 16 bits and the same highest 8 as that of `aaaaaa`. The lowest bits choose where in
+//! the table a name is looked for, and the highest are the mark by which it is told from others
+//! there. So all are looked for in one place, and none is told from another by its mark.
 
 use super::names::{add, device};
 use crush_index::{Hashing, Names};
