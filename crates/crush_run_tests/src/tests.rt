@@ -12,6 +12,7 @@ mod at_once;
 mod command_lines;
 mod failing;
 mod limits;
+mod prefixes;
 mod reporting;
 
 /// The plain example map, with nothing behind it.

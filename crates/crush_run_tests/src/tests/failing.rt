@@ -1,6 +1,6 @@
-//! Readers and writers that fail, and a reader that never ends.
+//! Readers and writers that fail, once or from then on, and readers of blanks alone, some without an end.
 
-use super::{MODE, PLAIN, REWEIGHED, is_told, joined};
+use super::{MODE, PLAIN, REWEIGHED, is_told, joined, summary};
 use crush_report::RunFault;
 use crush_run::{NoGate, run_job};
 use crush_script::JobFault;
@@ -9,21 +9,41 @@ use std::random::RandomSource;
 use std::sync::Wait;
 use std::thread::Threads;
 
-/// Gives at most 16 bytes a read, and answers an error at one of the reads, counted from 0, and at
-/// no other: who asked again would get the rest.
+/// How long a stream fails, and by which error: once, as one that was interrupted does, or from then on.
+/// Who asked an interrupted one again would get all out of it or into it.
+#[derive(Clone, Copy)]
+struct Failing {
+    kind: ErrorKind,
+    is_for_good: bool,
+}
+
+/// Both ways to fail.
+const WAYS: [Failing; 2] = [
+    Failing {
+        kind: ErrorKind::Interrupted,
+        is_for_good: false,
+    },
+    Failing {
+        kind: ErrorKind::Other,
+        is_for_good: true,
+    },
+];
+
+/// Gives at most 16 bytes a read, and fails at one of the reads, counted from 0.
 #[derive(Drop)]
 struct FailingReader<'a> {
     bytes: &'a [u8],
     asked: usize,
-    failing: usize,
+    fails_at: usize,
+    way: Failing,
 }
 
 impl Read for FailingReader<'_> {
     fn read(&mut self, buf: &mut [u8]) -> io::Result<usize> {
         let number = self.asked;
         self.asked = number.saturating_add(1);
-        if number == self.failing {
-            return Err(ErrorKind::Other.into());
+        if number == self.fails_at || self.way.is_for_good && number > self.fails_at {
+            return Err(self.way.kind.into());
         }
         let most = buf.len().min(self.bytes.len()).min(16);
         let (now, later) = self.bytes.split_at(most);
@@ -34,21 +54,24 @@ impl Read for FailingReader<'_> {
 }
 
 /// Takes at most 7 bytes a write, as long as it has room. The next write it answers by an error or
-/// takes nothing of it, and then it takes whatever comes: who wrote again would get all out.
+/// takes nothing of it, and has room again where it fails once.
 #[derive(Drop)]
 struct FailingWriter {
     taken: Vec<u8>,
     room: usize,
     answers_error: bool,
+    way: Failing,
 }
 
 impl Write for FailingWriter {
     fn write(&mut self, bytes: &[u8]) -> io::Result<usize> {
         let most = bytes.len().min(self.room).min(7);
         if most == 0 {
-            self.room = usize::MAX;
+            if !self.way.is_for_good {
+                self.room = usize::MAX;
+            }
             return if self.answers_error {
-                Err(ErrorKind::Other.into())
+                Err(self.way.kind.into())
             } else {
                 Ok(0)
             };
@@ -64,20 +87,21 @@ impl Write for FailingWriter {
     }
 }
 
-/// Gives one space a read, without end, and counts how often it is asked.
+/// Gives spaces, at most so many a read, until none is left, and counts how often it is asked.
 #[derive(Drop)]
-struct EndlessReader {
+struct Blanks {
+    left: usize,
+    most: usize,
     asked: u32,
 }
 
-impl Read for EndlessReader {
+impl Read for Blanks {
     fn read(&mut self, buf: &mut [u8]) -> io::Result<usize> {
         self.asked = self.asked.saturating_add(1);
-        if buf.is_empty() {
-            return Ok(0);
-        }
-        buf[0] = b' ';
-        Ok(1)
+        let count = buf.len().min(self.left).min(self.most);
+        buf[..count].fill(b' ');
+        self.left -= count;
+        Ok(count)
     }
 }
 
@@ -88,12 +112,14 @@ const SCRIPT: &[u8] = b"%operator a\nreweight osd.2 1.0\n";
 fn stops_at(
     rt: &(impl AllocGlobal + RandomSource + Threads + Wait + Sync),
     job: &[u8],
-    failing: usize,
+    fails_at: usize,
+    way: Failing,
 ) -> bool {
     let mut reader = FailingReader {
         bytes: job,
         asked: 0,
-        failing,
+        fails_at,
+        way,
     };
     let mut out = Vec::new(rt.alloc());
     let outcome = run_job(rt, &NoGate, MODE, &mut reader, &mut out);
@@ -105,8 +131,10 @@ fn stops_at(
 #[test]
 fn stops_at_a_failed_read(rt: HostRuntime) {
     let job = joined(&rt, PLAIN, SCRIPT);
-    for failing in 0..job.len() / 16 + 1 {
-        assert!(rt; stops_at(&rt, job.as_slice(), failing));
+    for fails_at in 0..job.len() / 16 + 1 {
+        for way in WAYS {
+            assert!(rt; stops_at(&rt, job.as_slice(), fails_at, way));
+        }
     }
 }
 
@@ -117,12 +145,14 @@ fn leaves_a_front(
     whole: &[u8],
     room: usize,
     answers_error: bool,
+    way: Failing,
 ) -> bool {
     let taken = Vec::new(rt.alloc());
     let mut writer = FailingWriter {
         taken,
         room,
         answers_error,
+        way,
     };
     let outcome = run_job(rt, &NoGate, MODE, &mut &*job, &mut writer);
     outcome == Err(RunFault::Write)
@@ -138,22 +168,63 @@ fn leaves_a_front_at_a_failed_write(rt: HostRuntime) {
     let whole = joined(&rt, REWEIGHED, line);
     let (job, whole) = (job.as_slice(), whole.as_slice());
     for room in 0..whole.len() {
-        assert!(rt;
-            leaves_a_front(&rt, job, whole, room, true)
-                && leaves_a_front(&rt, job, whole, room, false)
-        );
+        for way in WAYS {
+            assert!(rt;
+                leaves_a_front(&rt, job, whole, room, true, way)
+                    && leaves_a_front(&rt, job, whole, room, false, way)
+            );
+        }
     }
+}
+
+/// The most bytes that a job may have.
+const LONGEST_JOB: usize = 16_777_216;
+
+/// Whether a reader that never ends is refused when it has given one byte more than a job may have.
+fn is_too_long(
+    rt: &(impl AllocGlobal + RandomSource + Threads + Wait + Sync),
+    reader: &mut Blanks,
+) -> bool {
+    let mut out = Vec::new(rt.alloc());
+    let outcome = run_job(rt, &NoGate, MODE, reader, &mut out);
+    outcome == Err(RunFault::Job(JobFault::TooLong))
+        && reader.left == usize::MAX - LONGEST_JOB - 1
+        && out.is_empty()
+        && is_told(rt, &outcome, b"crushedit: TooLong\n", 1)
 }
 
 #[test]
 fn asks_an_endless_reader_for_one_byte_too_many(rt: HostRuntime) {
-    let mut reader = EndlessReader { asked: 0 };
+    let mut reader = Blanks {
+        left: usize::MAX,
+        most: 1,
+        asked: 0,
+    };
+    assert!(rt; is_too_long(&rt, &mut reader) && reader.asked == 16_777_217);
+}
+
+#[test]
+fn takes_one_byte_too_many_of_a_reader_that_fills_what_it_is_given(rt: HostRuntime) {
+    let mut reader = Blanks {
+        left: usize::MAX,
+        most: usize::MAX,
+        asked: 0,
+    };
+    assert!(rt; is_too_long(&rt, &mut reader));
+}
+
+/// The map that has nothing.
+const EMPTY: &[u8] =
+    b"# begin crush map\n\n# devices\n\n# types\n\n# buckets\n\n# rules\n\n# end crush map\n";
+
+#[test]
+fn the_most_blanks_are_the_empty_map(rt: HostRuntime) {
+    let mut reader = Blanks {
+        left: LONGEST_JOB,
+        most: usize::MAX,
+        asked: 0,
+    };
     let mut out = Vec::new(rt.alloc());
     let outcome = run_job(&rt, &NoGate, MODE, &mut reader, &mut out);
-    assert!(rt;
-        outcome == Err(RunFault::Job(JobFault::TooLong))
-            && reader.asked == 16_777_217
-            && out.is_empty()
-            && is_told(&rt, &outcome, b"crushedit: TooLong\n", 1)
-    );
+    assert!(rt; outcome == Ok(summary(0, 0, 0)) && reader.left == 0 && out.as_slice() == EMPTY);
 }
