@@ -8,13 +8,16 @@ the run without a refusal. Each job runs at once and with --in-turn. Where sever
 history may be another in each run: there the same calls of each operator, in order, count as the same ending.
 A worker that lacks memory lets the others finish: the run waits for them all, so it has to end by itself, and
 at its end the library looks whether a thread is left. With words only jobs whose names have one of them are
-run. Needs a C compiler, `cc` or what CC names, and the /proc of Linux. Prints how many requests were refused,
-and ends with status 1 at the first run that ends otherwise.
+run. As many jobs are run side by side as there are processors. Needs a C compiler, `cc`, `gcc` or what CC names,
+and the /proc of Linux. Prints how many requests were refused, and ends with status 1 where a run ends otherwise
+or a job asks for no memory.
 """
 
+import concurrent.futures
 import os
 import pathlib
 import re
+import shutil
 import subprocess
 import sys
 import tempfile
@@ -98,7 +101,7 @@ int posix_memalign(void **block, size_t align, size_t size) {
 def built_library(folder):
     source, library = folder / "refuse.c", folder / "refuse.so"
     source.write_text(LIBRARY)
-    compiler = os.environ.get("CC", "cc")
+    compiler = os.environ.get("CC") or ("cc" if shutil.which("cc") else "gcc")
     subprocess.run([compiler, "-O1", "-shared", "-fPIC", "-o", library, source], check=True)
     return library
 
@@ -115,48 +118,76 @@ def is_same(run, whole, is_at_once):
     return run.stdout == whole.stdout or (is_at_once and calls_of_each(run.stdout) == calls_of_each(whole.stdout))
 
 
-class Refuser:
-    def __init__(self, program, folder):
-        self.program, self.library = program, built_library(folder)
-        self.told, self.left = folder / "told", folder / "left"
+class Ending(Exception):
+    """How a run ended that may not end so."""
 
-    def run(self, job, flags, number):
+
+class Refuser:
+    """Runs a job in one mode, and refuses a request. What the library tells goes into a folder of its own."""
+
+    def __init__(self, program, library, folder, job, flags):
+        self.command, self.library = [program, *flags], library
+        self.name, self.job = " ".join([job.name, *flags]), job.read_bytes()
+        self.is_at_once = self.job.count(b"\n%operator") > 1 and not flags
+        self.told, self.left = pathlib.Path(folder, "told"), pathlib.Path(folder, "left")
+
+    def run(self, number):
         """The run in which this request is refused, and whether there was such a request; 0 refuses none."""
         self.told.unlink(missing_ok=True)
         files = {"REFUSED_FILE": str(self.told), "LEFT_FILE": str(self.left)}
         environment = {"LD_PRELOAD": str(self.library), "REFUSED_NUMBER": str(number), **files}
-        run = subprocess.run([self.program, *flags], input=job, capture_output=True, env=environment, timeout=60)
+        run = subprocess.run(self.command, input=self.job, capture_output=True, env=environment, timeout=60)
         return run, self.told.exists()
 
-    def refuse_each(self, name, job, flags):
+    def wants(self, run, number, whole):
+        """Whether the run in which this request was refused ended for want of memory; else it has to be the whole."""
+        if self.left.exists():
+            raise Ending(f"{self.name}: request {number} refused: a thread is left")
+        if run.returncode == 4 and not run.stdout and run.stderr in NO_MEMORY:
+            return True
+        if not is_same(run, whole, self.is_at_once):
+            raise Ending(f"{self.name}: request {number} refused: status {run.returncode}, "
+                         f"{len(run.stdout)} bytes written, {run.stderr!r}")
+        return False
+
+    def refuse_each(self):
         """How many requests were refused, and how many of these runs ended for want of memory."""
-        whole, _ = self.run(job, flags, 0)
-        is_at_once = job.count(b"\n%operator") > 1 and not flags
+        whole, _ = self.run(0)
         number = wanting = 0
         while True:
-            run, was_refused = self.run(job, flags, number + 1)
+            run, was_refused = self.run(number + 1)
             if not was_refused:
-                return number, wanting
+                break
             number += 1
-            if self.left.exists():
-                sys.exit(f"{name} {' '.join(flags)}: request {number} refused: a thread is left")
-            if run.returncode == 4 and not run.stdout and run.stderr in NO_MEMORY:
-                wanting += 1
-            elif not is_same(run, whole, is_at_once):
-                sys.exit(f"{name} {' '.join(flags)}: request {number} refused: status {run.returncode}, "
-                         f"{len(run.stdout)} bytes written, {run.stderr!r}")
+            wanting += self.wants(run, number, whole)
+        if number == 0:
+            raise Ending(f"{self.name}: no request was refused")
+        return number, wanting
+
+
+def refuse_each(program, library, job, flags):
+    with tempfile.TemporaryDirectory() as folder:
+        return Refuser(program, library, folder, job, flags).refuse_each()
 
 
 def main():
     program, words = os.path.abspath(sys.argv[1]), sys.argv[2:]
-    jobs = [job for job in sorted(EXAMPLES.rglob("*.job")) if not words or any(word in job.stem for word in words)]
-    with tempfile.TemporaryDirectory() as folder:
-        refuser = Refuser(program, pathlib.Path(folder))
-        for flags in ([], ["--in-turn"]):
-            counts = [refuser.refuse_each(job.name, job.read_bytes(), flags) for job in jobs]
-            refused, wanting = (sum(column) for column in zip(*counts))
-            print(f"{len(jobs)} jobs {'in turn' if flags else 'at once'}: {refused} requests refused; "
-                  f"{wanting} runs ended with status 4, {refused - wanting} as without a refusal", flush=True)
+    jobs = [job for job in EXAMPLES.rglob("*.job") if not words or any(word in job.stem for word in words)]
+    jobs.sort(key=lambda job: job.stat().st_size, reverse=True)
+    with tempfile.TemporaryDirectory() as folder, concurrent.futures.ThreadPoolExecutor(os.cpu_count()) as pool:
+        library = built_library(pathlib.Path(folder))
+        modes = {
+            mode: [pool.submit(refuse_each, program, library, job, flags) for job in jobs]
+            for mode, flags in (("at once", []), ("in turn", ["--in-turn"]))
+        }
+        try:
+            for mode, cases in modes.items():
+                refused, wanting = (sum(column) for column in zip(*(case.result() for case in cases)))
+                print(f"{len(jobs)} jobs {mode}: {refused} requests refused; {wanting} runs ended with status 4, "
+                      f"{refused - wanting} as without a refusal", flush=True)
+        except Ending as ending:
+            pool.shutdown(cancel_futures=True)
+            sys.exit(str(ending))
 
 
 if __name__ == "__main__":
