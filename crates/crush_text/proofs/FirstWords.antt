@@ -1,5 +1,5 @@
 -- The first word of a statement, and the end of the text in its place.
-use Rattle.std.proofs.Common.{◌≡◌, ℕ, Bool, true, false, List, Ok, Err, refl, sym, ap, subst, ◌∙◌, inr}
+use Rattle.std.proofs.Common.{◌≡◌, ℕ, Bool, true, false, List, Option, Some, None, Ok, Err, refl, sym, ap, subst, ◌∙◌, inr}
 use Rattle.crush_map.specs.Built.{Draft}
 use Rattle.crush_map.specs.Building.{BuilderData}
 use Rattle.crush_bytes.specs.Words.{Text, first as first_word, stopped, ended, bad}
@@ -16,6 +16,11 @@ use Rattle.crush_text.specs.ReadsLines.{IsIdle, StandsAt}
 use Rattle.crush_text.specs.ReadsStatements.{behind}
 use Rattle.crush_text.proofs.LineByLine.{word_goes, line_goes}
 use Rattle.crush_text.proofs.Weighed.{told_ok}
+
+-- what is not there is `None`
+pub none_there : {X : Type 0} (o : Option X) → ((x : X) → o ≡ Some x → ⊥) → o ≡ None
+none_there None other = refl
+none_there (Some x) other = absurd (other x refl)
 
 -- a word in this place is the first one of a statement
 first_goes : (d : Draft) (late : Bool) (t rest : Text) (place : ℕ) (text : List ℕ) → t ≡ first_word place text rest

@@ -1,7 +1,7 @@
 -- Lines word by word, and what the builder's call at the end of a line leaves.
-use Rattle.std.proofs.Common.{◌≡◌, ◌⊎◌, ℕ, Bool, true, false, List, [], ◌∷◌, Result, Ok, Err, Some, refl, sym, ap, ◌∙◌, inr}
+use Rattle.std.proofs.Common.{◌≡◌, ◌⊎◌, ℕ, Bool, true, false, List, [], ◌∷◌, Result, Ok, Err, Some, refl, sym, ap, subst, ◌∙◌, inr}
 use Rattle.std.specs.Prelude.{codes, if◌then◌else◌}
-use Rattle.crush_map.specs.Built.{Draft, nothing, with_kind, with_tunable, with_device, with_class_id}
+use Rattle.crush_map.specs.Built.{Draft, Pending, nothing, with_kind, with_tunable, with_device, with_class_id}
 use Rattle.crush_map.specs.Building.{BuilderData, IsDraft}
 use Rattle.crush_bytes.specs.Words.{Word, Text, begins, is_brace_word}
 use Rattle.crush_units.specs.declared.limits.TheConstants.{LARGEST_TUNABLE}
@@ -13,11 +13,18 @@ use Rattle.crush_text.specs.Grammar.{tunable_line, type_line, device_line, devic
 use Rattle.crush_text.specs.Tests.{Test, ◌when◌, a_word, tests, unless, word_for}
 use Rattle.crush_text.specs.Flow.{◌>>=◌, placed}
 use Rattle.crush_text.specs.Reads.{and_rest, next_at, word_at, line_at}
-use Rattle.crush_text.specs.ReadsLines.{IsIdle}
+use Rattle.crush_text.specs.ReadsLines.{IsIdle, IsAmid}
 
 -- what leaves the pending part alone leaves the builder between two statements
 pub still_idle : (old new : BuilderData) (d e : Draft) → old.pending ≡ nothing → IsDraft old d → IsDraft new e → e.pending ≡ d.pending → IsIdle new
 still_idle old new d e idle before after same = record { part = after.pending ∙ same ∙ sym before.pending ∙ idle; some = (e, after) }
+
+-- a builder that is as it was is so at the same drafts
+pub still : {b c : BuilderData} {d : Draft} → c ≡ b → IsDraft b d → IsDraft c d
+still {d = d} e h = subst (λ (x : BuilderData). IsDraft x d) (sym e) h
+
+pub still_amid : {test : Pending → Bool} {b c : BuilderData} → c ≡ b → IsAmid test b → IsAmid test c
+still_amid {test = test} e h = subst (IsAmid test) (sym e) h
 
 -- where there is no word, none is read for any role
 pub next_fails : (d : Draft) (r : Role) (t : Text) (f : TextFault) → next_at t ≡ Err f → word_at d r t ≡ Err f

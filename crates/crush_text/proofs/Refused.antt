@@ -1,18 +1,19 @@
 -- Where a function fails it promises no more than its fault.
-use Rattle.std.proofs.Common.{◌≡◌, ℕ, Bool, List, Result, Ok, Err, Option}
+use Rattle.std.proofs.Common.{◌≡◌, ℕ, Bool, List, Err, Option}
 use Rattle.crush_map.specs.Built.{Draft}
-use Rattle.crush_map.specs.Building.{BuilderData, IsDraft}
+use Rattle.crush_map.specs.Building.{IsDraft}
 use Rattle.crush_map.specs.Rules.{kept_rule}
 use Rattle.crush_edits.specs.declared.rule.Rule.{Rule}
 use Rattle.crush_edits.specs.Setting.{RuleData}
 use Rattle.crush_bytes.specs.Words.{Text}
 use Rattle.crush_text.specs.declared.fault.TextFault.{TextFault}
+use Rattle.crush_text.specs.declared.reader.MapReader.{MapReader}
 use Rattle.crush_text.specs.Role.{Role, El}
 use Rattle.crush_text.specs.Form.{Mode, first, ruled, at, Form}
 use Rattle.crush_text.specs.Grammar.{rule_line, lines}
 use Rattle.crush_text.specs.Flow.{State, between}
 use Rattle.crush_text.specs.Reads.{word_at, line_at, number_behind, Fails, FailsIn}
-use Rattle.crush_text.specs.ReadsWords.{ReadsWord, ReadsValue}
+use Rattle.crush_text.specs.ReadsWords.{ReadsWord, ReadsValue, FindsWord, FindsValue}
 use Rattle.crush_text.specs.ReadsLines.{ReadsLine, ReadsOn}
 use Rattle.crush_text.specs.ReadsRules.{ReadsHead, ReadsSize, GivesStep, ReadsStepLine, ReadsSteps}
 use Rattle.crush_text.specs.ReadsStatements.{behind, ReadsNext, ReadsAll}
@@ -25,34 +26,41 @@ no_name r drafts old new f h = record { gives = h; next = tt; plain = tt; named 
 pub no_value : {X : Type 0} (r : Role) {view : X → El r} (drafts : Draft → Type 0) (old new : Text) (f : TextFault) → ((d : Draft) → drafts d → word_at d r old ≡ Err f) → ReadsValue r view drafts old new (Err f)
 no_value r drafts old new f h = record { gives = h; range = tt; free = tt; shorter = tt }
 
+-- nor by a method, which leaves the builder as it was
+pub finds_no_name : {A : _} (r : Role) (old new : MapReader A) (f : TextFault) → new.builder ≡ old.builder → ((d : Draft) → IsDraft old.builder d → word_at d r old.text ≡ Err f) → FindsWord r old new (Err f)
+finds_no_name r old new f kept h = record { reads = no_name r _ _ _ f h; kept = kept }
+
+pub finds_no_value : {A : _} {X : Type 0} (r : Role) {view : X → El r} (old new : MapReader A) (f : TextFault) → new.builder ≡ old.builder → ((d : Draft) → IsDraft old.builder d → word_at d r old.text ≡ Err f) → FindsValue r view old new (Err f)
+finds_no_value r old new f kept h = record { reads = no_value r _ _ _ f h; kept = kept }
+
 -- no line
-pub no_line : {X : Type 0} (form : Draft → Form) (mode : X → Mode) (before after : BuilderData) (old new : Text) (f : TextFault) → ((d : Draft) → IsDraft before d → FailsIn f d (form d) old) → ReadsLine form mode before after old new (Err f)
-no_line form mode before after old new f h = record { reads = h; stands = tt; shorter = tt }
+pub no_line : {A : _} {X : Type 0} (form : Draft → Form) (mode : X → Mode) (old new : MapReader A) (f : TextFault) → ((d : Draft) → IsDraft old.builder d → FailsIn f d (form d) old.text) → ReadsLine form mode old new (Err f)
+no_line form mode old new f h = record { reads = h; stands = tt; shorter = tt }
 
 -- no lines
-pub no_lines : {X : Type 0} (from : Draft → State) (mode : X → Mode) (before after : BuilderData) (old new : Text) (f : TextFault) → ((d : Draft) → IsDraft before d → Fails f (from d) old) → ReadsOn from mode before after old new (Err f)
-no_lines from mode before after old new f h = record { reads = h; stands = tt; shorter = tt }
+pub no_lines : {A : _} {X : Type 0} (from : Draft → State) (mode : X → Mode) (old new : MapReader A) (f : TextFault) → ((d : Draft) → IsDraft old.builder d → Fails f (from d) old.text) → ReadsOn from mode old new (Err f)
+no_lines from mode old new f h = record { reads = h; stands = tt; shorter = tt }
 
 -- no head of a rule, no size
-pub no_head : (b : BuilderData) (old new : Text) (f : TextFault) → ((d : Draft) → IsDraft b d → FailsIn f d (rule_line d) old) → ReadsHead b old new (Err f)
-no_head b old new f h = record { form = tt; gives = h; free = tt; shorter = tt }
+pub no_head : {A : _} (old new : MapReader A) (f : TextFault) → new.builder ≡ old.builder → ((d : Draft) → IsDraft old.builder d → FailsIn f d (rule_line d) old.text) → ReadsHead old new (Err f)
+no_head old new f kept h = record { right = tt; gives = h; kept = kept; shorter = tt }
 
 pub no_size : (key : List ℕ) (old new : Text) (f : TextFault) → ((d : Draft) (more : Option ℕ → Form) → line_at d (number_behind key more) old ≡ Err f) → ReadsSize key old new (Err f)
 no_size key old new f h = record { most = tt; gives = h; shorter = tt }
 
 -- no step, and no line of one
-pub no_step : (form : Draft → RuleData → Form) (b : BuilderData) (old new : Text) (f : TextFault) → ((d : Draft) (r : RuleData) → IsDraft b d → FailsIn f d (form d r) old) → GivesStep form b old new (Err f)
-no_step form b old new f h = record { form = tt; gives = h; free = tt; shorter = tt }
+pub no_step : {A : _} (form : Draft → RuleData → Form) (old new : MapReader A) (f : TextFault) → new.builder ≡ old.builder → ((d : Draft) (r : RuleData) → IsDraft old.builder d → FailsIn f d (form d r) old.text) → GivesStep form old new (Err f)
+no_step form old new f kept h = record { form = tt; gives = h; free = tt; kept = kept; shorter = tt }
 
-pub no_step_line : (b : BuilderData) (r q : Rule) (old new : Text) (f : TextFault) → ((d : Draft) → IsDraft b d → FailsIn f d (lines d (ruled (kept_rule d r))) old) → ReadsStepLine b r q old new (Err f)
-no_step_line b r q old new f h = record { right = tt; reads = h; shorter = tt }
+pub no_step_line : {A : _} (r q : Rule) (old new : MapReader A) (f : TextFault) → new.builder ≡ old.builder → ((d : Draft) → IsDraft old.builder d → FailsIn f d (lines d (ruled (kept_rule d r))) old.text) → ReadsStepLine r q old new (Err f)
+no_step_line r q old new f kept h = record { right = tt; reads = h; kept = kept; shorter = tt }
 
-pub no_steps : (b : BuilderData) (r q : Rule) (old new : Text) (f : TextFault) → ((d : Draft) → IsDraft b d → Fails f (between (at (ruled (kept_rule d r)) d)) old) → ReadsSteps b r q old new (Err f)
-no_steps b r q old new f h = record { right = tt; reads = h; shorter = tt }
+pub no_steps : {A : _} (r q : Rule) (old new : MapReader A) (f : TextFault) → new.builder ≡ old.builder → ((d : Draft) → IsDraft old.builder d → Fails f (between (at (ruled (kept_rule d r)) d)) old.text) → ReadsSteps r q old new (Err f)
+no_steps r q old new f kept h = record { right = tt; reads = h; kept = kept; shorter = tt }
 
 -- no statement
-pub no_next : (late : Bool) (before after : BuilderData) (old new : Text) (f : TextFault) → ((d : Draft) → IsDraft before d → Fails f (between (at (behind late) d)) old) → ReadsNext late before after old new (Err f)
-no_next late before after old new f h = record { idle = tt; reads = h; shorter = tt }
+pub no_next : {A : _} (late : Bool) (old new : MapReader A) (f : TextFault) → ((d : Draft) → IsDraft old.builder d → Fails f (between (at (behind late) d)) old.text) → ReadsNext late old new (Err f)
+no_next late old new f h = record { idle = tt; reads = h; shorter = tt }
 
-pub no_end : (before after : BuilderData) (old : Text) (f : TextFault) → ((d : Draft) → IsDraft before d → Fails f (between (at first d)) old) → ReadsAll before after old (Err f)
-no_end before after old f h = record { idle = tt; reads = h }
+pub no_end : {A : _} (old new : MapReader A) (f : TextFault) → ((d : Draft) → IsDraft old.builder d → Fails f (between (at first d)) old.text) → ReadsAll old new (Err f)
+no_end old new f h = record { idle = tt; reads = h }

@@ -11,8 +11,8 @@ use Rattle.crush_map.specs.Built.{Draft}
 use Rattle.crush_edits.specs.declared.rule.Rule.{Rule}
 use Rattle.crush_units.specs.declared.limits.TheConstants.{MOST_STEPS}
 use Rattle.crush_map.specs.Building.{BuilderData, IsDraft}
-use Rattle.crush_map.specs.Rules.{bucket_named, taken_number, kept_step, kept_rule, has_rule_name, has_rule_id, step_fault, word_fault, steps_fault, or_later}
-use Rattle.crush_text.specs.Room.{IsFreeRule, IsHead}
+use Rattle.crush_map.specs.Rules.{bucket_named, taken_number, kept_step, kept_rule, has_rule_name, has_rule_id, step_fault, word_fault, steps_fault, or_later, IsRuleForm}
+use Rattle.crush_text.specs.Room.{IsHead}
 use Rattle.crush_bytes.specs.Words.{Text}
 use Rattle.crush_text.specs.declared.fault.TextFault.{TextFault}
 use Rattle.crush_text.specs.Role.{StepWord, bucket_of, taken_bucket, key, any_word, id_or_alg, rule_name, rule_id_key, rule_id, step_or_end, step_word}
@@ -22,6 +22,8 @@ use Rattle.crush_text.specs.Flow.{◌>>=◌, arrive, Reaches}
 use Rattle.crush_text.specs.Flaw.{IsWant}
 use Rattle.crush_text.specs.Reads.{Gives, GivesLine, FailsIn, word_at, line_at}
 use Rattle.crush_text.specs.ReadsWords.{StoodAt}
+use Rattle.crush_text.specs.ReadsRules.{IsRightSoFar}
+use Rattle.crush_text.proofs.LineEnds.{still}
 use Rattle.crush_text.proofs.Reached.{reaches_word, reaches_on}
 
 -- a step goes on as its first word says
@@ -111,14 +113,17 @@ head_made d x n k least most (Err f) t u a b e ra rb h (w, inl q) = inl (w, subs
 head_made d x n k least most (Err f) t u a b e ra rb h (w, inr q) = inl (w, subst (λ (p : ℕ). Reaches p (arrive d t.words (rule_line d)) t.words) (sym q) rb)
 
 -- and is free where its name and its id are
-pub head_free : (b : BuilderData) (x : List ℕ) (n : ℕ) (k : List ℕ) (least most : Option ℕ) (r : Result Rule TextFault) → IfOk r (IsHead x n k least most)
-    → ((d : Draft) → IsDraft b d → has_rule_name d.setting x ≡ false) → ((d : Draft) → IsDraft b d → has_rule_id d.setting n ≡ false) → IfOk r (λ q. (d : Draft) → IsDraft b d → IsFreeRule d q)
-head_free b x n k least most (Ok r) h name id = λ d is. record {
-  name = ap (has_rule_name d.setting) h.name ∙ name d is;
-  id = ap (has_rule_id d.setting) h.id ∙ id d is;
-  steps = ap (steps_fault d 0) h.steps;
+pub head_right : (b c : BuilderData) (x : List ℕ) (n : ℕ) (k : List ℕ) (least most : Option ℕ) (r : Result Rule TextFault) → c ≡ b → IfOk r IsRuleForm → IfOk r (IsHead x n k least most)
+    → ((d : Draft) → IsDraft b d → has_rule_name d.setting x ≡ false) → ((d : Draft) → IsDraft b d → has_rule_id d.setting n ≡ false) → IfOk r (IsRightSoFar c)
+head_right b c x n k least most (Ok r) e form h name id = record {
+  form = form;
+  free = λ d is. record {
+    name = ap (has_rule_name d.setting) h.name ∙ name d (still (sym e) is);
+    id = ap (has_rule_id d.setting) h.id ∙ id d (still (sym e) is);
+    steps = ap (steps_fault d 0) h.steps;
+  };
 }
-head_free b x n k least most (Err f) h name id = tt
+head_right b c x n k least most (Err f) e form h name id = tt
 
 -- a step behind others is free where it names what is there and there is room
 steps_on : (d : Draft) (k : ℕ) (xs : List Step) (s : Step) → steps_fault d k xs ≡ None → k + length xs < MOST_STEPS → word_fault d s ≡ None → steps_fault d k (xs ++ s ∷ []) ≡ None

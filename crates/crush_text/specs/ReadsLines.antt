@@ -9,6 +9,7 @@ use Rattle.crush_text.specs.declared.fault.TextFaultKind.{TextFaultKind}
 use Rattle.crush_text.specs.declared.fault.TextFault.{TextFault}
 use Rattle.crush_bytes.specs.Words.{Text}
 use Rattle.crush_text.specs.declared.opening.Opening.{Opening}
+use Rattle.crush_text.specs.declared.reader.MapReader.{MapReader}
 use Rattle.crush_text.specs.declared.opening.Opening.TheVariants as openings
 use Rattle.crush_text.specs.Form.{Mode, second, begun, numbered, filling, at, Form}
 use Rattle.crush_text.specs.Flow.{State, placed, between}
@@ -39,10 +40,10 @@ LineGoes mode (Ok x) builder rest d g t = (e : Draft) × IsDraft builder e × (l
 LineGoes mode (Err f) builder rest d g t = FailsIn f d g t
 
 -- A LINE was read, of this form at each draft before
-pub record ReadsLine {X : Type 0} (form : Draft → Form) (mode : X → Mode) (before after : BuilderData) (old new : Text) (x : Result X TextFault) : Type 0 where
-  pub reads : (d : Draft) → IsDraft before d → LineGoes mode x after new d (form d) old
-  pub stands : IfOk x (λ v. StandsAt (mode v) after)
-  pub shorter : OnOk x (length new.words < length old.words)
+pub record ReadsLine {A : _} {X : Type 0} (form : Draft → Form) (mode : X → Mode) (old new : MapReader A) (x : Result X TextFault) : Type 0 where
+  pub reads : (d : Draft) → IsDraft old.builder d → LineGoes mode x new.builder new.text d (form d) old.text
+  pub stands : IfOk x (λ v. StandsAt (mode v) new.builder)
+  pub shorter : OnOk x (length new.text.words < length old.text.words)
 
 -- lines lead from a state to a line of a mode
 abbrev pub Goes : {X : Type 0} → (X → Mode) → Result X TextFault → BuilderData → Text → State → Text → Type 0
@@ -50,10 +51,10 @@ Goes mode (Ok x) builder rest s t = (e : Draft) × IsDraft builder e × Leads s 
 Goes mode (Err f) builder rest s t = Fails f s t
 
 -- LINES were read, from this state at each draft before
-pub record ReadsOn {X : Type 0} (from : Draft → State) (mode : X → Mode) (before after : BuilderData) (old new : Text) (x : Result X TextFault) : Type 0 where
-  pub reads : (d : Draft) → IsDraft before d → Goes mode x after new (from d) old
-  pub stands : IfOk x (λ v. StandsAt (mode v) after)
-  pub shorter : OnOk x (length new.words ≤ length old.words)
+pub record ReadsOn {A : _} {X : Type 0} (from : Draft → State) (mode : X → Mode) (old new : MapReader A) (x : Result X TextFault) : Type 0 where
+  pub reads : (d : Draft) → IsDraft old.builder d → Goes mode x new.builder new.text (from d) old.text
+  pub stands : IfOk x (λ v. StandsAt (mode v) new.builder)
+  pub shorter : OnOk x (length new.text.words ≤ length old.text.words)
 
 -- a class id was read, or the algorithm
 abbrev pub behind_id : Bool → Mode

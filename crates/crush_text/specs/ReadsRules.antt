@@ -8,8 +8,8 @@ use Rattle.crush_map.specs.Building.{BuilderData, IsDraft}
 use Rattle.crush_map.specs.Rules.{IsStepForm, IsRuleForm, kept_rule, word_fault}
 use Rattle.crush_text.specs.declared.fault.TextFault.{TextFault}
 use Rattle.crush_bytes.specs.Words.{Text}
+use Rattle.crush_text.specs.declared.reader.MapReader.{MapReader}
 use Rattle.crush_units.specs.declared.limits.TheConstants.{LARGEST_RULE_NUMBER}
-use Rattle.crush_text.specs.Role.{key}
 use Rattle.crush_text.specs.Form.{second, ruled, at, Form}
 use Rattle.crush_text.specs.Grammar.{rule_line, lines}
 use Rattle.crush_text.specs.Flow.{State, between, arrive, Reaches}
@@ -28,11 +28,11 @@ pub record IsRightSoFar (b : BuilderData) (r : Rule) : Type 0 where
   pub free : (d : Draft) → IsDraft b d → IsFreeRule d r
 
 -- THE HEAD of a rule was read
-pub record ReadsHead (b : BuilderData) (old new : Text) (x : Result Rule TextFault) : Type 0 where
-  pub form : IfOk x IsRuleForm
-  pub gives : (d : Draft) → IsDraft b d → GivesLine (λ r. (at (ruled (kept_rule d r)) d, new)) x d (rule_line d) old
-  pub free : IfOk x (λ r. (d : Draft) → IsDraft b d → IsFreeRule d r)
-  pub shorter : OnOk x (length new.words ≤ length old.words)
+pub record ReadsHead {A : _} (old new : MapReader A) (x : Result Rule TextFault) : Type 0 where
+  pub right : IfOk x (IsRightSoFar new.builder)
+  pub gives : (d : Draft) → IsDraft old.builder d → GivesLine (λ r. (at (ruled (kept_rule d r)) d, new.text)) x d (rule_line d) old.text
+  pub kept : new.builder ≡ old.builder
+  pub shorter : OnOk x (length new.text.words ≤ length old.text.words)
 
 -- a size was read, where its key is next
 pub record ReadsSize (key : List ℕ) (old new : Text) (x : Result (Option ℕ) TextFault) : Type 0 where
@@ -41,11 +41,12 @@ pub record ReadsSize (key : List ℕ) (old new : Text) (x : Result (Option ℕ) 
   pub shorter : OnOk x (length new.words ≤ length old.words)
 
 -- A STEP of a rule was read, of this form
-pub record GivesStep (line : Draft → RuleData → Form) (b : BuilderData) (old new : Text) (x : Result Step TextFault) : Type 0 where
+pub record GivesStep {A : _} (line : Draft → RuleData → Form) (old new : MapReader A) (x : Result Step TextFault) : Type 0 where
   pub form : IfOk x IsStepForm
-  pub gives : (d : Draft) (r : RuleData) → IsDraft b d → GivesLine (λ s. (behind_step d r s, new)) x d (line d r) old
-  pub free : IfOk x (λ s. (d : Draft) → IsDraft b d → word_fault d s ≡ None)
-  pub shorter : OnOk x (length new.words ≤ length old.words)
+  pub gives : (d : Draft) (r : RuleData) → IsDraft old.builder d → GivesLine (λ s. (behind_step d r s, new.text)) x d (line d r) old.text
+  pub free : IfOk x (λ s. (d : Draft) → IsDraft old.builder d → word_fault d s ≡ None)
+  pub kept : new.builder ≡ old.builder
+  pub shorter : OnOk x (length new.text.words ≤ length old.text.words)
 
 -- all steps of a rule were read, with which it is this one, and its brace at a place
 abbrev pub StepsGo : Result ℕ TextFault → Draft → RuleData → Text → State → Text → Type 0
@@ -53,13 +54,15 @@ StepsGo (Ok place) d r rest s t = Leads s t (between (at second (add_rule d r)))
 StepsGo (Err f) d r rest s t = Fails f s t
 
 -- a line of a rule was read: one more step, or the brace
-pub record ReadsStepLine (b : BuilderData) (r q : Rule) (old new : Text) (x : Result (Option ℕ) TextFault) : Type 0 where
-  pub right : OnOk x (IsRightSoFar b q)
-  pub reads : (d : Draft) → IsDraft b d → StepGoes x d (kept_rule d q) new (lines d (ruled (kept_rule d r))) old
-  pub shorter : OnOk x (length new.words < length old.words)
+pub record ReadsStepLine {A : _} (r q : Rule) (old new : MapReader A) (x : Result (Option ℕ) TextFault) : Type 0 where
+  pub right : OnOk x (IsRightSoFar new.builder q)
+  pub reads : (d : Draft) → IsDraft old.builder d → StepGoes x d (kept_rule d q) new.text (lines d (ruled (kept_rule d r))) old.text
+  pub kept : new.builder ≡ old.builder
+  pub shorter : OnOk x (length new.text.words < length old.text.words)
 
 -- the lines of a rule's steps were read, and the brace
-pub record ReadsSteps (b : BuilderData) (r q : Rule) (old new : Text) (x : Result ℕ TextFault) : Type 0 where
-  pub right : OnOk x (IsRightSoFar b q)
-  pub reads : (d : Draft) → IsDraft b d → StepsGo x d (kept_rule d q) new (between (at (ruled (kept_rule d r)) d)) old
-  pub shorter : OnOk x (length new.words ≤ length old.words)
+pub record ReadsSteps {A : _} (r q : Rule) (old new : MapReader A) (x : Result ℕ TextFault) : Type 0 where
+  pub right : OnOk x (IsRightSoFar new.builder q)
+  pub reads : (d : Draft) → IsDraft old.builder d → StepsGo x d (kept_rule d q) new.text (between (at (ruled (kept_rule d r)) d)) old.text
+  pub kept : new.builder ≡ old.builder
+  pub shorter : OnOk x (length new.text.words ≤ length old.text.words)

@@ -5,6 +5,7 @@ use Rattle.crush_map.specs.Built.{Draft}
 use Rattle.crush_map.specs.Building.{BuilderData, IsDraft}
 use Rattle.crush_text.specs.declared.fault.TextFault.{TextFault}
 use Rattle.crush_bytes.specs.Words.{Text}
+use Rattle.crush_text.specs.declared.reader.MapReader.{MapReader}
 use Rattle.crush_text.specs.declared.reader.word.PlacedWord.{PlacedWord}
 use Rattle.crush_text.specs.declared.opening.Opening.{Opening}
 use Rattle.crush_text.specs.declared.opening.Opening.TheVariants as openings
@@ -27,10 +28,10 @@ NextGoes (Ok (Some late)) builder rest s t = (e : Draft) × IsDraft builder e ×
 NextGoes (Err f) builder rest s t = Fails f s t
 
 -- A STATEMENT was read, or the end of the text
-pub record ReadsNext (late : Bool) (before after : BuilderData) (old new : Text) (x : Result (Option Bool) TextFault) : Type 0 where
-  pub idle : OnOk x (IsIdle after)
-  pub reads : (d : Draft) → IsDraft before d → NextGoes x after new (between (at (behind late) d)) old
-  pub shorter : IfOk x (λ more. IfSome more (λ _. length new.words < length old.words))
+pub record ReadsNext {A : _} (late : Bool) (old new : MapReader A) (x : Result (Option Bool) TextFault) : Type 0 where
+  pub idle : OnOk x (IsIdle new.builder)
+  pub reads : (d : Draft) → IsDraft old.builder d → NextGoes x new.builder new.text (between (at (behind late) d)) old.text
+  pub shorter : IfOk x (λ more. IfSome more (λ _. length new.text.words < length old.text.words))
 
 -- all statements give a draft
 abbrev pub AllGo : Result (Unit {0}) TextFault → BuilderData → State → Text → Type 0
@@ -38,9 +39,9 @@ AllGo (Ok x) builder s t = (e : Draft) × IsDraft builder e × (outcome s t ≡ 
 AllGo (Err f) builder s t = Fails f s t
 
 -- ALL STATEMENTS were read
-pub record ReadsAll (before after : BuilderData) (old : Text) (x : Result (Unit {0}) TextFault) : Type 0 where
-  pub idle : OnOk x (IsIdle after)
-  pub reads : (d : Draft) → IsDraft before d → AllGo x after (between (at first d)) old
+pub record ReadsAll {A : _} (old new : MapReader A) (x : Result (Unit {0}) TextFault) : Type 0 where
+  pub idle : OnOk x (IsIdle new.builder)
+  pub reads : (d : Draft) → IsDraft old.builder d → AllGo x new.builder (between (at first d)) old.text
 
 -- a first word that opens a bucket is the name of its type
 abbrev pub IsKnown : Draft → Opening → List ℕ → Type 0

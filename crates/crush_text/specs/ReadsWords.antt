@@ -3,8 +3,10 @@ use Rattle.std.specs.Prelude.{◌≡◌, ◌||◌, ℕ, ◌<◌, List, true, fal
 use Rattle.std.specs.List.{starts_with}
 use Rattle.crush_units.specs.Name.{is_name, IsName}
 use Rattle.crush_map.specs.Built.{Draft}
+use Rattle.crush_map.specs.Building.{IsDraft}
 use Rattle.crush_text.specs.declared.fault.TextFault.{TextFault}
 use Rattle.crush_bytes.specs.Words.{Text, is_brace_word}
+use Rattle.crush_text.specs.declared.reader.MapReader.{MapReader}
 use Rattle.crush_text.specs.declared.reader.word.PlacedWord.{PlacedWord}
 use Rattle.crush_text.specs.declared.reader.step.FirstOfStep.{FirstOfStep}
 use Rattle.crush_text.specs.declared.reader.step.FirstOfStep.TheVariants as steps
@@ -37,6 +39,16 @@ pub record ReadsValue {X : Type 0} (r : Role) (view : X → El r) (drafts : Draf
   pub range : IfOk x (λ v. IsInRange r (view v))
   pub free : IfOk x (λ v. (d : Draft) → drafts d → IsFreeValue d r (view v))
   pub shorter : OnOk x (length new.words < length old.words)
+
+-- a method of a map's reader read such a WORD, at each draft of its builder, which is as it was
+pub record FindsWord {A : _} (r : Role) (old new : MapReader A) (x : Result PlacedWord TextFault) : Type 0 where
+  pub reads : ReadsWord r (IsDraft old.builder) old.text new.text x
+  pub kept : new.builder ≡ old.builder
+
+-- or such a value
+pub record FindsValue {A : _} {X : Type 0} (r : Role) (view : X → El r) (old new : MapReader A) (x : Result X TextFault) : Type 0 where
+  pub reads : ReadsValue r view (IsDraft old.builder) old.text new.text x
+  pub kept : new.builder ≡ old.builder
 
 -- the word that was read stood here
 abbrev pub StoodAt : Text → Text → ℕ → Type 0

@@ -23,10 +23,18 @@ mod type_line;
 mod word;
 
 use crate::fault::{TextFault, TextFaultKind};
-use crate::reader::statement::read_statements;
 use crush_bytes::Reader;
 use crush_map::{CrushMap, Hashing, MapBuilder};
 use std::alloc::{Allocator, Global};
+
+/// The text that is left to read, and the map that is built of what stood before it. A method reads
+/// what it is called after.
+#[derive(Drop)]
+struct MapReader<'a, A: Allocator> {
+    text: Reader<'a>,
+    builder: MapBuilder<A>,
+    machine: Global,
+}
 
 /// Reads the text of a map, as `crushtool` prints it.
 ///
@@ -84,14 +92,18 @@ pub fn read_map_in<A: Allocator + Clone>(
     // Want of memory is told at a word that is right, as all before it, or at 0 before the first.
     ensures want { IfErr result (IsToldInTime text.now) }
 {
-    let mut reader = Reader::new(text);
-    let Ok(mut builder) = MapBuilder::with_hashing(machine, hashing, alloc) else {
+    let Ok(builder) = MapBuilder::with_hashing(machine, hashing, alloc) else {
         return Err(TextFault {
             kind: TextFaultKind::OutOfMemory,
             place: 0,
         });
     };
-    read_statements(&mut reader, &mut builder, machine)?;
-    let adjusted = builder.adjusted();
-    Ok((builder.finish(), adjusted))
+    let mut reader = MapReader {
+        text: Reader::new(text),
+        builder,
+        machine,
+    };
+    reader.statements()?;
+    let adjusted = reader.builder.adjusted();
+    Ok((reader.builder.finish(), adjusted))
 }

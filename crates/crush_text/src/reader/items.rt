@@ -15,78 +15,65 @@ ghost use Rattle.crush_text.specs.ReadsWords.{ReadsValue, AnyDraft};
 ghost use Rattle.crush_text.specs.ReadsLines.{IsAmid, behind_item, ReadsLine, ReadsOn, CanTake, PutsItem};
 
 use crate::fault::{TextFault, TextFaultKind};
+use crate::reader::MapReader;
 use crate::reader::word::{PlacedWord, next_word};
 use crush_bytes::Reader;
 use crush_map::{BuildFault, MapBuilder};
 use crush_units::{ItemId, Weight};
 use std::alloc::Allocator;
 
-/// The items of a bucket and its closing brace.
-pub(crate) fn read_items<A: Allocator>(
-    reader: &mut Reader<'_>,
-    builder: &mut MapBuilder<A>,
-) -> Result<(), TextFault>
-    requires { IsAmid is_filling builder.old }
-    ensures { ReadsOn (λ d. between (at (filling false) d)) (λ _. second)
-        builder.old builder.new reader.old reader.new result }
-{
-    let mut any = false;
-    'items: while read_item_line(reader, builder, any)? {
-        any = true;
+impl<'a, A: Allocator + Clone> MapReader<'a, A> {
+    /// The items of a bucket and its closing brace.
+    pub(crate) fn items(&mut self) -> Result<(), TextFault>
+        requires { IsAmid is_filling self.old.builder }
+        ensures { ReadsOn (λ d. between (at (filling false) d)) (λ _. second)
+            self.old self.new result }
+    {
+        let mut any = false;
+        'items: while self.item_or_end(any)? {
+            any = true;
+        }
+        Ok(())
     }
-    Ok(())
-}
 
-/// An item or the closing brace of a bucket, and whether it was an item.
-#[tactic(auto, unfolding(crate::specs::Reads::line_at))]
-fn read_item_line<A: Allocator>(
-    reader: &mut Reader<'_>,
-    builder: &mut MapBuilder<A>,
-    any: bool,
-) -> Result<bool, TextFault>
-    requires { IsAmid is_filling builder.old }
-    ensures { ReadsLine (λ d. lines d (filling any)) behind_item
-        builder.old builder.new reader.old reader.new result }
-{
-    let more = read_item_or_end(reader, any)?;
-    if !more {
-        builder.end();
-        return Ok(false);
+    /// An item or the closing brace of a bucket, and whether it was an item.
+    #[tactic(auto, unfolding(crate::specs::Reads::line_at))]
+    fn item_or_end(&mut self, any: bool) -> Result<bool, TextFault>
+        requires { IsAmid is_filling self.old.builder }
+        ensures { ReadsLine (λ d. lines d (filling any)) behind_item self.old self.new result }
+    {
+        let more = read_item_or_end(&mut self.text, any)?;
+        if !more {
+            self.builder.end();
+            return Ok(false);
+        }
+        self.item()?;
+        Ok(true)
     }
-    read_item(reader, builder)?;
-    Ok(true)
-}
 
-/// An item of a bucket, behind the word `item`. What no weight follows is at fault at its name.
-fn read_item<A: Allocator>(
-    reader: &mut Reader<'_>,
-    builder: &mut MapBuilder<A>,
-) -> Result<(), TextFault>
-    requires { IsAmid is_filling builder.old }
-    ensures { ReadsLine item_line (λ _. filling true)
-        builder.old builder.new reader.old reader.new result }
-{
-    let name = next_word(reader)?;
-    let item = free_item(name, builder)?;
-    if reader.take_key(b"weight") {
-        return read_weight(reader, builder, item);
+    /// An item of a bucket, behind the word `item`. What no weight follows is at fault at its name.
+    fn item(&mut self) -> Result<(), TextFault>
+        requires { IsAmid is_filling self.old.builder }
+        ensures { ReadsLine item_line (λ _. filling true) self.old self.new result }
+    {
+        let name = next_word(&mut self.text)?;
+        let item = free_item(name, &self.builder)?;
+        if self.text.take_key(b"weight") {
+            return self.weight(item);
+        }
+        add_item(name, item, None, &mut self.builder)
     }
-    add_item(name, item, None, builder)
-}
 
-/// The weight of an item.
-fn read_weight<A: Allocator>(
-    reader: &mut Reader<'_>,
-    builder: &mut MapBuilder<A>,
-    item: ItemId,
-) -> Result<(), TextFault>
-    requires { CanTake item builder.old }
-    ensures { ReadsLine (λ d. item_weight d item) (λ _. filling true)
-        builder.old builder.new reader.old reader.new result }
-{
-    let word = next_word(reader)?;
-    let weight = own_weight(word, &item)?;
-    add_item(word, item, Some(weight), builder)
+    /// The weight of an item.
+    fn weight(&mut self, item: ItemId) -> Result<(), TextFault>
+        requires { CanTake item self.old.builder }
+        ensures { ReadsLine (λ d. item_weight d item) (λ _. filling true)
+            self.old self.new result }
+    {
+        let word = next_word(&mut self.text)?;
+        let weight = own_weight(word, &item)?;
+        add_item(word, item, Some(weight), &mut self.builder)
+    }
 }
 
 /// Puts an item into the bucket. The word is the last one of its line.

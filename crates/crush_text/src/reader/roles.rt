@@ -1,14 +1,13 @@
 //! Words that several statements have, each by what it is for.
 
-ghost use Rattle.crush_map.specs.Building.{IsDraft};
 ghost use Rattle.crush_text.specs.Role.{key, any_word, number, new_name};
-ghost use Rattle.crush_text.specs.ReadsWords.{ReadsWord, ReadsValue, AnyDraft};
+ghost use Rattle.crush_text.specs.ReadsWords.{FindsWord, ReadsWord, ReadsValue, AnyDraft};
 
 use crate::fault::{TextFault, TextFaultKind};
+use crate::reader::MapReader;
 use crate::reader::word::{PlacedWord, next_word};
 use crush_bytes::Reader;
 use crush_bytes::number::number_up_to;
-use crush_map::MapBuilder;
 use std::alloc::Allocator;
 
 /// The expected word.
@@ -48,17 +47,16 @@ pub(crate) fn read_number(reader: &mut Reader<'_>, most: u32) -> Result<u32, Tex
     }
 }
 
-/// A name that no device and no bucket has.
-#[tactic(auto, unfolding(crate::specs::Reads::word_at))]
-pub(crate) fn read_new_name<'a, A: Allocator>(
-    reader: &mut Reader<'a>,
-    builder: &MapBuilder<A>,
-) -> Result<PlacedWord<'a>, TextFault>
-    ensures { ReadsWord new_name (IsDraft builder.now) reader.old reader.new result }
-{
-    let word = read_word(reader)?;
-    if builder.has_name(word.text) {
-        return Err(word.fault(TextFaultKind::DuplicateName));
+impl<'a, A: Allocator> MapReader<'a, A> {
+    /// A name that no device and no bucket has.
+    #[tactic(auto, unfolding(crate::specs::Reads::word_at))]
+    pub(crate) fn new_name(&mut self) -> Result<PlacedWord<'a>, TextFault>
+        ensures { FindsWord new_name self.old self.new result }
+    {
+        let word = read_word(&mut self.text)?;
+        if self.builder.has_name(word.text) {
+            return Err(word.fault(TextFaultKind::DuplicateName));
+        }
+        Ok(word)
     }
-    Ok(word)
 }

@@ -3,7 +3,6 @@
 ghost use Rattle.std.specs.Prelude.{◌≡◌, ◌⊎◌, ◌≤◌, ◌<◌, length, true, IfOk, IfErr, IfSome, OnOk, Ok};
 ghost use Rattle.crush_units.specs.Name.{IsName};
 ghost use Rattle.crush_map.specs.Built.{Draft};
-ghost use Rattle.crush_map.specs.Building.{IsDraft};
 ghost use Rattle.crush_map.specs.Rules.{IsRuleForm};
 ghost use Rattle.crush_units.specs.declared.limits.TheConstants.{LARGEST_RULE_NUMBER};
 ghost use Rattle.crush_units.specs.declared.limits.TheConstants.{MOST_STEPS};
@@ -15,36 +14,106 @@ ghost use Rattle.crush_text.specs.Form.{second};
 ghost use Rattle.crush_text.specs.Grammar.{rule_line};
 ghost use Rattle.crush_text.specs.Flow.{arrive};
 ghost use Rattle.crush_text.specs.Reads.{Gives, is_step, word_at, next_at, word_of};
-ghost use Rattle.crush_text.specs.ReadsWords.{ReadsWord, ReadsValue, AnyDraft};
+ghost use Rattle.crush_text.specs.ReadsWords.{FindsWord, FindsValue, ReadsValue, AnyDraft};
 ghost use Rattle.crush_text.specs.ReadsLines.{ReadsOn, HasRoomFor};
 ghost use Rattle.crush_text.specs.ReadsRules.{ReadsSteps, IsRightSoFar, ReadsStepLine, ReadsHead, ReadsSize};
 
 use crate::fault::{TextFault, TextFaultKind};
 use crate::opening::Opening;
+use crate::reader::MapReader;
 use crate::reader::roles::{read_key, read_number, read_word};
-use crate::reader::step::read_step;
 use crate::reader::word::{PlacedWord, next_word};
 use crush_bytes::Reader;
 use crush_bytes::number::number_up_to;
-use crush_map::{BuildFault, MapBuilder, Rule, RuleFault, Step};
+use crush_map::{BuildFault, Rule, RuleFault, Step};
 use crush_units::limits::{LARGEST_RULE_NUMBER, MOST_STEPS};
 use std::alloc::{Allocator, Global};
 
-/// A rule, behind the word `rule`. What was read of it so far is kept in the machine's memory.
-pub(crate) fn read_rule<A: Allocator>(
-    reader: &mut Reader<'_>,
-    builder: &mut MapBuilder<A>,
-    machine: Global,
-) -> Result<(), TextFault>
-    requires { HasRoomFor Opening.Rule builder.old }
-    ensures { ReadsOn (λ d. arrive d reader.old.words (rule_line d)) (λ _. second)
-        builder.old builder.new reader.old reader.new result }
-{
-    let mut rule = read_head(reader, builder, machine)?;
-    let place = read_steps(reader, builder, machine, &mut rule)?;
-    match builder.rule(&rule) {
-        Ok(()) => Ok(()),
-        Err(refused) => Err(want_at(place, refused)),
+impl<'a, A: Allocator> MapReader<'a, A> {
+    /// A rule, behind the word `rule`. What was read of it so far is kept in the machine's memory.
+    pub(crate) fn rule(&mut self) -> Result<(), TextFault>
+        requires { HasRoomFor Opening.Rule self.old.builder }
+        ensures { ReadsOn (λ d. arrive d self.old.text.words (rule_line d)) (λ _. second)
+            self.old self.new result }
+    {
+        let mut rule = self.rule_head()?;
+        let place = self.steps(&mut rule)?;
+        match self.builder.rule(&rule) {
+            Ok(()) => Ok(()),
+            Err(refused) => Err(want_at(place, refused)),
+        }
+    }
+
+    /// The head of a rule, up to its first step.
+    #[tactic(auto, unfolding(crate::specs::Reads::line_at))]
+    fn rule_head(&mut self) -> Result<Rule, TextFault>
+        ensures { ReadsHead self.old self.new result }
+    {
+        let name = self.rule_name()?;
+        read_key(&mut self.text, b"{")?;
+        read_rule_id_key(&mut self.text)?;
+        let id = self.rule_id()?;
+        read_key(&mut self.text, b"type")?;
+        let kind = read_word(&mut self.text)?;
+        let min_size = read_size(&mut self.text, b"min_size")?;
+        let max_size = read_size(&mut self.text, b"max_size")?;
+        own_head(name, id, kind, min_size, max_size, self.machine)
+    }
+
+    /// The steps of a rule and its closing brace, whose place is told.
+    fn steps(&mut self, rule: &mut Rule) -> Result<usize, TextFault>
+        requires { IsRightSoFar self.old.builder rule.old }
+        ensures { ReadsSteps rule.old rule.new self.old self.new result }
+    {
+        'steps: loop {
+            if let Some(place) = self.step_or_end(rule)? {
+                return Ok(place);
+            }
+        }
+    }
+
+    /// A step of a rule, or the place of its closing brace.
+    #[tactic(auto, unfolding(crate::specs::Reads::line_at))]
+    fn step_or_end(&mut self, rule: &mut Rule) -> Result<Option<usize>, TextFault>
+        requires { IsRightSoFar self.old.builder rule.old }
+        ensures { ReadsStepLine rule.old rule.new self.old self.new result }
+    {
+        let word = read_step_or_end(&mut self.text, &rule.steps)?;
+        if !word.is_step() {
+            return Ok(Some(word.place));
+        }
+        let step = self.step()?;
+        let Ok(()) = rule.steps.push(step) else {
+            return Err(word.fault(TextFaultKind::OutOfMemory));
+        };
+        Ok(None)
+    }
+
+    /// A name that no rule has.
+    #[tactic(auto, unfolding(crate::specs::Reads::word_at))]
+    fn rule_name(&mut self) -> Result<PlacedWord<'a>, TextFault>
+        ensures { FindsWord rule_name self.old self.new result }
+    {
+        let word = read_word(&mut self.text)?;
+        if self.builder.has_rule_name(word.text) {
+            return Err(word.fault(TextFaultKind::DuplicateName));
+        }
+        Ok(word)
+    }
+
+    /// An id that no rule has.
+    #[tactic(auto, unfolding(crate::specs::Reads::word_at))]
+    fn rule_id(&mut self) -> Result<u32, TextFault>
+        ensures { FindsValue rule_id (λ n. n) self.old self.new result }
+    {
+        let word = read_word(&mut self.text)?;
+        let Some(id) = number_up_to(LARGEST_RULE_NUMBER, word.text) else {
+            return Err(word.fault(TextFaultKind::BadNumber));
+        };
+        if self.builder.has_rule_id(id) {
+            return Err(word.fault(TextFaultKind::DuplicateId));
+        }
+        Ok(id)
     }
 }
 
@@ -60,26 +129,6 @@ fn want_at(place: usize, refused: RuleFault) -> TextFault
         kind: TextFaultKind::OutOfMemory,
         place,
     }
-}
-
-/// The head of a rule, up to its first step.
-#[tactic(auto, unfolding(crate::specs::Reads::line_at))]
-fn read_head<A: Allocator>(
-    reader: &mut Reader<'_>,
-    builder: &MapBuilder<A>,
-    machine: Global,
-) -> Result<Rule, TextFault>
-    ensures { ReadsHead builder.now reader.old reader.new result }
-{
-    let name = read_rule_name(reader, builder)?;
-    read_key(reader, b"{")?;
-    read_rule_id_key(reader)?;
-    let id = read_rule_id(reader, builder)?;
-    read_key(reader, b"type")?;
-    let kind = read_word(reader)?;
-    let min_size = read_size(reader, b"min_size")?;
-    let max_size = read_size(reader, b"max_size")?;
-    own_head(name, id, kind, min_size, max_size, machine)
 }
 
 /// A rule of these words in the machine's memory, which has no steps yet.
@@ -126,45 +175,6 @@ fn read_size(reader: &mut Reader<'_>, size: &[u8]) -> Result<Option<u32>, TextFa
     Ok(Some(number))
 }
 
-/// The steps of a rule and its closing brace, whose place is told.
-fn read_steps<A: Allocator>(
-    reader: &mut Reader<'_>,
-    builder: &MapBuilder<A>,
-    machine: Global,
-    rule: &mut Rule,
-) -> Result<usize, TextFault>
-    requires { IsRightSoFar builder.now rule.old }
-    ensures { ReadsSteps builder.now rule.old rule.new reader.old reader.new result }
-{
-    'steps: loop {
-        if let Some(place) = read_step_line(reader, builder, machine, rule)? {
-            return Ok(place);
-        }
-    }
-}
-
-/// A step of a rule, or the place of its closing brace.
-#[tactic(auto, unfolding(crate::specs::Reads::line_at))]
-fn read_step_line<A: Allocator>(
-    reader: &mut Reader<'_>,
-    builder: &MapBuilder<A>,
-    machine: Global,
-    rule: &mut Rule,
-) -> Result<Option<usize>, TextFault>
-    requires { IsRightSoFar builder.now rule.old }
-    ensures { ReadsStepLine builder.now rule.old rule.new reader.old reader.new result }
-{
-    let word = read_step_or_end(reader, &rule.steps)?;
-    if !word.is_step() {
-        return Ok(Some(word.place));
-    }
-    let step = read_step(reader, builder, machine)?;
-    let Ok(()) = rule.steps.push(step) else {
-        return Err(word.fault(TextFaultKind::OutOfMemory));
-    };
-    Ok(None)
-}
-
 /// `step` or the closing brace, behind these steps.
 #[tactic(auto, unfolding(crate::specs::Reads::word_at))]
 fn read_step_or_end<'a>(
@@ -197,21 +207,6 @@ impl<'a> PlacedWord<'a> {
     }
 }
 
-/// A name that no rule has.
-#[tactic(auto, unfolding(crate::specs::Reads::word_at))]
-fn read_rule_name<'a, A: Allocator>(
-    reader: &mut Reader<'a>,
-    builder: &MapBuilder<A>,
-) -> Result<PlacedWord<'a>, TextFault>
-    ensures { ReadsWord rule_name (IsDraft builder.now) reader.old reader.new result }
-{
-    let word = read_word(reader)?;
-    if builder.has_rule_name(word.text) {
-        return Err(word.fault(TextFaultKind::DuplicateName));
-    }
-    Ok(word)
-}
-
 /// `id`, or `ruleset` as older releases print.
 #[tactic(auto, unfolding(crate::specs::Reads::word_at))]
 fn read_rule_id_key(reader: &mut Reader<'_>) -> Result<(), TextFault>
@@ -223,22 +218,4 @@ fn read_rule_id_key(reader: &mut Reader<'_>) -> Result<(), TextFault>
     } else {
         Err(word.fault(TextFaultKind::Unexpected))
     }
-}
-
-/// An id that no rule has.
-#[tactic(auto, unfolding(crate::specs::Reads::word_at))]
-fn read_rule_id<A: Allocator>(
-    reader: &mut Reader<'_>,
-    builder: &MapBuilder<A>,
-) -> Result<u32, TextFault>
-    ensures { ReadsValue rule_id (λ n. n) (IsDraft builder.now) reader.old reader.new result }
-{
-    let word = read_word(reader)?;
-    let Some(id) = number_up_to(LARGEST_RULE_NUMBER, word.text) else {
-        return Err(word.fault(TextFaultKind::BadNumber));
-    };
-    if builder.has_rule_id(id) {
-        return Err(word.fault(TextFaultKind::DuplicateId));
-    }
-    Ok(id)
 }

@@ -11,124 +11,106 @@ ghost use Rattle.crush_text.specs.ReadsStatements.{behind, ReadsNext, ReadsAll, 
 
 use crate::fault::{TextFault, TextFaultKind};
 use crate::opening::Opening;
-use crate::reader::bucket::read_bucket;
-use crate::reader::device::read_device;
-use crate::reader::rule::read_rule;
-use crate::reader::tunable::read_tunable;
-use crate::reader::type_line::read_type;
+use crate::reader::MapReader;
 use crate::reader::word::PlacedWord;
-use crush_bytes::{Reader, Token};
-use crush_map::MapBuilder;
-use std::alloc::{Allocator, Global};
+use crush_bytes::Token;
+use std::alloc::Allocator;
 
-/// All statements up to the end of the text.
-pub(crate) fn read_statements<A: Allocator + Clone>(
-    reader: &mut Reader<'_>,
-    builder: &mut MapBuilder<A>,
-    machine: Global,
-) -> Result<(), TextFault>
-    requires { IsIdle builder.old }
-    ensures { ReadsAll builder.old builder.new reader.old result }
-{
-    let mut late = false;
-    'statements: while let Some(more) = read_next(reader, builder, machine, late)? {
-        late = more;
+impl<'a, A: Allocator + Clone> MapReader<'a, A> {
+    /// All statements up to the end of the text.
+    pub(crate) fn statements(&mut self) -> Result<(), TextFault>
+        requires { IsIdle self.old.builder }
+        ensures { ReadsAll self.old self.new result }
+    {
+        let mut late = false;
+        'statements: while let Some(more) = self.next_statement(late)? {
+            late = more;
+        }
+        Ok(())
     }
-    Ok(())
-}
 
-/// The next statement, and whether only buckets and rules may follow it; `None` where the text
-/// ends.
-fn read_next<A: Allocator + Clone>(
-    reader: &mut Reader<'_>,
-    builder: &mut MapBuilder<A>,
-    machine: Global,
-    late: bool,
-) -> Result<Option<bool>, TextFault>
-    requires { IsIdle builder.old }
-    ensures { ReadsNext late builder.old builder.new reader.old reader.new result }
-{
-    match reader.next() {
-        Token::Word { place, text } => {
-            let opening = opening_of(PlacedWord { place, text }, builder, late)?;
-            let late = read_statement(opening, text, reader, builder, machine)?;
-            Ok(Some(late))
+    /// The next statement, and whether only buckets and rules may follow it; `None` where the text
+    /// ends.
+    fn next_statement(&mut self, late: bool) -> Result<Option<bool>, TextFault>
+        requires { IsIdle self.old.builder }
+        ensures { ReadsNext late self.old self.new result }
+    {
+        match self.text.next() {
+            Token::Word { place, text } => {
+                let opening = self.opening_of(PlacedWord { place, text }, late)?;
+                let late = self.statement(opening, text)?;
+                Ok(Some(late))
+            }
+            Token::End { .. } => Ok(None),
+            Token::Bad { place } => Err(TextFault {
+                kind: TextFaultKind::BadWord,
+                place,
+            }),
         }
-        Token::End { .. } => Ok(None),
-        Token::Bad { place } => Err(TextFault {
-            kind: TextFaultKind::BadWord,
-            place,
-        }),
     }
-}
 
-/// A statement behind its first word, and whether only buckets and rules may follow it.
-fn read_statement<A: Allocator + Clone>(
-    opening: Opening,
-    word: &[u8],
-    reader: &mut Reader<'_>,
-    builder: &mut MapBuilder<A>,
-    machine: Global,
-) -> Result<bool, TextFault>
-    requires { CanOpen opening word.now builder.old }
-    ensures { ReadsOn (λ d. arrive d reader.old.words (statement d opening)) behind
-        builder.old builder.new reader.old reader.new result }
-{
-    match opening {
-        Opening::Tunable => {
-            read_tunable(reader, builder)?;
-            Ok(false)
-        }
-        Opening::Device => {
-            read_device(reader, builder)?;
-            Ok(false)
-        }
-        Opening::Type => {
-            read_type(reader, builder)?;
-            Ok(false)
-        }
-        Opening::Bucket(_) => {
-            read_bucket(reader, builder, word)?;
-            Ok(true)
-        }
-        Opening::Rule => {
-            read_rule(reader, builder, machine)?;
-            Ok(true)
+    /// A statement behind its first word, and whether only buckets and rules may follow it.
+    fn statement(&mut self, opening: Opening, word: &[u8]) -> Result<bool, TextFault>
+        requires { CanOpen opening word.now self.old.builder }
+        ensures { ReadsOn (λ d. arrive d self.old.text.words (statement d opening)) behind
+            self.old self.new result }
+    {
+        match opening {
+            Opening::Tunable => {
+                self.tunable()?;
+                Ok(false)
+            }
+            Opening::Device => {
+                self.device()?;
+                Ok(false)
+            }
+            Opening::Type => {
+                self.kind()?;
+                Ok(false)
+            }
+            Opening::Bucket(_) => {
+                self.bucket(word)?;
+                Ok(true)
+            }
+            Opening::Rule => {
+                self.rule()?;
+                Ok(true)
+            }
         }
     }
-}
 
-/// What a statement's first word opens, before the first bucket or rule or behind it.
-fn opening_of<A: Allocator>(
-    word: PlacedWord<'_>,
-    builder: &MapBuilder<A>,
-    late: bool,
-) -> Result<Opening, TextFault>
-    ensures { Opens word.entry late builder.now result }
-{
-    if is_out_of_place(word, late) {
-        return Err(word.fault(TextFaultKind::Unexpected));
-    }
-    if word.is(b"tunable") {
-        return with_room(word, Opening::Tunable, builder.is_full_of_tunables());
-    }
-    if word.is(b"device") {
-        return with_room(word, Opening::Device, builder.is_full_of_devices());
-    }
-    if word.is(b"type") {
-        return with_room(word, Opening::Type, builder.is_full_of_kinds());
-    }
-    if word.is(b"rule") {
-        return with_room(word, Opening::Rule, builder.is_full_of_rules());
-    }
-    if word.is(b"choose_args") {
-        return Err(word.fault(TextFaultKind::LeftOut));
-    }
-    match builder.kind_number(word.text) {
-        Some(kind) if builder.is_bucket_kind(kind) => {
-            with_room(word, Opening::Bucket(kind), builder.is_full_of_buckets())
+    /// What a statement's first word opens, before the first bucket or rule or behind it.
+    fn opening_of(&self, word: PlacedWord<'_>, late: bool) -> Result<Opening, TextFault>
+        ensures { Opens word.entry late self.now.builder result }
+    {
+        if is_out_of_place(word, late) {
+            return Err(word.fault(TextFaultKind::Unexpected));
         }
-        _ => Err(word.fault(TextFaultKind::UnknownType)),
+        if word.is(b"tunable") {
+            return with_room(word, Opening::Tunable, self.builder.is_full_of_tunables());
+        }
+        if word.is(b"device") {
+            return with_room(word, Opening::Device, self.builder.is_full_of_devices());
+        }
+        if word.is(b"type") {
+            return with_room(word, Opening::Type, self.builder.is_full_of_kinds());
+        }
+        if word.is(b"rule") {
+            return with_room(word, Opening::Rule, self.builder.is_full_of_rules());
+        }
+        if word.is(b"choose_args") {
+            return Err(word.fault(TextFaultKind::LeftOut));
+        }
+        match self.builder.kind_number(word.text) {
+            Some(kind) if self.builder.is_bucket_kind(kind) => {
+                with_room(
+                    word,
+                    Opening::Bucket(kind),
+                    self.builder.is_full_of_buckets(),
+                )
+            }
+            _ => Err(word.fault(TextFaultKind::UnknownType)),
+        }
     }
 }
 

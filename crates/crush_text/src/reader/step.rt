@@ -4,22 +4,22 @@ ghost use Rattle.std.specs.Prelude.{◌≡◌, ◌≤◌, length, IfOk, OnOk, na
 ghost use Rattle.std.specs.List.{starts_with};
 ghost use Rattle.crush_edits.specs.Setting.{RuleData};
 ghost use Rattle.crush_map.specs.Built.{Draft};
-ghost use Rattle.crush_map.specs.Building.{IsDraft};
 ghost use Rattle.crush_map.specs.Rules.{IsStepForm, word_fault};
 ghost use Rattle.crush_text.specs.Forms.{is_signed, signed_value};
 ghost use Rattle.crush_text.specs.Role.{step_word, taken_bucket, step_order, step_count, step_type};
 ghost use Rattle.crush_text.specs.Form.{word};
 ghost use Rattle.crush_text.specs.Grammar.{step_behind, take_step, choose_step, set_step};
 ghost use Rattle.crush_text.specs.Reads.{Gives, behind_step, first_of_step, line_at};
-ghost use Rattle.crush_text.specs.ReadsWords.{IsFirstOfStep, ReadsWord, ReadsValue, AnyDraft};
+ghost use Rattle.crush_text.specs.ReadsWords.{IsFirstOfStep, FindsWord, ReadsValue, AnyDraft};
 ghost use Rattle.crush_text.specs.ReadsRules.{GivesStep};
 
 use crate::fault::{TextFault, TextFaultKind};
+use crate::reader::MapReader;
 use crate::reader::roles::{read_key, read_number, read_word};
 use crate::reader::word::{PlacedWord, next_word};
 use crush_bytes::Reader;
 use crush_bytes::number::number_up_to;
-use crush_map::{MapBuilder, Step};
+use crush_map::Step;
 use crush_units::Name;
 use crush_units::limits::{FARTHEST_COUNT, LARGEST_COUNT, LARGEST_RULE_NUMBER};
 use std::alloc::{Allocator, Global};
@@ -40,68 +40,79 @@ pub(crate) enum FirstOfStep<'a> {
     Emit,
 }
 
-/// A step, behind the word `step`.
-#[tactic(auto, unfolding(crate::specs::Reads::line_at))]
-pub(crate) fn read_step<A: Allocator>(
-    reader: &mut Reader<'_>,
-    builder: &MapBuilder<A>,
-    machine: Global,
-) -> Result<Step, TextFault>
-    ensures { GivesStep (λ d r. word step_word (step_behind d r)) builder.now
-        reader.old reader.new result }
-{
-    match read_first(reader)? {
-        FirstOfStep::Take => read_take(reader, builder, machine),
-        FirstOfStep::Choose { leaf } => read_choose(reader, builder, machine, leaf),
-        FirstOfStep::Set(word) => {
-            let name = word.own_name(machine)?;
-            read_set(reader, name)
+impl<'a, A: Allocator> MapReader<'a, A> {
+    /// A step, behind the word `step`.
+    #[tactic(auto, unfolding(crate::specs::Reads::line_at))]
+    pub(crate) fn step(&mut self) -> Result<Step, TextFault>
+        ensures { GivesStep (λ d r. word step_word (step_behind d r)) self.old self.new result }
+    {
+        match read_first(&mut self.text)? {
+            FirstOfStep::Take => self.take(),
+            FirstOfStep::Choose { leaf } => self.choose(leaf),
+            FirstOfStep::Set(word) => {
+                let name = word.own_name(self.machine)?;
+                read_set(&mut self.text, name)
+            }
+            FirstOfStep::Emit => Ok(Step::Emit),
         }
-        FirstOfStep::Emit => Ok(Step::Emit),
     }
-}
 
-/// The bucket that a step takes, and the class of which it takes devices where that is given.
-#[tactic(auto, unfolding(crate::specs::Reads::line_at))]
-fn read_take<A: Allocator>(
-    reader: &mut Reader<'_>,
-    builder: &MapBuilder<A>,
-    machine: Global,
-) -> Result<Step, TextFault>
-    ensures { GivesStep take_step builder.now reader.old reader.new result }
-{
-    let bucket = read_taken_bucket(reader, builder)?;
-    let bucket = bucket.own_name(machine)?;
-    if !reader.take_key(b"class") {
-        return Ok(Step::Take(bucket, None));
+    /// The bucket that a step takes, and the class of which it takes devices where that is given.
+    #[tactic(auto, unfolding(crate::specs::Reads::line_at))]
+    fn take(&mut self) -> Result<Step, TextFault>
+        ensures { GivesStep take_step self.old self.new result }
+    {
+        let bucket = self.taken_bucket()?;
+        let bucket = bucket.own_name(self.machine)?;
+        if !self.text.take_key(b"class") {
+            return Ok(Step::Take(bucket, None));
+        }
+        let class = read_word(&mut self.text)?;
+        let class = class.own_name(self.machine)?;
+        Ok(Step::Take(bucket, Some(class)))
     }
-    let class = read_word(reader)?;
-    let class = class.own_name(machine)?;
-    Ok(Step::Take(bucket, Some(class)))
-}
 
-/// How many items of which type a step chooses.
-#[tactic(auto, unfolding(crate::specs::Reads::line_at))]
-fn read_choose<A: Allocator>(
-    reader: &mut Reader<'_>,
-    builder: &MapBuilder<A>,
-    machine: Global,
-    leaf: bool,
-) -> Result<Step, TextFault>
-    ensures { GivesStep (λ d r. choose_step d r leaf) builder.now
-        reader.old reader.new result }
-{
-    let firstn = read_order(reader)?;
-    let count = read_count(reader)?;
-    read_key(reader, b"type")?;
-    let kind = read_type(reader, builder)?;
-    let kind = kind.own_name(machine)?;
-    Ok(Step::Choose {
-        leaf,
-        firstn,
-        count,
-        kind,
-    })
+    /// How many items of which type a step chooses.
+    #[tactic(auto, unfolding(crate::specs::Reads::line_at))]
+    fn choose(&mut self, leaf: bool) -> Result<Step, TextFault>
+        ensures { GivesStep (λ d r. choose_step d r leaf) self.old self.new result }
+    {
+        let firstn = read_order(&mut self.text)?;
+        let count = read_count(&mut self.text)?;
+        read_key(&mut self.text, b"type")?;
+        let kind = self.step_type()?;
+        let kind = kind.own_name(self.machine)?;
+        Ok(Step::Choose {
+            leaf,
+            firstn,
+            count,
+            kind,
+        })
+    }
+
+    /// The name of a complete bucket.
+    #[tactic(auto, unfolding(crate::specs::Reads::word_at))]
+    fn taken_bucket(&mut self) -> Result<PlacedWord<'a>, TextFault>
+        ensures { FindsWord taken_bucket self.old self.new result }
+    {
+        let word = read_word(&mut self.text)?;
+        match self.builder.bucket_named(word.text) {
+            Some(_) => Ok(word),
+            None => Err(word.fault(TextFaultKind::UnknownBucketInRule)),
+        }
+    }
+
+    /// The name of a type.
+    #[tactic(auto, unfolding(crate::specs::Reads::word_at))]
+    fn step_type(&mut self) -> Result<PlacedWord<'a>, TextFault>
+        ensures { FindsWord step_type self.old self.new result }
+    {
+        let word = read_word(&mut self.text)?;
+        match self.builder.kind_number(word.text) {
+            Some(_) => Ok(word),
+            None => Err(word.fault(TextFaultKind::UnknownType)),
+        }
+    }
 }
 
 /// The value that a step sets, behind the word for what it sets.
@@ -150,21 +161,6 @@ fn sets(text: &[u8]) -> bool
     matches!(text, [b's', b'e', b't', b'_', ..])
 }
 
-/// The name of a complete bucket.
-#[tactic(auto, unfolding(crate::specs::Reads::word_at))]
-fn read_taken_bucket<'a, A: Allocator>(
-    reader: &mut Reader<'a>,
-    builder: &MapBuilder<A>,
-) -> Result<PlacedWord<'a>, TextFault>
-    ensures { ReadsWord taken_bucket (IsDraft builder.now) reader.old reader.new result }
-{
-    let word = read_word(reader)?;
-    match builder.bucket_named(word.text) {
-        Some(_) => Ok(word),
-        None => Err(word.fault(TextFaultKind::UnknownBucketInRule)),
-    }
-}
-
 /// Whether a lost item moves the others up, `firstn`, or each keeps its place, `indep`.
 #[tactic(auto, unfolding(crate::specs::Reads::word_at))]
 fn read_order(reader: &mut Reader<'_>) -> Result<bool, TextFault>
@@ -205,20 +201,5 @@ fn signed_number(text: &[u8]) -> Option<i32>
             let number = number_up_to(LARGEST_COUNT, text)?;
             Some(number as i32)
         }
-    }
-}
-
-/// The name of a type.
-#[tactic(auto, unfolding(crate::specs::Reads::word_at))]
-fn read_type<'a, A: Allocator>(
-    reader: &mut Reader<'a>,
-    builder: &MapBuilder<A>,
-) -> Result<PlacedWord<'a>, TextFault>
-    ensures { ReadsWord step_type (IsDraft builder.now) reader.old reader.new result }
-{
-    let word = read_word(reader)?;
-    match builder.kind_number(word.text) {
-        Some(_) => Ok(word),
-        None => Err(word.fault(TextFaultKind::UnknownType)),
     }
 }

@@ -1,0 +1,47 @@
+-- A class id's line word by word, and what the builder refuses is want of memory.
+use Rattle.std.proofs.Common.{rules, ◌∙◌, inl}
+use Rattle.std.proofs.lemmas.Result.{err_from_is_err_and}
+use Rattle.crush_map.specs.Built.{with_class_id}
+use Rattle.crush_map.specs.declared.fault.BuildFault.TheVariants.{DuplicateId, DuplicateName, TooMany}
+use Rattle.crush_text.proofs.LineByLine.{fails_so}
+use Rattle.crush_text.proofs.LineEnds.{still, word_fails, word_reads, class_id_reads}
+use Rattle.crush_text.proofs.Reached.{want_here, reaches_word, reaches_on}
+use Rattle.crush_text.proofs.Wants.{want_of_three}
+use Rattle.crush_text.proofs.Refused.{no_line}
+use Rattle.crush_text.proofs.reader.MapReader.class_id.Goals as goal
+
+pub want-requires : goal.want-requires
+want-requires g c =
+    let d = c.requires.numbered.some in
+    want_of_three DuplicateId DuplicateName TooMany _ _ _ _ (c.in_ok-id.ensures.reads.free d.0 d.1) (c.in_ok-class.ensures.reads.free d.0 (still c.in_ok-id.ensures.kept d.1)) (c.requires.room d.0 d.1) (c.in-Err.ensures.refused d.0 (still (c.in_ok-class.ensures.kept ∙ c.in_ok-id.ensures.kept) d.1))
+
+pub returns-in-Ok : goal.returns-in-Ok
+returns-in-Ok g c = record {
+  reads = λ d h.
+      (with_class_id d _ _, (c.in-Ok.ensures.ok d (still (c.in_ok-class.ensures.kept ∙ c.in_ok-id.ensures.kept) h)).1, class_id_reads d _ _ _ _ _ _ (c.in_ok-id.ensures.reads.gives d h) (c.in_ok-read_key.ensures.gives d tt) (c.in_ok-class.ensures.reads.gives d (still c.in_ok-id.ensures.kept h)));
+  stands = search rules;
+  shorter = search rules;
+}
+
+pub returns-in-Err : goal.returns-in-Err
+returns-in-Err g c =
+    no_line _ _ _ _ _ (λ d h.
+    inl (want_here _ _ _ _ c.want.ensures (reaches_on d _ _ _ _ _ _ (c.in_ok-id.ensures.reads.gives d h) (reaches_on d _ _ _ _ _ _ (c.in_ok-read_key.ensures.gives d tt) (reaches_word d _ _ _ _ _ _ _ (c.in_ok-class.ensures.reads.gives d (still c.in_ok-id.ensures.kept h)) (_, c.in_ok-class.ensures.reads.next))))))
+
+pub returns-in_err-id : goal.returns-in_err-id
+returns-in_err-id g c =
+    let p = err_from_is_err_and c.from_residual.result c.from_residual.ensures.1 in
+    rw (p.1, p.2) (no_line _ _ _ _ _ (λ d h.
+    (word_fails d _ _ _ _ (c.in_err-id.ensures.reads.gives d h))))
+
+pub returns-in_err-read_key : goal.returns-in_err-read_key
+returns-in_err-read_key g c =
+    let p = err_from_is_err_and c.from_residual-in_err-read_key.result c.from_residual-in_err-read_key.ensures.1 in
+    rw (p.1, p.2) (no_line _ _ _ _ _ (λ d h.
+    (fails_so _ _ _ (word_reads d _ _ _ _ _ (c.in_ok-id.ensures.reads.gives d h)) (word_fails d _ _ _ _ (c.in_err-read_key.ensures.gives d tt)))))
+
+pub returns-in_err-class : goal.returns-in_err-class
+returns-in_err-class g c =
+    let p = err_from_is_err_and c.from_residual-in_err-class.result c.from_residual-in_err-class.ensures.1 in
+    rw (p.1, p.2) (no_line _ _ _ _ _ (λ d h.
+    (fails_so _ _ _ (word_reads d _ _ _ _ _ (c.in_ok-id.ensures.reads.gives d h) ∙ word_reads d _ _ _ _ _ (c.in_ok-read_key.ensures.gives d tt)) (word_fails d _ _ _ _ (c.in_err-class.ensures.reads.gives d (still c.in_ok-id.ensures.kept h))))))
