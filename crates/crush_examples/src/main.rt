@@ -4,8 +4,8 @@
 #![tactic(auto)]
 
 use crush_options::{Mode, options};
-use crush_report::{RunFault, Summary, report};
-use crush_run::{NoGate, run_job, run_options};
+use crush_report::report;
+use crush_run::{NoGate, RunFault, Summary, run_job, run_options};
 use std::random::RandomSource;
 use std::sync::Wait;
 use std::thread::Threads;

@@ -4,10 +4,10 @@ use Rattle.crush_text.specs.declared.fault.TextFault.{TextFault}
 use Rattle.crush_text.specs.Fault.{fault_name}
 use Rattle.crush_script.specs.declared.fault.JobFault.{JobFault}
 use Rattle.crush_script.specs.declared.fault.JobFault.TheVariants.{BadLine, NoSuchCommand, OpenBatch, TooManyOperators, DuplicateOperator, Text, OutOfMemory, TooLong, TooManyCalls}
-use Rattle.crush_report.specs.Faults.{lacks_memory}
-use Rattle.crush_report.specs.declared.fault.RunFault.{RunFault}
-use Rattle.crush_report.specs.declared.fault.RunFault.TheVariants as run
-use Rattle.crush_report.specs.declared.summary.Summary.{Summary}
+use Rattle.crush_script.specs.Fault.{lacks_memory}
+use Rattle.crush_run.specs.declared.fault.RunFault.{RunFault}
+use Rattle.crush_run.specs.declared.fault.RunFault.TheVariants as run
+use Rattle.crush_run.specs.declared.summary.Summary.{Summary}
 
 -- want of memory, wherever it comes
 abbrev pub out_of_memory : List ℕ

@@ -5,10 +5,9 @@ ghost use Rattle.crush_bytes.specs.Writes.{Writes, AppendsFront};
 ghost use Rattle.crush_report.specs.OptionsReport.{IsHelpWhole, IsOptionsStatus, options_error, options_output};
 ghost use Rattle.crush_report.specs.Report.{adjusted_line, line_fault, text_fault, job_fault, run_fault, report_line, status};
 
-use crate::fault::{RunFault, lacks_memory};
-use crate::summary::Summary;
 use crush_bytes::{WriteFault, put, put_all};
 use crush_options::OptionsFault;
+use crush_run::{RunFault, Summary};
 use crush_script::JobFault;
 use crush_text::TextFault;
 use itoa::Buffer;
@@ -78,7 +77,7 @@ fn write_run_fault<E: Write>(fault: RunFault, err: &mut E) -> Result<(), WriteFa
     ensures { Writes result (E.contents err.old) (E.contents err.new) (run_fault fault) }
 {
     match fault {
-        RunFault::Job(fault) if lacks_memory(fault) => put(err, OUT_OF_MEMORY),
+        RunFault::Job(fault) if fault.lacks_memory() => put(err, OUT_OF_MEMORY),
         RunFault::Job(fault) => write_job_fault(fault, err),
         RunFault::Read => put(err, b"crushedit: read fault\n"),
         RunFault::Write => put(err, b"crushedit: write fault\n"),
@@ -168,7 +167,7 @@ pub fn report<E: Write>(outcome: &Result<Summary, RunFault>, err: &mut E) -> u8
     match outcome {
         Ok(_) => 0,
         Err(RunFault::Memory | RunFault::Thread) => 4,
-        Err(RunFault::Job(fault)) if lacks_memory(*fault) => 4,
+        Err(RunFault::Job(fault)) if fault.lacks_memory() => 4,
         Err(RunFault::Job(_)) => 1,
         Err(RunFault::Read | RunFault::Write) => 3,
     }

@@ -1,11 +1,7 @@
-//! How a run ends: what it did or why it was not done, what standard error is told of it, and the
-//! status of the program.
+//! How the end of a run is told: the line on standard error, and the status of the program; and the
+//! same of a command line that asks for no run.
 #![tactic(auto)]
 
 mod ending;
-mod fault;
-mod summary;
 
 pub use ending::{report, report_line, tell};
-pub use fault::RunFault;
-pub use summary::Summary;

@@ -19,8 +19,8 @@ use Rattle.crush_print.specs.MapText.{map_text}
 use Rattle.crush_print.proofs.SameText.{map_text_is_some}
 use Rattle.crush_calls.proofs.Histories.{turns_are_history}
 use Rattle.crush_editor.specs.Book.{MakesAll}
-use Rattle.crush_report.specs.declared.fault.RunFault.{RunFault}
-use Rattle.crush_report.specs.declared.summary.Summary.{Summary}
+use Rattle.crush_run.specs.declared.fault.RunFault.{RunFault}
+use Rattle.crush_run.specs.declared.summary.Summary.{Summary}
 use Rattle.crush_script.specs.Job.{JobData}
 use Rattle.crush_run.specs.Run.{Ends, IsRunOf, output_of}
 use Rattle.crush_run.specs.Stages.{HaveRun, RunsScripts, lines_asked}

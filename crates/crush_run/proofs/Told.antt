@@ -7,10 +7,11 @@ use Rattle.std.proofs.lemmas.List.{take_all, length-take}
 use Rattle.crush_script.specs.Job.{HasJob, IsJob, IsJobFault, JobData}
 use Rattle.crush_script.specs.declared.fault.JobFault.{JobFault}
 use Rattle.crush_script.specs.declared.fault.JobFault.TheVariants.{BadLine, NoSuchCommand, OpenBatch, TooManyOperators, DuplicateOperator, Text, OutOfMemory, TooLong, TooManyCalls}
-use Rattle.crush_report.specs.Faults.{is_want, of_job}
-use Rattle.crush_report.specs.declared.fault.RunFault.TheVariants as run
-use Rattle.crush_report.specs.declared.fault.RunFault.{RunFault}
-use Rattle.crush_report.specs.declared.summary.Summary.{Summary}
+use Rattle.crush_script.specs.Fault.{is_want}
+use Rattle.crush_run.specs.Faults.{of_job}
+use Rattle.crush_run.specs.declared.fault.RunFault.TheVariants as run
+use Rattle.crush_run.specs.declared.fault.RunFault.{RunFault}
+use Rattle.crush_run.specs.declared.summary.Summary.{Summary}
 use Rattle.crush_run.specs.Run.{IsRunFault}
 use Rattle.crush_run.specs.Stages.{IsInputFault, IsOutcomeFault, IsScriptsFault}
 

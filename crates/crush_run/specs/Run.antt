@@ -8,13 +8,13 @@ use Rattle.crush_calls.specs.History.{EntryData, IsLegal, of_operator, table_aft
 use Rattle.crush_calls.specs.Turns.{calls_at, calls_of}
 use Rattle.crush_script.specs.JobText.{job_text}
 use Rattle.crush_calls.specs.HistoryText.{names_of}
+use Rattle.crush_script.specs.Fault.{lacks_memory}
 use Rattle.crush_script.specs.Job.{JobData, HasJob, IsJobFault}
 use Rattle.crush_script.specs.declared.fault.JobFault.{JobFault}
 use Rattle.crush_options.specs.declared.asked.Mode.{Mode}
-use Rattle.crush_report.specs.Faults.{lacks_memory}
-use Rattle.crush_report.specs.declared.fault.RunFault.{RunFault}
-use Rattle.crush_report.specs.declared.fault.RunFault.TheVariants as run
-use Rattle.crush_report.specs.declared.summary.Summary.{Summary}
+use Rattle.crush_run.specs.declared.fault.RunFault.{RunFault}
+use Rattle.crush_run.specs.declared.fault.RunFault.TheVariants as run
+use Rattle.crush_run.specs.declared.summary.Summary.{Summary}
 
 -- RUN: a history of a job. Each reply is the table's at that point; the calls of each operator are its script's, in order, and
 -- there are no others; in turn the scripts run one after the other

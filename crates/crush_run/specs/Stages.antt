@@ -5,8 +5,8 @@ use Rattle.crush_calls.specs.History.{EntryData, table_after}
 use Rattle.crush_calls.specs.HistoryText.{entries_text}
 use Rattle.crush_calls.specs.Script.{ScriptData}
 use Rattle.crush_script.specs.Job.{JobData}
-use Rattle.crush_report.specs.declared.fault.RunFault.{RunFault}
-use Rattle.crush_report.specs.declared.fault.RunFault.TheVariants as run
+use Rattle.crush_run.specs.declared.fault.RunFault.{RunFault}
+use Rattle.crush_run.specs.declared.fault.RunFault.TheVariants as run
 use Rattle.crush_run.specs.Run.{IsRunOf}
 
 -- what may fail while the bytes are read

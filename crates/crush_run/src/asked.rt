@@ -5,10 +5,11 @@ ghost use Rattle.std.specs.Io.KnownBytes.{Keeps};
 ghost use Rattle.crush_script.specs.Job.{HasJob, IsJob, JobData};
 ghost use Rattle.crush_run.specs.Run.{Ends, IsRunFault};
 
+use crate::fault::RunFault;
 use crate::gate::NoGate;
 use crate::run::run_job;
+use crate::summary::Summary;
 use crush_options::{Mode, Options};
-use crush_report::{RunFault, Summary};
 use std::fs::File;
 use std::io::{Read, Write};
 use std::random::RandomSource;

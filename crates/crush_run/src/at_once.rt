@@ -6,13 +6,13 @@ ghost use Rattle.crush_editor.specs.Book.{MakesAll};
 ghost use Rattle.crush_run.specs.Script.{Carries};
 ghost use Rattle.crush_run.specs.Stages.{IsAtOnceFault};
 
+use crate::fault::RunFault;
 use crate::gate::Gate;
 use crate::worker::Finished;
 use crate::workers::run_all;
 use crush_calls::Script;
 use crush_editor::{Closed, Desk, Editor, Seat, Started};
 use crush_map::CrushMap;
-use crush_report::RunFault;
 use std::alloc::Global;
 use std::marker::Brand;
 use std::sync::Wait;

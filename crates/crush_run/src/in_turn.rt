@@ -9,11 +9,11 @@ ghost use Rattle.crush_calls.specs.Script.{scripts_data};
 ghost use Rattle.crush_calls.specs.History.{table_after, turn, turns};
 ghost use Rattle.crush_calls.specs.Entries.{AreOf};
 
+use crate::fault::RunFault;
 use crate::gate::Gate;
 use crush_calls::{Call, Script};
 use crush_editor::{Book, Closed, MapGauge, Started};
 use crush_map::CrushMap;
-use crush_report::RunFault;
 use std::alloc::Global;
 use std::sync::Wait;
 

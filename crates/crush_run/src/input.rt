@@ -5,7 +5,7 @@ ghost use Rattle.std.specs.Io.KnownBytes.{Consumes};
 ghost use Rattle.crush_run.specs.Run.{TakesFew};
 ghost use Rattle.crush_run.specs.Stages.{IsInputFault};
 
-use crush_report::RunFault;
+use crate::fault::RunFault;
 use std::alloc::Global;
 use std::io::Read;
 

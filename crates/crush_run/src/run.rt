@@ -15,16 +15,17 @@ ghost use Rattle.crush_run.specs.Stages.{IsOutcomeFault, IsScriptsFault, RunsScr
 ghost use Rattle.crush_units.specs.declared.limits.TheConstants.{MOST_ENTRIES, MOST_OPERATORS};
 
 use crate::at_once::run_at_once;
+use crate::fault::RunFault;
 use crate::gate::Gate;
 use crate::in_turn::run_in_turn;
 use crate::input::read_bytes;
+use crate::summary::Summary;
 use crush_bytes::put;
 use crush_calls::{Entry, Script, count_changes, history_text};
 use crush_editor::Closed;
 use crush_map::{CrushMap, Hashing};
 use crush_options::Mode;
 use crush_print::write_map;
-use crush_report::{RunFault, Summary};
 use crush_script::{Job, read_job};
 use std::alloc::{AllocError, Global};
 use std::hash::RandomState;

@@ -6,11 +6,11 @@ ghost use Rattle.crush_units.specs.declared.limits.TheConstants.{MOST_OPERATORS}
 ghost use Rattle.crush_run.specs.Script.{AreFresh, HasRun, HasRunScript, IsTask};
 ghost use Rattle.crush_run.specs.Stages.{IsAtOnceFault};
 
+use crate::fault::RunFault;
 use crate::gate::Gate;
 use crate::worker::{Finished, Task, work};
 use crush_calls::Script;
 use crush_editor::{Desk, Editor, Seat};
-use crush_report::RunFault;
 use std::alloc::Global;
 use std::sync::Wait;
 use std::thread;

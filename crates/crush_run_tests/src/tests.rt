@@ -1,8 +1,8 @@
 //! Runs of whole jobs, from their bytes to the bytes written.
 
 use crush_options::Mode;
-use crush_report::{RunFault, Summary, report};
-use crush_run::{NoGate, run_job};
+use crush_report::report;
+use crush_run::{NoGate, RunFault, Summary, run_job};
 use std::process::Abort;
 use std::random::RandomSource;
 use std::sync::Wait;

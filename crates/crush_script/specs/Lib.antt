@@ -1,5 +1,6 @@
 pub mod AnswersAs
 pub mod Command
+pub mod Fault
 pub mod Job
 pub mod JobText
 pub mod Lines

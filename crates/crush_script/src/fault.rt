@@ -3,7 +3,7 @@
 ghost use Rattle.std.specs.Prelude.{◌≡◌};
 
 use crate::command::LineFault;
-use crush_text::TextFault;
+use crush_text::{TextFault, TextFaultKind};
 use std::alloc::AllocFailed;
 use thiserror::Error;
 
@@ -40,6 +40,21 @@ pub enum JobFault {
     /// The line is the first of the 65,537th call.
     #[error("line {0}: TooManyCalls")]
     TooManyCalls(usize),
+}
+
+impl JobFault {
+    ghost use Rattle.crush_script.specs.Fault.{lacks_memory};
+
+    /// Whether memory lacked, for the job or for its text.
+    pub fn lacks_memory(self) -> bool
+        ensures { result ≡ lacks_memory self }
+    {
+        match self {
+            JobFault::OutOfMemory => true,
+            JobFault::Text(fault) => matches!(fault.kind, TextFaultKind::OutOfMemory),
+            _ => false,
+        }
+    }
 }
 
 impl<T: Drop> From<AllocFailed<T>> for JobFault {

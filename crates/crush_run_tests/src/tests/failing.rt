@@ -1,8 +1,7 @@
 //! Readers and writers that fail, once or from then on, and readers of blanks alone, some without an end.
 
 use super::{MODE, PLAIN, REWEIGHED, is_told, joined, summary};
-use crush_report::RunFault;
-use crush_run::{NoGate, run_job};
+use crush_run::{NoGate, RunFault, run_job};
 use crush_script::JobFault;
 use std::io::{self, ErrorKind, Read, Write};
 use std::random::RandomSource;

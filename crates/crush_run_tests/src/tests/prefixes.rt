@@ -1,8 +1,7 @@
 //! Each prefix of a job: it is run, and the whole output is written, or it is no job, and nothing is written.
 
 use super::{MODE, PLAIN, REWEIGHED, joined, summary};
-use crush_report::{RunFault, Summary};
-use crush_run::{NoGate, run_job};
+use crush_run::{NoGate, RunFault, Summary, run_job};
 use std::process::Abort;
 use std::random::RandomSource;
 use std::sync::Wait;

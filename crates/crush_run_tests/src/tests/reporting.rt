@@ -3,7 +3,8 @@
 use crate::tests::is_told;
 use crush_bytes::WriteFault;
 use crush_options::OptionsFault;
-use crush_report::{RunFault, report, report_line, tell};
+use crush_report::{report, report_line, tell};
+use crush_run::RunFault;
 use crush_script::JobFault;
 use std::alloc::AllocError;
 use std::io::{self, ErrorKind, Write};

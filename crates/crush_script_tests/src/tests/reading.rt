@@ -45,5 +45,7 @@ fn faults_are_told(rt: HostRuntime) {
         kind.number() == 16
             && kind.name() == "OutOfMemory"
             && told.as_str() == "byte 102: OutOfMemory, line 3: NoSuchCommand, TooLong"
+            && JobFault::Text(text).lacks_memory()
+            && !line.lacks_memory()
     );
 }

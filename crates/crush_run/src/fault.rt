@@ -1,11 +1,7 @@
 //! Why a run was not done.
 
-ghost use Rattle.std.specs.Prelude.{◌≡◌};
-ghost use Rattle.crush_report.specs.Faults.{lacks_memory};
-
 use crush_bytes::WriteFault;
 use crush_script::JobFault;
-use crush_text::TextFaultKind;
 use std::alloc::{AllocError, AllocFailed};
 use thiserror::Error;
 
@@ -30,19 +26,8 @@ pub enum RunFault {
     Thread,
 }
 
-/// Whether the fault is want of memory, of the job or of its text.
-pub(crate) fn lacks_memory(fault: JobFault) -> bool
-    ensures { result ≡ lacks_memory fault }
-{
-    match fault {
-        JobFault::OutOfMemory => true,
-        JobFault::Text(fault) => matches!(fault.kind, TextFaultKind::OutOfMemory),
-        _ => false,
-    }
-}
-
 impl<T: Drop> From<AllocFailed<T>> for RunFault {
-    ghost use Rattle.crush_report.specs.declared.fault.RunFault.TheVariants.{Memory};
+    ghost use Rattle.crush_run.specs.declared.fault.RunFault.TheVariants.{Memory};
     ghost use Rattle.std.specs.Prelude.{◌≡◌};
 
     ghost from_gives = { λ _ fault. fault ≡ Memory };
@@ -53,7 +38,7 @@ impl<T: Drop> From<AllocFailed<T>> for RunFault {
 }
 
 impl From<AllocError> for RunFault {
-    ghost use Rattle.crush_report.specs.declared.fault.RunFault.TheVariants.{Memory};
+    ghost use Rattle.crush_run.specs.declared.fault.RunFault.TheVariants.{Memory};
     ghost use Rattle.std.specs.Prelude.{◌≡◌};
 
     ghost from_gives = { λ _ fault. fault ≡ Memory };
@@ -64,13 +49,13 @@ impl From<AllocError> for RunFault {
 }
 
 impl From<JobFault> for RunFault {
-    ghost use Rattle.crush_report.specs.Faults.{of_job};
+    ghost use Rattle.crush_run.specs.Faults.{of_job};
     ghost use Rattle.std.specs.Prelude.{◌≡◌};
 
     ghost from_gives = { λ fault made. made ≡ of_job fault };
 
     fn from(fault: JobFault) -> RunFault {
-        if lacks_memory(fault) {
+        if fault.lacks_memory() {
             return RunFault::Memory;
         }
         RunFault::Job(fault)
@@ -78,7 +63,7 @@ impl From<JobFault> for RunFault {
 }
 
 impl From<WriteFault> for RunFault {
-    ghost use Rattle.crush_report.specs.Faults.{of_write};
+    ghost use Rattle.crush_run.specs.Faults.{of_write};
     ghost use Rattle.std.specs.Prelude.{◌≡◌};
 
     ghost from_gives = { λ fault made. made ≡ of_write fault };
