@@ -17,7 +17,6 @@ use Rattle.crush_calls.specs.History.{EntryData, table_after, turns}
 use Rattle.crush_calls.specs.LawRun.{IsCall}
 use Rattle.crush_calls.specs.HistoryText.{entries_text, names_of}
 use Rattle.crush_script.specs.Job.{JobData, IsJob}
-use Rattle.crush_script.specs.JobText.{job_text}
 
 -- the names of an edit are names and its location is one, as their types keep
 abbrev pub IsNamed : Edit → Type 0
@@ -51,10 +50,14 @@ abbrev pub WhatIsWrittenIsReadBack : Type 0
 WhatIsWrittenIsReadBack = (s : SettingData) (t : List Row) (names : List (List ℕ)) (number : ℕ) (h : List EntryData) → Lawful t → Fits s t
     → All IsName names → IsNamedHistory h → IsReadAs (map_text s t ++ entries_text names number h) (in_order s) t
 
+-- the text of a map after a history, and a line for each entry
+abbrev pub text_after : SettingData → List Row → List (List ℕ) → List EntryData → List ℕ
+text_after s t names h = map_text s (table_after s t h) ++ entries_text names 1 h
+
 -- THE TEXT OF ANY HISTORY: the map after it, and its lines, are read back as that map
 abbrev pub HistoryTextsAreReadBack : Type 0
 HistoryTextsAreReadBack = (s : SettingData) (t : List Row) (names : List (List ℕ)) (h : List EntryData) → Lawful t → Fits s t
-    → All IsName names → IsNamedHistory h → All (λ (e : EntryData). IsCall e.call) h → IsReadAs (job_text s t names h) (in_order s) (table_after s t h)
+    → All IsName names → IsNamedHistory h → All (λ (e : EntryData). IsCall e.call) h → IsReadAs (text_after s t names h) (in_order s) (table_after s t h)
 
 -- THE MAP AFTER A JOB: whatever job bytes are, the table after its run is lawful, and the setting fits it
 abbrev pub JobsStayLawful : Type 0
@@ -63,7 +66,7 @@ JobsStayLawful = (bytes : List ℕ) (job : JobData) → IsJob bytes job → Keep
 -- THE TEXT OF A JOB that has run is read back as that map, with its history
 abbrev pub JobTextsAreReadBack : Type 0
 JobTextsAreReadBack = (bytes : List ℕ) (job : JobData) → IsJob bytes job
-    → let h = turns job.setting job.table job.scripts in IsReadAs (job_text job.setting job.table (names_of job.scripts) h) (in_order job.setting) (table_after job.setting job.table h)
+    → let h = turns job.setting job.table job.scripts in IsReadAs (text_after job.setting job.table (names_of job.scripts) h) (in_order job.setting) (table_after job.setting job.table h)
 
 -- and without
 abbrev pub JobMapsAreReadBack : Type 0

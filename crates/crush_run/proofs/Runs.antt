@@ -1,7 +1,7 @@
 -- Runs of a job: in turn, at once, and where nothing came of one.
 use Rattle.std.proofs.Common.{◌≡◌, ℕ, zero, suc, ◌<◌, ◌≤◌, ◌==◌, Bool, true, false, List, [], ◌∷◌, ◌++◌, Option, Result, Ok, Err, length, map, filter, nat_lt, refl, sym, ap, subst, ◌∙◌, arith, rules, tests}
 use Rattle.std.specs.Prelude.{IfOk}
-use Rattle.std.proofs.lemmas.List.{append-nil, length-append, length-map}
+use Rattle.std.proofs.lemmas.List.{length-append, length-map}
 use Rattle.std.proofs.lemmas.List.Elements.{All-nil, All-cons}
 use Rattle.crush_bytes.specs.Writes.{AppendsLess}
 use Rattle.crush_table.specs.Table.{Row}
@@ -14,7 +14,7 @@ use Rattle.crush_calls.specs.Entries.{AreOf}
 use Rattle.crush_calls.specs.Script.{ScriptData, script_data, scripts_data}
 use Rattle.crush_calls.specs.History.{EntryData, IsLegal, changes, of_operator, table_after, turns}
 use Rattle.crush_calls.specs.Turns.{calls_at, calls_of}
-use Rattle.crush_calls.specs.HistoryText.{entries_text, names_of}
+use Rattle.crush_calls.specs.HistoryText.{names_of}
 use Rattle.crush_print.specs.MapText.{map_text}
 use Rattle.crush_print.proofs.SameText.{map_text_is_some}
 use Rattle.crush_calls.proofs.Histories.{turns_are_history}
@@ -22,8 +22,8 @@ use Rattle.crush_editor.specs.Book.{MakesAll}
 use Rattle.crush_run.specs.declared.fault.RunFault.{RunFault}
 use Rattle.crush_run.specs.declared.summary.Summary.{Summary}
 use Rattle.crush_script.specs.Job.{JobData}
-use Rattle.crush_run.specs.Run.{Ends, IsRunOf, output_of}
-use Rattle.crush_run.specs.Stages.{HaveRun, RunsScripts, lines_asked}
+use Rattle.crush_run.specs.Run.{Ends, IsRunOf, lines_asked, output_of}
+use Rattle.crush_run.specs.Stages.{HaveRun, RunsScripts}
 use Rattle.crush_run.proofs.Told.{nothing_written}
 
 -- the turns of the scripts are a run, in turn and at once
@@ -98,15 +98,13 @@ entries_of_scripts scripts h calls = entries_below (length scripts) h (λ k past
 -- what was laid out is the output
 pub outcome_text : (history : Bool) (job : JobData) (s : SettingData) (scripts : List ScriptData) (h es : List EntryData) → s ≡ job.setting → scripts ≡ job.scripts → es ≡ h
     → map_text s (table_after job.setting job.table h) ++ lines_asked history (names_of scripts) es ≡ output_of history job h
-outcome_text true job s scripts h es setting same entries = λ i. map_text (setting i) (table_after job.setting job.table h) ++ entries_text (names_of (same i)) 1 (entries i)
-outcome_text false job s scripts h es setting same entries = append-nil (map_text s (table_after job.setting job.table h)) ∙ ap (λ (x : SettingData). map_text x (table_after job.setting job.table h)) setting
+outcome_text history job s scripts h es setting same entries = λ i. map_text (setting i) (table_after job.setting job.table h) ++ lines_asked history (names_of (same i)) (entries i)
 
 -- no output is empty: it begins with a map's text
 output_is_some : (history : Bool) (job : JobData) (h : List EntryData) → 0 < length (output_of history job h)
-output_is_some true job h =
+output_is_some history job h =
     let some = map_text_is_some job.setting (table_after job.setting job.table h) in
     simp length-append (omega (arith, some))
-output_is_some false job h = map_text_is_some job.setting (table_after job.setting job.table h)
 
 -- a run of which a front was written, and not the whole
 pub ended_by : (mode : Mode) (job : JobData) (r : Result Summary RunFault) (f : RunFault) (old new : Option (List ℕ)) (h : List EntryData) → r ≡ Err f → IsRunOf mode.in_turn job h

@@ -1,13 +1,12 @@
 -- The run of a job: what its contract says, on one page.
-use Rattle.std.specs.Prelude.{◌≡◌, ◌≤◌, ◌+◌, ℕ, Option, Result, IfOk, IfSome, List, Bool, true, false, if◌then◌else◌, length}
+use Rattle.std.specs.Prelude.{◌≡◌, ◌≤◌, ◌+◌, ℕ, Option, Result, IfOk, IfSome, List, [], ◌++◌, Bool, true, false, if◌then◌else◌, length}
 use Rattle.std.specs.Io.KnownBytes.{Consumes}
 use Rattle.crush_units.specs.declared.limits.TheConstants.{LONGEST_JOB}
 use Rattle.crush_bytes.specs.Writes.{Writes}
 use Rattle.crush_print.specs.MapText.{map_text}
 use Rattle.crush_calls.specs.History.{EntryData, IsLegal, of_operator, table_after, changes, turns}
 use Rattle.crush_calls.specs.Turns.{calls_at, calls_of}
-use Rattle.crush_script.specs.JobText.{job_text}
-use Rattle.crush_calls.specs.HistoryText.{names_of}
+use Rattle.crush_calls.specs.HistoryText.{entries_text, names_of}
 use Rattle.crush_script.specs.Fault.{lacks_memory}
 use Rattle.crush_script.specs.Job.{JobData, HasJob, IsJobFault}
 use Rattle.crush_script.specs.declared.fault.JobFault.{JobFault}
@@ -23,11 +22,14 @@ pub record IsRunOf (in_turn : Bool) (job : JobData) (h : List EntryData) : Type 
   pub calls : (k : ℕ) → calls_of (of_operator k h) ≡ calls_at job.scripts k
   pub order : in_turn ≡ true → h ≡ turns job.setting job.table job.scripts
 
--- OUTPUT: the map after the history and, where it is asked for, a line for each of its entries
+-- a line for each entry, where they are asked for
+abbrev pub lines_asked : Bool → List (List ℕ) → List EntryData → List ℕ
+lines_asked history names h = if history then entries_text names 1 h else []
+
+-- OUTPUT: the map after the history, and behind it the lines that are asked for
 abbrev pub output_of : Bool → JobData → List EntryData → List ℕ
 output_of history job h =
-    if history then job_text job.setting job.table (names_of job.scripts) h
-    else map_text job.setting (table_after job.setting job.table h)
+    map_text job.setting (table_after job.setting job.table h) ++ lines_asked history (names_of job.scripts) h
 
 -- SUMMARY: the written weights that were replaced, the calls, and those that changed the map
 abbrev pub summary_of : JobData → List EntryData → Summary

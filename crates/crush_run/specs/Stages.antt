@@ -1,8 +1,7 @@
 -- The stages of a run: what comes of each, and which faults may come at which.
-use Rattle.std.specs.Prelude.{◌≡◌, ℕ, List, Bool, false, if◌then◌else◌, []}
+use Rattle.std.specs.Prelude.{◌≡◌, List, Bool, false}
 use Rattle.crush_map.specs.MapData.{MapData, MapStands}
 use Rattle.crush_calls.specs.History.{EntryData, table_after}
-use Rattle.crush_calls.specs.HistoryText.{entries_text}
 use Rattle.crush_calls.specs.Script.{ScriptData}
 use Rattle.crush_script.specs.Job.{JobData}
 use Rattle.crush_run.specs.declared.fault.RunFault.{RunFault}
@@ -48,7 +47,3 @@ pub record HaveRun (in_turn : Bool) (job : JobData) (after : MapData) (h : List 
 
 abbrev pub RunsScripts : Bool → MapData → List ScriptData → MapData → List EntryData → Type 0
 RunsScripts in_turn map scripts after h = (job : JobData) → MapStands map job.setting job.table → scripts ≡ job.scripts → HaveRun in_turn job after h
-
--- the lines of entries, where they are asked for
-abbrev pub lines_asked : Bool → List (List ℕ) → List EntryData → List ℕ
-lines_asked history names h = if history then entries_text names 1 h else []

@@ -10,8 +10,8 @@ ghost use Rattle.crush_calls.specs.Entries.{AreOf};
 ghost use Rattle.crush_calls.specs.HistoryText.{names_of};
 ghost use Rattle.crush_script.specs.Job.{HasJob, IsJob, JobData, JobStands};
 ghost use Rattle.crush_calls.specs.Script.{scripts_data};
-ghost use Rattle.crush_run.specs.Run.{Ends, IsRunFault, TakesFew};
-ghost use Rattle.crush_run.specs.Stages.{IsOutcomeFault, IsScriptsFault, RunsScripts, lines_asked};
+ghost use Rattle.crush_run.specs.Run.{Ends, IsRunFault, TakesFew, lines_asked};
+ghost use Rattle.crush_run.specs.Stages.{IsOutcomeFault, IsScriptsFault, RunsScripts};
 ghost use Rattle.crush_units.specs.declared.limits.TheConstants.{MOST_ENTRIES, MOST_OPERATORS};
 
 use crate::at_once::run_at_once;

@@ -2,7 +2,6 @@ pub mod AnswersAs
 pub mod Command
 pub mod Fault
 pub mod Job
-pub mod JobText
 pub mod Lines
 pub mod MapPart
 pub mod Printed
