@@ -13,6 +13,7 @@ use Rattle.crush_units.specs.declared.id.ItemId.TheVariants.{Device, Bucket}
 use Rattle.crush_units.specs.Alg.{alg_text}
 use Rattle.crush_units.specs.Name.{are_name_bytes, IsName}
 use Rattle.crush_units.specs.Weight.{are_digits, weight_of_text}
+use Rattle.crush_units.specs.declared.limits.TheConstants.{FARTHEST_BUCKET_ID, HEAVIEST_DEVICE, LARGEST_RULE_NUMBER, LARGEST_TUNABLE, LAST_DEVICE_ID, LAST_TYPE, MOST_BUCKETS, MOST_CLASS_IDS}
 use Rattle.crush_table.specs.Items.{ShadowData}
 use Rattle.crush_table.specs.Table.{is_there, id_named, bucket_count}
 use Rattle.crush_edits.specs.Setting.{StepData, take, choose, set, emit, RuleData, kind_number}
@@ -88,7 +89,7 @@ found_named p (Some j) i e = refl
 
 -- a weight with which the table is lawful is one for its item
 weight_fits : (d : Draft) (i : ItemId) (b w : ℕ) → d.pending ≡ is_filling b → is_there d.table i ≡ true → IsMap (with_item d i (Some w)) → is_weight_for i (Ok w) ≡ true
-weight_fits d (Device n) b w p there m = le-leb w 2147483647 (light_device d b n w p there m)
+weight_fits d (Device n) b w p there m = le-leb w HEAVIEST_DEVICE (light_device d b n w p there m)
 weight_fits d (Bucket x) b w p there m = refl
 
 -- a name of a bucket is one of an item
@@ -151,12 +152,12 @@ module _ (d : Draft) (m : IsMap d) where
   right_alg_line = λ a fa pa. (right_alg a fa, (λ h fh ph. (right_key d (codes "hash") h fh, λ z fz pz. (right_number d 0 z fz, tt)), tt))
 
   -- an id that is in its range and free
-  right_negative : (w : List ℕ) → IsFor d bucket_id w → 0 < digits_value 10 (drop 1 w) → digits_value 10 (drop 1 w) ≤ 2147483648 → has_bucket_id d (digits_value 10 (drop 1 w)) ≡ false → IsRight d bucket_id w
+  right_negative : (w : List ℕ) → IsFor d bucket_id w → 0 < digits_value 10 (drop 1 w) → digits_value 10 (drop 1 w) ≤ FARTHEST_BUCKET_ID → has_bucket_id d (digits_value 10 (drop 1 w)) ≡ false → IsRight d bucket_id w
   right_negative w h some most free =
       let minus : (slice_index w 0 == 45) ≡ true = eq-eqb _ _ h.0 in
       passed d bucket_id w (
         no_brace (λ x. slice_index x 0 == 45) w refl refl minus,
-        (not_from_true _ (and_from _ _ (and_from _ _ minus (number_in 2147483648 (drop 1 w) h.1 most)) (lt-ltb 0 (digits_value 10 (drop 1 w)) some)), (free, tt)),
+        (not_from_true _ (and_from _ _ (and_from _ _ minus (number_in FARTHEST_BUCKET_ID (drop 1 w) h.1 most)) (lt-ltb 0 (digits_value 10 (drop 1 w)) some)), (free, tt)),
       )
 
   -- an id
@@ -202,7 +203,7 @@ module _ (d : Draft) (m : IsMap d) where
   right_id_or_alg s w (inl e) p =
       let q : Possible d (class_id_line d) = subst (λ (x : List ℕ). Possible d (id_or_alg_line d (bytes_eq x (codes "id")))) e p in
       let f = class_built s q.0 q.2.2.0 q.2.2.2.0 in
-      let few : is_full_of_class_ids d ≡ false = ap (λ (x : Pending). nat_le 16 (length (pending_class_ids x))) s.4 ∙ f.few in
+      let few : is_full_of_class_ids d ≡ false = ap (λ (x : Pending). nat_le MOST_CLASS_IDS (length (pending_class_ids x))) s.4 ∙ f.few in
       subst (IsRight d id_or_alg) (sym e) (passed d id_or_alg (codes "id") (refl, (few, tt)))
   right_id_or_alg s w (inr e) p = subst (IsRight d id_or_alg) (sym e) (passed d id_or_alg (codes "alg") (refl, (refl, tt)))
 
@@ -231,8 +232,8 @@ module _ (d : Draft) (m : IsMap d) where
   right_device : d.pending ≡ nothing → Rightly d (device_line d)
   right_device idle = λ n fn pn. (
     let f = device_built idle (digits_value 10 n) pn.0 pn.2 in
-        let le : digits_value 10 n ≤ 2147483647 = omega (arith, f.most) in
-        passed d device_id n (digits_no_brace n fn, (not_from_true _ (number_in 2147483647 n fn le), (f.number, tt))),
+        let le : digits_value 10 n ≤ LAST_DEVICE_ID = omega (arith, f.most) in
+        passed d device_id n (digits_no_brace n fn, (not_from_true _ (number_in LAST_DEVICE_ID n fn le), (f.number, tt))),
     λ x fx px.
         let f = device_built idle (digits_value 10 n) x px in (
           right_name x f.form f.name,
@@ -244,14 +245,14 @@ module _ (d : Draft) (m : IsMap d) where
   right_tunable : Rightly d (tunable_line d)
   right_tunable = λ x fx px. (
     let f = tunable_free d x (digits_value 10 px.0) px.2.0.map in passed d tunable_name x (name_no_brace x f.tunable.name, (f.name, tt)),
-    λ n fn pn. (right_number d 4294967295 n fn, tt),
+    λ n fn pn. (right_number d LARGEST_TUNABLE n fn, tt),
   )
 
   -- a type
   right_type : Rightly d (type_line d)
   right_type = λ n fn pn. (
     let f = kind_free d (digits_value 10 n) pn.0 pn.2.0.map in
-        passed d type_number n (digits_no_brace n fn, (not_from_true _ (number_in 65535 n fn f.kind.number), (f.number, tt))),
+        passed d type_number n (digits_no_brace n fn, (not_from_true _ (number_in LAST_TYPE n fn f.kind.number), (f.number, tt))),
     λ x fx px.
         let f = kind_free d (digits_value 10 n) x px.0.map in
         (passed d (type_name (digits_value 10 n)) x (or_from _ _ (name_no_brace x f.kind.name) (allowed (digits_value 10 n) (is_reserved x) f.kind.free), (f.name, tt)), tt),
@@ -283,7 +284,7 @@ module _ (d : Draft) (m : IsMap d) where
   right_rule_id_key w (inr e) = subst (IsRight d rule_id_key) (sym e) (passed d rule_id_key (codes "ruleset") (refl, tt))
 
   right_max : (x : List ℕ) (n : ℕ) (k : List ℕ) (least : Option ℕ) → Rightly d (max_size d x n k least)
-  right_max x n k least = (λ e fe pe. (right_key d (codes "max_size") e fe, λ u fu pu. (right_number d 2147483647 u fu, tt)), tt)
+  right_max x n k least = (λ e fe pe. (right_key d (codes "max_size") e fe, λ u fu pu. (right_number d LARGEST_RULE_NUMBER u fu, tt)), tt)
 
   -- a rule's head
   right_rule : Rightly d (rule_line d)
@@ -294,12 +295,12 @@ module _ (d : Draft) (m : IsMap d) where
       λ b fb pb. (
         right_rule_id_key b fb,
         λ n fn pn. (
-          let f = (head_built x (digits_value 10 n) pn.2.0 pn.2.2).2 in passed d rule_id n (digits_no_brace n fn, (not_from_true _ (number_in 2147483647 n fn f.rule.id), (f.id, tt))),
+          let f = (head_built x (digits_value 10 n) pn.2.0 pn.2.2).2 in passed d rule_id n (digits_no_brace n fn, (not_from_true _ (number_in LARGEST_RULE_NUMBER n fn f.rule.id), (f.id, tt))),
           λ c fc pc. (
             right_key d (codes "type") c fc,
             λ k fk pk. (
               right_any d k (head_built x (digits_value 10 n) k pk).2.rule.kind,
-              (λ e fe pe. (right_key d (codes "min_size") e fe, λ u fu pu. (right_number d 2147483647 u fu, right_max x (digits_value 10 n) k (Some (digits_value 10 u)))), right_max x (digits_value 10 n) k None),
+              (λ e fe pe. (right_key d (codes "min_size") e fe, λ u fu pu. (right_number d LARGEST_RULE_NUMBER u fu, right_max x (digits_value 10 n) k (Some (digits_value 10 u)))), right_max x (digits_value 10 n) k None),
             ),
           ),
         ),
@@ -369,7 +370,7 @@ module _ (d : Draft) (m : IsMap d) where
         ),
       ),
     )
-    right_step (sets x) = λ n fn pn. (right_number d 2147483647 n fn, tt)
+    right_step (sets x) = λ n fn pn. (right_number d LARGEST_RULE_NUMBER n fn, tt)
     right_step emits = tt
 
     -- a step, or the end
@@ -410,7 +411,7 @@ module _ (d : Draft) (m : IsMap d) where
       let is : value d (opening late) w ≡ openings.Bucket (number_of d w) = opens d w (number_of d w) t.free refl in
       subst (λ (o : Opening). Possible d (statement d o) → IsRight d (opening late) w × Rightly d (statement d o)) (sym is) (λ p.
       let known : is_bucket_kind d.setting (number_of d w) ≡ true = p.2.0.pending.known in
-      let full : is_full_of_buckets d ≡ false = lt-leb 4096 (bucket_count d.table) p.2.0.pending.few in (
+      let full : is_full_of_buckets d ≡ false = lt-leb MOST_BUCKETS (bucket_count d.table) p.2.0.pending.few in (
         passed d (opening late) w (
           or_from _ _ (name_no_brace w t.form) (or_from _ _ n.class (and_right late _ (or_from _ _ n.tunable (or_from _ _ n.device n.kind)))),
           (not_from_true _ (or_right _ _ (or_right _ _ known)), (n.weights, (rw (n.tunable, n.device, n.kind, n.rule) full, tt))),

@@ -13,7 +13,7 @@ use Rattle.crush_units.specs.declared.id.ItemId.TheVariants.{Device, Bucket}
 use Rattle.crush_units.specs.Id.{same_id, is_device_id}
 use Rattle.crush_units.proofs.Ids.{same_id_refl, same_id_equal}
 use Rattle.crush_units.specs.Name.{IsName}
-use Rattle.crush_units.specs.declared.limits.TheConstants.{DEVICE_IDS, HEAVIEST_DEVICE}
+use Rattle.crush_units.specs.declared.limits.TheConstants.{DEVICE_IDS, HEAVIEST_BUCKET, HEAVIEST_DEVICE, HEAVIEST_MAP, MOST_CLASS_IDS, MOST_DEVICES, MOST_RULES, MOST_STEPS, MOST_TUNABLES, MOST_TYPES}
 use Rattle.crush_table.specs.Items.{ShadowData}
 use Rattle.crush_table.specs.Table.{Row, member, used_ids, is_device, row_of, row_named, is_there, is_named, sum_below, total, device_count}
 use Rattle.crush_table.specs.Columns.{without_row}
@@ -78,7 +78,7 @@ kind_free d n x m =
     record {
       number = any_none (λ (k : KindData). k.number == n) d.setting.kinds (none_before (λ (k : KindData). k.number == n) d.setting.kinds kind (eq-eqb n n refl) (m.fits.setting.numbers n));
       name = any_none (λ (k : KindData). bytes_eq k.name x) d.setting.kinds (none_before (λ (k : KindData). bytes_eq k.name x) d.setting.kinds kind (bytes_itself x) (m.fits.setting.names x));
-      few = lt-leb 256 (length d.setting.kinds) (omega (arith, m.fits.setting.few_kinds, length-append d.setting.kinds (kind ∷ [])));
+      few = lt-leb MOST_TYPES (length d.setting.kinds) (omega (arith, m.fits.setting.few_kinds, length-append d.setting.kinds (kind ∷ [])));
       kind = last_of IsKind d.setting.kinds kind m.fits.setting.kinds;
     }
 
@@ -94,7 +94,7 @@ tunable_free d x v m =
     let new : TunableData = record { name = x; value = v } in
     record {
       name = any_none (λ (k : TunableData). bytes_eq k.name x) d.setting.tunables (none_before (λ (k : TunableData). bytes_eq k.name x) d.setting.tunables new (bytes_itself x) (m.fits.setting.tunable_names x));
-      few = lt-leb 64 (length d.setting.tunables) (omega (arith, m.fits.setting.few_tunables, length-append d.setting.tunables (new ∷ [])));
+      few = lt-leb MOST_TUNABLES (length d.setting.tunables) (omega (arith, m.fits.setting.few_tunables, length-append d.setting.tunables (new ∷ [])));
       tunable = last_of IsTunable d.setting.tunables new m.fits.setting.tunables;
     }
 
@@ -110,26 +110,26 @@ pub rule_free : (d : Draft) (r : RuleData) → IsMap (add_rule d r) → RuleFree
 rule_free d r m = record {
   name = any_none (λ (x : RuleData). bytes_eq x.name r.name) d.setting.rules (none_before (λ (x : RuleData). bytes_eq x.name r.name) d.setting.rules r (bytes_itself r.name) (m.fits.setting.rule_names r.name));
   id = any_none (λ (x : RuleData). x.id == r.id) d.setting.rules (none_before (λ (x : RuleData). x.id == r.id) d.setting.rules r (eq-eqb r.id r.id refl) (m.fits.setting.rule_ids r.id));
-  few = lt-leb 256 (length d.setting.rules) (omega (arith, m.fits.setting.few_rules, length-append d.setting.rules (r ∷ [])));
+  few = lt-leb MOST_RULES (length d.setting.rules) (omega (arith, m.fits.setting.few_rules, length-append d.setting.rules (r ∷ [])));
   rule = last_of (IsRule (add_rule d r).setting) d.setting.rules r m.fits.setting.rules;
 }
 
 -- before its last step
 pub record StepFree (d : Draft) (r : RuleData) (s : StepData) : Type 0 where
-  pub few : nat_le 64 (length r.steps) ≡ false
+  pub few : nat_le MOST_STEPS (length r.steps) ≡ false
   pub step : IsStep (add_rule d (with_step r s)).setting s
 
 pub step_free : (d : Draft) (r : RuleData) (s : StepData) → IsMap (add_rule d (with_step r s)) → StepFree d r s
 step_free d r s m =
     let f = rule_free d (with_step r s) m in
     record {
-      few = lt-leb 64 (length r.steps) (omega (arith, f.rule.few, length-append r.steps (s ∷ [])));
+      few = lt-leb MOST_STEPS (length r.steps) (omega (arith, f.rule.few, length-append r.steps (s ∷ [])));
       step = last_of (IsStep (add_rule d (with_step r s)).setting) r.steps s f.rule.steps;
     }
 
 -- before a class id
 pub record ClassFree (t : List Row) (b : ℕ) (cs : List ShadowData) (c : ShadowData) : Type 0 where
-  pub few : nat_le 16 (length cs) ≡ false
+  pub few : nat_le MOST_CLASS_IDS (length cs) ≡ false
   pub form : IsShadowId c
   pub fresh : member c.id (used_ids t) ≡ false
   pub other : member c.id (own_ids b cs) ≡ false
@@ -146,7 +146,7 @@ class_free t b cs c n =
     let own : own_ids b (cs ++ c ∷ []) ≡ own_ids b cs ++ c.id ∷ [] = ap (λ (xs : List ℕ). b ∷ xs) (map-append (λ (x : ShadowData). x.id) cs (c ∷ [])) in
     let once : count_by (λ u. u == c.id) (own_ids b cs ++ c.id ∷ []) ≤ 1 = subst (λ (xs : List ℕ). count_by (λ u. u == c.id) xs ≤ 1) own (n.apart c.id) in
     record {
-      few = lt-leb 16 (length cs) (omega (arith, n.few, length-append cs (c ∷ [])));
+      few = lt-leb MOST_CLASS_IDS (length cs) (omega (arith, n.few, length-append cs (c ∷ [])));
       form = last_of IsShadowId cs c n.form;
       fresh = last_of (λ (x : ShadowData). member x.id (used_ids t) ≡ false) cs c n.fresh;
       other = member_any c.id (own_ids b cs) ∙ any_none (λ u. u == c.id) (own_ids b cs) (none_before (λ u. u == c.id) (own_ids b cs) c.id (eq-eqb c.id c.id refl) once);
@@ -214,7 +214,7 @@ device_free_by d n r is idle l =
     record {
       number = ap is_some (row_of-absent d.table (Device n) none);
       name = name_free d r idle l;
-      few = lt-leb 65536 (device_count d.table) (omega (arith, l.devices, count_last is_device d.table r device));
+      few = lt-leb MOST_DEVICES (device_count d.table) (omega (arith, l.devices, count_last is_device d.table r device));
       most = own.id;
       form = row.name;
     }
@@ -233,7 +233,7 @@ class_form d n x c m =
 -- a lawful table isn't too heavy
 light_item : (t : List Row) → Lawful t → (i : ItemId) → is_over t i ≡ false
 light_item t l (Device n) = refl
-light_item t l (Bucket b) = le-ltb 4294967295 (sum_below t b) (l.sums b)
+light_item t l (Bucket b) = le-ltb HEAVIEST_BUCKET (sum_below t b) (l.sums b)
 
 -- no row of a lawful table is over its bound
 light_rows : (t us : List Row) → Lawful t → list_any (λ (r : Row). is_over t r.id) us ≡ false
@@ -242,7 +242,7 @@ light_rows t (r ∷ us) l = rw (light_item t l r.id) (light_rows t us l)
 
 -- nor is the total
 pub is_light : (t : List Row) → Lawful t → is_too_heavy t ≡ false
-is_light t l = rw (light_rows t t l) (le-ltb 8796093022207 (total t) l.total)
+is_light t l = rw (light_rows t t l) (le-ltb HEAVIEST_MAP (total t) l.total)
 
 -- a device whose row is lawful with a weight may weigh that
 row_light : (n b w : ℕ) (t : List Row) → All IsRow (map (placed_row b w) (filter (λ (r : Row). same_id r.id (Device n)) t)) → is_there t (Device n) ≡ true → w ≤ HEAVIEST_DEVICE

@@ -5,6 +5,7 @@ use Rattle.std.proofs.lemmas.List.Elements.{All-nil, All-cons, All-head, All-tai
 use Rattle.std.proofs.lemmas.List.Sums.{sum_by-append, sum_by-cons}
 use Rattle.std.specs.Prelude.{All, flat_map, nat_le, bytes_eq}
 use Rattle.std.specs.List.{count_by, list_any}
+use Rattle.crush_units.specs.declared.limits.TheConstants.{MOST_TUNABLES}
 use Rattle.crush_table.specs.Count.{one_if}
 use Rattle.crush_table.specs.Table.{Row}
 use Rattle.crush_table.specs.Lawful.{Lawful}
@@ -93,12 +94,12 @@ tuned_state ks = between (at first (quiet (tuned ks) []))
 abbrev TunedMap : List TunableData → Type 0
 TunedMap ks = IsMap (quiet (tuned ks) [])
 
-module _ (all : List TunableData) (each : All IsTunable all) (once : (n : List ℕ) → count_by (λ (k : TunableData). bytes_eq k.name n) all ≤ 1) (few : length all ≤ 64) (others : List (List ℕ)) where
+module _ (all : List TunableData) (each : All IsTunable all) (once : (n : List ℕ) → count_by (λ (k : TunableData). bytes_eq k.name n) all ≤ 1) (few : length all ≤ MOST_TUNABLES) (others : List (List ℕ)) where
   tunable_leads : EachLeads tunable_words tuned_state TunedMap all others
   tunable_leads front k rest e m =
       let form = All-at IsTunable front k rest (subst (All IsTunable) (sym e) each) in
       let new = new_at (λ (x : TunableData). bytes_eq x.name k.name) front k rest all e (once k.name) (bytes_itself k.name) in
-      let room = has_room (length front) (length all) 64 (shorter front k rest all e) few in
+      let room = has_room (length front) (length all) MOST_TUNABLES (shorter front k rest all e) few in
       let more = map_with_tunable (quiet (tuned front) []) k.name k.value m form.name form.value new room in
       record { holds = more; goes = tunable_goes (quiet (tuned front) []) k.name k.value (flat_map tunable_words rest ++ others) form.value (quiet_lawful (tuned (front ++ k ∷ [])) [] more) }
 

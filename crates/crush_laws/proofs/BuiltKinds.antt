@@ -6,6 +6,7 @@ use Rattle.std.proofs.lemmas.List.Folds.{flat_map-map}
 use Rattle.std.specs.Prelude.{All, map, flat_map, find, nat_le, bytes_eq, unwrap_or, ◌==◌, if◌then◌else◌}
 use Rattle.std.specs.List.{count_by, list_any}
 use Rattle.std.specs.Option.{option_map}
+use Rattle.crush_units.specs.declared.limits.TheConstants.{MOST_TYPES}
 use Rattle.crush_table.specs.Reordered.{IsReordered}
 use Rattle.crush_table.specs.Table.{Row}
 use Rattle.crush_table.proofs.Reorder.{reordered-refl, reordered-count, reordered-length, reordered-All, reordered-find, reordered-map}
@@ -77,14 +78,14 @@ module _ (tunables : List TunableData) (u : List Row) where
   abbrev KindedMap : List KindData → Type 0
   KindedMap ks = IsMap (quiet (kinded tunables ks) u)
 
-  module _ (all : List KindData) (each : All IsKind all) (numbers : (n : ℕ) → count_by (λ (k : KindData). k.number == n) all ≤ 1) (names : (n : List ℕ) → count_by (λ (k : KindData). bytes_eq k.name n) all ≤ 1) (few : length all ≤ 256)
+  module _ (all : List KindData) (each : All IsKind all) (numbers : (n : ℕ) → count_by (λ (k : KindData). k.number == n) all ≤ 1) (names : (n : List ℕ) → count_by (λ (k : KindData). bytes_eq k.name n) all ≤ 1) (few : length all ≤ MOST_TYPES)
       (others : List (List ℕ)) where
     kind_leads : EachLeads own_words kinded_state KindedMap all others
     kind_leads front k rest e m =
         let form = All-at IsKind front k rest (subst (All IsKind) (sym e) each) in
         let number = new_at (λ (x : KindData). x.number == k.number) front k rest all e (numbers k.number) (eq-eqb k.number k.number refl) in
         let name = new_at (λ (x : KindData). bytes_eq x.name k.name) front k rest all e (names k.name) (bytes_itself k.name) in
-        let room = has_room (length front) (length all) 256 (shorter front k rest all e) few in
+        let room = has_room (length front) (length all) MOST_TYPES (shorter front k rest all e) few in
         let more = map_with_kind (quiet (kinded tunables front) u) k.number k.name m form.number form.name form.free number name room in
         let small : k.number < 10 ^ 10 = let v = form.number in omega (arith, v) in
         record { holds = more; goes = kind_goes (quiet (kinded tunables front) u) k.number k.name (flat_map own_words rest ++ others) small (quiet_lawful (kinded tunables (front ++ k ∷ [])) u more) }

@@ -16,6 +16,7 @@ use Rattle.crush_units.specs.Alg.{alg_text}
 use Rattle.crush_units.specs.Weight.{are_digits, weight_text}
 use Rattle.crush_units.proofs.Algs.{alg_of_text-alg_text}
 use Rattle.crush_units.proofs.ReadBack.{read_again}
+use Rattle.crush_units.specs.declared.limits.TheConstants.{LARGEST_TUNABLE}
 use Rattle.crush_table.specs.Table.{is_placed}
 use Rattle.crush_map.specs.Built.{Draft, with_tunable, with_kind, with_device, begun_bucket, with_id, with_class_id, with_alg, with_item, with_end}
 use Rattle.crush_map.specs.Building.{item_named}
@@ -118,17 +119,17 @@ decimal_number most n le h =
     rw (decimal_digits n h, decimal_value n h, small) refl
 
 -- LINES. A tunable's
-pub tunable_goes : (d : Draft) (x : List ℕ) (n : ℕ) (others : List (List ℕ)) → n ≤ 4294967295 → IsLawfulDraft (with_tunable d x n)
+pub tunable_goes : (d : Draft) (x : List ℕ) (n : ℕ) (others : List (List ℕ)) → n ≤ LARGEST_TUNABLE → IsLawfulDraft (with_tunable d x n)
     → Goes (between (at first d)) (codes "tunable" ∷ x ∷ decimal n ∷ []) others (between (at first (with_tunable d x n)))
 tunable_goes d x n others le l = (
   amid d (tunable_line d),
   (inl (refl, inl refl), refl),
   tt,
   (
-    amid d (word (number 4294967295) (λ v. done (at first (with_tunable d x v)))),
+    amid d (word (number LARGEST_TUNABLE) (λ v. done (at first (with_tunable d x v)))),
     (tt, refl),
     tt,
-    (between (at first (with_tunable d x n)), (decimal_number 4294967295 n le (omega (arith, le)), ap (λ v. between (at first (with_tunable d x v))) (sym (decimal_value n (omega (arith, le))))), (l, tt), refl),
+    (between (at first (with_tunable d x n)), (decimal_number LARGEST_TUNABLE n le (omega (arith, le)), ap (λ v. between (at first (with_tunable d x v))) (sym (decimal_value n (omega (arith, le))))), (l, tt), refl),
   ),
 )
 

@@ -8,6 +8,7 @@ use Rattle.std.specs.Prelude.{ℤ, pos, negsuc, codes, decimal, unwrap_or, slice
 use Rattle.std.specs.Fmt.{signed_decimal}
 use Rattle.std.specs.List.{starts_with}
 use Rattle.std.specs.Str.Parse.{AllDigits}
+use Rattle.crush_units.specs.declared.limits.TheConstants.{FARTHEST_COUNT, LARGEST_COUNT, LARGEST_RULE_NUMBER}
 use Rattle.crush_edits.specs.Setting.{take, choose, set, emit, RuleData}
 use Rattle.crush_edits.specs.Fits.{IsCount}
 use Rattle.crush_map.specs.Built.{Draft, add_rule}
@@ -24,20 +25,20 @@ use Rattle.crush_laws.proofs.BuiltLines.{plain, Goes, goes_both, idle, decimal_d
 
 -- SIZES
 abbrev most_form : Draft → List ℕ → ℕ → List ℕ → Option ℕ → Form
-most_form d x n k least = word (key (codes "max_size")) (λ _. word (number 2147483647) (λ v. done (at (ruled (new_rule x n k least (Some v))) d)))
+most_form d x n k least = word (key (codes "max_size")) (λ _. word (number LARGEST_RULE_NUMBER) (λ v. done (at (ruled (new_rule x n k least (Some v))) d)))
 
 abbrev least_form : Draft → List ℕ → ℕ → List ℕ → Form
-least_form d x n k = word (key (codes "min_size")) (λ _. word (number 2147483647) (λ v. max_size d x n k (Some v)))
+least_form d x n k = word (key (codes "min_size")) (λ _. word (number LARGEST_RULE_NUMBER) (λ v. max_size d x n k (Some v)))
 
-most_goes : (d : Draft) (x : List ℕ) (n : ℕ) (k : List ℕ) (least most : Option ℕ) (others : List (List ℕ)) → IfSome most (λ v. v ≤ 2147483647) → begins_with_key (codes "max_size") (plain others) ≡ false
+most_goes : (d : Draft) (x : List ℕ) (n : ℕ) (k : List ℕ) (least most : Option ℕ) (others : List (List ℕ)) → IfSome most (λ v. v ≤ LARGEST_RULE_NUMBER) → begins_with_key (codes "max_size") (plain others) ≡ false
     → IsLawfulState (between (at (ruled (new_rule x n k least most)) d))
     → Goes (arrive d (plain (size_words (codes "max_size") most ++ others)) (max_size d x n k least)) (size_words (codes "max_size") most) others (between (at (ruled (new_rule x n k least most)) d))
 most_goes d x n k least None others h other l = ap (λ b. if b then amid d (most_form d x n k least) else between (at (ruled (new_rule x n k least None)) d)) other
 most_goes d x n k least (Some v) others h other l = (
-  amid d (word (number 2147483647) (λ y. done (at (ruled (new_rule x n k least (Some y))) d))),
+  amid d (word (number LARGEST_RULE_NUMBER) (λ y. done (at (ruled (new_rule x n k least (Some y))) d))),
   (refl, refl),
   tt,
-  (between (at (ruled (new_rule x n k least (Some v))) d), (decimal_number 2147483647 v h (omega (arith, h)), ap (λ y. between (at (ruled (new_rule x n k least (Some y))) d)) (sym (decimal_value v (omega (arith, h))))), l, refl),
+  (between (at (ruled (new_rule x n k least (Some v))) d), (decimal_number LARGEST_RULE_NUMBER v h (omega (arith, h)), ap (λ y. between (at (ruled (new_rule x n k least (Some y))) d)) (sym (decimal_value v (omega (arith, h))))), l, refl),
 )
 
 most_lawful : (d : Draft) (x : List ℕ) (n : ℕ) (k : List ℕ) (least most : Option ℕ) (others : List (List ℕ)) → begins_with_key (codes "max_size") (plain others) ≡ false
@@ -49,15 +50,15 @@ most_first : (most : Option ℕ) (others : List (List ℕ)) → begins_with_key 
 most_first None others other = other
 most_first (Some v) others other = refl
 
-least_goes : (d : Draft) (x : List ℕ) (n : ℕ) (k : List ℕ) (least : Option ℕ) (rest : List (List ℕ)) → IfSome least (λ v. v ≤ 2147483647) → begins_with_key (codes "min_size") (plain rest) ≡ false
+least_goes : (d : Draft) (x : List ℕ) (n : ℕ) (k : List ℕ) (least : Option ℕ) (rest : List (List ℕ)) → IfSome least (λ v. v ≤ LARGEST_RULE_NUMBER) → begins_with_key (codes "min_size") (plain rest) ≡ false
     → IsLawfulState (arrive d (plain rest) (max_size d x n k least))
     → Goes (arrive d (plain (size_words (codes "min_size") least ++ rest)) (sizes d x n k)) (size_words (codes "min_size") least) rest (arrive d (plain rest) (max_size d x n k least))
 least_goes d x n k None rest h other l = ap (λ b. if b then amid d (least_form d x n k) else arrive d (plain rest) (max_size d x n k None)) other
 least_goes d x n k (Some v) rest h other l = (
-  amid d (word (number 2147483647) (λ y. max_size d x n k (Some y))),
+  amid d (word (number LARGEST_RULE_NUMBER) (λ y. max_size d x n k (Some y))),
   (refl, refl),
   tt,
-  (arrive d (plain rest) (max_size d x n k (Some v)), (decimal_number 2147483647 v h (omega (arith, h)), ap (λ y. arrive d (plain rest) (max_size d x n k (Some y))) (sym (decimal_value v (omega (arith, h))))), l, refl),
+  (arrive d (plain rest) (max_size d x n k (Some v)), (decimal_number LARGEST_RULE_NUMBER v h (omega (arith, h)), ap (λ y. arrive d (plain rest) (max_size d x n k (Some y))) (sym (decimal_value v (omega (arith, h))))), l, refl),
 )
 
 -- THE HEAD
@@ -74,7 +75,7 @@ sizes_lawful d x n k None rest other l = subst IsLawfulState (sym (ap (λ b. if 
 sizes_lawful d x n k (Some v) rest other l = tt
 
 -- a rule's name, its id, the word for what it serves, and its sizes, behind which no size follows
-pub rule_head_goes : (late : Bool) (d : Draft) (x : List ℕ) (n : ℕ) (k : List ℕ) (least most : Option ℕ) (others : List (List ℕ)) → n < 10 ^ 10 → IfSome least (λ v. v ≤ 2147483647) → IfSome most (λ v. v ≤ 2147483647)
+pub rule_head_goes : (late : Bool) (d : Draft) (x : List ℕ) (n : ℕ) (k : List ℕ) (least most : Option ℕ) (others : List (List ℕ)) → n < 10 ^ 10 → IfSome least (λ v. v ≤ LARGEST_RULE_NUMBER) → IfSome most (λ v. v ≤ LARGEST_RULE_NUMBER)
     → begins_with_key (codes "min_size") (plain others) ≡ false → begins_with_key (codes "max_size") (plain others) ≡ false → IsLawfulState (between (at (ruled (new_rule x n k least most)) d))
     → Goes (between (at (idle late) d)) (codes "rule" ∷ x ∷ codes "{" ∷ codes "id" ∷ decimal n ∷ codes "type" ∷ k ∷ (size_words (codes "min_size") least ++ size_words (codes "max_size") most)) others (between (at (ruled (new_rule x n k least most)) d))
 rule_head_goes late d x n k least most others le hl hm other another l =
@@ -179,8 +180,8 @@ no_sign [] some h = absurd (omega (arith, some))
 no_sign (c ∷ ds) some h = let r = digit_from_value c h.0 in ne_eqb c 45 (λ e. omega (arith, r.0, e))
 
 count_form : (z : ℤ) → IsCount z → is_signed (signed_decimal z) ≡ true
-count_form (pos n) h = let d = decimal_is_IsNumeral n (omega (arith, h)) in rw (no_sign (decimal n) d.0.0 d.0.1) (decimal_number 2147483647 n h (omega (arith, h)))
-count_form (negsuc n) h = decimal_number 2147483648 (suc n) (omega (arith, h)) (omega (arith, h))
+count_form (pos n) h = let d = decimal_is_IsNumeral n (omega (arith, h)) in rw (no_sign (decimal n) d.0.0 d.0.1) (decimal_number LARGEST_COUNT n h (omega (arith, h)))
+count_form (negsuc n) h = decimal_number FARTHEST_COUNT (suc n) (omega (arith, h)) (omega (arith, h))
 
 count_value : (z : ℤ) → IsCount z → signed_value (signed_decimal z) ≡ z
 count_value (pos n) h = let d = decimal_is_IsNumeral n (omega (arith, h)) in rw (no_sign (decimal n) d.0.0 d.0.1) (ap pos (decimal_value n (omega (arith, h))))
@@ -239,7 +240,7 @@ differ w k h g = by_test (bytes_eq w k) refl
 pub set_said : (w : List ℕ) → starts_with nat_eq w (codes "set_") ≡ true → step_said w ≡ sets w
 set_said w h = rw (differ w (codes "take") h refl, differ w (codes "choose") h refl, differ w (codes "chooseleaf") h refl, differ w (codes "emit") h refl) refl
 
-pub set_goes : (d : Draft) (r : RuleData) (x : List ℕ) (v : ℕ) (others : List (List ℕ)) → starts_with nat_eq x (codes "set_") ≡ true → v ≤ 2147483647 → IsLawfulState (between (at (ruled (with_step r (set x v))) d))
+pub set_goes : (d : Draft) (r : RuleData) (x : List ℕ) (v : ℕ) (others : List (List ℕ)) → starts_with nat_eq x (codes "set_") ≡ true → v ≤ LARGEST_RULE_NUMBER → IsLawfulState (between (at (ruled (with_step r (set x v))) d))
     → Goes (between (at (ruled r) d)) (codes "step" ∷ x ∷ decimal v ∷ []) others (between (at (ruled (with_step r (set x v))) d))
 set_goes d r x v others h le l = (
   amid d (word step_word (step_behind d r)),
@@ -249,7 +250,7 @@ set_goes d r x v others h le l = (
     amid d (set_step d r x),
     (inr (inr (inr (inr h))), ap (λ s. arrive d (plain ((decimal v ∷ []) ++ others)) (step_behind d r s)) (sym (set_said x h))),
     tt,
-    (between (at (ruled (with_step r (set x v))) d), (decimal_number 2147483647 v le (omega (arith, le)), ap (λ y. between (at (ruled (with_step r (set x y))) d)) (sym (decimal_value v (omega (arith, le))))), l, refl),
+    (between (at (ruled (with_step r (set x v))) d), (decimal_number LARGEST_RULE_NUMBER v le (omega (arith, le)), ap (λ y. between (at (ruled (with_step r (set x y))) d)) (sym (decimal_value v (omega (arith, le))))), l, refl),
   ),
 )
 

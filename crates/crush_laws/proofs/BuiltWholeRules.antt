@@ -4,6 +4,7 @@ use Rattle.std.proofs.lemmas.List.Concat.{flat_map-append}
 use Rattle.std.proofs.lemmas.List.Elements.{All-head, All-weaker}
 use Rattle.std.specs.Prelude.{All, flat_map, codes, bytes_eq, is_some, option_and_then, ◌==◌}
 use Rattle.crush_units.specs.declared.id.ItemId.TheVariants.{Bucket}
+use Rattle.crush_units.specs.declared.limits.TheConstants.{MOST_RULES, MOST_STEPS}
 use Rattle.crush_table.specs.Lawful.{Lawful}
 use Rattle.crush_table.specs.Same.{Same}
 use Rattle.crush_table.specs.Table.{Row, id_named}
@@ -98,7 +99,7 @@ module _ (s : SettingData) (t u : List Row) (l : Lawful t) (f : Fits s t) (built
         let few = form.few in
         let own = All-at (IsStep s) front x rest (subst (All (IsStep s)) (sym e) steps) in
         let taken = part_at (IsThere t) bucket_taken front x rest r.steps e there in
-        let room : length front < 64 = omega (arith, few, shorter front x rest r.steps e) in
+        let room : length front < MOST_STEPS = omega (arith, few, shorter front x rest r.steps e) in
         let next = can_step (quiet (ruled_setting rs) u) (so_far front) x can (step_again rs x own) room (All-weaker (IsThere t) (IsThere u) there_again (bucket_taken x) taken) in
         let lawful : IsLawfulState (step_state (front ++ x ∷ [])) = (quiet_lawful (ruled_setting rs) u m, map_with_rule (quiet (ruled_setting rs) u) (so_far (front ++ x ∷ [])) m next) in
         let avoids = avoids_both (codes "class") (flat_map (step_words t) rest) others (avoids_all (codes "class") (step_words t) rest (step_avoids t (codes "class") refl)) free in
@@ -124,7 +125,7 @@ module _ (s : SettingData) (t u : List Row) (l : Lawful t) (f : Fits s t) (built
         let d = quiet (ruled_setting front) u in
         let name = new_at (λ (x : RuleData). bytes_eq x.name r.name) front r rest s.rules e (setting.rule_names r.name) (bytes_itself r.name) in
         let id = new_at (λ (x : RuleData). x.id == r.id) front r rest s.rules e (setting.rule_ids r.id) (eq-eqb r.id r.id refl) in
-        let room = has_room (length front) (length s.rules) 256 (shorter front r rest s.rules e) setting.few_rules in
+        let room = has_room (length front) (length s.rules) MOST_RULES (shorter front r rest s.rules e) setting.few_rules in
         let begin = can_begin d r.name r.id r.kind r.min_size r.max_size form.name form.id form.kind form.min_size form.max_size name id room in
         let behind_it : List (List ℕ) = flat_map (rule_words t) rest ++ others in
         let brace : List (List ℕ) = codes "}" ∷ [] in

@@ -4,6 +4,7 @@ use Rattle.std.proofs.lemmas.List.Elements.{All-nil, All-weaker}
 use Rattle.std.proofs.lemmas.List.Sums.{sum_by-append}
 use Rattle.std.specs.Prelude.{◌==◌, All, bytes_eq}
 use Rattle.std.specs.List.{count_by}
+use Rattle.crush_units.specs.declared.limits.TheConstants.{MOST_RULES, MOST_STEPS, MOST_TUNABLES, MOST_TYPES}
 use Rattle.crush_table.specs.Count.{one_if}
 use Rattle.crush_table.specs.Table.{Row}
 use Rattle.crush_edits.specs.Setting.{KindData, TunableData, StepData, RuleData, SettingData, taken_buckets}
@@ -55,7 +56,7 @@ kind_back d n x early m =
           kinds = All-left IsKind s.kinds last f.setting.kinds;
           tunables = f.setting.tunables;
           rules = no_rules s early.unruled;
-          few_kinds = shorter s.kinds last 256 f.setting.few_kinds;
+          few_kinds = shorter s.kinds last MOST_TYPES f.setting.few_kinds;
           few_tunables = f.setting.few_tunables;
           few_rules = f.setting.few_rules;
         };
@@ -83,7 +84,7 @@ tunable_back d x v early m =
           tunables = All-left IsTunable s.tunables last f.setting.tunables;
           rules = no_rules s early.unruled;
           few_kinds = f.setting.few_kinds;
-          few_tunables = shorter s.tunables last 64 f.setting.few_tunables;
+          few_tunables = shorter s.tunables last MOST_TUNABLES f.setting.few_tunables;
           few_rules = f.setting.few_rules;
         };
         types = f.types;
@@ -115,7 +116,7 @@ rule_back d r taken m =
           rules = All-weaker (IsRule (add_rule d r).setting) (IsRule s) (rule_before d r) s.rules (All-left (IsRule (add_rule d r).setting) s.rules last f.setting.rules);
           few_kinds = f.setting.few_kinds;
           few_tunables = f.setting.few_tunables;
-          few_rules = shorter s.rules last 256 f.setting.few_rules;
+          few_rules = shorter s.rules last MOST_RULES f.setting.few_rules;
         };
         types = f.types;
         taken = taken;
@@ -134,7 +135,7 @@ step_back d r x map taken m =
         kind = rule.kind;
         min_size = rule.min_size;
         max_size = rule.max_size;
-        few = shorter r.steps (x ∷ []) 64 rule.few;
+        few = shorter r.steps (x ∷ []) MOST_STEPS rule.few;
         steps = All-left (IsStep d.setting) r.steps (x ∷ []) rule.steps;
       };
       name = free.name;

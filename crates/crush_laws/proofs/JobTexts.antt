@@ -6,6 +6,7 @@ use Rattle.std.specs.Prelude.{All, bytes_eq, codes, take, drop}
 use Rattle.std.specs.Str.Parse.{digits_value}
 use Rattle.crush_units.specs.Name.{IsName}
 use Rattle.crush_units.specs.Id.{device_from}
+use Rattle.crush_units.specs.declared.limits.TheConstants.{DEVICE_IDS, LAST_DEVICE_ID}
 use Rattle.crush_edits.specs.declared.edit.Edit.{Edit}
 use Rattle.crush_edits.specs.declared.edit.Edit.TheVariants.{Insert, CreateOrMove, Update, Move, Swap, Reweight, ReweightSubtree, Remove, AddBucket, Rename}
 use Rattle.crush_edits.specs.declared.location.Pair.{Pair}
@@ -29,15 +30,15 @@ use Rattle.crush_script.specs.ScriptsText.{IsSaidCall, IsSaidScript}
 use Rattle.crush_script.proofs.SaidJobs.{job_said}
 
 -- the number of a device's name is a device's id
-device_in_range : (n : List ℕ) (d : ℕ) → device_named n ≡ Some d → d < 2147483648
+device_in_range : (n : List ℕ) (d : ℕ) → device_named n ≡ Some d → d < DEVICE_IDS
 device_in_range n d is = named (bytes_eq (take 4 n) (codes "osd.") && is_plain (drop 4 n)) (digits_value 10 (drop 4 n)) is
   where
-    from : (b : Bool) (v : ℕ) → nat_le v 2147483647 ≡ b → ◌≡◌ {A = Option ℕ} (cond b (Some v) None) (Some d) → d < 2147483648
+    from : (b : Bool) (v : ℕ) → nat_le v LAST_DEVICE_ID ≡ b → ◌≡◌ {A = Option ℕ} (cond b (Some v) None) (Some d) → d < DEVICE_IDS
     from true v low is = grind (arith, nat_tests, low, is)
     from false v low is = absurd cc
 
-    named : (b : Bool) (v : ℕ) → ◌≡◌ {A = Option ℕ} (cond b (device_from v) None) (Some d) → d < 2147483648
-    named true v is = from (nat_le v 2147483647) v refl is
+    named : (b : Bool) (v : ℕ) → ◌≡◌ {A = Option ℕ} (cond b (device_from v) None) (Some d) → d < DEVICE_IDS
+    named true v is = from (nat_le v LAST_DEVICE_ID) v refl is
     named false v is = absurd cc
 
 -- what a line says has the forms that the table's laws ask for, and those that the lines of a history do

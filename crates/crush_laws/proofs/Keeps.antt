@@ -13,6 +13,7 @@ use Rattle.crush_units.specs.declared.id.ItemId.TheVariants.{Device, Bucket}
 use Rattle.crush_units.specs.declared.weight.WeightFault.{WeightFault}
 use Rattle.crush_units.specs.Name.{is_name, are_name_bytes, IsName}
 use Rattle.crush_units.specs.Weight.{are_digits, weight_of_text}
+use Rattle.crush_units.specs.declared.limits.TheConstants.{FARTHEST_BUCKET_ID, FARTHEST_COUNT, LARGEST_COUNT, LARGEST_RULE_NUMBER, LARGEST_TUNABLE, LAST_DEVICE_ID, LAST_TYPE, LONGEST_NAME, MOST_BUCKETS, MOST_STEPS, UNITS_OF_ONE}
 use Rattle.crush_table.specs.Items.{ShadowData}
 use Rattle.crush_table.specs.Lawful.{Lawful, IsShadowId, is_too_heavy}
 use Rattle.crush_edits.specs.Setting.{KindData, StepData, take, choose, set, emit, RuleData, SettingData, kind_number, bucket_taken}
@@ -112,9 +113,9 @@ not_false false h = absurd (h refl)
 
 -- a word that is no brace is a name
 name_of : (w : List ℕ) → IsWord w → is_brace_word w ≡ false → IsName w
-name_of w formed h = tests (nat_lt 0 (length w)) (nat_le (length w) 255) (are_name_bytes w) refl refl refl (rw h at formed)
+name_of w formed h = tests (nat_lt 0 (length w)) (nat_le (length w) LONGEST_NAME) (are_name_bytes w) refl refl refl (rw h at formed)
   where
-    tests : (a b c : Bool) → nat_lt 0 (length w) ≡ a → nat_le (length w) 255 ≡ b → are_name_bytes w ≡ c → (a && b && c) ≡ true → IsName w
+    tests : (a b c : Bool) → nat_lt 0 (length w) ≡ a → nat_le (length w) LONGEST_NAME ≡ b → are_name_bytes w ≡ c → (a && b && c) ≡ true → IsName w
     tests true true c ha hb hc e = record { some = ltb-true _ _ ha; few = leb-true _ _ hb; allowed = hc ∙ e }
     tests true false c ha hb hc e = absurd cc
     tests false b c ha hb hc e = absurd cc
@@ -139,25 +140,25 @@ number_most most w h = leb-true _ _ (and_parts (are_digits 10 w) (nat_le (digits
 -- the distance of an id below 0 is in its range
 record IsDistance (n : ℕ) : Type 0 where
   some : 0 < n
-  most : n ≤ 2147483648
+  most : n ≤ FARTHEST_BUCKET_ID
 
-negative : (w : List ℕ) → (((slice_index w 0 == 45) && is_number 2147483648 (drop 1 w) && nat_lt 0 (digits_value 10 (drop 1 w))) ≡ false → ⊥) → IsDistance (digits_value 10 (drop 1 w))
+negative : (w : List ℕ) → (((slice_index w 0 == 45) && is_number FARTHEST_BUCKET_ID (drop 1 w) && nat_lt 0 (digits_value 10 (drop 1 w))) ≡ false → ⊥) → IsDistance (digits_value 10 (drop 1 w))
 negative w h =
-    let parts = and_parts ((slice_index w 0 == 45) && is_number 2147483648 (drop 1 w)) (nat_lt 0 (digits_value 10 (drop 1 w))) (not_false _ h) in
-    let digits = and_parts (slice_index w 0 == 45) (is_number 2147483648 (drop 1 w)) parts.0 in
-    record { some = ltb-true 0 (digits_value 10 (drop 1 w)) parts.1; most = number_most 2147483648 (drop 1 w) (λ e. let t = digits.1 in absurd cc) }
+    let parts = and_parts ((slice_index w 0 == 45) && is_number FARTHEST_BUCKET_ID (drop 1 w)) (nat_lt 0 (digits_value 10 (drop 1 w))) (not_false _ h) in
+    let digits = and_parts (slice_index w 0 == 45) (is_number FARTHEST_BUCKET_ID (drop 1 w)) parts.0 in
+    record { some = ltb-true 0 (digits_value 10 (drop 1 w)) parts.1; most = number_most FARTHEST_BUCKET_ID (drop 1 w) (λ e. let t = digits.1 in absurd cc) }
 
 -- a number with a sign is in its range
-below_zero : (n : ℕ) → n ≤ 2147483648 → IsCount (neg_ℤ (pos n))
+below_zero : (n : ℕ) → n ≤ FARTHEST_COUNT → IsCount (neg_ℤ (pos n))
 below_zero zero le = omega arith
 below_zero (suc n) le = omega (arith, le)
 
 pub signed : (w : List ℕ) → (is_signed w ≡ false → ⊥) → IsCount (signed_value w)
 signed w h = by_it (slice_index w 0 == 45) h
   where
-    by_it : (b : Bool) → ((if b then is_number 2147483648 (drop 1 w) else is_number 2147483647 w) ≡ false → ⊥) → IsCount (if b then neg_ℤ (pos (digits_value 10 (drop 1 w))) else pos (digits_value 10 w))
-    by_it true k = below_zero (digits_value 10 (drop 1 w)) (number_most 2147483648 (drop 1 w) k)
-    by_it false k = number_most 2147483647 w k
+    by_it : (b : Bool) → ((if b then is_number FARTHEST_COUNT (drop 1 w) else is_number LARGEST_COUNT w) ≡ false → ⊥) → IsCount (if b then neg_ℤ (pos (digits_value 10 (drop 1 w))) else pos (digits_value 10 w))
+    by_it true k = below_zero (digits_value 10 (drop 1 w)) (number_most FARTHEST_COUNT (drop 1 w) k)
+    by_it false k = number_most LARGEST_COUNT w k
 
 -- an item that is there is the one of its name
 pub some_of : (o : Option ItemId) → (o ≡ None → ⊥) → o ≡ Some (unwrap_or o (Device 0))
@@ -185,7 +186,7 @@ weight_for (Device n) (Ok w) a = omega (arith, a)
 weight_for (Bucket c) (Ok w) a = tt
 
 -- and so may 1.0
-one_for : (i : ItemId) → IsLight i 65536
+one_for : (i : ItemId) → IsLight i UNITS_OF_ONE
 one_for (Device n) = omega arith
 one_for (Bucket c) = tt
 
@@ -231,14 +232,14 @@ module _ (d : Draft) (m : IsMap d) where
   -- a tunable
   keeps_tunable : d.pending ≡ nothing → is_full_of_tunables d ≡ false → Keeps Good d (tunable_line d)
   keeps_tunable idle few = λ x fx rx. λ n fn rn. record {
-    map = map_with_tunable d x (digits_value 10 n) m (word_name x fx (rx Unexpected)) (number_most 4294967295 n (rn BadNumber)) (not_true _ (rx DuplicateName)) few;
+    map = map_with_tunable d x (digits_value 10 n) m (word_name x fx (rx Unexpected)) (number_most LARGEST_TUNABLE n (rn BadNumber)) (not_true _ (rx DuplicateName)) few;
     stage = idle;
   }
 
   -- a type
   keeps_type : d.pending ≡ nothing → is_full_of_kinds d ≡ false → Keeps Good d (type_line d)
   keeps_type idle few = λ n fn rn. λ x fx rx. record {
-    map = map_with_kind d (digits_value 10 n) x m (number_most 65535 n (rn BadNumber)) (word_name x fx (λ b. rx Unexpected (inl b)))
+    map = map_with_kind d (digits_value 10 n) x m (number_most LAST_TYPE n (rn BadNumber)) (word_name x fx (λ b. rx Unexpected (inl b)))
         (λ some. not_true _ (λ t. rx Unexpected (inr (t, λ e. omega (arith, some, e))))) (not_true _ (rn DuplicateId)) (not_true _ (rx DuplicateName)) few;
     stage = idle;
   }
@@ -249,7 +250,7 @@ module _ (d : Draft) (m : IsMap d) where
     where
       made : (n x : List ℕ) (class : Option (List ℕ)) → IsRight d device_id n → IsWord x → IsRight d new_name x → IfSome class IsName → Good (at first (with_device d (digits_value 10 n) x class))
       made n x class rn fx rx kind = record {
-        map = map_with_device d (digits_value 10 n) x class m (number_most 2147483647 n (rn BadNumber)) (word_name x fx (rx Unexpected)) kind (not_true _ (rn DuplicateId)) (not_true _ (rx DuplicateName)) few;
+        map = map_with_device d (digits_value 10 n) x class m (number_most LAST_DEVICE_ID n (rn BadNumber)) (word_name x fx (rx Unexpected)) kind (not_true _ (rn DuplicateId)) (not_true _ (rx DuplicateName)) few;
         stage = idle;
       }
 
@@ -269,7 +270,7 @@ module _ (d : Draft) (m : IsMap d) where
             most = t.most;
             form = word_name x fx (rx Unexpected);
             free = (or_parts _ _ (not_true _ (rx DuplicateName))).0;
-            few = less 4096 (bucket_count d.table) few;
+            few = less MOST_BUCKETS (bucket_count d.table) few;
           },
         );
       }
@@ -365,25 +366,25 @@ module _ (d : Draft) (m : IsMap d) where
   -- a rule's head
   keeps_rule : d.pending ≡ nothing → is_full_of_rules d ≡ false → Keeps Good d (rule_line d)
   keeps_rule idle few = λ x fx rx. λ a fa ra. λ b fb rb. λ n fn rn. λ c fc rc. λ k fk rk.
-      let head : (least most : Option ℕ) → IfSome least (λ v. v ≤ 2147483647) → IfSome most (λ v. v ≤ 2147483647) → Good (at (ruled (new_rule x (digits_value 10 n) k least most)) d) =
+      let head : (least most : Option ℕ) → IfSome least (λ v. v ≤ LARGEST_RULE_NUMBER) → IfSome most (λ v. v ≤ LARGEST_RULE_NUMBER) → Good (at (ruled (new_rule x (digits_value 10 n) k least most)) d) =
       λ least most low high. record {
         map = m;
-        stage = (idle, can_begin d x (digits_value 10 n) k least most (word_name x fx (rx Unexpected)) (number_most 2147483647 n (rn BadNumber)) (word_name k fk (rk Unexpected)) low high (not_true _ (rx DuplicateName)) (not_true _ (rn DuplicateId)) few);
+        stage = (idle, can_begin d x (digits_value 10 n) k least most (word_name x fx (rx Unexpected)) (number_most LARGEST_RULE_NUMBER n (rn BadNumber)) (word_name k fk (rk Unexpected)) low high (not_true _ (rx DuplicateName)) (not_true _ (rn DuplicateId)) few);
       } in (
-        λ e fe re. λ u fu ru. let low = number_most 2147483647 u (ru BadNumber) in (
-          λ g fg rg. λ v fv rv. head (Some (digits_value 10 u)) (Some (digits_value 10 v)) low (number_most 2147483647 v (rv BadNumber)),
+        λ e fe re. λ u fu ru. let low = number_most LARGEST_RULE_NUMBER u (ru BadNumber) in (
+          λ g fg rg. λ v fv rv. head (Some (digits_value 10 u)) (Some (digits_value 10 v)) low (number_most LARGEST_RULE_NUMBER v (rv BadNumber)),
           head (Some (digits_value 10 u)) None low tt,
         ),
-        (λ g fg rg. λ v fv rv. head None (Some (digits_value 10 v)) tt (number_most 2147483647 v (rv BadNumber)), head None None tt tt),
+        (λ g fg rg. λ v fv rv. head None (Some (digits_value 10 v)) tt (number_most LARGEST_RULE_NUMBER v (rv BadNumber)), head None None tt tt),
       )
 
   module _ (r : RuleData) (s : Stage (ruled r) d) where
     -- with one more step
-    longer : (x : StepData) → length r.steps < 64 → IsStep d.setting x → All (IsThere d.table) (bucket_taken x) → Good (at (ruled (with_step r x)) d)
+    longer : (x : StepData) → length r.steps < MOST_STEPS → IsStep d.setting x → All (IsThere d.table) (bucket_taken x) → Good (at (ruled (with_step r x)) d)
     longer x room form there = record { map = m; stage = (s.0, can_step d r x s.1 form room there) }
 
     -- by its first word
-    keeps_step : length r.steps < 64 → (w : List ℕ) → IsWord w → IsRight d step_word w → Keeps Good d (step_behind d r (value d step_word w))
+    keeps_step : length r.steps < MOST_STEPS → (w : List ℕ) → IsWord w → IsRight d step_word w → Keeps Good d (step_behind d r (value d step_word w))
     keeps_step room w formed q = by_said (bytes_eq w (codes "take")) (bytes_eq w (codes "choose")) (bytes_eq w (codes "chooseleaf")) (bytes_eq w (codes "emit")) refl refl refl refl
       where
         chosen : (leaf : Bool) → Keeps Good d (step_behind d r (chooses leaf))
@@ -398,7 +399,7 @@ module _ (d : Draft) (m : IsMap d) where
         is_set : starts_with nat_eq w (codes "set_") ≡ true → Keeps Good d (step_behind d r (sets w))
         is_set begins = λ n fn rn.
             let form : IsName w = name_of w formed (no_brace (λ x. starts_with nat_eq x (codes "set_")) w refl refl begins) in
-            longer (set w (digits_value 10 n)) room (record { name = form; sets = begins; range = number_most 2147483647 n (rn BadNumber) }) (All-nil (IsThere d.table))
+            longer (set w (digits_value 10 n)) room (record { name = form; sets = begins; range = number_most LARGEST_RULE_NUMBER n (rn BadNumber) }) (All-nil (IsThere d.table))
 
         by_said : (a b c e : Bool) → bytes_eq w (codes "take") ≡ a → bytes_eq w (codes "choose") ≡ b → bytes_eq w (codes "chooseleaf") ≡ c → bytes_eq w (codes "emit") ≡ e
             → Keeps Good d (step_behind d r (cond a takes (cond b (chooses false) (cond c (chooses true) (cond e emits (sets w))))))
@@ -412,8 +413,8 @@ module _ (d : Draft) (m : IsMap d) where
     keeps_ruled : Keeps Good d (lines d (ruled r))
     keeps_ruled = λ w f q. by_it w (bytes_eq w (codes "step")) refl (q TooMany)
       where
-        by_it : (w : List ℕ) (b : Bool) → bytes_eq w (codes "step") ≡ b → ((w ≡ codes "step") × (64 ≤ length r.steps) → ⊥) → Keeps Good d (step_or_brace d r b)
-        by_it w true e few = let no : 64 ≤ length r.steps → ⊥ = λ le. few ((bytes_eq-Decides w _).0 e, le) in keeps_step (omega (arith, no))
+        by_it : (w : List ℕ) (b : Bool) → bytes_eq w (codes "step") ≡ b → ((w ≡ codes "step") × (MOST_STEPS ≤ length r.steps) → ⊥) → Keeps Good d (step_or_brace d r b)
+        by_it w true e few = let no : MOST_STEPS ≤ length r.steps → ⊥ = λ le. few ((bytes_eq-Decides w _).0 e, le) in keeps_step (omega (arith, no))
         by_it w false e few = record { map = map_with_rule d r m s.1; stage = s.0 }
 
   -- a statement by its first word

@@ -10,6 +10,7 @@ use Rattle.crush_units.specs.declared.id.ItemId.TheVariants.{Device, Bucket}
 use Rattle.crush_units.specs.Id.{same_id}
 use Rattle.crush_units.specs.Name.{IsName}
 use Rattle.crush_units.proofs.Ids.{same_id_refl, same_id_equal}
+use Rattle.crush_units.specs.declared.limits.TheConstants.{HEAVIEST_DEVICE, LARGEST_TUNABLE, LAST_DEVICE_ID, LAST_TYPE}
 use Rattle.crush_table.specs.Table.{Row, is_device, is_device_id, row_of, id_named, is_there, member, used_ids}
 use Rattle.crush_table.specs.Columns.{is_part, without_row}
 use Rattle.crush_table.specs.Lawful.{Lawful, is_too_heavy}
@@ -27,21 +28,21 @@ use Rattle.crush_map.proofs.ItemSteps.{is_no_part, item_lawful, put_fits, root_p
 use Rattle.crush_text.specs.Document.{IsMap}
 
 -- a tunable more
-pub map_with_tunable : (d : Draft) (x : List ℕ) (v : ℕ) → IsMap d → IsName x → v ≤ 4294967295 → has_tunable d.setting x ≡ false → is_full_of_tunables d ≡ false → IsMap (with_tunable d x v)
+pub map_with_tunable : (d : Draft) (x : List ℕ) (v : ℕ) → IsMap d → IsName x → v ≤ LARGEST_TUNABLE → has_tunable d.setting x ≡ false → is_full_of_tunables d ≡ false → IsMap (with_tunable d x v)
 map_with_tunable d x v m form most free few = record {
   lawful = m.lawful;
   fits = Fits-with_tunable d.setting d.table (record { name = x; value = v }) m.fits (record { name = form; value = most }) free few;
 }
 
 -- a type more
-pub map_with_kind : (d : Draft) (n : ℕ) (x : List ℕ) → IsMap d → n ≤ 65535 → IsName x → (0 < n → is_reserved x ≡ false) → has_kind_number d.setting n ≡ false → has_kind_name d.setting x ≡ false → is_full_of_kinds d ≡ false → IsMap (with_kind d n x)
+pub map_with_kind : (d : Draft) (n : ℕ) (x : List ℕ) → IsMap d → n ≤ LAST_TYPE → IsName x → (0 < n → is_reserved x ≡ false) → has_kind_number d.setting n ≡ false → has_kind_name d.setting x ≡ false → is_full_of_kinds d ≡ false → IsMap (with_kind d n x)
 map_with_kind d n x m most form free number name few = record {
   lawful = m.lawful;
   fits = Fits-with_kind d.setting d.table (record { number = n; name = x }) m.fits (record { number = most; name = form; free = free }) number name few;
 }
 
 -- a device more
-pub map_with_device : (d : Draft) (n : ℕ) (x : List ℕ) (class : Option (List ℕ)) → IsMap d → n ≤ 2147483647 → IsName x → IfSome class IsName → is_there d.table (Device n) ≡ false → has_name d x ≡ false → is_full_of_devices d ≡ false → IsMap (with_device d n x class)
+pub map_with_device : (d : Draft) (n : ℕ) (x : List ℕ) (class : Option (List ℕ)) → IsMap d → n ≤ LAST_DEVICE_ID → IsName x → IfSome class IsName → is_there d.table (Device n) ≡ false → has_name d x ≡ false → is_full_of_devices d ≡ false → IsMap (with_device d n x class)
 map_with_device d n x class m most form kind number name few = record {
   lawful = device_lawful d.table n x class m.lawful (omega arith) form kind number ((or_parts _ _ name).0) few;
   fits = Fits-push d.setting d.table (new_device n x class) m.fits (λ some. absurd (omega (arith, some)));
@@ -50,7 +51,7 @@ map_with_device d n x class m most form kind number name few = record {
 -- a number is that of a type
 pub record IsTypeOf (kinds : List KindData) (n : ℕ) : Type 0 where
   pub there : list_any (λ (x : KindData). x.number == n) kinds ≡ true
-  pub most : n ≤ 65535
+  pub most : n ≤ LAST_TYPE
 
 -- the number of a type's name is one
 pub kind_there : (kinds : List KindData) (k : List ℕ) (n : ℕ) → All IsKind kinds → unwrap_or (option_map (λ (x : KindData). x.number) (find (λ (x : KindData). bytes_eq x.name k) kinds)) 0 ≡ n → 0 < n → IsTypeOf kinds n
@@ -59,7 +60,7 @@ kind_there (x ∷ kinds) k n all e some = by_test (bytes_eq x.name k) e (λ r. k
   where
     by_test : (b : Bool) → unwrap_or (option_map (λ (y : KindData). y.number) (if b then Some x else find (λ (y : KindData). bytes_eq y.name k) kinds)) 0 ≡ n
         → (unwrap_or (option_map (λ (y : KindData). y.number) (find (λ (y : KindData). bytes_eq y.name k) kinds)) 0 ≡ n → IsTypeOf kinds n) → IsTypeOf (x ∷ kinds) n
-    by_test true e ih = record { there = rw (eq-eqb x.number n e) refl; most = subst (λ (m : ℕ). m ≤ 65535) e (All-head IsKind x kinds all).number }
+    by_test true e ih = record { there = rw (eq-eqb x.number n e) refl; most = subst (λ (m : ℕ). m ≤ LAST_TYPE) e (All-head IsKind x kinds all).number }
     by_test false e ih = let r = ih e in record { there = or_right (x.number == n) _ r.there; most = r.most }
 
 -- a row that is put last without parent is a root
@@ -108,7 +109,7 @@ bucket_table (filling b) x w v t = ap (λ (l : List Row). without_row (Bucket x)
 
 -- a device's weight is in its range, and a bucket's may be any
 abbrev pub IsLight : ItemId → ℕ → Type 0
-IsLight (Device n) w = w ≤ 2147483647
+IsLight (Device n) w = w ≤ HEAVIEST_DEVICE
 IsLight (Bucket x) w = Unit {0}
 
 -- the table with the item in its bucket is lawful

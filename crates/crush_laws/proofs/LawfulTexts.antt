@@ -11,6 +11,7 @@ use Rattle.crush_units.specs.declared.alg.Alg.{Alg}
 use Rattle.crush_units.specs.declared.alg.Alg.TheVariants.{Straw, Straw2, List as Linked}
 use Rattle.crush_units.specs.Alg.{alg_text, alg_of_text}
 use Rattle.crush_units.specs.Weight.{are_digits, weight_of_text}
+use Rattle.crush_units.specs.declared.limits.TheConstants.{FARTHEST_BUCKET_ID, LARGEST_RULE_NUMBER, LAST_DEVICE_ID, LAST_TYPE}
 use Rattle.crush_edits.specs.Setting.{KindData}
 use Rattle.crush_map.specs.Built.{Draft}
 use Rattle.crush_map.specs.Building.{IsPending, item_named}
@@ -176,14 +177,14 @@ is_for d any_word w h = tt
 is_for d (number most) w h = not_false _ (h BadNumber)
 is_for d (opening late) w h = begins_statement d late w h
 is_for d tunable_name w h = tt
-is_for d type_number w h = digits_of 65535 w (h BadNumber)
+is_for d type_number w h = digits_of LAST_TYPE w (h BadNumber)
 is_for d (type_name n) w h = tt
-is_for d device_id w h = digits_of 2147483647 w (h BadNumber)
+is_for d device_id w h = digits_of LAST_DEVICE_ID w (h BadNumber)
 is_for d new_name w h = tt
 is_for d bucket_id w h =
-    let parts = and_parts ((slice_index w 0 == 45) && is_number 2147483648 (drop 1 w)) (nat_lt 0 (digits_value 10 (drop 1 w))) (not_false _ (h BadNumber)) in
-    let digits = and_parts (slice_index w 0 == 45) (is_number 2147483648 (drop 1 w)) parts.0 in
-    ((Decides-eqb _ _).0 digits.0, (and_parts (are_digits 10 (drop 1 w)) (nat_le (digits_value 10 (drop 1 w)) 2147483648) digits.1).0)
+    let parts = and_parts ((slice_index w 0 == 45) && is_number FARTHEST_BUCKET_ID (drop 1 w)) (nat_lt 0 (digits_value 10 (drop 1 w))) (not_false _ (h BadNumber)) in
+    let digits = and_parts (slice_index w 0 == 45) (is_number FARTHEST_BUCKET_ID (drop 1 w)) parts.0 in
+    ((Decides-eqb _ _).0 digits.0, (and_parts (are_digits 10 (drop 1 w)) (nat_le (digits_value 10 (drop 1 w)) FARTHEST_BUCKET_ID) digits.1).0)
 is_for d id_or_alg w h = either_word w (codes "id") (codes "alg") (h Unexpected)
 is_for d id_class w h = tt
 is_for d algorithm w h = named_alg w (h OtherAlgorithm)
@@ -193,7 +194,7 @@ is_for d lone_item w h = free_item d w (h UnknownItem) (h SecondParent)
 is_for d (weight i) w h = has_units i (weight_of_text w) (h BadWeight)
 is_for d rule_name w h = tt
 is_for d rule_id_key w h = either_word w (codes "id") (codes "ruleset") (h Unexpected)
-is_for d rule_id w h = digits_of 2147483647 w (h BadNumber)
+is_for d rule_id w h = digits_of LARGEST_RULE_NUMBER w (h BadNumber)
 is_for d (step_or_end k) w h = either_word w (codes "step") (codes "}") (h Unexpected)
 is_for d step_word w h = begins_step d w h
 is_for d taken_bucket w h = some_bucket (bucket_named d w) (h UnknownBucketInRule)

@@ -7,6 +7,7 @@ use Rattle.std.proofs.lemmas.Slice.Eq.{bytes_eq-Decides}
 use Rattle.std.specs.Prelude.{◌==◌, All, IfSome, bytes_eq, flat_map}
 use Rattle.std.specs.List.{list_any}
 use Rattle.crush_units.specs.Name.{IsName}
+use Rattle.crush_units.specs.declared.limits.TheConstants.{LARGEST_RULE_NUMBER, MOST_RULES, MOST_STEPS}
 use Rattle.crush_edits.specs.Setting.{StepData, RuleData, SettingData, bucket_taken}
 use Rattle.crush_edits.specs.Fits.{IsStep, IsRule, IsThere}
 use Rattle.crush_map.specs.Built.{Draft, add_rule}
@@ -48,7 +49,7 @@ map_with_rule d r m c =
           rules = All-push (IsRule (record s { rules = rs })) s.rules r (All-weaker (IsRule s) (IsRule (record s { rules = rs })) (rule_kept s rs) s.rules f.setting.rules) (rule_kept s rs r c.rule);
           few_kinds = f.setting.few_kinds;
           few_tunables = f.setting.few_tunables;
-          few_rules = let small : length s.rules < 256 = less 256 (length s.rules) c.few in omega (arith, length-append s.rules (r ∷ []));
+          few_rules = let small : length s.rules < MOST_RULES = less MOST_RULES (length s.rules) c.few in omega (arith, length-append s.rules (r ∷ []));
         };
         types = f.types;
         taken = subst (All (IsThere d.table)) (sym (flat_map-append taken_by s.rules (r ∷ [])))
@@ -57,7 +58,7 @@ map_with_rule d r m c =
     }
 
 -- a rule's head
-pub can_begin : (d : Draft) (x : List ℕ) (n : ℕ) (k : List ℕ) (least most : Option ℕ) → IsName x → n ≤ 2147483647 → IsName k → IfSome least (λ v. v ≤ 2147483647) → IfSome most (λ v. v ≤ 2147483647) → has_rule_name d.setting x ≡ false → has_rule_id d.setting n ≡ false → is_full_of_rules d ≡ false → CanAdd d (new_rule x n k least most)
+pub can_begin : (d : Draft) (x : List ℕ) (n : ℕ) (k : List ℕ) (least most : Option ℕ) → IsName x → n ≤ LARGEST_RULE_NUMBER → IsName k → IfSome least (λ v. v ≤ LARGEST_RULE_NUMBER) → IfSome most (λ v. v ≤ LARGEST_RULE_NUMBER) → has_rule_name d.setting x ≡ false → has_rule_id d.setting n ≡ false → is_full_of_rules d ≡ false → CanAdd d (new_rule x n k least most)
 can_begin d x n k least most form small kind low high name id few = record {
   rule = record { name = form; id = small; kind = kind; min_size = low; max_size = high; few = omega arith; steps = All-nil (IsStep d.setting) };
   name = name;
@@ -67,7 +68,7 @@ can_begin d x n k least most form small kind low high name id few = record {
 }
 
 -- one more step
-pub can_step : (d : Draft) (r : RuleData) (s : StepData) → CanAdd d r → IsStep d.setting s → length r.steps < 64 → All (IsThere d.table) (bucket_taken s) → CanAdd d (with_step r s)
+pub can_step : (d : Draft) (r : RuleData) (s : StepData) → CanAdd d r → IsStep d.setting s → length r.steps < MOST_STEPS → All (IsThere d.table) (bucket_taken s) → CanAdd d (with_step r s)
 can_step d r s c form room there = record {
   rule = record {
     name = c.rule.name;

@@ -2,6 +2,7 @@
 use Rattle.std.proofs.Common.{◌≡◌, ℕ, suc, ◌+◌, ◌<◌, ◌≤◌, Bool, true, false, List, [], ◌∷◌, ◌++◌, Option, Some, None, Ok, length, nat_le, refl, ap, arith, rules, tests, length-append}
 use Rattle.std.specs.Prelude.{IfOk}
 use Rattle.std.proofs.lemmas.List.Sums.{sum_by-append, sum_by-cons}
+use Rattle.crush_units.specs.declared.limits.TheConstants.{MOST_CALLS, MOST_EDITS, MOST_OPERATORS}
 use Rattle.crush_edits.specs.declared.edit.Edit.{Edit}
 use Rattle.crush_calls.specs.declared.call.Call.{Call}
 use Rattle.crush_calls.specs.declared.call.Call.TheVariants.{One, Batch}
@@ -22,14 +23,14 @@ open_calls (Some b) = 1
 -- the calls are counted, and they and the scripts are few
 record IsFew (s : SectionsData) : Type 0 where
   counted : call_count s.scripts + open_calls s.begun ≤ s.calls
-  few : s.calls ≤ 65536
-  scripts : length s.scripts ≤ 16
+  few : s.calls ≤ MOST_CALLS
+  scripts : length s.scripts ≤ MOST_OPERATORS
 
 -- the same where one more is counted already
 record IsFewer (s : SectionsData) : Type 0 where
   counted : call_count s.scripts + open_calls s.begun + 1 ≤ s.calls
-  few : s.calls ≤ 65536
-  scripts : length s.scripts ≤ 16
+  few : s.calls ≤ MOST_CALLS
+  scripts : length s.scripts ≤ MOST_OPERATORS
 
 -- the last script has one more call, if there is one
 call_count-call_in_last : (c : Call) (scripts : List ScriptData) → call_count (call_in_last c scripts) ≤ call_count scripts + 1
@@ -55,24 +56,24 @@ closed_few s few = at s.begun
 
 section_few : (number : ℕ) (s : SectionsData) (name : List ℕ) → IsFew s → IfOk (with_section number s name) IsFew
 section_few number s name few =
-    at (nat_le 16 (length s.scripts)) refl
+    at (nat_le MOST_OPERATORS (length s.scripts)) refl
   where
-    at : (b : Bool) → nat_le 16 (length s.scripts) ≡ b → IfOk (with_section number s name) IsFew
+    at : (b : Bool) → nat_le MOST_OPERATORS (length s.scripts) ≡ b → IfOk (with_section number s name) IsFew
     at true e = rw e tt
     at false e =
         let new : ScriptData = record { name = name; calls = [] } in
         let same : call_count (s.scripts ++ new ∷ []) ≡ call_count s.scripts + 0 = sum_by-append (λ (x : ScriptData). length x.calls) s.scripts (new ∷ []) in
-        let less : length s.scripts < 16 = search (rules, tests) in
+        let less : length s.scripts < MOST_OPERATORS = search (rules, tests) in
         let long = length-append s.scripts (new ∷ []) in
         rw e (if_ok-else _ _ (has_operator s.scripts name) IsFew (record { counted = omega (arith, same, few.counted); few = few.few; scripts = omega (arith, long) }))
 
 counted_fewer : (number : ℕ) (s : SectionsData) → IsFew s → IfOk (counted number s) IsFewer
-counted_fewer number s few = at (nat_le 65536 s.calls) refl
+counted_fewer number s few = at (nat_le MOST_CALLS s.calls) refl
   where
-    at : (b : Bool) → nat_le 65536 s.calls ≡ b → IfOk (counted number s) IsFewer
+    at : (b : Bool) → nat_le MOST_CALLS s.calls ≡ b → IfOk (counted number s) IsFewer
     at true e = rw e tt
     at false e =
-        let less : s.calls < 65536 = search (rules, tests) in
+        let less : s.calls < MOST_CALLS = search (rules, tests) in
         rw e (record { counted = omega (arith, few.counted); few = omega arith; scripts = few.scripts })
 
 call_few : (s : SectionsData) (c : Call) → IsFewer s → IsFew (with_call c s)
@@ -80,7 +81,7 @@ call_few s c fewer = record { counted = omega (arith, call_count-call_in_last c 
 
 edit_few : (number : ℕ) (s : SectionsData) (o : Option BegunBatch) (e : Edit) → o ≡ s.begun → IsFew s → IfOk (with_edit number s o e) IsFew
 edit_few number s None e is few = bind-if_ok_at (counted number s) (λ more. Ok (with_call (One e) more)) IsFew IsFewer (counted_fewer number s few) (λ more fewer. call_few more (One e) fewer)
-edit_few number s (Some b) e is few = if_ok-else _ _ (nat_le 65536 (length b.edits)) IsFew (record { counted = omega (arith, few.counted, ap open_calls is); few = few.few; scripts = few.scripts })
+edit_few number s (Some b) e is few = if_ok-else _ _ (nat_le MOST_EDITS (length b.edits)) IsFew (record { counted = omega (arith, few.counted, ap open_calls is); few = few.few; scripts = few.scripts })
 
 begin_few : (number : ℕ) (s : SectionsData) (o : Option BegunBatch) → IsFew s → IfOk (with_begin number s o) IsFew
 begin_few number s None few =
@@ -114,8 +115,8 @@ lines_few number s (text ∷ rest) few =
 all_few : (number : ℕ) (lines : List (List ℕ)) (s : SectionsData) → with_lines number no_sections lines ≡ Ok s → IsFew s
 all_few number lines s is = if_ok-at (with_lines number no_sections lines) s IsFew is (lines_few number no_sections lines (record { counted = omega arith; few = omega arith; scripts = omega arith }))
 
-pub calls_few : (number : ℕ) (lines : List (List ℕ)) (s : SectionsData) → with_lines number no_sections lines ≡ Ok s → call_count s.scripts ≤ 65536
+pub calls_few : (number : ℕ) (lines : List (List ℕ)) (s : SectionsData) → with_lines number no_sections lines ≡ Ok s → call_count s.scripts ≤ MOST_CALLS
 calls_few number lines s is = let few = all_few number lines s is in omega (arith, few.counted, few.few)
 
-pub scripts_few : (number : ℕ) (lines : List (List ℕ)) (s : SectionsData) → with_lines number no_sections lines ≡ Ok s → length s.scripts ≤ 16
+pub scripts_few : (number : ℕ) (lines : List (List ℕ)) (s : SectionsData) → with_lines number no_sections lines ≡ Ok s → length s.scripts ≤ MOST_OPERATORS
 scripts_few number lines s is = (all_few number lines s is).scripts

@@ -3,6 +3,7 @@ use Rattle.std.proofs.Common.{◌≡◌, ℕ, ◌-◌, ◌≤◌, ◌&&◌, Bool
 use Rattle.std.proofs.lemmas.List.{drop-drop, take_all}
 use Rattle.crush_units.specs.Name.{is_name}
 use Rattle.crush_units.proofs.Names.{is_name_true}
+use Rattle.crush_units.specs.declared.limits.TheConstants.{MOST_PAIRS}
 use Rattle.crush_edits.specs.declared.location.Pair.{Pair}
 use Rattle.crush_edits.specs.Pushed.{CanPush}
 use Rattle.crush_script.specs.declared.command.LineFault.TheVariants.{BadLine}
@@ -19,7 +20,7 @@ pub pair_added : (l m : List Pair) (word kind name : List ℕ) → kind ≡ (pai
     → m ≡ l ++ (record { kind = kind; name = name }) ∷ [] → with_pair l word ≡ Ok m
 unfolding with_pair
 pair_added l m word kind name k n can more =
-    let room : nat_lt (length l) 16 ≡ true = let r = can.room in search (rules, tests) in
+    let room : nat_lt (length l) MOST_PAIRS ≡ true = let r = can.room in search (rules, tests) in
     let kind_is : is_name (pair_of word).kind ≡ true = ap is_name (sym k) ∙ is_name_true kind can.kind_form in
     let name_is : is_name (pair_of word).name ≡ true = ap is_name (sym n) ∙ is_name_true name can.name_form in
     let same : ◌≡◌ {A = Pair} (pair_of word) (record { kind = kind; name = name }) = λ i. record { kind = sym k i; name = sym n i } in
@@ -30,12 +31,12 @@ pub pair_refused : (l : List Pair) (word kind name : List ℕ) → kind ≡ (pai
 unfolding with_pair
 pair_refused l word kind name k n bad =
     let none : (is_name (pair_of word).kind && is_name (pair_of word).name) ≡ false = (λ i. is_name (sym k i) && is_name (sym n i)) ∙ bad in
-    at (nat_lt (length l) 16) (is_name (pair_of word).kind && is_name (pair_of word).name) none
+    at (nat_lt (length l) MOST_PAIRS) (is_name (pair_of word).kind && is_name (pair_of word).name) none
   where
     at : (a b : Bool) → b ≡ false → cond (a && b) (Ok (l ++ pair_of word ∷ [])) (Err BadLine) ≡ Err BadLine
     at true b e = rw e refl
     at false b e = refl
 
-pub pair_too_many : (l : List Pair) (word : List ℕ) → 16 ≤ length l → with_pair l word ≡ Err BadLine
+pub pair_too_many : (l : List Pair) (word : List ℕ) → MOST_PAIRS ≤ length l → with_pair l word ≡ Err BadLine
 unfolding with_pair
-pair_too_many l word full = let room : nat_lt (length l) 16 ≡ false = search (rules, tests) in rw room refl
+pair_too_many l word full = let room : nat_lt (length l) MOST_PAIRS ≡ false = search (rules, tests) in rw room refl

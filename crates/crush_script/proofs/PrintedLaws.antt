@@ -13,6 +13,7 @@ use Rattle.crush_units.specs.Name.{IsName, is_name_byte}
 use Rattle.crush_units.specs.Weight.{weight_of_text, weight_text, parts_of, digit}
 use Rattle.crush_units.proofs.Names.{is_name_true}
 use Rattle.crush_units.proofs.ReadBack.{read_again}
+use Rattle.crush_units.specs.declared.limits.TheConstants.{MOST_PAIRS}
 use Rattle.crush_edits.specs.declared.location.Pair.{Pair}
 use Rattle.crush_edits.specs.declared.edit.Edit.{Edit}
 use Rattle.crush_edits.specs.declared.edit.Edit.TheVariants.{Insert, CreateOrMove, Update, Move, Swap, Reweight, ReweightSubtree, Remove, AddBucket, Rename}
@@ -93,9 +94,9 @@ pair_of-word p kind =
 -- the pairs of a location, as words
 record ArePairs (l : List Pair) : Type 0 where
   words : AreWords (map pair_word l)
-  reads : (m : List Pair) → length m + length l ≤ 16 → with_pairs m (map pair_word l) ≡ Ok (m ++ l)
+  reads : (m : List Pair) → length m + length l ≤ MOST_PAIRS → with_pairs m (map pair_word l) ≡ Ok (m ++ l)
 
-one_pair : (m : List Pair) (p : Pair) → length m < 16 → IsName p.kind → IsName p.name → with_pair m (pair_word p) ≡ Ok (m ++ p ∷ [])
+one_pair : (m : List Pair) (p : Pair) → length m < MOST_PAIRS → IsName p.kind → IsName p.name → with_pair m (pair_word p) ≡ Ok (m ++ p ∷ [])
 one_pair m p few kind name =
     let e = pair_of-word p kind in
     pair_added m (m ++ p ∷ []) (pair_word p) p.kind p.name (ap (λ (q : Pair). q.kind) (sym e)) (ap (λ (q : Pair). q.name) (sym e)) (record { room = few; kind_form = kind; name_form = name }) refl
@@ -144,12 +145,12 @@ placing-joined first n v l =
     grouped a b c d = append_assoc a (32 ∷ (b ++ (32 ∷ c))) d ∙ ap (λ (r : List ℕ). a ++ 32 ∷ r) (append_assoc b (32 ∷ c) d)
 
 -- the words behind the first, read
-placing_read : (d : ℕ) (n v : List ℕ) (w : ℕ) (l : List Pair) → IsName n → device_named n ≡ Some d → weight_of_text v ≡ Ok w → ArePairs l → length l ≤ 16
+placing_read : (d : ℕ) (n v : List ℕ) (w : ℕ) (l : List Pair) → IsName n → device_named n ≡ Some d → weight_of_text v ≡ Ok w → ArePairs l → length l ≤ MOST_PAIRS
     → placing_at (n ∷ (v ∷ map pair_word l)) ≡ Ok (record { device = d; name = n; weight = w; at = l })
 unfolding placing_at name_at weight_at location_at
 placing_read d n v w l name device weight are few = let a = is_name_true n name in rw (a, device, weight, are.reads [] (omega arith)) refl
 
-located_read : (n : List ℕ) (l : List Pair) → IsName n → ArePairs l → length l ≤ 16 → located_at (n ∷ map pair_word l) ≡ Ok (n, l)
+located_read : (n : List ℕ) (l : List Pair) → IsName n → ArePairs l → length l ≤ MOST_PAIRS → located_at (n ∷ map pair_word l) ≡ Ok (n, l)
 unfolding located_at name_at location_at
 located_read n l name are few = let a = is_name_true n name in rw (a, are.reads [] (omega arith)) refl
 

@@ -7,6 +7,7 @@ use Rattle.crush_units.specs.Name.{IsName, is_name}
 use Rattle.crush_units.specs.Weight.{weight_of_text, is_weight_text, units_of, number_in, fraction_of}
 use Rattle.crush_units.specs.declared.weight.WeightFault.{WeightFault}
 use Rattle.crush_units.proofs.Names.{is_name_holds, both_true}
+use Rattle.crush_units.specs.declared.limits.TheConstants.{HEAVIEST_BUCKET, MOST_PAIRS}
 use Rattle.crush_edits.specs.declared.location.Pair.{Pair}
 use Rattle.crush_edits.specs.Pushed.{IsLocation}
 use Rattle.crush_script.specs.declared.command.Command.{Command}
@@ -31,7 +32,7 @@ name_said (word ∷ rest) = if_ok-passed _ _ (is_name word) (λ r. IsName r.valu
 units_said : (text : List ℕ) → IfOk (weight_of_text text) (λ units. units < 2 ^ 32)
 units_said text =
     let units = units_of (number_in text) (length (fraction_of text)) in
-    if_ok-then _ _ (is_weight_text text) (λ u. u < 2 ^ 32) (if_ok-passed units _ (nat_le units 4294967295) (λ u. u < 2 ^ 32) (λ few. grind (arith, nat_tests, few)))
+    if_ok-then _ _ (is_weight_text text) (λ u. u < 2 ^ 32) (if_ok-passed units _ (nat_le units HEAVIEST_BUCKET) (λ u. u < 2 ^ 32) (λ few. grind (arith, nat_tests, few)))
 
 weight_said : (words : List (List ℕ)) → IfOk (weight_at words) (λ r. r.value < 2 ^ 32)
 unfolding weight_at
@@ -55,9 +56,9 @@ pair_said l word is = if_ok-passed _ _ (can_add l (pair_of word)) IsLocation one
     one_more : can_add l (pair_of word) ≡ true → IsLocation (l ++ pair_of word ∷ [])
     one_more can =
         let p = pair_of word in
-        let outer = both_true (nat_lt (length l) 16) (is_name p.kind && is_name p.name) can in
+        let outer = both_true (nat_lt (length l) MOST_PAIRS) (is_name p.kind && is_name p.name) can in
         let inner = both_true (is_name p.kind) (is_name p.name) outer.1 in
-        let room : length l < 16 = grind (arith, nat_tests, outer.0) in
+        let room : length l < MOST_PAIRS = grind (arith, nat_tests, outer.0) in
         record {
           few = omega (arith, length-append l (p ∷ []), room);
           kinds = All-push (λ (q : Pair). IsName q.kind) l p is.kinds (is_name_holds p.kind inner.0);

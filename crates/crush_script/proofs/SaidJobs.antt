@@ -7,6 +7,7 @@ use Rattle.std.proofs.lemmas.Bool.{false≢true}
 use Rattle.std.proofs.lemmas.List.Quantifiers.{all_pairs_push}
 use Rattle.std.specs.Prelude.{All, AllPairs, IfOk, IfSome, bytes_eq}
 use Rattle.crush_units.specs.Name.{IsName}
+use Rattle.crush_units.specs.declared.limits.TheConstants.{MOST_CALLS, MOST_EDITS, MOST_OPERATORS}
 use Rattle.crush_edits.specs.declared.edit.Edit.{Edit}
 use Rattle.crush_calls.specs.declared.call.Call.{Call}
 use Rattle.crush_calls.specs.declared.call.Call.TheVariants.{One, Batch}
@@ -33,7 +34,7 @@ AreApart scripts = AllPairs (λ (a b : List ℕ). bytes_eq a b ≡ false) (names
 -- what the lines so far say
 record AreSaid (s : SectionsData) : Type 0 where
   scripts : All IsSaidScript s.scripts
-  begun : IfSome s.begun (λ b. All IsSaid b.edits × (length b.edits ≤ 65536))
+  begun : IfSome s.begun (λ b. All IsSaid b.edits × (length b.edits ≤ MOST_EDITS))
   names : AreApart s.scripts
 
 -- where no element passes a test, each one fails it
@@ -66,7 +67,7 @@ in_last_apart c xs apart = subst (λ (ns : List (List ℕ)). AllPairs (λ (a b :
 section_said : (number : ℕ) (s : SectionsData) (name : List ℕ) → AreSaid s → IsName name → IfOk (with_section number s name) AreSaid
 section_said number s name said is =
     let script : ScriptData = record { name = name; calls = [] } in
-    if_ok-else _ _ (nat_le 16 (length s.scripts)) AreSaid
+    if_ok-else _ _ (nat_le MOST_OPERATORS (length s.scripts)) AreSaid
     (if_ok-not _ _ (has_operator s.scripts name) AreSaid (λ own. record { scripts = All-push IsSaidScript s.scripts script said.scripts (record { name = is; calls = All-nil IsSaidCall }); begun = said.begun; names = one_more s.scripts script said.names own }))
 
 closed_said : (s : SectionsData) → AreSaid s → IfOk (closed s) AreSaid
@@ -77,7 +78,7 @@ closed_said s said = at s.begun
     at (Some b) = tt
 
 counted_said : (number : ℕ) (s : SectionsData) → AreSaid s → IfOk (counted number s) AreSaid
-counted_said number s said = if_ok-else _ _ (nat_le 65536 s.calls) AreSaid (record { scripts = said.scripts; begun = said.begun; names = said.names })
+counted_said number s said = if_ok-else _ _ (nat_le MOST_CALLS s.calls) AreSaid (record { scripts = said.scripts; begun = said.begun; names = said.names })
 
 in_last_said : (c : Call) (scripts : List ScriptData) → IsSaidCall c → All IsSaidScript scripts → All IsSaidScript (call_in_last c scripts)
 in_last_said c [] is all = all
@@ -86,11 +87,11 @@ in_last_said c (x ∷ []) is all =
     All-cons IsSaidScript _ [] (record { name = own.name; calls = All-push IsSaidCall x.calls c own.calls is }) (All-nil IsSaidScript)
 in_last_said c (x ∷ y ∷ rest) is all = All-cons IsSaidScript x _ (All-head IsSaidScript x (y ∷ rest) all) (in_last_said c (y ∷ rest) is (All-tail IsSaidScript x (y ∷ rest) all))
 
-edit_said : (number : ℕ) (s : SectionsData) (o : Option BegunBatch) (e : Edit) → IfSome o (λ b. All IsSaid b.edits × (length b.edits ≤ 65536)) → AreSaid s → IsSaid e → IfOk (with_edit number s o e) AreSaid
+edit_said : (number : ℕ) (s : SectionsData) (o : Option BegunBatch) (e : Edit) → IfSome o (λ b. All IsSaid b.edits × (length b.edits ≤ MOST_EDITS)) → AreSaid s → IsSaid e → IfOk (with_edit number s o e) AreSaid
 edit_said number s None e begun said is =
     bind-if_ok_at (counted number s) (λ more. Ok (with_call (One e) more)) AreSaid AreSaid (counted_said number s said) (λ more h. record { scripts = in_last_said (One e) more.scripts is h.scripts; begun = h.begun; names = in_last_apart (One e) more.scripts h.names })
 edit_said number s (Some b) e begun said is =
-    if_ok-not _ _ (nat_le 65536 (length b.edits)) AreSaid (λ room. let less : length b.edits < 65536 = search (rules, tests) in
+    if_ok-not _ _ (nat_le MOST_EDITS (length b.edits)) AreSaid (λ room. let less : length b.edits < MOST_EDITS = search (rules, tests) in
     record { scripts = said.scripts; begun = (All-push IsSaid b.edits e begun.0 is, omega (arith, less, length-append b.edits (e ∷ []))); names = said.names })
 
 begin_said : (number : ℕ) (s : SectionsData) (o : Option BegunBatch) → AreSaid s → IfOk (with_begin number s o) AreSaid
@@ -98,7 +99,7 @@ begin_said number s None said =
     bind-if_ok_at (counted number s) (λ more. Ok (record more { begun = Some (record { line = number; edits = [] }) })) AreSaid AreSaid (counted_said number s said) (λ more h. record { scripts = h.scripts; begun = (All-nil IsSaid, omega arith); names = h.names })
 begin_said number s (Some b) said = tt
 
-commit_said : (number : ℕ) (s : SectionsData) (o : Option BegunBatch) → IfSome o (λ b. All IsSaid b.edits × (length b.edits ≤ 65536)) → AreSaid s → IfOk (with_commit number s o) AreSaid
+commit_said : (number : ℕ) (s : SectionsData) (o : Option BegunBatch) → IfSome o (λ b. All IsSaid b.edits × (length b.edits ≤ MOST_EDITS)) → AreSaid s → IfOk (with_commit number s o) AreSaid
 commit_said number s None begun said = tt
 commit_said number s (Some b) begun said = record { scripts = in_last_said (Batch b.edits) s.scripts begun said.scripts; begun = tt; names = in_last_apart (Batch b.edits) s.scripts said.names }
 

@@ -10,6 +10,7 @@ use Rattle.std.proofs.lemmas.List.Sums.{sum_by-cons}
 use Rattle.std.proofs.Math.Seq.{take-append_seam, drop-append_seam, get_or-append_seam}
 use Rattle.crush_units.specs.Name.{IsName}
 use Rattle.crush_units.proofs.Names.{is_name_true}
+use Rattle.crush_units.specs.declared.limits.TheConstants.{MOST_CALLS, MOST_EDITS, MOST_OPERATORS}
 use Rattle.crush_edits.specs.declared.edit.Edit.{Edit}
 use Rattle.crush_edits.specs.declared.edit.Edit.TheVariants.{Insert, CreateOrMove, Update, Move, Swap, Reweight, ReweightSubtree, Remove, AddBucket, Rename}
 use Rattle.crush_text.specs.Document.{IsMapText}
@@ -139,7 +140,7 @@ few : (k m : ℕ) → k < m → nat_le m k ≡ false
 few k m less = search (rules, tests)
 
 -- the edits of a batch
-batch_goes : (es : List Edit) (n : ℕ) (xs : List ScriptData) (k at : ℕ) (done : List Edit) → All IsSaid es → length done + length es ≤ 65536
+batch_goes : (es : List Edit) (n : ℕ) (xs : List ScriptData) (k at : ℕ) (done : List Edit) → All IsSaid es → length done + length es ≤ MOST_EDITS
     → Goes n (state xs k (Some (record { line = at; edits = done }))) (map edit_text es) (state xs k (Some (record { line = at; edits = done ++ es })))
 unfolding with_line
 batch_goes [] n xs k at done all room = goes_to n _ _ _ [] (ap (λ (es : List Edit). state xs k (Some (record { line = at; edits = es }))) (sym (append-nil done))) (no_line n _)
@@ -147,7 +148,7 @@ batch_goes (e ∷ es) n xs k at done all room =
     let is = All-head IsSaid e es all in
     let starts = begins_none e in
     let reads = printed_is_read e is in
-    let less = few (length done) 65536 (omega arith) in
+    let less = few (length done) MOST_EDITS (omega arith) in
     let one = one_line n (state xs k (Some (record { line = at; edits = done }))) (edit_text e) (state xs k (Some (record { line = at; edits = done ++ e ∷ [] }))) (rw (starts, reads, less) refl) in
     goes_to n _ _ _ _ (ap (λ (fs : List Edit). state xs k (Some (record { line = at; edits = fs }))) (append_assoc done (e ∷ []) es))
     (goes_on n _ _ _ (edit_text e ∷ []) (map edit_text es) one (λ m. batch_goes es m xs k at (done ++ e ∷ []) (All-tail IsSaid e es all) (omega (arith, room, length-append done (e ∷ [])))))
@@ -162,28 +163,28 @@ last_call c (y ∷ z ∷ before) x = ap (λ (r : List ScriptData). y ∷ r) (las
 abbrev in_last : List ScriptData → ScriptData → List Call → List ScriptData
 in_last before x cs = before ++ (record { name = x.name; calls = x.calls ++ cs }) ∷ []
 
-begin_goes : (n : ℕ) (xs : List ScriptData) (k : ℕ) → k < 65536 → Goes n (state xs k None) (codes "begin" ∷ []) (state xs (k + 1) (Some (record { line = n; edits = [] })))
+begin_goes : (n : ℕ) (xs : List ScriptData) (k : ℕ) → k < MOST_CALLS → Goes n (state xs k None) (codes "begin" ∷ []) (state xs (k + 1) (Some (record { line = n; edits = [] })))
 unfolding with_line command words_between_blanks end_at
-begin_goes n xs k room = let less = few k 65536 room in one_line n (state xs k None) (codes "begin") _ (rw less refl)
+begin_goes n xs k room = let less = few k MOST_CALLS room in one_line n (state xs k None) (codes "begin") _ (rw less refl)
 
 commit_goes : (n : ℕ) (before : List ScriptData) (x : ScriptData) (k at : ℕ) (es : List Edit)
     → Goes n (state (before ++ x ∷ []) k (Some (record { line = at; edits = es }))) (codes "commit" ∷ []) (state (in_last before x (Batch es ∷ [])) k None)
 unfolding with_line command words_between_blanks end_at
 commit_goes n before x k at es = one_line n _ (codes "commit") _ (ap (λ (xs : List ScriptData). Ok (state xs k None)) (last_call (Batch es) before x))
 
-call_goes : (c : Call) (n : ℕ) (before : List ScriptData) (x : ScriptData) (k : ℕ) → IsSaidCall c → k < 65536
+call_goes : (c : Call) (n : ℕ) (before : List ScriptData) (x : ScriptData) (k : ℕ) → IsSaidCall c → k < MOST_CALLS
     → Goes n (state (before ++ x ∷ []) k None) (call_lines c) (state (in_last before x (c ∷ [])) (k + 1) None)
 unfolding with_line
 call_goes (One e) n before x k is room =
     let starts = begins_none e in
     let reads = printed_is_read e is in
-    let less = few k 65536 room in
+    let less = few k MOST_CALLS room in
     one_line n (state (before ++ x ∷ []) k None) (edit_text e) _ (rw (starts, reads, less) (ap (λ (xs : List ScriptData). Ok (state xs (k + 1) None)) (last_call (One e) before x)))
 call_goes (Batch es) n before x k is room =
     goes_on n _ _ _ (codes "begin" ∷ []) (map edit_text es ++ codes "commit" ∷ []) (begin_goes n (before ++ x ∷ []) k room)
     (λ m. goes_on m _ _ _ (map edit_text es) (codes "commit" ∷ []) (batch_goes es m (before ++ x ∷ []) (k + 1) n [] is.0 (omega (arith, is.1))) (λ o. commit_goes o before x (k + 1) n es))
 
-calls_go : (cs : List Call) (n : ℕ) (before : List ScriptData) (x : ScriptData) (k : ℕ) → All IsSaidCall cs → k + length cs ≤ 65536
+calls_go : (cs : List Call) (n : ℕ) (before : List ScriptData) (x : ScriptData) (k : ℕ) → All IsSaidCall cs → k + length cs ≤ MOST_CALLS
     → Goes n (state (before ++ x ∷ []) k None) (flat_map call_lines cs) (state (in_last before x cs) (k + length cs) None)
 calls_go [] n before x k all room =
     let none : k + 0 ≡ k = omega arith in
@@ -196,11 +197,11 @@ calls_go (c ∷ cs) n before x k all room =
     (λ m. calls_go cs m before y (k + 1) (All-tail IsSaidCall c cs all) (omega arith)))
 
 -- the section of an operator
-script_goes : (x : ScriptData) (n : ℕ) (before : List ScriptData) (k : ℕ) → IsSaidScript x → length before < 16 → has_operator before x.name ≡ false → k + length x.calls ≤ 65536
+script_goes : (x : ScriptData) (n : ℕ) (before : List ScriptData) (k : ℕ) → IsSaidScript x → length before < MOST_OPERATORS → has_operator before x.name ≡ false → k + length x.calls ≤ MOST_CALLS
     → Goes n (state before k None) (script_lines x) (state (before ++ x ∷ []) (k + length x.calls) None)
 unfolding with_line operator name_at end_at
 script_goes x n before k is room own calls =
-    let less = few (length before) 16 room in
+    let less = few (length before) MOST_OPERATORS room in
     let words = line_words-joined (codes "%operator") (x.name ∷ []) operator_word (name_word x.name is.name, tt) in
     let name = is_name_true x.name is.name in
     let new : ScriptData = record { name = x.name; calls = [] } in
@@ -225,8 +226,8 @@ own_name before x xs names = list_any_none (λ (y : ScriptData). bytes_eq y.name
         let right = get_or-append_seam ls own (names_of xs) d.name in
         sym (λ k. bytes_eq (left k) (right k)) ∙ apart
 
-scripts_go : (xs : List ScriptData) (n : ℕ) (before : List ScriptData) (k : ℕ) → All IsSaidScript xs → length before + length xs ≤ 16
-    → AllPairs (λ (a b : List ℕ). bytes_eq a b ≡ false) (names_of (before ++ xs)) → k + call_count xs ≤ 65536
+scripts_go : (xs : List ScriptData) (n : ℕ) (before : List ScriptData) (k : ℕ) → All IsSaidScript xs → length before + length xs ≤ MOST_OPERATORS
+    → AllPairs (λ (a b : List ℕ). bytes_eq a b ≡ false) (names_of (before ++ xs)) → k + call_count xs ≤ MOST_CALLS
     → Goes n (state before k None) (flat_map script_lines xs) (state (before ++ xs) (k + call_count xs) None)
 scripts_go [] n before k all room names calls =
     let none : k + 0 ≡ k = omega arith in
