@@ -2,19 +2,15 @@
 use Rattle.std.specs.Prelude.{◌≡◌, ℕ, List, Some, true, false}
 use Rattle.crush_units.specs.declared.id.ItemId.TheVariants.{Device, Bucket}
 use Rattle.crush_table.specs.Table.{Row, id_named, is_placed}
-use Rattle.crush_table.specs.Columns.{set_weight, set_subtree}
-use Rattle.crush_table.specs.Lawful.{is_too_heavy}
 use Rattle.crush_edits.specs.Answer.{is_heavy}
 
--- the name is that of the placed device d, the weight is a device's, and all sums are in range with it
+-- the name is that of the placed device d, and the weight is a device's
 pub record CanReweight (t : List Row) (n : List ℕ) (w d : ℕ) : Type 0 where
   pub light : is_heavy w ≡ false
   pub named : id_named t n ≡ Some (Device d)
   pub placed : is_placed t (Device d) ≡ true
-  pub fits : is_too_heavy (set_weight (Device d) w t) ≡ false
 
--- the name is that of the bucket b, the weight is a device's, and all sums are in range with it below b
+-- the name is that of the bucket b, and the weight is a device's
 pub record CanReweightSubtree (t : List Row) (n : List ℕ) (w b : ℕ) : Type 0 where
   pub light : is_heavy w ≡ false
   pub named : id_named t n ≡ Some (Bucket b)
-  pub fits : is_too_heavy (set_subtree b w t) ≡ false

@@ -38,9 +38,6 @@ fn check_reweight<A: Allocator>(
     if hierarchy.parent(id).is_none() {
         return Err(Refusal::NotPlaced);
     }
-    if !hierarchy.fits_weight(device, weight) {
-        return Err(Refusal::SumTooLarge);
-    }
     Ok(device)
 }
 
@@ -57,13 +54,15 @@ pub(crate) fn reweight<A: Allocator>(
 {
     hierarchy.recall_invariant();
     let device = check_reweight(hierarchy, name, weight)?;
-    if hierarchy.weight(ItemId::Device(device)) == Some(weight) {
+    let Some(before) = hierarchy.replace_weight(device, weight) else {
+        return Err(EditFault::Refused(Refusal::SumTooLarge));
+    };
+    if before == weight {
         return Ok(Done {
             changed: false,
             made: 0,
         });
     }
-    hierarchy.set_weight(device, weight);
     Ok(Done {
         changed: true,
         made: 0,

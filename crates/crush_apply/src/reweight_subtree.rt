@@ -35,9 +35,6 @@ fn check_subtree<A: Allocator>(
     let ItemId::Bucket(bucket) = id else {
         return Err(Refusal::NotABucket);
     };
-    if !hierarchy.fits_subtree(bucket, weight) {
-        return Err(Refusal::SumTooLarge);
-    }
     Ok(bucket)
 }
 
@@ -60,7 +57,9 @@ pub(crate) fn reweight_subtree<A: Allocator>(
             made: 0,
         });
     }
-    hierarchy.set_subtree(bucket, weight);
+    let Some(_) = hierarchy.replace_subtree(bucket, weight) else {
+        return Err(EditFault::Refused(Refusal::SumTooLarge));
+    };
     Ok(Done {
         changed: true,
         made: 0,

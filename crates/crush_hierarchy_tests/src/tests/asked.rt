@@ -108,14 +108,6 @@ fn is_below(guide: &Asked<'_>, bucket: BucketId, id: &ItemId) -> bool {
     guide.forest.contains_by(guide, bucket, *id)
 }
 
-/// Whether the placed device can get the weight.
-fn can_weigh(guide: &Asked<'_>, device: DeviceId, weight: Weight) -> bool {
-    guide.forest.recall_invariant();
-    let total = guide.forest.total();
-    is_held(guide.forest, &ItemId::Device(device))
-        && guide.forest.fits_weight_by(guide, device, weight, total)
-}
-
 /// Whether the weight of the device is this.
 fn weighs(guide: &Asked<'_>, device: DeviceId, weight: Weight) -> bool {
     is_held(guide.forest, &ItemId::Device(device))
@@ -130,14 +122,6 @@ fn can_receive(guide: &Asked<'_>, bucket: BucketId, weight: Weight) -> bool {
         && guide
             .forest
             .fits_attach_by(guide, Place::Bucket(bucket), weight, total)
-}
-
-/// Whether all devices of the bucket can get the weight.
-fn can_weigh_all(guide: &Asked<'_>, bucket: BucketId, weight: Weight) -> bool {
-    guide.forest.recall_invariant();
-    let total = guide.forest.total();
-    has_item(guide.forest, &ItemId::Bucket(bucket))
-        && guide.forest.fits_subtree_by(guide, bucket, weight, total)
 }
 
 /// Whether a device of the bucket has another weight.
@@ -171,8 +155,6 @@ fn asks_for_a_device(rt: &impl Abort, guide: &Asked<'_>) -> bool {
         && guide.was_asked(3)
         && weighs(guide, osd_0, one)
         && guide.was_asked(3)
-        && can_weigh(guide, osd_0, one)
-        && guide.was_asked(3)
 }
 
 /// Whether h1, which is 1 deep, and the place in it are asked for 2 times at most, and osd.0 and h2 5
@@ -184,8 +166,6 @@ fn asks_for_a_bucket(rt: &impl Abort, guide: &Asked<'_>) -> bool {
         && has_items(guide, h1)
         && guide.was_asked(2)
         && can_receive(guide, h1, one)
-        && guide.was_asked(2)
-        && can_weigh_all(guide, h1, one)
         && guide.was_asked(2)
         && !has_other_weight(guide, h1, one)
         && guide.was_asked(2)

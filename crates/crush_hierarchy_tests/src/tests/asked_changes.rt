@@ -97,11 +97,10 @@ fn weigh(guide: &Asked<'_>, forest: &mut Forest<Global>, device: DeviceId, weigh
     if !is_held(forest, &ItemId::Device(device)) {
         return false;
     }
-    if !forest.fits_weight(device, weight) {
-        return false;
-    }
-    forest.set_weight_by(guide, device, weight);
-    true
+    let total = forest.total();
+    forest
+        .replace_weight_by(guide, device, weight, total)
+        .is_some()
 }
 
 /// Gives all devices below a bucket one weight. Whether that is done.
@@ -120,11 +119,10 @@ fn weigh_all(
     if !has_item(forest, &ItemId::Bucket(bucket)) {
         return false;
     }
-    if !forest.fits_subtree(bucket, weight) {
-        return false;
-    }
-    forest.set_subtree_by(guide, bucket, weight);
-    true
+    let total = forest.total();
+    forest
+        .replace_subtree_by(guide, bucket, weight, total)
+        .is_some()
 }
 
 /// Gives an item another name, if no item has it. Whether that is done.

@@ -52,29 +52,14 @@ pub(super) fn has_name(hierarchy: &Hierarchy<Global>, name: &Name<Global>) -> bo
     hierarchy.id_of(name.as_str()).is_some()
 }
 
-/// Whether sums stay in range where a device gets another weight, if a bucket holds it.
-pub(super) fn fits_weight(
-    hierarchy: &Hierarchy<Global>,
-    device: DeviceId,
-    weight: Weight,
-) -> Option<bool> {
-    if is_held(hierarchy, &ItemId::Device(device)) {
-        Some(hierarchy.fits_weight(device, weight))
-    } else {
-        None
-    }
-}
-
-/// Whether sums stay in range where all devices below a bucket get a weight, and whether one of them
-/// has another now, if the bucket is there.
-pub(super) fn fits_subtree(
+/// Whether a device below a bucket has another weight, if the bucket is there.
+pub(super) fn changes_subtree(
     hierarchy: &Hierarchy<Global>,
     bucket: BucketId,
     weight: Weight,
-) -> Option<(bool, bool)> {
+) -> Option<bool> {
     if has_item(hierarchy, &ItemId::Bucket(bucket)) {
-        let fits = hierarchy.fits_subtree(bucket, weight);
-        Some((fits, hierarchy.changes_subtree(bucket, weight)))
+        Some(hierarchy.changes_subtree(bucket, weight))
     } else {
         None
     }

@@ -1,6 +1,6 @@
 //! A small hierarchy, and each call of it once.
 
-use super::asks::{fits_attach, fits_move, fits_subtree, fits_swap, fits_weight, has_item};
+use super::asks::{changes_subtree, fits_attach, fits_move, fits_swap, has_item};
 use super::items::{bucket, bucket_item, device, device_item, empty, inside, leaf, name};
 use super::puts::{add, exchange, give_name, make_room, put_device, weigh, weigh_all};
 use crush_hierarchy::{Hashing, Hierarchy};
@@ -115,25 +115,34 @@ fn what_is_told(rt: HostRuntime) {
     assert!(rt; is_told);
 }
 
-/// Whether the root, which weighs 163840 units, can come to weigh 4294967295 by more items, by osd.2
-/// and by osd.0 in h2, and no unit more.
+/// Whether the root, which weighs 163840 units, can come to weigh 4294967295 by more items and by
+/// osd.0 in h2, and no unit more.
 fn tells_what_fits(rt: &impl Abort, hierarchy: &Hierarchy<Global>) -> bool {
-    let (h2, osd_0, osd_2) = (bucket(rt, 3), device(rt, 0), device(rt, 2));
+    let (h2, osd_0) = (bucket(rt, 3), device(rt, 0));
     fits_attach(hierarchy, h2, Weight::from_units(4294803455)) == Some(true)
         && fits_attach(hierarchy, h2, Weight::from_units(4294803456)) == Some(false)
-        && fits_weight(hierarchy, osd_2, Weight::from_units(4294836223)) == Some(true)
-        && fits_weight(hierarchy, osd_2, Weight::from_units(4294836224)) == Some(false)
         && fits_move(hierarchy, osd_0, h2, Weight::from_units(4294868991)) == Some(true)
         && fits_move(hierarchy, osd_0, h2, Weight::from_units(4294868992)) == Some(false)
 }
 
-/// Whether the same is told of both devices of h1 beside the 32768 units of h2, and that 65536 units
-/// are their weights.
-fn tells_what_fits_below(rt: &impl Abort, hierarchy: &Hierarchy<Global>) -> bool {
+/// Whether 65536 units are the weights of both devices of h1, and one more isn't.
+fn tells_what_changes(rt: &impl Abort, hierarchy: &Hierarchy<Global>) -> bool {
     let h1 = bucket(rt, 2);
-    fits_subtree(hierarchy, h1, Weight::from_units(2147467263)) == Some((true, true))
-        && fits_subtree(hierarchy, h1, Weight::from_units(2147467264)) == Some((false, true))
-        && fits_subtree(hierarchy, h1, Weight::from_units(65536)) == Some((true, false))
+    changes_subtree(hierarchy, h1, Weight::from_units(65536)) == Some(false)
+        && changes_subtree(hierarchy, h1, Weight::from_units(65537)) == Some(true)
+}
+
+/// Whether the root comes to weigh 4294967295 units by both devices of h1, beside the 32768 of h2,
+/// and then by osd.2, and no unit more.
+fn grows_as_far_as_it_fits(rt: &impl Abort, hierarchy: &mut Hierarchy<Global>) -> bool {
+    let (h1, osd_2) = (bucket(rt, 2), device(rt, 2));
+    !weigh_all(hierarchy, h1, Weight::from_units(2147467264))
+        && sums_up(hierarchy, 4, 3, 163840)
+        && weigh_all(hierarchy, h1, Weight::from_units(2147467263))
+        && !weigh(hierarchy, osd_2, Weight::from_units(32770))
+        && sums_up(hierarchy, 4, 3, 4294967294)
+        && weigh(hierarchy, osd_2, Weight::from_units(32769))
+        && sums_up(hierarchy, 4, 3, 4294967295)
 }
 
 /// Whether h1 can be exchanged with a root that weighs 4294967295 units less the 32768 of h2, and not
@@ -164,10 +173,18 @@ fn tells_what_can_be_exchanged(
 #[test]
 fn sums_that_fit(rt: HostRuntime) {
     let mut hierarchy = example(&rt);
-    let is_told = tells_what_fits(&rt, &hierarchy) && tells_what_fits_below(&rt, &hierarchy);
+    let is_told = tells_what_fits(&rt, &hierarchy) && tells_what_changes(&rt, &hierarchy);
     let is_told_of_two = tells_what_can_be_exchanged(&rt, &mut hierarchy);
     drop(hierarchy);
     assert!(rt; is_told && is_told_of_two);
+}
+
+#[test]
+fn weights_as_far_as_they_fit(rt: HostRuntime) {
+    let mut hierarchy = example(&rt);
+    let grows = grows_as_far_as_it_fits(&rt, &mut hierarchy);
+    drop(hierarchy);
+    assert!(rt; grows);
 }
 
 /// Whether the host h2 goes out with osd.2, of 32768 units.

@@ -71,11 +71,7 @@ pub(super) fn weigh(hierarchy: &mut Hierarchy<Global>, device: DeviceId, weight:
     if !is_held(hierarchy, &ItemId::Device(device)) {
         return false;
     }
-    if !hierarchy.fits_weight(device, weight) {
-        return false;
-    }
-    hierarchy.set_weight(device, weight);
-    true
+    hierarchy.replace_weight(device, weight).is_some()
 }
 
 /// Gives all devices below a bucket one weight. Whether that is done.
@@ -91,11 +87,7 @@ pub(super) fn weigh_all(
     if !has_item(hierarchy, &ItemId::Bucket(bucket)) {
         return false;
     }
-    if !hierarchy.fits_subtree(bucket, weight) {
-        return false;
-    }
-    hierarchy.set_subtree(bucket, weight);
-    true
+    hierarchy.replace_subtree(bucket, weight).is_some()
 }
 
 /// Gives an item another name, if no item has it. Whether that is done.

@@ -1,16 +1,17 @@
-use Rattle.std.proofs.Common.{ap, refl, ◌∙◌}
+use Rattle.std.proofs.Common.{true, ap, refl, ◌∙◌}
 use Rattle.std.specs.Prelude.{not}
 use Rattle.crush_units.specs.declared.id.ItemId.TheVariants.{Bucket}
 use Rattle.crush_table.specs.Columns.{set_subtree}
 use Rattle.crush_table.specs.Forest.{rows_of}
 use Rattle.crush_table.proofs.Stands.{stands_for_rows}
-use Rattle.crush_table.proofs.Columns.{Lawful-set_subtree}
+use Rattle.crush_table.proofs.Weighs.{lawful_light}
 use Rattle.crush_edits.specs.declared.edit.Edit.TheVariants.{ReweightSubtree}
+use Rattle.crush_edits.specs.declared.refusal.Refusal.TheVariants.{SumTooLarge}
 use Rattle.crush_apply.proofs.Answered.{when_changed, when_still, when_refused}
 use Rattle.crush_apply.proofs.Found.{there_by_name}
 use Rattle.crush_apply.proofs.Refused.{no_want}
 use Rattle.crush_edits.proofs.Edits.{not_heavy}
-use Rattle.crush_apply.proofs.Weights.{refused_edit, subtree_stays, subtree_still, subtree_changed}
+use Rattle.crush_apply.proofs.Weights.{refused_edit, fitting, too_heavy, subtree_refusal, subtree_stays, subtree_still, subtree_changed}
 use Rattle.crush_apply.proofs.reweight_subtree.reweight_subtree.Goals as goal
 
 pub returns-in_err-bucket-clause-answers : goal.returns-in_err-bucket-clause-answers
@@ -24,26 +25,30 @@ pub changes_subtree-requires : goal.changes_subtree-requires
 changes_subtree-requires g c =
     there_by_name (rows_of c.args.hierarchy.now) c.args.name.now (Bucket c.in_ok-bucket.bucket) (c.in_ok-bucket.ensures.can (rows_of c.args.hierarchy.now) (stands_for_rows c.args.hierarchy.now c.recall_invariant.ensures)).named
 
-pub set_subtree-requires-clause-there : goal.set_subtree-requires-clause-there
-set_subtree-requires-clause-there g c =
-    there_by_name (rows_of c.args.hierarchy.now) c.args.name.now (Bucket c.in_ok-bucket.bucket) (c.in_ok-bucket.ensures.can (rows_of c.args.hierarchy.now) (stands_for_rows c.args.hierarchy.now c.recall_invariant.ensures)).named
-
-pub set_subtree-requires-clause-fits : goal.set_subtree-requires-clause-fits
-set_subtree-requires-clause-fits g c =
+pub replace_subtree-requires : goal.replace_subtree-requires
+replace_subtree-requires g c =
     let can = c.in_ok-bucket.ensures.can (rows_of c.args.hierarchy.now) (stands_for_rows c.args.hierarchy.now c.recall_invariant.ensures) in
-    Lawful-set_subtree (rows_of c.args.hierarchy.now) c.in_ok-bucket.bucket c.args.weight c.recall_invariant.ensures.lawful (not_heavy c.args.weight can.light) can.fits
+    record { there = there_by_name (rows_of c.args.hierarchy.now) c.args.name.now (Bucket c.in_ok-bucket.bucket) can.named; light = not_heavy c.args.weight can.light }
 
 pub returns-then-not-changes_subtree-clause-answers : goal.returns-then-not-changes_subtree-clause-answers
 returns-then-not-changes_subtree-clause-answers g c = λ s. when_still _ _ _ (λ t st.
     let b = c.in_ok-bucket.bucket in
     let w = c.args.weight in
-    (t, subtree_still s t c.args.name.now w b (c.in_ok-bucket.ensures.can t st) (subtree_stays t w b c.changes_subtree.result (c.changes_subtree.ensures t st) ∙ ap not c.if-not-changes_subtree.true), st))
+    (t, subtree_still s t c.args.name.now w b (c.in_ok-bucket.ensures.can t st) (lawful_light t st.lawful) (subtree_stays t w b c.changes_subtree.result (c.changes_subtree.ensures t st) ∙ ap not c.if-not-changes_subtree.true), st))
+
+pub returns-in_default : goal.returns-in_default
+returns-in_default g c = record {
+  answers = λ s. when_refused _ _ _ SumTooLarge _ refl c.in_default.ensures.none
+      (λ t st. refused_edit s t (ReweightSubtree c.args.name.now c.args.weight) _ (subtree_refusal s t c.args.name.now c.args.weight c.in_ok-bucket.bucket (c.in_ok-bucket.ensures.can t st) true (too_heavy _ (c.in_default.ensures.fits t st))));
+  memory = λ is. cc;
+  rooms = c.in_default.ensures.rooms;
+}
 
 pub returns-clause-answers : goal.returns-clause-answers
 returns-clause-answers g c = λ s. when_changed _ _ _ _ (λ t st.
     let b = c.in_ok-bucket.bucket in
     let w = c.args.weight in (
       set_subtree b w t,
-      subtree_changed s t c.args.name.now w b (c.in_ok-bucket.ensures.can t st) (subtree_stays t w b c.changes_subtree.result (c.changes_subtree.ensures t st) ∙ ap not c.if-not-changes_subtree.false),
-      c.set_subtree.ensures.stands t st,
+      subtree_changed s t c.args.name.now w b (c.in_ok-bucket.ensures.can t st) (fitting _ (c.in-Some.ensures.fits t st)) (subtree_stays t w b c.changes_subtree.result (c.changes_subtree.ensures t st) ∙ ap not c.if-not-changes_subtree.false),
+      c.in-Some.ensures.stands t st,
     ))

@@ -1,8 +1,0 @@
-use Rattle.crush_table.specs.Forest.{rows_of}
-use Rattle.crush_table.proofs.Stands.{stands_for_rows}
-use Rattle.crush_hierarchy_tests.proofs.tests.asked.can_weigh.Goals as goal
-
-pub fits_weight_by-requires-clause-total : goal.fits_weight_by-requires-clause-total
-fits_weight_by-requires-clause-total c =
-    let f = c.args.guide.now.forest.now in
-    c.total-total.ensures (rows_of f) (stands_for_rows f c.recall_invariant.ensures)
