@@ -3,6 +3,7 @@ pub mod NewWeights
 pub mod OtherWeights
 pub mod Sameness
 pub mod SeenForest
+pub mod Shrunk
 pub mod Taken
 pub mod Tops
 pub use Rattle.crush_nodes.specs.Apart

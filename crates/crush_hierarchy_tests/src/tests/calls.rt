@@ -187,6 +187,25 @@ fn weights_as_far_as_they_fit(rt: HostRuntime) {
     assert!(rt; grows);
 }
 
+/// Whether the list of unplaced devices has memory to spare beside osd.3, gives it back, and keeps
+/// the device.
+fn gives_memory_back(rt: &impl Abort, hierarchy: &mut Hierarchy<Global>) -> bool {
+    let had_room = hierarchy.forest().has_room(Place::Unplaced);
+    hierarchy.shrink();
+    had_room
+        && !hierarchy.forest().has_room(Place::Unplaced)
+        && hierarchy.id_of("osd.3") == Some(device_item(rt, 3))
+        && sums_up(hierarchy, 4, 3, 163840)
+}
+
+#[test]
+fn memory_to_spare(rt: HostRuntime) {
+    let mut hierarchy = example(&rt);
+    let is_given_back = gives_memory_back(&rt, &mut hierarchy);
+    drop(hierarchy);
+    assert!(rt; is_given_back);
+}
+
 /// Whether the host h2 goes out with osd.2, of 32768 units.
 fn goes_out(rt: &impl Abort, hierarchy: &mut Hierarchy<Global>) -> bool {
     let h2 = hierarchy.detach(bucket_item(rt, 3)).expect(rt, "h2");

@@ -324,6 +324,26 @@ fn weights_and_names(rt: HostRuntime) {
     assert!(rt; is_weighed && is_named);
 }
 
+/// Whether the list of unplaced devices has memory to spare beside osd.3, gives it back, and keeps the
+/// device.
+fn gives_memory_back(rt: &impl Abort, forest: &mut Forest<Global>) -> bool {
+    let had_room = forest.has_room(Place::Unplaced);
+    forest.shrink();
+    had_room
+        && !forest.has_room(Place::Unplaced)
+        && forest.id_of("osd.3") == Some(device_item(rt, 3))
+}
+
+#[test]
+fn memory_to_spare(rt: HostRuntime) {
+    let mut forest = example(&rt);
+    let idle = Item::DeviceOfClass(3, "osd.3", 0);
+    add(&rt, &mut forest, Place::Unplaced, idle);
+    let is_given_back = gives_memory_back(&rt, &mut forest);
+    drop(forest);
+    assert!(rt; is_given_back);
+}
+
 /// Whether h2 and the root above it can come to weigh so much more, and no unit more, unless a device
 /// of the root is moved.
 fn tells_what_fits(rt: &impl Abort, forest: &Forest<Global>) -> bool {

@@ -7,5 +7,5 @@ use Rattle.crush_map.proofs.builder.MapBuilder.finish.Goals as goal
 pub returns : goal.returns
 returns g c = λ d i. record {
   setting = ap (λ (x : BuilderData). x.setting) c.self.view_is ∙ i.setting;
-  forest = subst (λ (f : ForestData). Stands f d.table) (sym (ap (λ (x : BuilderData). x.forest) c.self.view_is)) i.stands;
+  forest = c.shrink.ensures.stands d.table (subst (λ (f : ForestData). Stands f d.table) (sym (ap (λ (x : BuilderData). x.forest) c.self.view_is)) i.stands);
 }
