@@ -23,6 +23,7 @@ HERE = pathlib.Path(__file__).resolve().parent
 sys.dont_write_bytecode = True
 sys.path.insert(0, str(HERE.parent / "bench"))
 from chance import numbered  # noqa: E402
+from reading import read_map  # noqa: E402
 
 CRATE = HERE.parent / "crates/crush_examples"
 GROWTHS = HERE.parent / "crates/crush_growths"
@@ -144,10 +145,11 @@ def wanted():
 
 def growths():
     """What crush_growths runs, and what it must print: each job of this folder and of worked/ whose output has its
-    whole history and is the only one, as its name, its map's text, the job and the output."""
+    whole history and is the only one, as its name, its map's text, that map as the plain model prints it, the job and
+    the output."""
     jobs = [job for folder in (HERE, HERE / "worked") for job in sorted(folder.glob("*.job"))]
     runs = [(job.stem, lines_before(read(job), "%"), read(job), read(job.with_suffix(".out"))) for job in jobs]
-    runs = [run for run in runs if run[3]]
+    runs = [(name, text, read_map(text)[0].text(), job, out) for name, text, job, out in runs if out]
     return {
         GROWTHS / "stdin": SEPARATOR.join(PART_SEPARATOR.join(run) for run in runs),
         GROWTHS / "stdout": "".join(f"{name}: each growth was refused\n" for name, *_ in runs),

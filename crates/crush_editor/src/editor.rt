@@ -20,7 +20,7 @@ use crate::locked::{Desk, Locked, Seat};
 use crush_calls::{Call, Reply};
 use crush_gauge::Reading;
 use crush_map::CrushMap;
-use std::alloc::{AllocError, Global};
+use std::alloc::{AllocError, Allocator, Global};
 use std::marker::{Brand, Model, PhantomData};
 use std::sync::ledger::Blank;
 use std::sync::{Mutex, Wait};
@@ -30,15 +30,17 @@ use std::sync::{Mutex, Wait};
 /// The name of an editor, `N`, tells contracts which gauge and which opening map are its. They are
 /// there only once this is made. So a caller makes it first, and then calls a function that is generic
 /// in `N` at [`Brand`].
+///
+/// `A` is where the maps of its book live.
 #[derive(Drop)]
-pub struct Started {
+pub struct Started<A: Allocator = Global> {
     gauge: MapGauge,
-    book: Book<Global>,
+    book: Book<A>,
     readers: Vec<Reader>,
     blank: Blank,
 }
 
-impl Model for Started {
+impl<A: Allocator> Model for Started<A> {
     ghost use Rattle.std.specs.Prelude.{◌≡◌, ◌≤◌, [], vec_len};
     ghost use Rattle.std.specs.List.{All};
     ghost use Rattle.std.specs.Coded.{codes};
@@ -67,21 +69,17 @@ impl Model for Started {
         s.readers.items };
 }
 
-impl Started {
+impl<A: Allocator + Clone> Started<A> {
     /// Makes the gauge, the book and the readers of so many operators: 1 to 16. For want of memory the
     /// map comes back.
-    pub fn new(
-        map: CrushMap<Global>,
-        operators: usize,
-        alloc: Global,
-    ) -> Result<Started, CrushMap<Global>>
+    pub fn new(map: CrushMap<A>, operators: usize, alloc: Global) -> Result<Started<A>, CrushMap<A>>
         requires some { 0 < operators }
         requires few { operators ≤ MOST_OPERATORS }
         ensures opening { IfOk result (λ s. s.opening ≡ map) }
         ensures operators { IfOk result (λ s. s.parts ≡ operators) }
         ensures err { OnErr result (result ≡ Err map) }
     {
-        let Ok((gauge, seat, readers)) = make_gauge::<Brand>(&map, operators, alloc) else {
+        let Ok((gauge, seat, readers)) = make_gauge::<Brand, A>(&map, operators, alloc) else {
             return Err(map);
         };
         let book = Book::new(map, seat, alloc)?;
@@ -92,9 +90,11 @@ impl Started {
             blank: Blank::new(operators as u64),
         })
     }
+}
 
+impl<A: Allocator> Started<A> {
     /// The gauge and the book, for one thread that needs no lock.
-    pub fn into_book(self) -> (MapGauge, Book<Global>)
+    pub fn into_book(self) -> (MapGauge, Book<A>)
         ensures table { result.1.table ≡ result.0.table.shared.table_id }
         ensures opening { result.1.opening ≡ self.opening }
         ensures map { StandsAsBefore self.opening result.1.map }
@@ -124,8 +124,8 @@ impl Opening for Brand {
 }
 
 /// The gauge of a map, with as many readers as there are operators.
-fn make_gauge<M: Opening>(
-    map: &CrushMap<Global>,
+fn make_gauge<M: Opening, A: Allocator>(
+    map: &CrushMap<A>,
     operators: usize,
     alloc: Global,
 ) -> Result<(MapGauge, MapBookSeat, Vec<Reader>), AllocError>

@@ -10,6 +10,8 @@ pub struct Parts<'a> {
     pub name: &'a [u8],
     /// The text of its map.
     pub map: &'a [u8],
+    /// That map as it is printed.
+    pub printed: &'a [u8],
     /// All of it.
     pub job: &'a [u8],
     /// What is written where no request is refused.
@@ -22,6 +24,7 @@ pub fn read_parts(record: &[u8]) -> Option<Parts<'_>> {
     Some(Parts {
         name: parts.next()?,
         map: parts.next()?,
+        printed: parts.next()?,
         job: parts.next()?,
         output: parts.next()?,
     })

@@ -1,18 +1,21 @@
 //! Runs jobs whose output is known with each request for memory refused in turn: the first, then the
 //! second, until none is left.
 //!
-//! Standard input has the jobs. A map's items are in memory that refuses one request, and what asked
-//! for it is asked once more: so each run has to come to the known output, whichever was refused.
+//! Standard input has the jobs. The items of maps are in memory that refuses one request, and what
+//! asked for it is asked once more: so each run has to come to the known output, whichever was
+//! refused. The calls are made on a map alone, and then by a book.
 #![tactic(auto)]
 
 use anyhow::{Context, ensure};
 use crush_bytes::put;
 use crush_memory::Refusing;
 use job::{Parts, read_parts};
-use run::run_each;
+use run::{Maker, run_each};
 use std::io;
 
+mod book;
 mod job;
+mod map;
 mod run;
 
 /// What stands between two jobs.
@@ -30,16 +33,17 @@ fn run_records(rt: &HostRuntime, records: &[u8]) -> anyhow::Result<()> {
     for record in records.split(|byte| *byte == RECORD_SEPARATOR) {
         let parts = read_parts(record).context("a part is missing")?;
         put(&mut rt.stdout(), parts.name)?;
-        run_record(rt, &parts)?;
+        run_record(rt, &parts, Maker::Map)?;
+        run_record(rt, &parts, Maker::Book)?;
         println!(rt; ": each growth was refused")?;
     }
     Ok(())
 }
 
 /// Runs a job with each request refused. There are no fewer than items, since each has a name.
-fn run_record(rt: &HostRuntime, parts: &Parts) -> anyhow::Result<()> {
+fn run_record(rt: &HostRuntime, parts: &Parts, maker: Maker) -> anyhow::Result<()> {
     let memory = Refusing::new(rt.alloc());
-    let (refused, items) = run_each(rt.alloc(), &memory, parts)?;
+    let (refused, items) = run_each(rt.alloc(), &memory, parts, maker)?;
     ensure!(refused >= items, "too few requests");
     Ok(())
 }

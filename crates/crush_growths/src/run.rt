@@ -1,25 +1,35 @@
-//! Runs a job on a map whose memory refuses requests.
+//! Runs a job on maps whose memory refuses requests.
 
+use crate::book::run_by_book;
 use crate::job::Parts;
-use anyhow::{bail, ensure};
-use crush_calls::{Call, Reply, Script, make_call, write_entry};
-use crush_map::{CrushMap, Hashing};
+use crate::map::{read_again, run_on_map};
+use anyhow::bail;
+use crush_calls::Script;
+use crush_map::Hashing;
 use crush_memory::Refusing;
-use crush_print::write_map;
 use crush_script::{Job, read_job};
-use crush_text::{TextFaultKind, read_map_in};
-use std::alloc::{Allocator, Global};
+use std::alloc::Global;
+
+/// By what the calls of a job are made.
+#[derive(Clone, Copy)]
+pub enum Maker {
+    /// A map alone.
+    Map,
+    /// A book, which has two maps and the history.
+    Book,
+}
 
 /// How many requests were refused, and how many items the map then has.
 pub fn run_each(
     alloc: Global,
     memory: &Refusing<Global>,
     parts: &Parts,
+    maker: Maker,
 ) -> anyhow::Result<(usize, usize)> {
     let Job { scripts, .. } = read_job(alloc, Hashing::plain(), parts.job)?;
     for number in 1..usize::MAX {
         memory.refuse(number);
-        let items = run_refused(alloc, memory, parts, scripts.as_slice())?;
+        let items = run_refused(alloc, memory, parts, scripts.as_slice(), maker)?;
         if !memory.has_refused() {
             return Ok((number - 1, items));
         }
@@ -33,92 +43,11 @@ fn run_refused(
     memory: &Refusing<Global>,
     parts: &Parts,
     scripts: &[Script],
+    maker: Maker,
 ) -> anyhow::Result<usize> {
-    let mut map = read_again(alloc, memory, parts.map)?;
-    let lines = make_calls(alloc, &mut map, scripts)?;
-    ensure!(
-        is_written(alloc, &map, lines.as_slice(), parts.output)?,
-        "another output"
-    );
-    Ok(items(&map))
-}
-
-/// How many items the map has.
-fn items<A: Allocator>(map: &CrushMap<A>) -> usize {
-    let counts = map.counts();
-    counts.devices as usize + counts.buckets as usize
-}
-
-/// The map of the text, which is read once more where memory lacked.
-fn read_again<A: Allocator + Clone>(
-    alloc: Global,
-    memory: A,
-    text: &[u8],
-) -> anyhow::Result<CrushMap<A>> {
-    let again = memory.clone()?;
-    match read_map_in(alloc, Hashing::plain(), memory, text) {
-        Ok((map, _adjusted)) => Ok(map),
-        Err(fault) => {
-            ensure!(
-                fault.kind == TextFaultKind::OutOfMemory,
-                "a text with a fault"
-            );
-            let (map, _adjusted) = read_map_in(alloc, Hashing::plain(), again, text)?;
-            Ok(map)
-        }
+    let map = read_again(alloc, memory, parts.map)?;
+    match maker {
+        Maker::Map => run_on_map(alloc, map, scripts, parts.output),
+        Maker::Book => run_by_book(alloc, map, scripts, parts),
     }
-}
-
-/// Makes the calls of all scripts in order, and answers the lines of their history.
-fn make_calls<A: Allocator + Clone>(
-    alloc: Global,
-    map: &mut CrushMap<A>,
-    scripts: &[Script],
-) -> anyhow::Result<Vec<u8>> {
-    let mut lines = Vec::new(alloc);
-    let mut number = 0u32;
-    for script in scripts {
-        for call in script.calls.as_slice() {
-            let reply = make_again(alloc, map, call)?;
-            number = number.saturating_add(1);
-            write_entry(number, script.name.as_bytes(), call, reply, &mut lines)?;
-        }
-    }
-    Ok(lines)
-}
-
-/// The reply to a call, which is made once more where memory lacked. The map is then as before.
-fn make_again<A: Allocator + Clone>(
-    alloc: Global,
-    map: &mut CrushMap<A>,
-    call: &Call,
-) -> anyhow::Result<Reply> {
-    let before = text_of(alloc, map)?;
-    if let Ok(reply) = make_call(map, call) {
-        return Ok(reply);
-    }
-    ensure!(
-        is_written(alloc, map, &[], before.as_slice())?,
-        "another map after want of memory"
-    );
-    Ok(make_call(map, call)?)
-}
-
-/// The text of a map.
-fn text_of<A: Allocator>(alloc: Global, map: &CrushMap<A>) -> anyhow::Result<Vec<u8>> {
-    let mut text = Vec::new(alloc);
-    write_map(alloc, map, &mut text)?;
-    Ok(text)
-}
-
-/// Whether the map's text with these lines behind it is this one.
-fn is_written<A: Allocator>(
-    alloc: Global,
-    map: &CrushMap<A>,
-    lines: &[u8],
-    text: &[u8],
-) -> anyhow::Result<bool> {
-    let mut written = text_of(alloc, map)?;
-    written.extend_from_slice(lines)?;
-    Ok(written.as_slice() == text)
 }

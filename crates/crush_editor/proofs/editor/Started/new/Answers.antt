@@ -5,7 +5,7 @@ use Rattle.crush_editor.specs.Seat.{reads}
 use Rattle.crush_editor.proofs.editor.Started.new.Goals as goal
 
 pub invariant_of-result : goal.invariant_of-result
-invariant_of-result c = (
+invariant_of-result g c = (
   search rules,
   search rules,
   c.in_ok-book.ensures.stands,

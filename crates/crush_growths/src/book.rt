@@ -1,0 +1,145 @@
+//! The calls of a job, made by a book whose maps are in memory that refuses requests.
+
+ghost use Rattle.std.specs.Prelude.{◌≡◌, ◌<◌, IfOk};
+ghost use Rattle.crush_units.specs.declared.limits.TheConstants.{MOST_OPERATORS};
+
+use crate::job::Parts;
+use crate::map::{is_written, items, text_of};
+use anyhow::{Context, ensure};
+use crush_calls::{Call, Entry, Script, write_entry};
+use crush_editor::{Book, MapGauge, Started, SubmitFault};
+use crush_map::CrushMap;
+use crush_units::limits::MOST_OPERATORS;
+use std::alloc::{Allocator, Global};
+
+/// Makes the calls of all scripts in order by a book of the map, and answers how many items its map
+/// then has. Map and history are then written as the output.
+pub fn run_by_book<A: Allocator + Clone>(
+    alloc: Global,
+    map: CrushMap<A>,
+    scripts: &[Script],
+    parts: &Parts,
+) -> anyhow::Result<usize> {
+    let (gauge, mut book) = open_again(alloc, map, parts.printed)?;
+    commit_all(alloc, &gauge, &mut book, scripts)?;
+    ensure!(
+        is_book_written(alloc, &book, scripts, parts.output)?,
+        "another output of a book"
+    );
+    Ok(items(book.map()))
+}
+
+/// A book of the map with its gauge, made once more where memory lacked. The map that comes back is
+/// then the one that was printed like this.
+fn open_again<A: Allocator + Clone>(
+    alloc: Global,
+    map: CrushMap<A>,
+    printed: &[u8],
+) -> anyhow::Result<(MapGauge, Book<A>)>
+    ensures { IfOk result (λ opened. opened.1.table ≡ opened.0.table.shared.table_id) }
+{
+    match Started::new(map, 1, alloc) {
+        Ok(started) => Ok(started.into_book()),
+        Err(map) => open_returned(alloc, map, printed),
+    }
+}
+
+/// The same of a map that came back.
+fn open_returned<A: Allocator + Clone>(
+    alloc: Global,
+    map: CrushMap<A>,
+    printed: &[u8],
+) -> anyhow::Result<(MapGauge, Book<A>)>
+    ensures { IfOk result (λ opened. opened.1.table ≡ opened.0.table.shared.table_id) }
+{
+    ensure!(
+        is_written(alloc, &map, &[], printed)?,
+        "another map came back"
+    );
+    let started = Started::new(map, 1, alloc).ok().context("no memory")?;
+    Ok(started.into_book())
+}
+
+/// Commits the calls of all scripts in order.
+fn commit_all<A: Allocator + Clone>(
+    alloc: Global,
+    gauge: &MapGauge,
+    book: &mut Book<A>,
+    scripts: &[Script],
+) -> anyhow::Result<()>
+    requires { book.old.table ≡ gauge.now.table.shared.table_id }
+{
+    for (operator, script) in scripts.iter().enumerate() {
+        ensure!(operator < MOST_OPERATORS, "too many operators");
+        for call in script.calls.as_slice() {
+            commit_again(alloc, gauge, book, scripts, operator, call)?;
+        }
+    }
+    Ok(())
+}
+
+/// Commits a call, once more where memory lacked. Map and history are then written as before.
+fn commit_again<A: Allocator + Clone>(
+    alloc: Global,
+    gauge: &MapGauge,
+    book: &mut Book<A>,
+    scripts: &[Script],
+    operator: usize,
+    call: &Call,
+) -> anyhow::Result<()>
+    requires operator { operator < MOST_OPERATORS }
+    requires gauge { book.old.table ≡ gauge.now.table.shared.table_id }
+    ensures { book.new.table ≡ book.old.table }
+{
+    let before = book_text(alloc, book, scripts)?;
+    match book.commit(alloc, gauge, operator, call) {
+        Ok(_reply) => return Ok(()),
+        Err(fault) => ensure!(fault == SubmitFault::OutOfMemory, "a full history"),
+    }
+    ensure!(
+        is_book_written(alloc, book, scripts, before.as_slice())?,
+        "another book after want of memory"
+    );
+    let reply = book.commit(alloc, gauge, operator, call);
+    ensure!(reply.is_ok(), "no memory");
+    Ok(())
+}
+
+/// The text of a book's map, with the lines of its history behind it.
+fn book_text<A: Allocator>(
+    alloc: Global,
+    book: &Book<A>,
+    scripts: &[Script],
+) -> anyhow::Result<Vec<u8>> {
+    let mut text = text_of(alloc, book.map())?;
+    write_lines(book.history(), scripts, &mut text)?;
+    Ok(text)
+}
+
+/// Writes the lines of a history of these scripts.
+fn write_lines(history: &[Entry], scripts: &[Script], text: &mut Vec<u8>) -> anyhow::Result<()> {
+    let mut number = 0u32;
+    for entry in history {
+        let script = scripts.get(entry.operator).context("no such operator")?;
+        number = number.saturating_add(1);
+        write_entry(
+            number,
+            script.name.as_bytes(),
+            &entry.call,
+            entry.reply,
+            text,
+        )?;
+    }
+    Ok(())
+}
+
+/// Whether a book's map and history are written as this.
+fn is_book_written<A: Allocator>(
+    alloc: Global,
+    book: &Book<A>,
+    scripts: &[Script],
+    text: &[u8],
+) -> anyhow::Result<bool> {
+    let written = book_text(alloc, book, scripts)?;
+    Ok(written.as_slice() == text)
+}
