@@ -29,7 +29,7 @@ use Rattle.crush_text.specs.Grammar.{tunable_line, type_line, device_class, devi
 use Rattle.crush_print.proofs.PrintedLines.{class_words}
 use Rattle.crush_text.specs.Flow.{State, between, amid, arrive}
 use Rattle.crush_text.specs.Document.{IsWhole}
-use Rattle.crush_laws.specs.Admitted.{IsLawfulDraft, IsLawfulState, LeadsFrom, Leads, Build}
+use Rattle.crush_laws.specs.Admitted.{IsLawfulDraft, IsLawfulState, LeadsFrom, WordLeads, Build}
 
 -- words, wherever they stand
 abbrev pub plain : List (List ℕ) → List Word
@@ -38,12 +38,12 @@ plain ts = map (λ (t : List ℕ). record { place = 0; text = t }) ts
 -- WORDS LEAD from one state to another, where others follow
 abbrev pub Goes : State → List (List ℕ) → List (List ℕ) → State → Type 0
 Goes s [] others m = s ≡ m
-Goes s (w ∷ ws) others m = (u : State) × Leads s w (plain (ws ++ others)) u × IsLawfulState u × Goes u ws others m
+Goes s (w ∷ ws) others m = (u : State) × WordLeads s w (plain (ws ++ others)) u × IsLawfulState u × Goes u ws others m
 
 -- one way behind another
 pub goes_both : (s : State) (a b others : List (List ℕ)) (m n : State) → Goes s a (b ++ others) m → Goes m b others n → Goes s (a ++ b) others n
 goes_both s [] b others m n f g = subst (λ x. Goes x b others n) (sym f) g
-goes_both s (w ∷ a) b others m n f g = (f.0, subst (λ l. Leads s w (plain l) f.0) (sym (append_assoc a b others)) f.1, f.2, goes_both f.0 a b others m n f.3 g)
+goes_both s (w ∷ a) b others m n f g = (f.0, subst (λ l. WordLeads s w (plain l) f.0) (sym (append_assoc a b others)) f.1, f.2, goes_both f.0 a b others m n f.3 g)
 
 -- where a form leads depends on the words behind it alone, not on their places
 key_of : List ℕ → List (List ℕ) → Bool
@@ -74,7 +74,7 @@ form_alike d (done p) w vs ws u e h = h
 form_alike d (optional k f g) w vs ws u e h = h
 form_alike d (ahead k f g) w vs ws u e h = h
 
-pub leads_alike : (s : State) (w : List ℕ) (vs ws : List Word) (u : State) → texts vs ≡ texts ws → Leads s w vs u → Leads s w ws u
+pub leads_alike : (s : State) (w : List ℕ) (vs ws : List Word) (u : State) → texts vs ≡ texts ws → WordLeads s w vs u → WordLeads s w ws u
 leads_alike (between p) w vs ws u e h = form_alike p.draft _ w vs ws u e h
 leads_alike (amid d f) w vs ws u e h = form_alike d f w vs ws u e h
 
@@ -91,7 +91,7 @@ goes_build s (t ∷ ts) (v ∷ ws) m d e f w =
     let head : v.text ≡ t = cc in
     let tail : texts ws ≡ ts = cc in
     let rest : texts (plain (ts ++ [])) ≡ texts ws = plain_texts (ts ++ []) ∙ append-nil ts ∙ sym tail in
-    (f.0, subst (λ x. Leads s x ws f.0) (sym head) (leads_alike s t (plain (ts ++ [])) ws f.0 rest f.1), f.2, goes_build f.0 ts ws m d tail f.3 w)
+    (f.0, subst (λ x. WordLeads s x ws f.0) (sym head) (leads_alike s t (plain (ts ++ [])) ws f.0 rest f.1), f.2, goes_build f.0 ts ws m d tail f.3 w)
 
 -- THE NUMBERS in them
 digit_byte : (d : ℕ) → 48 ≤ d → d ≤ 57 → is_ascii_digit d ≡ true
@@ -193,7 +193,7 @@ abbrev pub idle : Bool → Mode
 idle late = if late then second else first
 
 -- a bucket's type, its name and its id
-pub opens_bucket : (late : Bool) (d : Draft) (k : ℕ) (kind : List ℕ) (rest : List Word) → 0 < number_of d kind → opened d kind ≡ openings.Bucket k → Leads (between (at (idle late) d)) kind rest (amid d (bucket_line d k))
+pub opens_bucket : (late : Bool) (d : Draft) (k : ℕ) (kind : List ℕ) (rest : List Word) → 0 < number_of d kind → opened d kind ≡ openings.Bucket k → WordLeads (between (at (idle late) d)) kind rest (amid d (bucket_line d k))
 opens_bucket true d k kind rest some is = (inr (inr some), ap (λ o. arrive d rest (statement d o)) (sym is))
 opens_bucket false d k kind rest some is = (inr (inr some), ap (λ o. arrive d rest (statement d o)) (sym is))
 

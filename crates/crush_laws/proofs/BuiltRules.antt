@@ -20,7 +20,7 @@ use Rattle.crush_text.specs.Role.{bucket_of, key, any_word, number, rule_id_key,
 use Rattle.crush_text.specs.Form.{second, ruled, at, Form, done, word}
 use Rattle.crush_text.specs.Grammar.{new_rule, max_size, sizes, rule_line, with_step, step_done, take_step, choose_step, set_step, step_behind}
 use Rattle.crush_text.specs.Flow.{between, amid, arrive}
-use Rattle.crush_laws.specs.Admitted.{IsLawfulDraft, IsLawfulState, Leads}
+use Rattle.crush_laws.specs.Admitted.{IsLawfulDraft, IsLawfulState, WordLeads}
 use Rattle.crush_laws.proofs.BuiltLines.{plain, Goes, goes_both, idle, decimal_digits, decimal_value, decimal_number}
 
 -- SIZES
@@ -65,7 +65,7 @@ least_goes d x n k (Some v) rest h other l = (
 abbrev type_form : Draft → List ℕ → ℕ → Form
 type_form d x n = word (key (codes "type")) (λ _. word any_word (λ k. sizes d x n k))
 
-pub opens_rule : (late : Bool) (d : Draft) (rest : List Word) → Leads (between (at (idle late) d)) (codes "rule") rest (amid d (rule_line d))
+pub opens_rule : (late : Bool) (d : Draft) (rest : List Word) → WordLeads (between (at (idle late) d)) (codes "rule") rest (amid d (rule_line d))
 opens_rule true d rest = (inr (inl refl), refl)
 opens_rule false d rest = (inr (inl refl), refl)
 

@@ -14,7 +14,7 @@ use Rattle.crush_text.specs.Form.{Mode, first, second, begun, numbered, filling,
 use Rattle.crush_text.specs.Grammar.{next}
 use Rattle.crush_text.specs.Flow.{State, between, amid, arrive, is_idle}
 use Rattle.crush_text.specs.Document.{IsMap, start}
-use Rattle.crush_laws.specs.Admitted.{IsLawfulDraft, IsLawfulMode, LeadsFrom, Leads, IsLawfulState, Build}
+use Rattle.crush_laws.specs.Admitted.{IsLawfulDraft, IsLawfulMode, LeadsFrom, WordLeads, IsLawfulState, Build}
 use Rattle.crush_laws.specs.Final.{LeadTo}
 use Rattle.crush_laws.specs.MapOrFlaw.{MapsAreTheLawfulEnds}
 use Rattle.crush_laws.proofs.Admitted.{Possible}
@@ -45,7 +45,7 @@ form_shaped d (optional c f g) w rest u k h = absurd h
 form_shaped d (ahead c f g) w rest u k h = absurd h
 
 -- in a line or before one
-word_shaped : (s : State) (w : List ℕ) (rest : List Word) (u : State) → HasShape s → Leads s w rest u → HasShape u
+word_shaped : (s : State) (w : List ℕ) (rest : List Word) (u : State) → HasShape s → WordLeads s w rest u → HasShape u
 word_shaped (between p) w rest u k h = form_shaped p.draft (next p) w rest u (shapes_lines p.draft k.tied p.mode k.stage) h
 word_shaped (amid d f) w rest u k h = form_shaped d f w rest u k h
 
@@ -67,7 +67,7 @@ form_before d (optional k f g) w rest u h e = absurd h
 form_before d (ahead k f g) w rest u h e = absurd h
 
 -- before a line, and in the middle of one
-state_before : (s : State) (w : List ℕ) (rest : List Word) (u : State) → HasShape s → Leads s w rest u → MayEnd u → MayEnd s
+state_before : (s : State) (w : List ℕ) (rest : List Word) (u : State) → HasShape s → WordLeads s w rest u → MayEnd u → MayEnd s
 state_before (between p) w rest u k h e = line_back p.draft k.tied p.mode k.stage (form_before p.draft (next p) w rest u h e)
 state_before (amid d f) w rest u k h e = form_before d f w rest u h e
 

@@ -23,7 +23,7 @@ use Rattle.crush_calls.specs.LawRun.{IsCall}
 use Rattle.crush_calls.proofs.RunLaws.{history_keeps, turns_calls, turns_keep}
 use Rattle.crush_script.specs.Lines.{map_part}
 use Rattle.crush_script.specs.Words.{is_plain, device_named}
-use Rattle.crush_script.specs.Printed.{IsPlacing, IsSaid}
+use Rattle.crush_script.specs.Printed.{IsSaidPlacing, IsSaid}
 use Rattle.crush_laws.specs.Written.{IsNamed, IsNamedCall, JobsStayLawful, JobTextsAreReadBack, JobMapsAreReadBack, HistoryTextsAreReadBack}
 use Rattle.crush_laws.proofs.HistoryComments.{written_is_read_back}
 use Rattle.crush_script.specs.ScriptsText.{IsSaidCall, IsSaidScript}
@@ -42,7 +42,7 @@ device_in_range n d is = named (bytes_eq (take 4 n) (codes "osd.") && is_plain (
     named false v is = absurd cc
 
 -- what a line says has the forms that the table's laws ask for, and those that the lines of a history do
-placing_form : (d : ℕ) (n : List ℕ) (w : ℕ) (l : List Pair) → IsPlacing d n w l → table.IsPlacing d n l
+placing_form : (d : ℕ) (n : List ℕ) (w : ℕ) (l : List Pair) → IsSaidPlacing d n w l → table.IsPlacing d n l
 placing_form d n w l is = record { id = device_in_range n d is.device; name = is.name; at = is.at }
 
 edit_form : (e : Edit) → IsSaid e → table.IsEdit e

@@ -26,7 +26,7 @@ use Rattle.crush_text.specs.Grammar.{next}
 use Rattle.crush_text.specs.Rows.{ComesFirst, IsNeither, IsHeldItem, IsRight}
 use Rattle.crush_text.specs.Flow.{State, between, amid, arrive}
 use Rattle.crush_text.specs.Document.{SpellsForm, SpellsNext, Spell, IsWhole, start}
-use Rattle.crush_laws.specs.Admitted.{IsLawfulDraft, IsLawfulMode, IsFree, IsFor, BeginsStep, LeadsFrom, Leads, IsLawfulState, Build}
+use Rattle.crush_laws.specs.Admitted.{IsLawfulDraft, IsLawfulMode, IsFree, IsFor, BeginsStep, LeadsFrom, WordLeads, IsLawfulState, Build}
 use Rattle.crush_laws.specs.MapOrFlaw.{MapsAreTheLawfulTexts}
 use Rattle.crush_laws.proofs.Keeps.{IsWord, Has, Good, Stage, next_has, keeps_lines, nothing_there, not_true, not_false, some_of, has_units, begins_bucket}
 use Rattle.crush_laws.proofs.Ruled.{map_with_rule}
@@ -81,7 +81,7 @@ form_spelled d (optional c f g) w rest u k h e = absurd h
 form_spelled d (ahead c f g) w rest u k h e = absurd h
 
 -- in a line or before one
-word_spelled : (s : State) (w : List ℕ) (rest : List Word) (u : State) → Has Good s → Goes s → Leads s w rest u → MayEnd u → SpellsNext s w rest u × Goes u
+word_spelled : (s : State) (w : List ℕ) (rest : List Word) (u : State) → Has Good s → Goes s → WordLeads s w rest u → MayEnd u → SpellsNext s w rest u × Goes u
 word_spelled (between p) w rest u g k h e = form_spelled p.draft (next p) w rest u (right_lines p.draft g.map p.mode g.stage) h e
 word_spelled (amid d f) w rest u g k h e = form_spelled d f w rest u k h e
 
@@ -239,7 +239,7 @@ form_leads d (optional k f g) w rest u h = absurd h
 form_leads d (ahead k f g) w rest u h = absurd h
 
 -- in a line or before one
-word_leads : (s : State) (w : List ℕ) (rest : List Word) (u : State) → SpellsNext s w rest u → Leads s w rest u
+word_leads : (s : State) (w : List ℕ) (rest : List Word) (u : State) → SpellsNext s w rest u → WordLeads s w rest u
 word_leads (between p) w rest u h = form_leads p.draft (next p) w rest u h
 word_leads (amid d f) w rest u h = form_leads d f w rest u h
 

@@ -20,7 +20,7 @@ use Rattle.crush_text.specs.Grammar.{bucket_line, rule_line, with_step, new_rule
 use Rattle.crush_text.specs.Rows.{IsRight, ComesFirst}
 use Rattle.crush_laws.specs.Document.{ItemLine, BucketLines, StepLine, RuleLines, First, tunable, kind, device, Second, bucket, rule}
 use Rattle.crush_laws.specs.Spells.{IsBucketNumber, SpellsEach, SpellsClassId, SpellsHash, SpellsItem, SpellsStep, SpellsRule, SpellsFirst, SpellsSecond}
-use Rattle.crush_laws.specs.Meaning.{kind_of, tunable_of, row_of, number_in, item_in, with_items, with_seconds, adjusted_items, adjusted_by, rules_by, step_in, IsListable, AreListable, TakesBucket, UseNames}
+use Rattle.crush_laws.specs.Meaning.{first_kinds, first_tunables, first_rows, kind_number_in, item_in, with_items, with_seconds, adjusted_items, adjusted_by, rules_by, step_in, IsListable, AreListable, TakesBucket, UseNames}
 use Rattle.crush_laws.proofs.Keeps.{not_false, begins_bucket}
 use Rattle.crush_laws.proofs.LawfulTexts.{is_for}
 use Rattle.crush_laws.proofs.ReadLines.{Line, Lines, along}
@@ -87,7 +87,7 @@ pub record FirstsRead (ks : List KindData) (ts : List TunableData) (t : List Row
   pub firsts : List First
   pub more : List (List ℕ)
   pub spelled : SpellsEach SpellsFirst firsts ws more
-  pub seconds : SecondsRead (record { kinds = ks ++ flat_map kind_of firsts; tunables = ts ++ flat_map tunable_of firsts; rules = [] }) (t ++ flat_map row_of firsts) 0 more e
+  pub seconds : SecondsRead (record { kinds = ks ++ flat_map first_kinds firsts; tunables = ts ++ flat_map first_tunables firsts; rules = [] }) (t ++ flat_map first_rows firsts) 0 more e
 
 -- behind each line
 abbrev pub Goal : Mode → Draft → List (List ℕ) → Draft → Type 0
@@ -111,7 +111,7 @@ none_read d e ws empty is idle =
     }
 
 -- a bucket more
-pub more_bucket : (type : List ℕ) (s : SettingData) (t : List Row) (a : ℕ) (ws us : List (List ℕ)) (e : Draft) (x : List ℕ) → 0 < number_in s.kinds type → ws ≡ type ∷ x ∷ us → BucketRead (number_in s.kinds type) x s t a us e → SecondsRead s t a ws e
+pub more_bucket : (type : List ℕ) (s : SettingData) (t : List Row) (a : ℕ) (ws us : List (List ℕ)) (e : Draft) (x : List ℕ) → 0 < kind_number_in s.kinds type → ws ≡ type ∷ x ∷ us → BucketRead (kind_number_in s.kinds type) x s t a us e → SecondsRead s t a ws e
 more_bucket type s t a ws us e x some head h =
     let b : BucketLines = record { kind = type; name = x; id = h.number; class_ids = h.ids.ids; alg = h.ids.alg; items = h.ids.items.items } in
     let rest = h.ids.items.seconds in
@@ -133,9 +133,9 @@ more_bucket type s t a ws us e x some head h =
         rest.spelled,
       );
       names = ((some, h.ids.items.names), rest.names);
-      whole = (λ i. made (with_rules s (rules_by s.kinds rest.seconds (with_items h.number h.ids.items.items (t ++ header (number_in s.kinds type) x h.number h.ids.ids h.ids.alg ∷ []))))
-          (with_seconds s.kinds rest.seconds (with_items h.number h.ids.items.items (t ++ header (number_in s.kinds type) x h.number h.ids.ids h.ids.alg ∷ [])))
-          (sym (add_assoc a (adjusted_items h.number h.ids.items.items (t ++ header (number_in s.kinds type) x h.number h.ids.ids h.ids.alg ∷ [])) (adjusted_by s.kinds rest.seconds (with_items h.number h.ids.items.items (t ++ header (number_in s.kinds type) x h.number h.ids.ids h.ids.alg ∷ [])))) i)) ∙ rest.whole;
+      whole = (λ i. made (with_rules s (rules_by s.kinds rest.seconds (with_items h.number h.ids.items.items (t ++ header (kind_number_in s.kinds type) x h.number h.ids.ids h.ids.alg ∷ []))))
+          (with_seconds s.kinds rest.seconds (with_items h.number h.ids.items.items (t ++ header (kind_number_in s.kinds type) x h.number h.ids.ids h.ids.alg ∷ [])))
+          (sym (add_assoc a (adjusted_items h.number h.ids.items.items (t ++ header (kind_number_in s.kinds type) x h.number h.ids.ids h.ids.alg ∷ [])) (adjusted_by s.kinds rest.seconds (with_items h.number h.ids.items.items (t ++ header (kind_number_in s.kinds type) x h.number h.ids.ids h.ids.alg ∷ [])))) i)) ∙ rest.whole;
     }
 
 -- a rule more
@@ -205,30 +205,30 @@ no_firsts d ws e rules count h = record {
 pub more_first : (d : Draft) (x : First) (ws v : List (List ℕ)) (e : Draft) → SpellsFirst x ws v → Goal first (behind_first d x) v e → d.pending ≡ nothing → d.setting.rules ≡ [] → d.adjusted ≡ 0 → FirstsRead d.setting.kinds d.setting.tunables d.table ws e
 more_first d (tunable name n) ws v e spelled k idle rules count =
     let h = k idle rules count in
-    let one : List TunableData = tunable_of (tunable name n) in
+    let one : List TunableData = first_tunables (tunable name n) in
     record {
       firsts = tunable name n ∷ h.firsts;
       more = h.more;
       spelled = (v, spelled, h.spelled);
-      seconds = subst (λ (l : List TunableData). SecondsRead (record { kinds = d.setting.kinds ++ flat_map kind_of h.firsts; tunables = l; rules = [] }) (d.table ++ flat_map row_of h.firsts) 0 h.more e) (append_assoc d.setting.tunables one (flat_map tunable_of h.firsts)) h.seconds;
+      seconds = subst (λ (l : List TunableData). SecondsRead (record { kinds = d.setting.kinds ++ flat_map first_kinds h.firsts; tunables = l; rules = [] }) (d.table ++ flat_map first_rows h.firsts) 0 h.more e) (append_assoc d.setting.tunables one (flat_map first_tunables h.firsts)) h.seconds;
     }
 more_first d (kind n name) ws v e spelled k idle rules count =
     let h = k idle rules count in
-    let one : List KindData = kind_of (kind n name) in
+    let one : List KindData = first_kinds (kind n name) in
     record {
       firsts = kind n name ∷ h.firsts;
       more = h.more;
       spelled = (v, spelled, h.spelled);
-      seconds = subst (λ (l : List KindData). SecondsRead (record { kinds = l; tunables = d.setting.tunables ++ flat_map tunable_of h.firsts; rules = [] }) (d.table ++ flat_map row_of h.firsts) 0 h.more e) (append_assoc d.setting.kinds one (flat_map kind_of h.firsts)) h.seconds;
+      seconds = subst (λ (l : List KindData). SecondsRead (record { kinds = l; tunables = d.setting.tunables ++ flat_map first_tunables h.firsts; rules = [] }) (d.table ++ flat_map first_rows h.firsts) 0 h.more e) (append_assoc d.setting.kinds one (flat_map first_kinds h.firsts)) h.seconds;
     }
 more_first d (device n name class) ws v e spelled k idle rules count =
     let h = k idle rules count in
-    let one : List Row = row_of (device n name class) in
+    let one : List Row = first_rows (device n name class) in
     record {
       firsts = device n name class ∷ h.firsts;
       more = h.more;
       spelled = (v, spelled, h.spelled);
-      seconds = subst (λ (l : List Row). SecondsRead (record { kinds = d.setting.kinds ++ flat_map kind_of h.firsts; tunables = d.setting.tunables ++ flat_map tunable_of h.firsts; rules = [] }) l 0 h.more e) (append_assoc d.table one (flat_map row_of h.firsts)) h.seconds;
+      seconds = subst (λ (l : List Row). SecondsRead (record { kinds = d.setting.kinds ++ flat_map first_kinds h.firsts; tunables = d.setting.tunables ++ flat_map first_tunables h.firsts; rules = [] }) l 0 h.more e) (append_assoc d.table one (flat_map first_rows h.firsts)) h.seconds;
     }
 
 -- a word that isn't one of those with which what stands first begins

@@ -14,7 +14,7 @@ use Rattle.crush_text.proofs.Reserved.{no_key}
 use Rattle.crush_laws.specs.Final.{LeadTo}
 use Rattle.crush_laws.specs.Document.{Second, bucket, rule, Document}
 use Rattle.crush_laws.specs.Spells.{SpellsEach, SpellsSecond, Spells}
-use Rattle.crush_laws.specs.Meaning.{tunable_of, with_second, with_seconds, adjusted_in, adjusted_by, rules_in, rules_by, UsesNames, UseNames, kinds_of, devices_of, setting_of, table_of, adjusted, LawfulDocument, SpellsMap}
+use Rattle.crush_laws.specs.Meaning.{first_tunables, with_second, with_seconds, adjusted_in, adjusted_by, rules_in, rules_by, UsesNames, UseNames, kinds_of, devices_of, setting_of, table_of, adjusted, LawfulDocument, SpellsMap}
 use Rattle.crush_laws.proofs.Allowed.{type_named}
 use Rattle.crush_laws.proofs.BuiltLines.{plain, plain_texts, idle}
 use Rattle.crush_laws.proofs.FinalTexts.{maps_are_the_lawful_ends}
@@ -59,13 +59,13 @@ module _ (ks : List KindData) (kinds : All IsKind ks) (ts : List TunableData) (e
 
 -- what all of them build
 abbrev built : Document → Draft
-built doc = draft (kinds_of doc) (flat_map tunable_of doc.first) (rules_by (kinds_of doc) doc.second (devices_of doc)) (table_of doc) (adjusted doc)
+built doc = draft (kinds_of doc) (flat_map first_tunables doc.first) (rules_by (kinds_of doc) doc.second (devices_of doc)) (table_of doc) (adjusted doc)
 
 -- the words of a document lead there
 document_leads : (doc : Document) (ws : List (List ℕ)) → Spells ws doc → LawfulDocument doc → LeadTo start (plain ws) (built doc)
 document_leads doc ws h l =
     let ks : List KindData = kinds_of doc in
-    let ts : List TunableData = flat_map tunable_of doc.first in
+    let ts : List TunableData = flat_map first_tunables doc.first in
     let kinds : All IsKind ks = l.fits.setting.kinds in
     let none : 0 + adjusted doc ≡ adjusted doc = omega arith in
     firsts_lead doc.first [] [] [] ws h.0 (built doc) h.1 (seconds_begin ks kinds ts (built doc) doc.second (devices_of doc) h.0 h.2 l.names)

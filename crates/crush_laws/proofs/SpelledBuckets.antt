@@ -26,7 +26,7 @@ use Rattle.crush_laws.specs.Admitted.{IsFree}
 use Rattle.crush_laws.specs.Final.{LeadTo}
 use Rattle.crush_laws.specs.Document.{ItemLine, BucketLines}
 use Rattle.crush_laws.specs.Spells.{IsBucketNumber, SpellsEach, SpellsClassId, SpellsHash, SpellsWeighed, SpellsItem, SpellsBucket}
-use Rattle.crush_laws.specs.Meaning.{number_in, item_in, with_items, with_row, adjusted_items, IsListable, AreListable}
+use Rattle.crush_laws.specs.Meaning.{kind_number_in, item_in, with_items, with_bucket, adjusted_items, IsListable, AreListable}
 use Rattle.crush_laws.proofs.BuiltLines.{plain, idle, opens_bucket}
 use Rattle.crush_laws.proofs.Admitted.{opens}
 use Rattle.crush_laws.proofs.SpelledLines.{words_lead, lacking, draft}
@@ -132,11 +132,11 @@ module _ (ks : List KindData) (ts : List TunableData) (rs : List RuleData) (e : 
       (subst (λ (x : Alg). LeadTo (between (at (filling false) (with_alg d x))) (plain rest) e) (sym (ap (λ o. unwrap_or o Straw2) (alg_of_text-alg_text alg))) k))
 
   -- THE BUCKET
-  pub bucket_leads : (late : Bool) (b : BucketLines) (t : List Row) (a : ℕ) (ws rest : List (List ℕ)) → SpellsBucket b ws rest → is_reserved b.kind ≡ false → 0 < number_in ks b.kind → AreListable b.id b.items (with_row ks b t)
-      → LeadTo (between (at second (draft ks ts rs (with_items b.id b.items (with_row ks b t)) (a + adjusted_items b.id b.items (with_row ks b t))))) (plain rest) e → LeadTo (between (at (idle late) (draft ks ts rs t a))) (plain ws) e
+  pub bucket_leads : (late : Bool) (b : BucketLines) (t : List Row) (a : ℕ) (ws rest : List (List ℕ)) → SpellsBucket b ws rest → is_reserved b.kind ≡ false → 0 < kind_number_in ks b.kind → AreListable b.id b.items (with_bucket ks b t)
+      → LeadTo (between (at second (draft ks ts rs (with_items b.id b.items (with_bucket ks b t)) (a + adjusted_items b.id b.items (with_bucket ks b t))))) (plain rest) e → LeadTo (between (at (idle late) (draft ks ts rs t a))) (plain ws) e
   bucket_leads late b t a ws rest h free some l k =
       let d : Draft = draft ks ts rs t a in
-      let n : ℕ = number_in ks b.kind in
+      let n : ℕ = kind_number_in ks b.kind in
       let begins = λ (i : ℕ). amid_bucket t a (is_numbered n b.name i []) in
       subst (λ (x : List (List ℕ)). LeadTo (between (at (idle late) d)) (plain x) e) (sym h.head) (
         amid d (bucket_line d n),
@@ -145,5 +145,5 @@ module _ (ks : List KindData) (ts : List TunableData) (rs : List RuleData) (e : 
             (subst (λ (i : ℕ). LeadTo (between (at numbered (begins i))) (plain h.behind_id) e) (sym h.number.1)
             (class_ids_lead t a n b.name b.id [] b.class_ids h.behind_id (codes "alg" ∷ alg_text b.alg ∷ h.behind_alg) h.class_ids
             (algorithm_leads (amid_bucket t a (is_numbered n b.name b.id b.class_ids)) b.alg h.behind_alg h.behind_hash h.hash (items_begin b.items h.behind_hash rest (Begins (codes "hash")) (λ _. refl) refl h.items)
-            (items_lead false b.id b.items (with_row ks b t) a h.behind_hash rest h.items l k)))),
+            (items_lead false b.id b.items (with_bucket ks b t) a h.behind_hash rest h.items l k)))),
       )

@@ -12,11 +12,11 @@ use Rattle.crush_text.specs.Role.{value}
 use Rattle.crush_text.specs.Form.{first, at, Form, done, word, optional, ahead}
 use Rattle.crush_text.specs.Grammar.{next, device_class}
 use Rattle.crush_text.specs.Flow.{State, between, amid, arrive}
-use Rattle.crush_laws.specs.Admitted.{IsFor, Leads}
+use Rattle.crush_laws.specs.Admitted.{IsFor, WordLeads}
 use Rattle.crush_laws.specs.Final.{LeadTo}
 use Rattle.crush_laws.specs.Document.{First, tunable, kind, device}
 use Rattle.crush_laws.specs.Spells.{IsNumber, SpellsEach, SpellsClass, SpellsFirst}
-use Rattle.crush_laws.specs.Meaning.{kind_of, tunable_of, row_of}
+use Rattle.crush_laws.specs.Meaning.{first_kinds, first_tunables, first_rows}
 use Rattle.crush_laws.proofs.BuiltLines.{plain, leads_alike}
 
 -- words lead on wherever they stand
@@ -27,7 +27,7 @@ lead_alike s (v ∷ vs) [] e same h = absurd cc
 lead_alike s (v ∷ vs) (w ∷ ws) e same h =
     let head : v.text ≡ w.text = cc in
     let tail : texts vs ≡ texts ws = cc in
-    (h.0, subst (λ (x : List ℕ). Leads s x ws h.0) head (leads_alike s v.text vs ws h.0 tail h.1), lead_alike h.0 vs ws e tail h.2)
+    (h.0, subst (λ (x : List ℕ). WordLeads s x ws h.0) head (leads_alike s v.text vs ws h.0 tail h.1), lead_alike h.0 vs ws e tail h.2)
 
 -- SEVERAL WORDS of a line, and others behind them: what each is for, and where it leads
 abbrev FormTakes : Draft → Form → List ℕ → Type 0
@@ -133,15 +133,15 @@ device_leads d name w n class more rest e h c other k =
 
 -- one of them
 first_leads : (x : First) (ks : List KindData) (ts : List TunableData) (t : List Row) (ws rest : List (List ℕ)) (e : Draft) → SpellsFirst x ws rest → NoClass rest
-    → LeadTo (early (draft (ks ++ kind_of x) (ts ++ tunable_of x) [] (t ++ row_of x) 0)) (plain rest) e → LeadTo (early (draft ks ts [] t 0)) (plain ws) e
+    → LeadTo (early (draft (ks ++ first_kinds x) (ts ++ first_tunables x) [] (t ++ first_rows x) 0)) (plain rest) e → LeadTo (early (draft ks ts [] t 0)) (plain ws) e
 first_leads (tunable name n) ks ts t ws rest e h other k =
-    let same : draft (ks ++ []) (ts ++ tunable_of (tunable name n)) [] (t ++ []) 0 ≡ draft ks (ts ++ tunable_of (tunable name n)) [] t 0 = λ i. draft (append-nil ks i) (ts ++ tunable_of (tunable name n)) [] (append-nil t i) 0 in
+    let same : draft (ks ++ []) (ts ++ first_tunables (tunable name n)) [] (t ++ []) 0 ≡ draft ks (ts ++ first_tunables (tunable name n)) [] t 0 = λ i. draft (append-nil ks i) (ts ++ first_tunables (tunable name n)) [] (append-nil t i) 0 in
     subst (λ (x : List (List ℕ)). LeadTo (early (draft ks ts [] t 0)) (plain x) e) (sym h.2) (tunable_leads (draft ks ts [] t 0) name h.0 n rest e h.1 (subst (λ (d : Draft). LeadTo (early d) (plain rest) e) same k))
 first_leads (kind n name) ks ts t ws rest e h other k =
-    let same : draft (ks ++ kind_of (kind n name)) (ts ++ []) [] (t ++ []) 0 ≡ draft (ks ++ kind_of (kind n name)) ts [] t 0 = λ i. draft (ks ++ kind_of (kind n name)) (append-nil ts i) [] (append-nil t i) 0 in
+    let same : draft (ks ++ first_kinds (kind n name)) (ts ++ []) [] (t ++ []) 0 ≡ draft (ks ++ first_kinds (kind n name)) ts [] t 0 = λ i. draft (ks ++ first_kinds (kind n name)) (append-nil ts i) [] (append-nil t i) 0 in
     subst (λ (x : List (List ℕ)). LeadTo (early (draft ks ts [] t 0)) (plain x) e) (sym h.2) (kind_leads (draft ks ts [] t 0) name h.0 n rest e h.1 (subst (λ (d : Draft). LeadTo (early d) (plain rest) e) same k))
 first_leads (device n name class) ks ts t ws rest e h other k =
-    let same : draft (ks ++ []) (ts ++ []) [] (t ++ row_of (device n name class)) 0 ≡ draft ks ts [] (t ++ row_of (device n name class)) 0 = λ i. draft (append-nil ks i) (append-nil ts i) [] (t ++ row_of (device n name class)) 0 in
+    let same : draft (ks ++ []) (ts ++ []) [] (t ++ first_rows (device n name class)) 0 ≡ draft ks ts [] (t ++ first_rows (device n name class)) 0 = λ i. draft (append-nil ks i) (append-nil ts i) [] (t ++ first_rows (device n name class)) 0 in
     subst (λ (x : List (List ℕ)). LeadTo (early (draft ks ts [] t 0)) (plain x) e) (sym h.3) (device_leads (draft ks ts [] t 0) name h.0 n class h.1 rest e h.2 h.4 other (subst (λ (d : Draft). LeadTo (early d) (plain rest) e) same k))
 
 -- none of them begins with `class`
@@ -156,13 +156,13 @@ firsts_begin (x ∷ xs) ws more h other = first_begins x ws h.0 h.1
 
 -- all of them
 pub firsts_lead : (xs : List First) (ks : List KindData) (ts : List TunableData) (t : List Row) (ws more : List (List ℕ)) (e : Draft) → SpellsEach SpellsFirst xs ws more → NoClass more
-    → LeadTo (early (draft (ks ++ flat_map kind_of xs) (ts ++ flat_map tunable_of xs) [] (t ++ flat_map row_of xs) 0)) (plain more) e → LeadTo (early (draft ks ts [] t 0)) (plain ws) e
+    → LeadTo (early (draft (ks ++ flat_map first_kinds xs) (ts ++ flat_map first_tunables xs) [] (t ++ flat_map first_rows xs) 0)) (plain more) e → LeadTo (early (draft ks ts [] t 0)) (plain ws) e
 firsts_lead [] ks ts t ws more e h other k =
     let same : draft (ks ++ []) (ts ++ []) [] (t ++ []) 0 ≡ draft ks ts [] t 0 = λ i. draft (append-nil ks i) (append-nil ts i) [] (append-nil t i) 0 in
     subst (λ (x : List (List ℕ)). LeadTo (early (draft ks ts [] t 0)) (plain x) e) (sym h) (subst (λ (d : Draft). LeadTo (early d) (plain more) e) same k)
 firsts_lead (x ∷ xs) ks ts t ws more e h other k =
-    let same : draft (ks ++ (kind_of x ++ flat_map kind_of xs)) (ts ++ (tunable_of x ++ flat_map tunable_of xs)) [] (t ++ (row_of x ++ flat_map row_of xs)) 0
-    ≡ draft ((ks ++ kind_of x) ++ flat_map kind_of xs) ((ts ++ tunable_of x) ++ flat_map tunable_of xs) [] ((t ++ row_of x) ++ flat_map row_of xs) 0 =
-    λ i. draft (sym (append_assoc ks (kind_of x) (flat_map kind_of xs)) i) (sym (append_assoc ts (tunable_of x) (flat_map tunable_of xs)) i) [] (sym (append_assoc t (row_of x) (flat_map row_of xs)) i) 0 in
+    let same : draft (ks ++ (first_kinds x ++ flat_map first_kinds xs)) (ts ++ (first_tunables x ++ flat_map first_tunables xs)) [] (t ++ (first_rows x ++ flat_map first_rows xs)) 0
+    ≡ draft ((ks ++ first_kinds x) ++ flat_map first_kinds xs) ((ts ++ first_tunables x) ++ flat_map first_tunables xs) [] ((t ++ first_rows x) ++ flat_map first_rows xs) 0 =
+    λ i. draft (sym (append_assoc ks (first_kinds x) (flat_map first_kinds xs)) i) (sym (append_assoc ts (first_tunables x) (flat_map first_tunables xs)) i) [] (sym (append_assoc t (first_rows x) (flat_map first_rows xs)) i) 0 in
     first_leads x ks ts t ws h.0 e h.1 (firsts_begin xs h.0 more h.2 other)
-    (firsts_lead xs (ks ++ kind_of x) (ts ++ tunable_of x) (t ++ row_of x) h.0 more e h.2 other (subst (λ (d : Draft). LeadTo (early d) (plain more) e) same k))
+    (firsts_lead xs (ks ++ first_kinds x) (ts ++ first_tunables x) (t ++ first_rows x) h.0 more e h.2 other (subst (λ (d : Draft). LeadTo (early d) (plain more) e) same k))

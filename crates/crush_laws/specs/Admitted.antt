@@ -74,9 +74,9 @@ LeadsFrom d (optional k f g) w rest m = ⊥
 LeadsFrom d (ahead k f g) w rest m = ⊥
 
 -- between two lines the next one is due
-abbrev pub Leads : State → List ℕ → List Word → State → Type 0
-Leads (between p) w rest m = LeadsFrom p.draft (next p) w rest m
-Leads (amid d f) w rest m = LeadsFrom d f w rest m
+abbrev pub WordLeads : State → List ℕ → List Word → State → Type 0
+WordLeads (between p) w rest m = LeadsFrom p.draft (next p) w rest m
+WordLeads (amid d f) w rest m = LeadsFrom d f w rest m
 
 -- in the middle of a rule, the map with the rule that was read so far
 abbrev pub IsLawfulMode : Draft → Mode → Type 0
@@ -95,7 +95,7 @@ IsLawfulState (amid d f) = Unit {0}
 -- WORDS BUILD a map, line by line, from a state on
 abbrev pub Build : State → List Word → Draft → Type 0
 Build s [] d = IsWhole s d
-Build s (w ∷ ws) d = (u : State) × Leads s w.text ws u × IsLawfulState u × Build u ws d
+Build s (w ∷ ws) d = (u : State) × WordLeads s w.text ws u × IsLawfulState u × Build u ws d
 
 -- A LAWFUL TEXT: its words build this setting and this table of nothing, and adjust so many weights
 pub record IsLawfulText (bytes : List ℕ) (s : SettingData) (t : List Row) (adjusted : ℕ) : Type 0 where

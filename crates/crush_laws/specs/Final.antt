@@ -9,12 +9,12 @@ use Rattle.crush_map.specs.Built.{Draft}
 use Rattle.crush_bytes.specs.Words.{Word, ended, words}
 use Rattle.crush_text.specs.Flow.{State}
 use Rattle.crush_text.specs.Document.{IsWhole, start}
-use Rattle.crush_laws.specs.Admitted.{Leads}
+use Rattle.crush_laws.specs.Admitted.{WordLeads}
 
 -- WORDS LEAD from a state to a draft by their forms alone: the last line is whole
 abbrev pub LeadTo : State → List Word → Draft → Type 0
 LeadTo s [] d = IsWhole s d
-LeadTo s (w ∷ ws) d = (u : State) × Leads s w.text ws u × LeadTo u ws d
+LeadTo s (w ∷ ws) d = (u : State) × WordLeads s w.text ws u × LeadTo u ws d
 
 -- A TEXT THAT ENDS LAWFULLY: its words lead to this setting and this table, which is lawful and which the setting fits, and adjust
 -- so many weights

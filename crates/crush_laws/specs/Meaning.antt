@@ -16,24 +16,24 @@ use Rattle.crush_laws.specs.Document.{ItemLine, BucketLines, StepLine, takes, ch
 use Rattle.crush_laws.specs.Spells.{Spells}
 
 -- WHAT STANDS FIRST: types and tunables of the setting; each device appends a row without parent
-abbrev pub kind_of : First → List KindData
-kind_of (kind n name) = record { number = n; name = name } ∷ []
-kind_of (tunable name n) = []
-kind_of (device n name class) = []
+abbrev pub first_kinds : First → List KindData
+first_kinds (kind n name) = record { number = n; name = name } ∷ []
+first_kinds (tunable name n) = []
+first_kinds (device n name class) = []
 
-abbrev pub tunable_of : First → List TunableData
-tunable_of (tunable name n) = record { name = name; value = n } ∷ []
-tunable_of (kind n name) = []
-tunable_of (device n name class) = []
+abbrev pub first_tunables : First → List TunableData
+first_tunables (tunable name n) = record { name = name; value = n } ∷ []
+first_tunables (kind n name) = []
+first_tunables (device n name class) = []
 
-abbrev pub row_of : First → List Row
-row_of (device n name class) = device_row None (record { id = n; name = name; weight = 0; class = class }) ∷ []
-row_of (tunable name n) = []
-row_of (kind n name) = []
+abbrev pub first_rows : First → List Row
+first_rows (device n name class) = device_row None (record { id = n; name = name; weight = 0; class = class }) ∷ []
+first_rows (tunable name n) = []
+first_rows (kind n name) = []
 
 -- NAMES: the number of a type's name, and the item of a name in the table so far
-abbrev pub number_in : List KindData → List ℕ → ℕ
-number_in kinds name = unwrap_or (kind_number (record { kinds = kinds; tunables = []; rules = [] }) name) 0
+abbrev pub kind_number_in : List KindData → List ℕ → ℕ
+kind_number_in kinds name = unwrap_or (kind_number (record { kinds = kinds; tunables = []; rules = [] }) name) 0
 
 abbrev pub item_in : List Row → List ℕ → ItemId
 item_in t name = unwrap_or (id_named t name) (Device 0)
@@ -43,11 +43,11 @@ abbrev pub with_items : ℕ → List ItemLine → List Row → List Row
 with_items b [] t = t
 with_items b (i ∷ items) t = with_items b items (put_below b (item_in t i.name) (device_weight i.weight) t)
 
-abbrev pub with_row : List KindData → BucketLines → List Row → List Row
-with_row kinds b t = t ++ bucket_row None (record { id = b.id; kind = number_in kinds b.kind; name = b.name; alg = b.alg; class_ids = b.class_ids }) ∷ []
+abbrev pub with_bucket : List KindData → BucketLines → List Row → List Row
+with_bucket kinds b t = t ++ bucket_row None (record { id = b.id; kind = kind_number_in kinds b.kind; name = b.name; alg = b.alg; class_ids = b.class_ids }) ∷ []
 
 abbrev pub with_second : List KindData → Second → List Row → List Row
-with_second kinds (bucket b) t = with_items b.id b.items (with_row kinds b t)
+with_second kinds (bucket b) t = with_items b.id b.items (with_bucket kinds b t)
 with_second kinds (rule r) t = t
 
 abbrev pub with_seconds : List KindData → List Second → List Row → List Row
@@ -60,7 +60,7 @@ adjusted_items b [] t = 0
 adjusted_items b (i ∷ items) t = adjustment t (item_in t i.name) i.weight + adjusted_items b items (put_below b (item_in t i.name) (device_weight i.weight) t)
 
 abbrev pub adjusted_in : List KindData → Second → List Row → ℕ
-adjusted_in kinds (bucket b) t = adjusted_items b.id b.items (with_row kinds b t)
+adjusted_in kinds (bucket b) t = adjusted_items b.id b.items (with_bucket kinds b t)
 adjusted_in kinds (rule r) t = 0
 
 abbrev pub adjusted_by : List KindData → List Second → List Row → ℕ
@@ -87,13 +87,13 @@ rules_by kinds (x ∷ xs) t = rules_in t x ++ rules_by kinds xs (with_second kin
 
 -- THE MAP of a document
 abbrev pub kinds_of : Document → List KindData
-kinds_of doc = flat_map kind_of doc.first
+kinds_of doc = flat_map first_kinds doc.first
 
 abbrev pub devices_of : Document → List Row
-devices_of doc = flat_map row_of doc.first
+devices_of doc = flat_map first_rows doc.first
 
 abbrev pub setting_of : Document → SettingData
-setting_of doc = record { kinds = kinds_of doc; tunables = flat_map tunable_of doc.first; rules = rules_by (kinds_of doc) doc.second (devices_of doc) }
+setting_of doc = record { kinds = kinds_of doc; tunables = flat_map first_tunables doc.first; rules = rules_by (kinds_of doc) doc.second (devices_of doc) }
 
 abbrev pub table_of : Document → List Row
 table_of doc = with_seconds (kinds_of doc) doc.second (devices_of doc)
@@ -121,7 +121,7 @@ TakesBucket t emits = Unit {0}
 
 -- a bucket's type is none but type 0, and its items can be listed
 abbrev pub UsesNames : List KindData → Second → List Row → Type 0
-UsesNames kinds (bucket b) t = (0 < number_in kinds b.kind) × AreListable b.id b.items (with_row kinds b t)
+UsesNames kinds (bucket b) t = (0 < kind_number_in kinds b.kind) × AreListable b.id b.items (with_bucket kinds b t)
 UsesNames kinds (rule r) t = All (TakesBucket t) r.steps
 
 abbrev pub UseNames : List KindData → List Second → List Row → Type 0

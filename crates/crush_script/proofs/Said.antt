@@ -19,7 +19,7 @@ use Rattle.crush_script.specs.declared.command.Placement.TheVariants as place
 use Rattle.crush_script.specs.declared.command.Placing.{Placing}
 use Rattle.crush_script.specs.Words.{pair_of, can_add, device_named}
 use Rattle.crush_script.specs.Command.{name_at, read_weight, weight_at, end_at, with_pair, with_pairs, location_at, the_device, placing_at, located_at, one_name_at, two_names_at, weighed_at, keyword_of, edit_to_place, edit_of, edit_by, edit_at, command, operator}
-use Rattle.crush_script.specs.Printed.{IsPlacing, IsSaid, ReadIsSaid}
+use Rattle.crush_script.specs.Printed.{IsSaidPlacing, IsSaid, ReadIsSaid}
 use Rattle.crush_script.proofs.Oks.{bind-if_ok_at, if_ok-either, if_ok-then, if_ok-passed, if_ok-at}
 
 -- WORDS: a name
@@ -81,7 +81,7 @@ end_said value [] P h = h
 end_said value (word ∷ rest) P h = tt
 
 -- FORMS of commands
-placing_said : (words : List (List ℕ)) → IfOk (placing_at words) (λ p. IsPlacing p.device p.name p.weight p.at)
+placing_said : (words : List (List ℕ)) → IfOk (placing_at words) (λ p. IsSaidPlacing p.device p.name p.weight p.at)
 unfolding placing_at
 placing_said words =
     bind-if_ok_at (name_at words) _ _ (λ r. IsName r.value) (name_said words) (λ name is_name.
@@ -115,7 +115,7 @@ weighed_said words =
     end_said (name.value, weight.value) weight.rest (λ p. IsName p.0 × (p.1 < 2 ^ 32)) (is_name, is_weight)))
 
 -- COMMANDS
-edit_to_place_said : (how : Placement) (p : Placing) → IsPlacing p.device p.name p.weight p.at → IsSaid (edit_to_place how p)
+edit_to_place_said : (how : Placement) (p : Placing) → IsSaidPlacing p.device p.name p.weight p.at → IsSaid (edit_to_place how p)
 edit_to_place_said place.Add p is = is
 edit_to_place_said place.Set p is = is
 edit_to_place_said place.CreateOrMove p is = is

@@ -1,10 +1,10 @@
-pub mod AnswersAs
 pub mod Command
 pub mod Fault
 pub mod Job
 pub mod Lines
 pub mod MapPart
 pub mod Printed
+pub mod ReadsAs
 pub mod ScriptsText
 pub mod Sections
 pub mod Steps

@@ -12,7 +12,7 @@ use Rattle.crush_script.specs.Command.{command}
 use Rattle.crush_calls.specs.HistoryText.{edit_text}
 
 -- the forms of what a command says of a device: its name is `osd.N`, and the others are those that their types keep
-pub record IsPlacing (d : ℕ) (n : List ℕ) (w : ℕ) (l : List Pair) : Type 0 where
+pub record IsSaidPlacing (d : ℕ) (n : List ℕ) (w : ℕ) (l : List Pair) : Type 0 where
   pub name : IsName n
   pub device : device_named n ≡ Some d
   pub weight : w < 2 ^ 32
@@ -20,9 +20,9 @@ pub record IsPlacing (d : ℕ) (n : List ℕ) (w : ℕ) (l : List Pair) : Type 0
 
 -- the forms of an edit that a command says
 abbrev pub IsSaid : Edit → Type 0
-IsSaid (Insert d n w l) = IsPlacing d n w l
-IsSaid (CreateOrMove d n w l) = IsPlacing d n w l
-IsSaid (Update d n w l) = IsPlacing d n w l
+IsSaid (Insert d n w l) = IsSaidPlacing d n w l
+IsSaid (CreateOrMove d n w l) = IsSaidPlacing d n w l
+IsSaid (Update d n w l) = IsSaidPlacing d n w l
 IsSaid (Move n l) = IsName n × IsLocation l
 IsSaid (Swap a b) = IsName a × IsName b
 IsSaid (Reweight n w) = IsName n × (w < 2 ^ 32)

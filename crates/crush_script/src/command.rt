@@ -1,7 +1,7 @@
 //! What the words of a line in a section say.
 
 ghost use Rattle.std.specs.Prelude.{◌≡◌};
-ghost use Rattle.crush_script.specs.AnswersAs.{AnswersAs, AnswersAndLeaves};
+ghost use Rattle.crush_script.specs.ReadsAs.{ReadsAs, ReadsAndLeaves};
 ghost use Rattle.crush_script.specs.Command.{command, operator, name_at, weight_at, end_at, with_pair, location_at, placing_at, located_at, one_name_at, two_names_at, weighed_at, keyword_of, moving_keyword, naming_keyword, edit_to_place, edit_of, edit_at};
 
 use crate::line::{LineWords, place_of};
@@ -67,7 +67,7 @@ pub(crate) struct Placing {
 /// Takes the next word as a name.
 #[tactic(auto, unfolding(crate::specs::Command::name_at))]
 fn read_name(alloc: Global, words: &mut LineWords<'_>) -> Result<Name<Global>, LineFault>
-    ensures { AnswersAndLeaves result words.new (name_at words.old) }
+    ensures { ReadsAndLeaves result words.new (name_at words.old) }
 {
     let Some(word) = words.next() else {
         return Err(LineFault::BadLine);
@@ -82,7 +82,7 @@ fn read_name(alloc: Global, words: &mut LineWords<'_>) -> Result<Name<Global>, L
 /// Takes the next word as a weight.
 #[tactic(auto, unfolding(crate::specs::Command::weight_at))]
 fn read_weight(words: &mut LineWords<'_>) -> Result<Weight, LineFault>
-    ensures { AnswersAndLeaves result words.new (weight_at words.old) }
+    ensures { ReadsAndLeaves result words.new (weight_at words.old) }
 {
     let Some(word) = words.next() else {
         return Err(LineFault::BadLine);
@@ -96,7 +96,7 @@ fn read_weight(words: &mut LineWords<'_>) -> Result<Weight, LineFault>
 /// The value, where no word is left.
 #[tactic(auto, unfolding(crate::specs::Command::end_at))]
 fn read_end<T: Drop>(value: T, words: &mut LineWords<'_>) -> Result<T, LineFault>
-    ensures { AnswersAs result (end_at value words.old) }
+    ensures { ReadsAs result (end_at value words.old) }
 {
     match words.next() {
         None => Ok(value),
@@ -107,7 +107,7 @@ fn read_end<T: Drop>(value: T, words: &mut LineWords<'_>) -> Result<T, LineFault
 /// The location with one pair more, which the word says.
 #[tactic(auto, unfolding(crate::specs::Command::with_pair))]
 fn with_pair(at: Location, word: &[u8]) -> Result<Location, LineFault>
-    ensures { AnswersAs result (with_pair at word.now) }
+    ensures { ReadsAs result (with_pair at word.now) }
 {
     let mut at = at;
     let (kind, rest) = word.split_at(place_of(b'=', word));
@@ -125,7 +125,7 @@ fn with_pair(at: Location, word: &[u8]) -> Result<Location, LineFault>
 /// Takes all words that are left, as the pairs of a location.
 #[tactic(auto, unfolding(crate::specs::Command::location_at, crate::specs::Command::with_pairs))]
 fn read_location(alloc: Global, words: &mut LineWords<'_>) -> Result<Location, LineFault>
-    ensures { AnswersAs result (location_at words.old) }
+    ensures { ReadsAs result (location_at words.old) }
 {
     let mut at = Location::new(alloc);
     while let Some(word) = words.next() {
@@ -137,7 +137,7 @@ fn read_location(alloc: Global, words: &mut LineWords<'_>) -> Result<Location, L
 /// A device, its weight and its location.
 #[tactic(auto, unfolding(crate::specs::Command::placing_at))]
 fn read_placing(alloc: Global, words: &mut LineWords<'_>) -> Result<Placing, LineFault>
-    ensures { AnswersAs result (placing_at words.old) }
+    ensures { ReadsAs result (placing_at words.old) }
 {
     let name = read_name(alloc, words)?;
     let Some(device) = device_named(name.as_bytes()) else {
@@ -159,7 +159,7 @@ fn read_located(
     alloc: Global,
     words: &mut LineWords<'_>,
 ) -> Result<(Name<Global>, Location), LineFault>
-    ensures { AnswersAs result (located_at words.old) }
+    ensures { ReadsAs result (located_at words.old) }
 {
     let name = read_name(alloc, words)?;
     let at = read_location(alloc, words)?;
@@ -169,7 +169,7 @@ fn read_located(
 /// A name and nothing more.
 #[tactic(auto, unfolding(crate::specs::Command::one_name_at))]
 fn read_one_name(alloc: Global, words: &mut LineWords<'_>) -> Result<Name<Global>, LineFault>
-    ensures { AnswersAs result (one_name_at words.old) }
+    ensures { ReadsAs result (one_name_at words.old) }
 {
     let name = read_name(alloc, words)?;
     read_end(name, words)
@@ -181,7 +181,7 @@ fn read_two_names(
     alloc: Global,
     words: &mut LineWords<'_>,
 ) -> Result<(Name<Global>, Name<Global>), LineFault>
-    ensures { AnswersAs result (two_names_at words.old) }
+    ensures { ReadsAs result (two_names_at words.old) }
 {
     let first = read_name(alloc, words)?;
     let second = read_name(alloc, words)?;
@@ -194,7 +194,7 @@ fn read_weighed(
     alloc: Global,
     words: &mut LineWords<'_>,
 ) -> Result<(Name<Global>, Weight), LineFault>
-    ensures { AnswersAs result (weighed_at words.old) }
+    ensures { ReadsAs result (weighed_at words.old) }
 {
     let name = read_name(alloc, words)?;
     let weight = read_weight(words)?;
@@ -289,7 +289,7 @@ fn read_edit_of(
     keyword: Keyword,
     words: &mut LineWords<'_>,
 ) -> Result<Edit, LineFault>
-    ensures { AnswersAs result (edit_of keyword words.old) }
+    ensures { ReadsAs result (edit_of keyword words.old) }
 {
     match keyword {
         Keyword::Place(how) => {
@@ -330,7 +330,7 @@ fn read_edit_of(
 /// The edit of a first word and the words behind it.
 #[tactic(auto, unfolding(crate::specs::Command::edit_at))]
 fn read_edit(alloc: Global, first: &[u8], words: &mut LineWords<'_>) -> Result<Edit, LineFault>
-    ensures { AnswersAs result (edit_at first.now words.old) }
+    ensures { ReadsAs result (edit_at first.now words.old) }
 {
     match keyword_of(first) {
         Some(keyword) => read_edit_of(alloc, keyword, words),
@@ -341,7 +341,7 @@ fn read_edit(alloc: Global, first: &[u8], words: &mut LineWords<'_>) -> Result<E
 /// What the words of a line say that begins no section.
 #[tactic(auto, unfolding(crate::specs::Command::command))]
 pub(crate) fn read_command(alloc: Global, words: &mut LineWords<'_>) -> Result<Command, LineFault>
-    ensures { AnswersAs result (command words.old) }
+    ensures { ReadsAs result (command words.old) }
 {
     let Some(first) = words.next() else {
         return Ok(Command::Nothing);
@@ -362,7 +362,7 @@ pub(crate) fn read_operator(
     alloc: Global,
     words: &mut LineWords<'_>,
 ) -> Result<Name<Global>, LineFault>
-    ensures { AnswersAs result (operator words.old) }
+    ensures { ReadsAs result (operator words.old) }
 {
     let Some(first) = words.next() else {
         return Err(LineFault::BadLine);
