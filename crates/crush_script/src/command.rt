@@ -64,46 +64,6 @@ pub(crate) struct Placing {
     pub(crate) at: Location,
 }
 
-/// Takes the next word as a name.
-#[tactic(auto, unfolding(crate::specs::Command::name_at))]
-fn read_name(alloc: Global, words: &mut LineWords<'_>) -> Result<Name<Global>, LineFault>
-    ensures { ReadsAndLeaves result words.new (name_at words.old) }
-{
-    let Some(word) = words.next() else {
-        return Err(LineFault::BadLine);
-    };
-    match Name::read(alloc, word) {
-        Ok(name) => Ok(name),
-        Err(NameFault::OutOfMemory) => Err(LineFault::OutOfMemory),
-        Err(_) => Err(LineFault::BadLine),
-    }
-}
-
-/// Takes the next word as a weight.
-#[tactic(auto, unfolding(crate::specs::Command::weight_at))]
-fn read_weight(words: &mut LineWords<'_>) -> Result<Weight, LineFault>
-    ensures { ReadsAndLeaves result words.new (weight_at words.old) }
-{
-    let Some(word) = words.next() else {
-        return Err(LineFault::BadLine);
-    };
-    match Weight::read_bytes(word) {
-        Ok(weight) => Ok(weight),
-        Err(_) => Err(LineFault::BadLine),
-    }
-}
-
-/// The value, where no word is left.
-#[tactic(auto, unfolding(crate::specs::Command::end_at))]
-fn read_end<T: Drop>(value: T, words: &mut LineWords<'_>) -> Result<T, LineFault>
-    ensures { ReadsAs result (end_at value words.old) }
-{
-    match words.next() {
-        None => Ok(value),
-        Some(_) => Err(LineFault::BadLine),
-    }
-}
-
 /// The location with one pair more, which the word says.
 #[tactic(auto, unfolding(crate::specs::Command::with_pair))]
 fn with_pair(at: Location, word: &[u8]) -> Result<Location, LineFault>
@@ -120,85 +80,6 @@ fn with_pair(at: Location, word: &[u8]) -> Result<Location, LineFault>
         Err(LocationFault::BadName) => Err(LineFault::BadLine),
         Err(LocationFault::OutOfMemory) => Err(LineFault::OutOfMemory),
     }
-}
-
-/// Takes all words that are left, as the pairs of a location.
-#[tactic(auto, unfolding(crate::specs::Command::location_at, crate::specs::Command::with_pairs))]
-fn read_location(alloc: Global, words: &mut LineWords<'_>) -> Result<Location, LineFault>
-    ensures { ReadsAs result (location_at words.old) }
-{
-    let mut at = Location::new(alloc);
-    while let Some(word) = words.next() {
-        at = with_pair(at, word)?;
-    }
-    Ok(at)
-}
-
-/// A device, its weight and its location.
-#[tactic(auto, unfolding(crate::specs::Command::placing_at))]
-fn read_placing(alloc: Global, words: &mut LineWords<'_>) -> Result<Placing, LineFault>
-    ensures { ReadsAs result (placing_at words.old) }
-{
-    let name = read_name(alloc, words)?;
-    let Some(device) = device_named(name.as_bytes()) else {
-        return Err(LineFault::BadLine);
-    };
-    let weight = read_weight(words)?;
-    let at = read_location(alloc, words)?;
-    Ok(Placing {
-        device,
-        name,
-        weight,
-        at,
-    })
-}
-
-/// A name and a location.
-#[tactic(auto, unfolding(crate::specs::Command::located_at))]
-fn read_located(
-    alloc: Global,
-    words: &mut LineWords<'_>,
-) -> Result<(Name<Global>, Location), LineFault>
-    ensures { ReadsAs result (located_at words.old) }
-{
-    let name = read_name(alloc, words)?;
-    let at = read_location(alloc, words)?;
-    Ok((name, at))
-}
-
-/// A name and nothing more.
-#[tactic(auto, unfolding(crate::specs::Command::one_name_at))]
-fn read_one_name(alloc: Global, words: &mut LineWords<'_>) -> Result<Name<Global>, LineFault>
-    ensures { ReadsAs result (one_name_at words.old) }
-{
-    let name = read_name(alloc, words)?;
-    read_end(name, words)
-}
-
-/// Two names and nothing more.
-#[tactic(auto, unfolding(crate::specs::Command::two_names_at))]
-fn read_two_names(
-    alloc: Global,
-    words: &mut LineWords<'_>,
-) -> Result<(Name<Global>, Name<Global>), LineFault>
-    ensures { ReadsAs result (two_names_at words.old) }
-{
-    let first = read_name(alloc, words)?;
-    let second = read_name(alloc, words)?;
-    read_end((first, second), words)
-}
-
-/// A name, a weight and nothing more.
-#[tactic(auto, unfolding(crate::specs::Command::weighed_at))]
-fn read_weighed(
-    alloc: Global,
-    words: &mut LineWords<'_>,
-) -> Result<(Name<Global>, Weight), LineFault>
-    ensures { ReadsAs result (weighed_at words.old) }
-{
-    let name = read_name(alloc, words)?;
-    let weight = read_weight(words)?;
-    read_end((name, weight), words)
 }
 
 /// The command that a first word names.
@@ -283,93 +164,197 @@ fn edit_to_place(how: Placement, placing: Placing) -> Edit
     }
 }
 
-/// The edit of a command, by the words behind its first.
-fn read_edit_of(
-    alloc: Global,
-    keyword: Keyword,
-    words: &mut LineWords<'_>,
-) -> Result<Edit, LineFault>
-    ensures { ReadsAs result (edit_of keyword words.old) }
-{
-    match keyword {
-        Keyword::Place(how) => {
-            let placing = read_placing(alloc, words)?;
-            Ok(edit_to_place(how, placing))
-        }
-        Keyword::Move => {
-            let (name, at) = read_located(alloc, words)?;
-            Ok(Edit::Move { name, at })
-        }
-        Keyword::SwapBucket => {
-            let (a, b) = read_two_names(alloc, words)?;
-            Ok(Edit::Swap { a, b })
-        }
-        Keyword::Reweight => {
-            let (name, weight) = read_weighed(alloc, words)?;
-            Ok(Edit::Reweight { name, weight })
-        }
-        Keyword::ReweightSubtree => {
-            let (name, weight) = read_weighed(alloc, words)?;
-            Ok(Edit::ReweightSubtree { name, weight })
-        }
-        Keyword::Rm => {
-            let name = read_one_name(alloc, words)?;
-            Ok(Edit::Remove { name })
-        }
-        Keyword::AddBucket => {
-            let (name, kind) = read_two_names(alloc, words)?;
-            Ok(Edit::AddBucket { name, kind })
-        }
-        Keyword::RenameBucket => {
-            let (from, to) = read_two_names(alloc, words)?;
-            Ok(Edit::Rename { from, to })
+impl LineWords<'_> {
+    /// Takes the next word as a name.
+    #[tactic(auto, unfolding(crate::specs::Command::name_at))]
+    fn name(&mut self, alloc: Global) -> Result<Name<Global>, LineFault>
+        ensures { ReadsAndLeaves result self.new (name_at self.old) }
+    {
+        let Some(word) = self.next() else {
+            return Err(LineFault::BadLine);
+        };
+        match Name::read(alloc, word) {
+            Ok(name) => Ok(name),
+            Err(NameFault::OutOfMemory) => Err(LineFault::OutOfMemory),
+            Err(_) => Err(LineFault::BadLine),
         }
     }
-}
 
-/// The edit of a first word and the words behind it.
-#[tactic(auto, unfolding(crate::specs::Command::edit_at))]
-fn read_edit(alloc: Global, first: &[u8], words: &mut LineWords<'_>) -> Result<Edit, LineFault>
-    ensures { ReadsAs result (edit_at first.now words.old) }
-{
-    match keyword_of(first) {
-        Some(keyword) => read_edit_of(alloc, keyword, words),
-        None => Err(LineFault::NoSuchCommand),
+    /// Takes the next word as a weight.
+    #[tactic(auto, unfolding(crate::specs::Command::weight_at))]
+    fn weight(&mut self) -> Result<Weight, LineFault>
+        ensures { ReadsAndLeaves result self.new (weight_at self.old) }
+    {
+        let Some(word) = self.next() else {
+            return Err(LineFault::BadLine);
+        };
+        match Weight::read_bytes(word) {
+            Ok(weight) => Ok(weight),
+            Err(_) => Err(LineFault::BadLine),
+        }
     }
-}
 
-/// What the words of a line say that begins no section.
-#[tactic(auto, unfolding(crate::specs::Command::command))]
-pub(crate) fn read_command(alloc: Global, words: &mut LineWords<'_>) -> Result<Command, LineFault>
-    ensures { ReadsAs result (command words.old) }
-{
-    let Some(first) = words.next() else {
-        return Ok(Command::Nothing);
-    };
-    if first == b"begin".as_slice() {
-        return read_end(Command::Begin, words);
+    /// The value, where no word is left.
+    #[tactic(auto, unfolding(crate::specs::Command::end_at))]
+    fn end<T: Drop>(&mut self, value: T) -> Result<T, LineFault>
+        ensures { ReadsAs result (end_at value self.old) }
+    {
+        match self.next() {
+            None => Ok(value),
+            Some(_) => Err(LineFault::BadLine),
+        }
     }
-    if first == b"commit".as_slice() {
-        return read_end(Command::Commit, words);
-    }
-    let edit = read_edit(alloc, first, words)?;
-    Ok(Command::Edit(edit))
-}
 
-/// The operator's name in the words of a line that begins a section.
-#[tactic(auto, unfolding(crate::specs::Command::operator))]
-pub(crate) fn read_operator(
-    alloc: Global,
-    words: &mut LineWords<'_>,
-) -> Result<Name<Global>, LineFault>
-    ensures { ReadsAs result (operator words.old) }
-{
-    let Some(first) = words.next() else {
-        return Err(LineFault::BadLine);
-    };
-    if first != b"%operator".as_slice() {
-        return Err(LineFault::BadLine);
+    /// Takes all words that are left, as the pairs of a location.
+    #[tactic(auto, unfolding(crate::specs::Command::location_at, crate::specs::Command::with_pairs))]
+    fn location(&mut self, alloc: Global) -> Result<Location, LineFault>
+        ensures { ReadsAs result (location_at self.old) }
+    {
+        let mut at = Location::new(alloc);
+        while let Some(word) = self.next() {
+            at = with_pair(at, word)?;
+        }
+        Ok(at)
     }
-    let name = read_name(alloc, words)?;
-    read_end(name, words)
+
+    /// A device, its weight and its location.
+    #[tactic(auto, unfolding(crate::specs::Command::placing_at))]
+    fn placing(&mut self, alloc: Global) -> Result<Placing, LineFault>
+        ensures { ReadsAs result (placing_at self.old) }
+    {
+        let name = self.name(alloc)?;
+        let Some(device) = device_named(name.as_bytes()) else {
+            return Err(LineFault::BadLine);
+        };
+        let weight = self.weight()?;
+        let at = self.location(alloc)?;
+        Ok(Placing {
+            device,
+            name,
+            weight,
+            at,
+        })
+    }
+
+    /// A name and a location.
+    #[tactic(auto, unfolding(crate::specs::Command::located_at))]
+    fn located(&mut self, alloc: Global) -> Result<(Name<Global>, Location), LineFault>
+        ensures { ReadsAs result (located_at self.old) }
+    {
+        let name = self.name(alloc)?;
+        let at = self.location(alloc)?;
+        Ok((name, at))
+    }
+
+    /// A name and nothing more.
+    #[tactic(auto, unfolding(crate::specs::Command::one_name_at))]
+    fn one_name(&mut self, alloc: Global) -> Result<Name<Global>, LineFault>
+        ensures { ReadsAs result (one_name_at self.old) }
+    {
+        let name = self.name(alloc)?;
+        self.end(name)
+    }
+
+    /// Two names and nothing more.
+    #[tactic(auto, unfolding(crate::specs::Command::two_names_at))]
+    fn two_names(&mut self, alloc: Global) -> Result<(Name<Global>, Name<Global>), LineFault>
+        ensures { ReadsAs result (two_names_at self.old) }
+    {
+        let first = self.name(alloc)?;
+        let second = self.name(alloc)?;
+        self.end((first, second))
+    }
+
+    /// A name, a weight and nothing more.
+    #[tactic(auto, unfolding(crate::specs::Command::weighed_at))]
+    fn weighed(&mut self, alloc: Global) -> Result<(Name<Global>, Weight), LineFault>
+        ensures { ReadsAs result (weighed_at self.old) }
+    {
+        let name = self.name(alloc)?;
+        let weight = self.weight()?;
+        self.end((name, weight))
+    }
+
+    /// The edit of a command, by the words behind its first.
+    fn edit_of(&mut self, alloc: Global, keyword: Keyword) -> Result<Edit, LineFault>
+        ensures { ReadsAs result (edit_of keyword self.old) }
+    {
+        match keyword {
+            Keyword::Place(how) => {
+                let placing = self.placing(alloc)?;
+                Ok(edit_to_place(how, placing))
+            }
+            Keyword::Move => {
+                let (name, at) = self.located(alloc)?;
+                Ok(Edit::Move { name, at })
+            }
+            Keyword::SwapBucket => {
+                let (a, b) = self.two_names(alloc)?;
+                Ok(Edit::Swap { a, b })
+            }
+            Keyword::Reweight => {
+                let (name, weight) = self.weighed(alloc)?;
+                Ok(Edit::Reweight { name, weight })
+            }
+            Keyword::ReweightSubtree => {
+                let (name, weight) = self.weighed(alloc)?;
+                Ok(Edit::ReweightSubtree { name, weight })
+            }
+            Keyword::Rm => {
+                let name = self.one_name(alloc)?;
+                Ok(Edit::Remove { name })
+            }
+            Keyword::AddBucket => {
+                let (name, kind) = self.two_names(alloc)?;
+                Ok(Edit::AddBucket { name, kind })
+            }
+            Keyword::RenameBucket => {
+                let (from, to) = self.two_names(alloc)?;
+                Ok(Edit::Rename { from, to })
+            }
+        }
+    }
+
+    /// The edit of a first word and the words behind it.
+    #[tactic(auto, unfolding(crate::specs::Command::edit_at))]
+    fn edit(&mut self, alloc: Global, first: &[u8]) -> Result<Edit, LineFault>
+        ensures { ReadsAs result (edit_at first.now self.old) }
+    {
+        match keyword_of(first) {
+            Some(keyword) => self.edit_of(alloc, keyword),
+            None => Err(LineFault::NoSuchCommand),
+        }
+    }
+
+    /// What the words of a line say that begins no section.
+    #[tactic(auto, unfolding(crate::specs::Command::command))]
+    pub(crate) fn command(&mut self, alloc: Global) -> Result<Command, LineFault>
+        ensures { ReadsAs result (command self.old) }
+    {
+        let Some(first) = self.next() else {
+            return Ok(Command::Nothing);
+        };
+        if first == b"begin".as_slice() {
+            return self.end(Command::Begin);
+        }
+        if first == b"commit".as_slice() {
+            return self.end(Command::Commit);
+        }
+        let edit = self.edit(alloc, first)?;
+        Ok(Command::Edit(edit))
+    }
+
+    /// The operator's name in the words of a line that begins a section.
+    #[tactic(auto, unfolding(crate::specs::Command::operator, crate::specs::Command::one_name_at))]
+    pub(crate) fn operator(&mut self, alloc: Global) -> Result<Name<Global>, LineFault>
+        ensures { ReadsAs result (operator self.old) }
+    {
+        let Some(first) = self.next() else {
+            return Err(LineFault::BadLine);
+        };
+        if first != b"%operator".as_slice() {
+            return Err(LineFault::BadLine);
+        }
+        self.one_name(alloc)
+    }
 }

@@ -6,7 +6,7 @@ ghost use Rattle.crush_calls.specs.Script.{scripts_data};
 ghost use Rattle.crush_script.specs.Sections.{with_lines, no_sections, has_operator};
 ghost use Rattle.crush_script.specs.Steps.{GivesSections};
 
-use crate::command::{Command, read_command, read_operator};
+use crate::command::Command;
 use crate::fault::JobFault;
 use crate::line::{LineWords, begins_section, cut_line};
 use crush_calls::{Call, Edits, Script};
@@ -189,10 +189,10 @@ impl Sections {
         let mut words = LineWords::of_line(line);
         if begins_section(line) {
             self.check_closed()?;
-            let name = read_operator(alloc, &mut words).map_err(|fault| fault.at(number))?;
+            let name = words.operator(alloc).map_err(|fault| fault.at(number))?;
             return self.begin(alloc, number, name);
         }
-        let command = read_command(alloc, &mut words).map_err(|fault| fault.at(number))?;
+        let command = words.command(alloc).map_err(|fault| fault.at(number))?;
         self.obey(alloc, number, command)
     }
 }

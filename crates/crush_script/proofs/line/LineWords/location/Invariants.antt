@@ -1,10 +1,10 @@
 use Rattle.std.proofs.Common.{◌≡◌, [], length}
 use Rattle.crush_script.specs.Command.{with_pairs}
-use Rattle.crush_script.proofs.command.read_location.Given as goal
+use Rattle.crush_script.proofs.line.LineWords.location.Given as goal
 
 -- the pairs so far, and those that are left
 abbrev pub invariant-loop-word : goal.invariant-loop-word
-invariant-loop-word l = with_pairs [] l.fn.words ≡ with_pairs l.at l.words
+invariant-loop-word l = with_pairs [] l.fn.self ≡ with_pairs l.at l.self
 
 abbrev pub decreases-loop-word : goal.decreases-loop-word
-decreases-loop-word l = length l.words
+decreases-loop-word l = length l.self
