@@ -6,12 +6,13 @@ ghost use Rattle.crush_run.specs.Run.{TakesFew};
 ghost use Rattle.crush_run.specs.Stages.{IsInputFault};
 
 use crate::fault::RunFault;
+use crush_units::limits::LONGEST_JOB;
 use std::alloc::Global;
 use std::io::Read;
 
 /// The most bytes that are asked of a reader: one more than a job may have, so that a longer one
 /// shows.
-pub(crate) const MOST_BYTES: usize = 16_777_217;
+pub(crate) const MOST_BYTES: usize = LONGEST_JOB + 1;
 
 /// How many bytes one read asks for at the most.
 const PIECE: usize = 65_536;

@@ -1,18 +1,19 @@
 use Rattle.std.proofs.Common.{arith, rules, length, take, ◌+◌, ◌≤◌}
 use Rattle.std.proofs.lemmas.Result.{err_from_is_err_and}
+use Rattle.crush_run.specs.declared.input.TheConstants.{MOST_BYTES}
 use Rattle.crush_run.proofs.Consuming.{Consumes-piece, Consumes-no_more, front_of_all, all_of_it, few_kept, few_then}
 use Rattle.crush_run.proofs.input.read_bytes.Goals as goal
 
 pub returns-in-Ok-eq0-clause-bytes : goal.returns-in-Ok-eq0-clause-bytes
 returns-in-Ok-eq0-clause-bytes g c =
     let b = c.in-Ok-eq0.ensures.bytes in
-    all_of_it (g.R.Read.remaining c.args.reader.now) (g.R.Read.remaining c.read.new.self) c.loop.bytes.items 16777217
+    all_of_it (g.R.Read.remaining c.args.reader.now) (g.R.Read.remaining c.read.new.self) c.loop.bytes.items MOST_BYTES
     (Consumes-no_more _ _ _ _ c.read.new.buf _ c.loop.invariant.taken b.0 c.in-Ok-eq0.field-0-test)
     (b.1 c.in-Ok-eq0.field-0-test (search rules)) (omega (arith, c.loop.invariant.few))
 
 pub returns-then-len-eq-MOST_BYTES-clause-bytes : goal.returns-then-len-eq-MOST_BYTES-clause-bytes
 returns-then-len-eq-MOST_BYTES-clause-bytes g c =
-    front_of_all (g.R.Read.remaining c.args.reader.now) (g.R.Read.remaining c.read.new.self) c.extend_from_slice.new.self.items 16777217
+    front_of_all (g.R.Read.remaining c.args.reader.now) (g.R.Read.remaining c.read.new.self) c.extend_from_slice.new.self.items MOST_BYTES
     (Consumes-piece _ _ _ _ _ _ c.loop.invariant.taken c.in-Ok.ensures.bytes.0 c.in_ok-extend_from_slice-in-Ok.ensures.items) (omega arith)
 
 pub loop-preserved : goal.loop-preserved
@@ -41,5 +42,5 @@ returns-then-len-eq-MOST_BYTES-clause-taken g c =
 pub returns-in_err-extend_from_slice-in-Ok-clause-front : goal.returns-in_err-extend_from_slice-in-Ok-clause-front
 returns-in_err-extend_from_slice-in-Ok-clause-front g c =
     let p = err_from_is_err_and c.from_residual.result c.from_residual.ensures.1 in
-    let few : length c.loop.bytes.items + length (take c.in-Ok.count c.read.new.buf) ≤ 16777217 = search rules in
+    let few : length c.loop.bytes.items + length (take c.in-Ok.count c.read.new.buf) ≤ MOST_BYTES = search rules in
     rw p.1 (few_then _ _ _ c.loop.bytes.items _ c.loop.invariant.taken c.in-Ok.ensures.bytes.0 few)

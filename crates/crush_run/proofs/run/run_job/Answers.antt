@@ -2,14 +2,15 @@ use Rattle.std.proofs.Common.{◌≡◌, refl, sym, subst, List, ℕ, Option, So
 use Rattle.std.specs.Prelude.{IfSome}
 use Rattle.std.specs.Io.KnownBytes.{Keeps}
 use Rattle.std.proofs.lemmas.Result.{err_from_is_err_and}
+use Rattle.crush_run.specs.declared.input.TheConstants.{MOST_BYTES}
 use Rattle.crush_run.specs.Run.{IsRunFault}
 use Rattle.crush_run.proofs.Told.{has_job, is_job, job_of_all, is_run_fault, run_fault_of_job, run_fault_of_input}
 use Rattle.crush_run.proofs.Runs.{ended_early}
 use Rattle.crush_run.proofs.run.run_job.Goals as goal
 
 -- the bytes that were read, as those that the job is read from
-as_read : (all : Option (List ℕ)) (vec bytes : List ℕ) → bytes ≡ vec → IfSome all (λ xs. vec ≡ take 16777217 xs) → IfSome all (λ xs. bytes ≡ take 16777217 xs)
-as_read all vec bytes e h = subst (λ (z : List ℕ). IfSome all (λ xs. z ≡ take 16777217 xs)) (sym e) h
+as_read : (all : Option (List ℕ)) (vec bytes : List ℕ) → bytes ≡ vec → IfSome all (λ xs. vec ≡ take MOST_BYTES xs) → IfSome all (λ xs. bytes ≡ take MOST_BYTES xs)
+as_read all vec bytes e h = subst (λ (z : List ℕ). IfSome all (λ xs. z ≡ take MOST_BYTES xs)) (sym e) h
 
 pub returns-in_err-bytes-clause-fault : goal.returns-in_err-bytes-clause-fault
 returns-in_err-bytes-clause-fault g c =
