@@ -10,35 +10,28 @@ use Rattle.crush_run.specs.Run.{IsRunOf}
 
 -- what may fail while the bytes are read
 abbrev pub IsInputFault : RunFault → Type 0
-IsInputFault (run.Job fault) = ⊥
 IsInputFault run.Read = Unit {0}
-IsInputFault run.Write = ⊥
 IsInputFault run.Memory = Unit {0}
-IsInputFault run.Thread = ⊥
+IsInputFault fault = ⊥
 
 -- what may fail while operators are at work at once
 abbrev pub IsAtOnceFault : RunFault → Type 0
-IsAtOnceFault (run.Job fault) = ⊥
-IsAtOnceFault run.Read = ⊥
-IsAtOnceFault run.Write = ⊥
 IsAtOnceFault run.Memory = Unit {0}
 IsAtOnceFault run.Thread = Unit {0}
+IsAtOnceFault fault = ⊥
 
 -- what may fail while the scripts run: in turn they want no thread
 abbrev pub IsScriptsFault : Bool → RunFault → Type 0
-IsScriptsFault in_turn (run.Job fault) = ⊥
-IsScriptsFault in_turn run.Read = ⊥
-IsScriptsFault in_turn run.Write = ⊥
 IsScriptsFault in_turn run.Memory = Unit {0}
 IsScriptsFault in_turn run.Thread = in_turn ≡ false
+IsScriptsFault in_turn fault = ⊥
 
 -- what may fail once the job is read
 abbrev pub IsOutcomeFault : Bool → RunFault → Type 0
-IsOutcomeFault in_turn (run.Job fault) = ⊥
-IsOutcomeFault in_turn run.Read = ⊥
 IsOutcomeFault in_turn run.Write = Unit {0}
 IsOutcomeFault in_turn run.Memory = Unit {0}
 IsOutcomeFault in_turn run.Thread = in_turn ≡ false
+IsOutcomeFault in_turn fault = ⊥
 
 -- what scripts leave of a map, whatever job they and the map stand for: a run of the job, and the map after its history
 pub record HaveRun (in_turn : Bool) (job : JobData) (after : MapData) (h : List EntryData) : Type 0 where

@@ -6,7 +6,7 @@ use Rattle.crush_map.specs.MapData.{MapStands}
 use Rattle.crush_text.specs.Document.{IsMapText}
 use Rattle.crush_text.specs.declared.fault.TextFault.{TextFault}
 use Rattle.crush_script.specs.declared.fault.JobFault.{JobFault}
-use Rattle.crush_script.specs.declared.fault.JobFault.TheVariants.{BadLine, NoSuchCommand, OpenBatch, TooManyOperators, DuplicateOperator, Text, OutOfMemory, TooLong, TooManyCalls}
+use Rattle.crush_script.specs.declared.fault.JobFault.TheVariants.{Text, OutOfMemory, TooLong}
 use Rattle.crush_script.specs.declared.job.Job.{Job}
 use Rattle.crush_script.specs.Lines.{map_part}
 use Rattle.crush_script.specs.MapPart.{IsNoMap}
@@ -55,12 +55,7 @@ pub record HasNoMap (bytes : List ℕ) (fault : TextFault) : Type 0 where
 
 -- when each fault is told: the length first, then the map text, then the lines in order
 abbrev pub IsJobFault : List ℕ → JobFault → Type 0
-IsJobFault bytes (BadLine number) = IsLineFault bytes (BadLine number)
-IsJobFault bytes (NoSuchCommand number) = IsLineFault bytes (NoSuchCommand number)
-IsJobFault bytes (OpenBatch number) = IsLineFault bytes (OpenBatch number)
-IsJobFault bytes (TooManyOperators number) = IsLineFault bytes (TooManyOperators number)
-IsJobFault bytes (DuplicateOperator number) = IsLineFault bytes (DuplicateOperator number)
-IsJobFault bytes (TooManyCalls number) = IsLineFault bytes (TooManyCalls number)
+IsJobFault bytes TooLong = LONGEST_JOB < length bytes
 IsJobFault bytes (Text fault) = HasNoMap bytes fault
 IsJobFault bytes OutOfMemory = length bytes ≤ LONGEST_JOB
-IsJobFault bytes TooLong = LONGEST_JOB < length bytes
+IsJobFault bytes fault = IsLineFault bytes fault

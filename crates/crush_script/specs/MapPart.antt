@@ -6,7 +6,7 @@ use Rattle.crush_text.specs.declared.fault.TextFault.{TextFault}
 use Rattle.crush_text.specs.Document.{IsMapText}
 use Rattle.crush_text.specs.Flaw.{IsMapFlaw}
 use Rattle.crush_script.specs.declared.fault.JobFault.{JobFault}
-use Rattle.crush_script.specs.declared.fault.JobFault.TheVariants.{BadLine, NoSuchCommand, OpenBatch, TooManyOperators, DuplicateOperator, Text, OutOfMemory, TooLong, TooManyCalls}
+use Rattle.crush_script.specs.declared.fault.JobFault.TheVariants.{Text, OutOfMemory}
 
 -- the text has this flaw, and so is that of no map
 pub record IsNoMap (text : List ℕ) (fault : TextFault) : Type 0 where
@@ -17,10 +17,4 @@ pub record IsNoMap (text : List ℕ) (fault : TextFault) : Type 0 where
 abbrev pub IsMapFault : List ℕ → JobFault → Type 0
 IsMapFault text (Text fault) = IsNoMap text fault
 IsMapFault text OutOfMemory = Unit {0}
-IsMapFault text (BadLine number) = ⊥
-IsMapFault text (NoSuchCommand number) = ⊥
-IsMapFault text (OpenBatch number) = ⊥
-IsMapFault text (TooManyOperators number) = ⊥
-IsMapFault text (DuplicateOperator number) = ⊥
-IsMapFault text (TooManyCalls number) = ⊥
-IsMapFault text TooLong = ⊥
+IsMapFault text fault = ⊥

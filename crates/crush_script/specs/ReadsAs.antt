@@ -1,19 +1,17 @@
 -- What a call gives of a definition's result, unless memory lacks.
 use Rattle.std.specs.Prelude.{◌≡◌, ℕ, List, Result, Ok, Err}
 use Rattle.crush_script.specs.declared.command.LineFault.{LineFault}
-use Rattle.crush_script.specs.declared.command.LineFault.TheVariants.{BadLine, NoSuchCommand, OutOfMemory}
+use Rattle.crush_script.specs.declared.command.LineFault.TheVariants.{OutOfMemory}
 use Rattle.crush_script.specs.Command.{Read}
 
 -- the call gives the result, or tells of want of memory
 abbrev pub ReadsAs : {X : Type 0} → Result X LineFault → Result X LineFault → Type 0
 ReadsAs (Ok x) given = given ≡ Ok x
-ReadsAs (Err BadLine) given = given ≡ Err BadLine
-ReadsAs (Err NoSuchCommand) given = given ≡ Err NoSuchCommand
 ReadsAs (Err OutOfMemory) given = Unit {0}
+ReadsAs (Err fault) given = given ≡ Err fault
 
 -- the same, where after an Ok these words are left
 abbrev pub ReadsAndLeaves : {X : Type 0} → Result X LineFault → List (List ℕ) → Result (Read X) LineFault → Type 0
 ReadsAndLeaves (Ok x) left given = given ≡ Ok (record { value = x; rest = left })
-ReadsAndLeaves (Err BadLine) left given = given ≡ Err BadLine
-ReadsAndLeaves (Err NoSuchCommand) left given = given ≡ Err NoSuchCommand
 ReadsAndLeaves (Err OutOfMemory) left given = Unit {0}
+ReadsAndLeaves (Err fault) left given = given ≡ Err fault
