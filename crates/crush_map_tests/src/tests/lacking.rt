@@ -40,7 +40,8 @@ struct Call {
     told: Told,
     /// What is then true of the map.
     then: &'static [Fact],
-    /// How often memory lacks for it at least.
+    /// How often memory lacks for it at least, beside the piece that the map gave back when it was
+    /// finished: a bucket or two are made in that.
     least: usize,
 }
 
@@ -189,7 +190,7 @@ const PUTS: &[Call] = &[
             Fact::Holds("h2", &["osd.2", "osd.0"], 98304),
             Fact::Holds("default", &["h1", "h2"], 163840),
         ],
-        least: 1,
+        least: 0,
     },
     Call {
         asked: &[Asked::Set(1, 196608, &[("host", "h1")])],
@@ -205,7 +206,7 @@ const PUTS: &[Call] = &[
             Fact::HasId("r1", -4),
             Fact::Holds("default", &["h1", "r1"], 163840),
         ],
-        least: 1,
+        least: 0,
     },
 ];
 
@@ -265,7 +266,7 @@ const OTHERS: &[Call] = &[
             Fact::HasId("h9", -4),
             Fact::IsRoot("h9"),
         ],
-        least: 1,
+        least: 0,
     },
     Call {
         asked: &[Asked::Rename("h1", "hq")],
