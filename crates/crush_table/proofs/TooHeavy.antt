@@ -1,5 +1,5 @@
--- Tables of up to 4,096 buckets, lawful but for their total: with all of them it is one unit out of range, and they break that condition alone.
-use Rattle.std.proofs.Common.{◌≡◌, ℕ, zero, suc, ◌+◌, ◌*◌, ◌≤◌, ◌<◌, Bool, true, false, List, [], ◌∷◌, ◌++◌, ap, subst, ◌∙◌, refl, arith, ⊎_elim}
+-- Tables of up to MOST_BUCKETS buckets, lawful but for their total: with all of them it is one unit out of range, and they break that condition alone.
+use Rattle.std.proofs.Common.{◌≡◌, ℕ, zero, suc, ◌+◌, ◌-◌, ◌*◌, ◌≤◌, ◌<◌, Bool, true, false, List, [], ◌∷◌, ◌++◌, ap, subst, ◌∙◌, refl, arith, ⊎_elim}
 use Rattle.std.specs.Prelude.{Some, None, replicate, nat_lt, nat_le, not, ◌==◌, ◌||◌, ◌&&◌, map, bytes_eq, is_some, if◌then◌else◌}
 use Rattle.std.specs.List.{list_any, list_all, sum_by}
 use Rattle.std.proofs.lemmas.Bool.{ne_eqb, lt-ltb, le-leb, le-ltb}
@@ -7,7 +7,7 @@ use Rattle.std.proofs.lemmas.Bool.Decides.{eqb_tells}
 use Rattle.std.proofs.lemmas.List.Sums.{sum_by-cons}
 use Rattle.crush_units.specs.declared.alg.Alg.TheVariants.{Straw2}
 use Rattle.crush_units.specs.declared.id.ItemId.TheVariants.{Device, Bucket}
-use Rattle.crush_units.specs.declared.limits.TheConstants.{DEVICE_IDS, FARTHEST_BUCKET_ID, HEAVIEST_BUCKET, MOST_BUCKETS, MOST_DEVICES}
+use Rattle.crush_units.specs.declared.limits.TheConstants.{DEVICE_IDS, FARTHEST_BUCKET_ID, HEAVIEST_BUCKET, HEAVIEST_MAP, MOST_BUCKETS, MOST_DEVICES}
 use Rattle.crush_units.specs.Id.{same_id}
 use Rattle.crush_units.proofs.Ids.{same_id_equal, same_id_refl}
 use Rattle.crush_table.specs.Items.{LeafData, HeaderData, Items, none, device, bucket}
@@ -24,7 +24,7 @@ use Rattle.crush_table.proofs.Numbered.{numbered, are_apart-numbered, letters, i
 use Rattle.crush_table.proofs.TooMany.{numbers_differ, root_or_rest, nothing_above}
 use Rattle.crush_table.proofs.Unlawful.{all_but}
 
--- a root of two devices of 1073741824 units: 4,096 such roots weigh one unit more than a map may
+-- a root of two devices of 1073741824 units: MOST_BUCKETS such roots weigh one unit more than a map may
 abbrev root : ℕ → HeaderData
 root n = record { id = suc n; kind = 1; name = 97 ∷ letters n; alg = Straw2; class_ids = [] }
 
@@ -169,31 +169,31 @@ rows_add f w v p q r (suc n) =
 total_weighs : (n : ℕ) → total (heavy_rows n) ≡ n * 2147483648
 total_weighs = rows_add (λ r. if is_some r.parent then summed_weight r else 0) 0 1073741824 (λ k. refl) (λ k. refl) (λ k. refl)
 
-total_is_over : (n : ℕ) → is_too_heavy (heavy_rows n) ≡ nat_lt 8796093022207 (n * 2147483648)
-total_is_over n = λ i. none_over (heavy_rows n) (sums_in_range n) (heavy_rows n) i || nat_lt 8796093022207 (total_weighs n i)
+total_is_over : (n : ℕ) → is_too_heavy (heavy_rows n) ≡ nat_lt HEAVIEST_MAP (n * 2147483648)
+total_is_over n = λ i. none_over (heavy_rows n) (sums_in_range n) (heavy_rows n) i || nat_lt HEAVIEST_MAP (total_weighs n i)
 
-rows_have_room : (n : ℕ) → n ≤ 4096 → has_too_many (heavy_rows n) ≡ false
+rows_have_room : (n : ℕ) → n ≤ MOST_BUCKETS → has_too_many (heavy_rows n) ≡ false
 rows_have_room n h =
     let devices : device_count (heavy_rows n) ≡ n * 2 = rows_add (λ r. one_if (is_device r)) 0 1 (λ k. refl) (λ k. refl) (λ k. refl) n in
     let buckets : bucket_count (heavy_rows n) ≡ n * 1 = rows_add (λ r. one_if (is_bucket r)) 1 0 (λ k. refl) (λ k. refl) (λ k. refl) n in
     λ i. le-ltb MOST_DEVICES (device_count (heavy_rows n)) (omega (arith, devices)) i || le-ltb MOST_BUCKETS (bucket_count (heavy_rows n)) (omega (arith, buckets)) i
 
 -- each test but that of sums and total holds, and of these it is the total that fails
-many_roots : (n : ℕ) → n ≤ 4096 → table_tests (heavy_rows n) ≡ replicate 6 true ++ not (nat_lt 8796093022207 (n * 2147483648)) ∷ (true ∷ [])
+many_roots : (n : ℕ) → n ≤ MOST_BUCKETS → table_tests (heavy_rows n) ≡ replicate 6 true ++ not (nat_lt HEAVIEST_MAP (n * 2147483648)) ∷ (true ∷ [])
 many_roots n h =
     let used : are_apart (λ a b. a == b) (used_ids (heavy_rows n)) ≡ true =
     ap (are_apart (λ a b. a == b)) (roots_use_ids n) ∙ are_apart-numbered suc (λ a b. a == b) n (λ m k l e. numbers_differ (suc m) (suc k) (omega arith)) in
     λ i. ids_apart n i ∷ (names_apart n (omega arith) i ∷ (used i ∷ (all_are_rows n (omega arith) i ∷ (parents_are_there n n (omega arith) i ∷ (not (no_loops n n i) ∷ (not (total_is_over n i) ∷ (not (rows_have_room n h i) ∷ [])))))))
 
--- 4,095 such roots are no total out of range, one more are, by one unit, and no sum is
-heavy_total : table_tests (heavy_rows 4095) ≡ replicate 8 true
-heavy_total = many_roots 4095 (omega arith)
+-- such roots, one fewer than there may be buckets, are no total out of range; one more are, by one unit, and no sum is
+heavy_total : table_tests (heavy_rows (MOST_BUCKETS - 1)) ≡ replicate 8 true
+heavy_total = many_roots (MOST_BUCKETS - 1) (omega arith)
 
-total_too_heavy : table_tests (heavy_rows 4096) ≡ all_but 6 1
-total_too_heavy = many_roots 4096 (omega arith)
+total_too_heavy : table_tests (heavy_rows MOST_BUCKETS) ≡ all_but 6 1
+total_too_heavy = many_roots MOST_BUCKETS (omega arith)
 
-one_unit_too_heavy : total (heavy_rows 4096) ≡ 8796093022208
-one_unit_too_heavy = total_weighs 4096
+one_unit_too_heavy : total (heavy_rows MOST_BUCKETS) ≡ HEAVIEST_MAP + 1
+one_unit_too_heavy = total_weighs MOST_BUCKETS
 
-no_sum_too_heavy : list_any (λ (r : Row). is_over (heavy_rows 4096) r.id) (heavy_rows 4096) ≡ false
-no_sum_too_heavy = none_over (heavy_rows 4096) (sums_in_range 4096) (heavy_rows 4096)
+no_sum_too_heavy : list_any (λ (r : Row). is_over (heavy_rows MOST_BUCKETS) r.id) (heavy_rows MOST_BUCKETS) ≡ false
+no_sum_too_heavy = none_over (heavy_rows MOST_BUCKETS) (sums_in_range MOST_BUCKETS) (heavy_rows MOST_BUCKETS)

@@ -1,11 +1,11 @@
 -- Tables of up to 456,976 devices or buckets, lawful but for that number: with one too many they break that condition alone.
-use Rattle.std.proofs.Common.{◌≡◌, ℕ, zero, suc, ◌≤◌, ◌<◌, Bool, true, false, List, [], ◌∷◌, ◌++◌, ap, ◌∙◌, refl, arith}
+use Rattle.std.proofs.Common.{◌≡◌, ℕ, zero, suc, ◌+◌, ◌≤◌, ◌<◌, Bool, true, false, List, [], ◌∷◌, ◌++◌, ap, ◌∙◌, refl, arith}
 use Rattle.std.specs.Prelude.{Option, Some, None, replicate, nat_lt, nat_le, not, ◌==◌, ◌||◌, ◌&&◌, map, bytes_eq, length, option_and_then, is_some, if◌then◌else◌}
 use Rattle.std.specs.List.{list_any, list_all}
 use Rattle.std.proofs.lemmas.Bool.{ne_eqb, lt-ltb, le-leb}
 use Rattle.crush_units.specs.declared.id.ItemId.{ItemId}
 use Rattle.crush_units.specs.declared.id.ItemId.TheVariants.{Device, Bucket}
-use Rattle.crush_units.specs.declared.limits.TheConstants.{DEVICE_IDS, FARTHEST_BUCKET_ID, HEAVIEST_BUCKET, HEAVIEST_MAP}
+use Rattle.crush_units.specs.declared.limits.TheConstants.{DEVICE_IDS, FARTHEST_BUCKET_ID, HEAVIEST_BUCKET, HEAVIEST_MAP, MOST_BUCKETS, MOST_DEVICES}
 use Rattle.crush_units.specs.Id.{same_id}
 use Rattle.crush_table.specs.Table.{Row, row_of, parent_of, then_up, climb, member, is_below, sum_below, summed_weight, total, is_device, is_bucket, device_count, bucket_count, used_ids}
 use Rattle.crush_table.specs.Lawful.{is_over, is_too_heavy, has_too_many}
@@ -40,17 +40,17 @@ disks_weigh_nothing n =
     let nothing : total (disks n) ≡ 0 = sum_by-numbered disk_at (λ r. if is_some r.parent then summed_weight r else 0) 0 (λ k. refl) n ∙ omega arith in
     λ i. over i || nat_lt HEAVIEST_MAP (nothing i)
 
-disks_fill : (n : ℕ) → has_too_many (disks n) ≡ nat_lt 65536 n
+disks_fill : (n : ℕ) → has_too_many (disks n) ≡ nat_lt MOST_DEVICES n
 disks_fill n =
     let devices : device_count (disks n) ≡ n = sum_by-numbered disk_at (λ r. one_if (is_device r)) 1 (λ k. refl) n ∙ omega arith in
     let none_else : bucket_count (disks n) ≡ 0 = sum_by-numbered disk_at (λ r. one_if (is_bucket r)) 0 (λ k. refl) n ∙ omega arith in
-    (λ i. nat_lt 65536 (devices i) || nat_lt 4096 (none_else i)) ∙ or_false (nat_lt 65536 n) where
+    (λ i. nat_lt MOST_DEVICES (devices i) || nat_lt MOST_BUCKETS (none_else i)) ∙ or_false (nat_lt MOST_DEVICES n) where
       or_false : (b : Bool) → (b || false) ≡ b
       or_false true = refl
       or_false false = refl
 
 -- each test but that of counts holds
-many_disks : (n : ℕ) → n ≤ 456976 → table_tests (disks n) ≡ replicate 7 true ++ not (nat_lt 65536 n) ∷ []
+many_disks : (n : ℕ) → n ≤ 456976 → table_tests (disks n) ≡ replicate 7 true ++ not (nat_lt MOST_DEVICES n) ∷ []
 many_disks n h =
     let ids : are_apart same_id (map (λ (r : Row). r.id) (disks n)) ≡ true =
     ap (are_apart same_id) (map-numbered disk_at (λ r. r.id) n) ∙ are_apart-numbered (λ k. Device k) same_id n (λ m k l e. numbers_differ m k l) in
@@ -61,11 +61,11 @@ many_disks n h =
     let loops : list_any (λ (r : Row). is_loop (disks n) r.id) (disks n) ≡ false = list_any-numbered disk_at (λ r. is_loop (disks n) r.id) n (λ k l. refl) in
     λ i. ids i ∷ (names i ∷ (are_apart (λ a b. a == b) (disks_use_nothing n i) ∷ (rows i ∷ (parents i ∷ (not (loops i) ∷ (not (disks_weigh_nothing n i) ∷ (not (disks_fill n i) ∷ [])))))))
 
-most_devices : table_tests (disks 65536) ≡ replicate 8 true
-most_devices = many_disks 65536 (omega arith)
+most_devices : table_tests (disks MOST_DEVICES) ≡ replicate 8 true
+most_devices = many_disks MOST_DEVICES (omega arith)
 
-devices_too_many : table_tests (disks 65537) ≡ all_but 7 0
-devices_too_many = many_disks 65537 (omega arith)
+devices_too_many : table_tests (disks (MOST_DEVICES + 1)) ≡ all_but 7 0
+devices_too_many = many_disks (MOST_DEVICES + 1) (omega arith)
 
 -- BUCKETS that are roots and empty
 abbrev box_at : ℕ → Row
@@ -112,14 +112,14 @@ boxes_weigh_nothing n =
     let nothing : total (boxes n) ≡ 0 = sum_by-numbered box_at (λ r. if is_some r.parent then summed_weight r else 0) 0 (λ k. refl) n ∙ omega arith in
     λ i. over i || nat_lt HEAVIEST_MAP (nothing i)
 
-boxes_fill : (n : ℕ) → has_too_many (boxes n) ≡ nat_lt 4096 n
+boxes_fill : (n : ℕ) → has_too_many (boxes n) ≡ nat_lt MOST_BUCKETS n
 boxes_fill n =
     let none_else : device_count (boxes n) ≡ 0 = sum_by-numbered box_at (λ r. one_if (is_device r)) 0 (λ k. refl) n ∙ omega arith in
     let buckets : bucket_count (boxes n) ≡ n = sum_by-numbered box_at (λ r. one_if (is_bucket r)) 1 (λ k. refl) n ∙ omega arith in
-    λ i. nat_lt 65536 (none_else i) || nat_lt 4096 (buckets i)
+    λ i. nat_lt MOST_DEVICES (none_else i) || nat_lt MOST_BUCKETS (buckets i)
 
 -- each test but that of counts holds
-many_boxes : (n : ℕ) → n ≤ 456976 → table_tests (boxes n) ≡ replicate 7 true ++ not (nat_lt 4096 n) ∷ []
+many_boxes : (n : ℕ) → n ≤ 456976 → table_tests (boxes n) ≡ replicate 7 true ++ not (nat_lt MOST_BUCKETS n) ∷ []
 many_boxes n h =
     let ids : are_apart same_id (map (λ (r : Row). r.id) (boxes n)) ≡ true =
     ap (are_apart same_id) (map-numbered box_at (λ r. r.id) n) ∙ are_apart-numbered (λ k. Bucket (suc k)) same_id n (λ m k l e. numbers_differ (suc m) (suc k) (omega arith)) in
@@ -132,8 +132,8 @@ many_boxes n h =
     let loops : list_any (λ (r : Row). is_loop (boxes n) r.id) (boxes n) ≡ false = list_any-numbered box_at (λ r. is_loop (boxes n) r.id) n (λ k l. nothing_below_a_box n (suc k) (Bucket (suc k))) in
     λ i. ids i ∷ (names i ∷ (used i ∷ (rows i ∷ (parents i ∷ (not (loops i) ∷ (not (boxes_weigh_nothing n i) ∷ (not (boxes_fill n i) ∷ [])))))))
 
-most_buckets : table_tests (boxes 4096) ≡ replicate 8 true
-most_buckets = many_boxes 4096 (omega arith)
+most_buckets : table_tests (boxes MOST_BUCKETS) ≡ replicate 8 true
+most_buckets = many_boxes MOST_BUCKETS (omega arith)
 
-buckets_too_many : table_tests (boxes 4097) ≡ all_but 7 0
-buckets_too_many = many_boxes 4097 (omega arith)
+buckets_too_many : table_tests (boxes (MOST_BUCKETS + 1)) ≡ all_but 7 0
+buckets_too_many = many_boxes (MOST_BUCKETS + 1) (omega arith)

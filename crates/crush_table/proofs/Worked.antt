@@ -1,7 +1,8 @@
 -- The example map's kids, sums and total, computed, and what some changes make of them.
-use Rattle.std.specs.Prelude.{◌≡◌, ℕ, List, [], ◌∷◌, ◌++◌, Some, None, true, false, codes, refl}
+use Rattle.std.specs.Prelude.{◌≡◌, ℕ, ◌*◌, List, [], ◌∷◌, ◌++◌, Some, None, true, false, codes, refl}
 use Rattle.crush_units.specs.declared.id.ItemId.TheVariants.{Device, Bucket}
 use Rattle.crush_units.specs.declared.alg.Alg.TheVariants.{Straw2}
+use Rattle.crush_units.specs.declared.limits.TheConstants.{HEAVIEST_DEVICE}
 use Rattle.crush_table.specs.Items.{LeafData, HeaderData, none, device, bucket}
 use Rattle.crush_table.specs.Table.{Row, id_named, is_named, parent_of, kind_of, is_placed, above, is_below, kids, sum_below, total, weight_of, device_count, bucket_count, used_ids, free_ids}
 use Rattle.crush_table.specs.Lawful.{Lawful, is_too_heavy, has_too_many}
@@ -156,12 +157,12 @@ left_sum = refl
 taken : total (part (Bucket 3) map) ≡ 32768
 taken = refl
 
--- three devices of the greatest weight in two buckets below one root: its sum is above 4294967295
+-- three devices of the greatest weight in two buckets below one root: its sum is above HEAVIEST_BUCKET
 abbrev heavy : List Row
 heavy = rows_of (record {
-  roots = bucket (header 5 3 (codes "rx")) 6442450941 2
-      (bucket (header 4 1 (codes "hx")) 4294967294 2 (device (leaf 10 (codes "osd.10") 2147483647) (device (leaf 11 (codes "osd.11") 2147483647) none))
-      (bucket (header 6 1 (codes "hy")) 2147483647 2 (device (leaf 12 (codes "osd.12") 2147483647) none) none)) none;
+  roots = bucket (header 5 3 (codes "rx")) (3 * HEAVIEST_DEVICE) 2
+      (bucket (header 4 1 (codes "hx")) (2 * HEAVIEST_DEVICE) 2 (device (leaf 10 (codes "osd.10") HEAVIEST_DEVICE) (device (leaf 11 (codes "osd.11") HEAVIEST_DEVICE) none))
+      (bucket (header 6 1 (codes "hy")) HEAVIEST_DEVICE 2 (device (leaf 12 (codes "osd.12") HEAVIEST_DEVICE) none) none)) none;
   unplaced = none;
   root_capacity = 1;
   unplaced_capacity = 0;
@@ -194,8 +195,8 @@ added_lawful = refl
 
 -- two buckets whose sums a swap would bring out of range: a (-2) with one device in p (-1), and q (-3) with two
 abbrev full : List Row
-full = rows None (bucket (header 1 11 (codes "p")) 4294967294 2 (bucket (header 2 1 (codes "a")) 2147483647 1 (device (leaf 0 (codes "d0") 2147483647) none) (device (leaf 1 (codes "d1") 2147483647) none))
-    (bucket (header 3 11 (codes "q")) 4294967294 2 (device (leaf 2 (codes "d2") 2147483647) (device (leaf 3 (codes "d3") 2147483647) none)) none))
+full = rows None (bucket (header 1 11 (codes "p")) (2 * HEAVIEST_DEVICE) 2 (bucket (header 2 1 (codes "a")) HEAVIEST_DEVICE 1 (device (leaf 0 (codes "d0") HEAVIEST_DEVICE) none) (device (leaf 1 (codes "d1") HEAVIEST_DEVICE) none))
+    (bucket (header 3 11 (codes "q")) (2 * HEAVIEST_DEVICE) 2 (device (leaf 2 (codes "d2") HEAVIEST_DEVICE) (device (leaf 3 (codes "d3") HEAVIEST_DEVICE) none)) none))
 
 full_fits : is_too_heavy full ≡ false
 full_fits = refl
