@@ -30,7 +30,7 @@ use Rattle.crush_edits.proofs.Routes.{named_there}
 use Rattle.crush_edits.proofs.Tails.{edited_is_own}
 use Rattle.crush_edits.proofs.Edits.{some_row, device_apart}
 use Rattle.crush_apply.specs.Answered.{last_answer}
-use Rattle.crush_apply.specs.Coming.{CanMove, CanCome}
+use Rattle.crush_apply.specs.Coming.{CanMove, CanArrive}
 use Rattle.crush_apply.specs.Placed.{CanPut, CanPutNew}
 use Rattle.crush_apply.specs.Destination.{DestinationData}
 use Rattle.crush_apply.proofs.Answered.{IsPut, put_same}
@@ -82,7 +82,7 @@ put_changes t d n w ps lawful route free = by_there (is_there t (Device d)) refl
   by_there false gone = ap (same_table t) (new_put t d n w ps gone) ∙ changes_new t ps (new_leaf d n w) lawful route gone
 
 -- A DEVICE THAT IS THERE can move, and it is put with its own row and the weight
-pub device_moves : (t : List Row) (d : ℕ) (n : List ℕ) (w : ℕ) (to : DestinationData) → CanCome t d n w to → is_there t (Device d) ≡ true → CanMove t (Device d) to
+pub device_moves : (t : List Row) (d : ℕ) (n : List ℕ) (w : ℕ) (to : DestinationData) → CanArrive t d n w to → is_there t (Device d) ≡ true → CanMove t (Device d) to
 device_moves t d n w to can there = record { leads = can.leads; there = there; apart = no_loop t d (Device d) to.stops refl }
 
 -- its row
@@ -93,7 +93,7 @@ pub record OwnRow (t : List Row) (d : ℕ) (n : List ℕ) (w : ℕ) (to : Destin
   pub same : put t (edited_device t d n w) to.stops ≡ put t (record row { weight = w }) to.stops
   pub put : IsPut t (last_answer t (put_after t (edited_device t d n w) to.stops)) (record row { weight = w }) to
 
-pub own_row : (t : List Row) (d : ℕ) (n : List ℕ) (w : ℕ) (to : DestinationData) → Lawful t → CanCome t d n w to → held t (Device d) to.stops ≡ false → is_there t (Device d) ≡ true → OwnRow t d n w to
+pub own_row : (t : List Row) (d : ℕ) (n : List ℕ) (w : ℕ) (to : DestinationData) → Lawful t → CanArrive t d n w to → held t (Device d) to.stops ≡ false → is_there t (Device d) ≡ true → OwnRow t d n w to
 own_row t d n w to lawful can free there =
     let found = some_row t (Device d) there in
     let same = own_put t d n w to.stops found.0 lawful can.own found.1 in
@@ -109,7 +109,7 @@ pub put_own : (t : List Row) (d : ℕ) (w : ℕ) (to : DestinationData) (r : Row
 put_own t d w to r found room light = record { apart = no_loop t d r.id to.stops (row_id (Device d) t r found); room = room; light = light }
 
 -- A DEVICE THAT ISN'T THERE can be put
-pub device_put_new : (t : List Row) (d : ℕ) (n : List ℕ) (w : ℕ) (to : DestinationData) → CanCome t d n w to → is_there t (Device d) ≡ false → d < DEVICE_IDS → IsName n
+pub device_put_new : (t : List Row) (d : ℕ) (n : List ℕ) (w : ℕ) (to : DestinationData) → CanArrive t d n w to → is_there t (Device d) ≡ false → d < DEVICE_IDS → IsName n
     → has_too_many (put t (device_row None (new_leaf d n w)) to.stops) ≡ false → is_too_heavy (put t (device_row None (new_leaf d n w)) to.stops) ≡ false → CanPutNew t (new_leaf d n w) to.stops
 device_put_new t d n w to can gone id name room light = record {
   gone = gone;
@@ -121,5 +121,5 @@ device_put_new t d n w to can gone id name room light = record {
 }
 
 -- THE NEW DEVICE is put
-pub new_is_put : (t : List Row) (d : ℕ) (n : List ℕ) (w : ℕ) (to : DestinationData) → Lawful t → CanCome t d n w to → held t (Device d) to.stops ≡ false → is_there t (Device d) ≡ false → IsPut t (last_answer t (put_after t (edited_device t d n w) to.stops)) (device_row None (new_leaf d n w)) to
+pub new_is_put : (t : List Row) (d : ℕ) (n : List ℕ) (w : ℕ) (to : DestinationData) → Lawful t → CanArrive t d n w to → held t (Device d) to.stops ≡ false → is_there t (Device d) ≡ false → IsPut t (last_answer t (put_after t (edited_device t d n w) to.stops)) (device_row None (new_leaf d n w)) to
 new_is_put t d n w to lawful can free gone = put_same t (edited_device t d n w) (device_row None (new_leaf d n w)) to can.leads (new_put t d n w to.stops gone) (put_changes t d n w to.stops lawful can.leads.route free)

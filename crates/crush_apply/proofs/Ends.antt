@@ -15,7 +15,7 @@ use Rattle.crush_edits.specs.Located.{end_tests}
 use Rattle.crush_edits.specs.Stops.{StopData, is_fresh, fresh_stops, end_stop, number_of}
 use Rattle.crush_apply.specs.declared.route.stops.Stop.{Stop}
 use Rattle.crush_apply.specs.Stopped.{pair_name, stop_data, stops_data}
-use Rattle.crush_apply.specs.Destination.{item_tests, EndsAt}
+use Rattle.crush_apply.specs.Destination.{end_item_tests, EndsAt}
 
 stops_at : (l : List Pair) (xs : List Stop) (k : ℕ) (x : Stop) → k < length xs → x ≡ get_or xs k x → stops_data l (drop k xs) ≡ stop_data l x ∷ stops_data l (drop (k + 1) xs)
 stops_at l xs k x h e =
@@ -65,14 +65,14 @@ module _ (t : List Row) (l : List Pair) (xs : List Stop) (k : ℕ) (x : Stop) (i
   ends : end_stop t (stops_data l xs) ≡ Some (stop_data l x)
   ends = left.end ∙ ap (end_stop t) (stops_at l xs k x h e) ∙ rw named refl
 
-  pub tests_here : end_tests t (stops_data l xs) ≡ item_tests t x.kind i
+  pub tests_here : end_tests t (stops_data l xs) ≡ end_item_tests t x.kind i
   tests_here = ap (tests_at t) ends ∙ rw is refl
 
-  pub ends_here : (b : ℕ) → i ≡ Bucket b → first_refusal (item_tests t x.kind (Bucket b)) ≡ None → EndsAt t (stops_data l xs) k (Some b)
+  pub ends_here : (b : ℕ) → i ≡ Bucket b → first_refusal (end_item_tests t x.kind (Bucket b)) ≡ None → EndsAt t (stops_data l xs) k (Some b)
   ends_here b same passes = record {
     fresh = omega (arith, left.fresh, fresh_here t l xs k x h e named);
     receiver = sym (ap (λ o. option_and_then number_of (option_and_then (λ (p : StopData). id_named t p.name) o)) ends ∙ ap (option_and_then number_of) is ∙ ap number_of same);
-    passes = ap first_refusal tests_here ∙ ap (λ j. first_refusal (item_tests t x.kind j)) same ∙ passes;
+    passes = ap first_refusal tests_here ∙ ap (λ j. first_refusal (end_item_tests t x.kind j)) same ∙ passes;
   }
 
 -- no stop is left

@@ -8,7 +8,7 @@ use Rattle.crush_edits.specs.declared.location.Pair.{Pair}
 use Rattle.crush_edits.specs.declared.refusal.Refusal.{Refusal}
 use Rattle.crush_edits.specs.Answer.{first_refusal, is_a_device, is_heavy}
 use Rattle.crush_edits.specs.Fits.{Fits}
-use Rattle.crush_edits.specs.Located.{is_bad_location, has_no_kind, names_it, is_taken, location_tests, device_tests, end_tests}
+use Rattle.crush_edits.specs.Located.{is_bad_location, has_no_kind, names_it, is_taken, location_tests, located_device_tests, end_tests}
 use Rattle.crush_edits.specs.New.{IsRoute}
 use Rattle.crush_edits.specs.Pushed.{IsLocation}
 use Rattle.crush_edits.specs.Setting.{SettingData}
@@ -43,7 +43,7 @@ pub record DevicePasses (s : SettingData) (t : List Row) (d : ℕ) (n : List ℕ
   pub light : is_heavy w ≡ false
   pub own : is_taken t (Device d) n ≡ false
 
-pub device_passes : (s : SettingData) (t : List Row) (d : ℕ) (n : List ℕ) (w : ℕ) (l : List Pair) → first_refusal (device_tests s t d n w l) ≡ None → DevicePasses s t d n w l
+pub device_passes : (s : SettingData) (t : List Row) (d : ℕ) (n : List ℕ) (w : ℕ) (l : List Pair) → first_refusal (located_device_tests s t d n w l) ≡ None → DevicePasses s t d n w l
 device_passes s t d n w l h =
     let name = by_test (names_it l n) _ _ h in
     let first = by_test (is_bad_location s l) _ _ name.1 in

@@ -17,7 +17,7 @@ pub record CanMove (t : List Row) (i : ItemId) (to : DestinationData) : Type 0 w
   pub apart : IsApart t i to.stops
 
 -- the device d of the name n and the weight w, there or not: id and name belong together or are new, and no stop has the name
-pub record CanCome (t : List Row) (d : ℕ) (n : List ℕ) (w : ℕ) (to : DestinationData) : Type 0 where
+pub record CanArrive (t : List Row) (d : ℕ) (n : List ℕ) (w : ℕ) (to : DestinationData) : Type 0 where
   pub leads : Leads t to
   pub own : is_taken t (Device d) n ≡ false
   pub other : count_by (λ (p : StopData). bytes_eq p.name n) to.stops ≡ 0

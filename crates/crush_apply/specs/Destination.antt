@@ -17,8 +17,8 @@ pub record DestinationData : Type 0 where
   pub receiver : Option ℕ
 
 -- the tests of an item that ends a route at a pair of the type k
-abbrev pub item_tests : List Row → ℕ → ItemId → List (Refusal × Bool)
-item_tests t k i = (NotABucket, is_device_id i) ∷ ((WrongType, meets (λ n. not (n == k)) (kind_of t i)) ∷ [])
+abbrev pub end_item_tests : List Row → ℕ → ItemId → List (Refusal × Bool)
+end_item_tests t k i = (NotABucket, is_device_id i) ∷ ((WrongType, meets (λ n. not (n == k)) (kind_of t i)) ∷ [])
 
 -- so many of the stops are buckets to be made, the bucket receives these, or the item, and no test of the end refuses
 pub record EndsAt (t : List Row) (ps : List StopData) (k : ℕ) (b : Option ℕ) : Type 0 where

@@ -9,27 +9,27 @@ use Rattle.crush_table.specs.Items.{LeafData, HeaderData, Items, none, device, b
 use Rattle.crush_table.specs.Forest.{join}
 use Rattle.crush_table.specs.Stored.{StoresSums}
 use Rattle.crush_changes.specs.Change.{with_item}
-use Rattle.crush_changes.specs.Named.{name_in, with_name, first_name, with_own_name}
+use Rattle.crush_changes.specs.Named.{name_in, with_name, name_of_first, with_own_name}
 use Rattle.crush_nodes.specs.Ops.{count_of_id, with_sums, part_of, StoresUpTo}
 use Rattle.crush_changes.proofs.ChangeLaws.{local, one_taken}
 use Rattle.crush_nodes.proofs.Joins.{pick_yes, has_sums}
 use Rattle.crush_changes.proofs.RenameLaws.{with_name-join, with_name-absent, StoresSums-with_name, kids_named}
 
-first_name-join : (a b : Items) → first_name (join a b) ≡ option_or (first_name a) (first_name b)
+first_name-join : (a b : Items) → name_of_first (join a b) ≡ option_or (name_of_first a) (name_of_first b)
 first_name-join none b = refl
 first_name-join (device d r) b = refl
 first_name-join (bucket h w m k r) b = refl
 
-name_device : (c : Bool) (d : LeafData) (o : Option (List ℕ)) (s : Items) → o ≡ first_name s → (if c then Some d.name else o) ≡ first_name (if c then device d s else s)
+name_device : (c : Bool) (d : LeafData) (o : Option (List ℕ)) (s : Items) → o ≡ name_of_first s → (if c then Some d.name else o) ≡ name_of_first (if c then device d s else s)
 name_device true d o s e = refl
 name_device false d o s e = e
 
-name_bucket : (c : Bool) (h : HeaderData) (w m : ℕ) (k l s : Items) (o : Option (List ℕ)) → o ≡ first_name (join l s) → (if c then Some h.name else o) ≡ first_name (if c then bucket h w m k s else join l s)
+name_bucket : (c : Bool) (h : HeaderData) (w m : ℕ) (k l s : Items) (o : Option (List ℕ)) → o ≡ name_of_first (join l s) → (if c then Some h.name else o) ≡ name_of_first (if c then bucket h w m k s else join l s)
 name_bucket true h w m k l s o e = refl
 name_bucket false h w m k l s o e = e
 
 -- the name that an item has is that of what is taken
-pub name_taken : (i : ItemId) (t : Items) → name_in i t ≡ first_name (part_of i t)
+pub name_taken : (i : ItemId) (t : Items) → name_in i t ≡ name_of_first (part_of i t)
 name_taken i none = refl
 name_taken i (device d r) = name_device (same_id (Device d.id) i) d _ (part_of i r) (name_taken i r)
 name_taken i (bucket h w m k r) = name_bucket (same_id (Bucket h.id) i) h w m k (part_of i k) (part_of i r) _ ((λ j. option_or (name_taken i k j) (name_taken i r j)) ∙ sym (first_name-join (part_of i k) (part_of i r)))

@@ -25,10 +25,10 @@ with_name i n (device d rest) = device (leaf_with_name i n d) (with_name i n res
 with_name i n (bucket h w m kids rest) = bucket (header_with_name i n h) w m (with_name i n kids) (with_name i n rest)
 
 -- the name of the first of the items, and the items themselves with another name
-abbrev pub first_name : Items → Option (List ℕ)
-first_name none = None
-first_name (device d rest) = Some d.name
-first_name (bucket h w m kids rest) = Some h.name
+abbrev pub name_of_first : Items → Option (List ℕ)
+name_of_first none = None
+name_of_first (device d rest) = Some d.name
+name_of_first (bucket h w m kids rest) = Some h.name
 
 abbrev pub with_own_name : List ℕ → Items → Items
 with_own_name n none = none

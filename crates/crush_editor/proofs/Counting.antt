@@ -4,33 +4,33 @@ use mathlib.Core.Logic.{dite}
 use native.Mathlib.Decide.{ℕ_discrete, dec_le}
 use Rattle.crush_calls.specs.History.{EntryData, AnsweredData, of_operator}
 use Rattle.crush_editor.specs.History.{slip}
-use Rattle.crush_editor.specs.Seat.{StandsIn}
+use Rattle.crush_editor.specs.Seat.{IsSubsequence}
 
 module _ {A : Type 0} where
-  pub stands_length : (xs ys : List A) → StandsIn xs ys → length xs ≤ length ys
+  pub stands_length : (xs ys : List A) → IsSubsequence xs ys → length xs ≤ length ys
   stands_length [] ys s = omega arith
   stands_length (x ∷ xs) [] s = absurd s
   stands_length (x ∷ xs) (y ∷ ys) (inl s) = let h = stands_length xs ys s.1 in omega arith
   stands_length (x ∷ xs) (y ∷ ys) (inr s) = let h = stands_length (x ∷ xs) ys s in omega arith
 
-  pub stands_whole : (xs ys : List A) → StandsIn xs ys → length ys ≤ length xs → xs ≡ ys
+  pub stands_whole : (xs ys : List A) → IsSubsequence xs ys → length ys ≤ length xs → xs ≡ ys
   stands_whole [] [] s le = refl
   stands_whole [] (y ∷ ys) s le = absurd (omega arith)
   stands_whole (x ∷ xs) [] s le = absurd s
   stands_whole (x ∷ xs) (y ∷ ys) (inl s) le = let h = stands_whole xs ys s.1 (omega arith) in let e = s.0 in cc
   stands_whole (x ∷ xs) (y ∷ ys) (inr s) le = let h = stands_length (x ∷ xs) ys s in absurd (omega arith)
 
-  pub stands_more : (xs ys zs : List A) → StandsIn xs ys → StandsIn xs (ys ++ zs)
+  pub stands_more : (xs ys zs : List A) → IsSubsequence xs ys → IsSubsequence xs (ys ++ zs)
   stands_more [] ys zs s = tt
   stands_more (x ∷ xs) [] zs s = absurd s
   stands_more (x ∷ xs) (y ∷ ys) zs (inl s) = inl (s.0, stands_more xs ys zs s.1)
   stands_more (x ∷ xs) (y ∷ ys) zs (inr s) = inr (stands_more (x ∷ xs) ys zs s)
 
-  stands_last : (z : A) (ys : List A) → StandsIn (z ∷ []) (ys ++ z ∷ [])
+  stands_last : (z : A) (ys : List A) → IsSubsequence (z ∷ []) (ys ++ z ∷ [])
   stands_last z [] = inl (refl, tt)
   stands_last z (y ∷ ys) = inr (stands_last z ys)
 
-  pub stands_push : (xs ys : List A) (z : A) → StandsIn xs ys → StandsIn (xs ++ z ∷ []) (ys ++ z ∷ [])
+  pub stands_push : (xs ys : List A) (z : A) → IsSubsequence xs ys → IsSubsequence (xs ++ z ∷ []) (ys ++ z ∷ [])
   stands_push [] ys z s = stands_last z ys
   stands_push (x ∷ xs) [] z s = absurd s
   stands_push (x ∷ xs) (y ∷ ys) z (inl s) = inl (s.0, stands_push xs ys z s.1)
@@ -86,13 +86,13 @@ parts n (e ∷ h) =
     omega arith
 
 -- the counting argument
-pub accounts : (n : ℕ) (h : List EntryData) (slips : ℕ → List AnsweredData) → ((k : ℕ) → k < n → StandsIn (slips k) (of_operator k h)) → length h ≤ below n (λ k. length (slips k)) → (k : ℕ) → k < n → of_operator k h ≡ slips k
+pub accounts : (n : ℕ) (h : List EntryData) (slips : ℕ → List AnsweredData) → ((k : ℕ) → k < n → IsSubsequence (slips k) (of_operator k h)) → length h ≤ below n (λ k. length (slips k)) → (k : ℕ) → k < n → of_operator k h ≡ slips k
 accounts n h slips stand all k l =
     let p = parts n h in
     let same = below_same n (λ j. length (slips j)) (λ j. length (of_operator j h)) (λ j m. stands_length (slips j) (of_operator j h) (stand j m)) (omega arith) k l in
     sym (stands_whole (slips k) (of_operator k h) (stand k l) same)
 
-pub no_others : (n : ℕ) (h : List EntryData) (slips : ℕ → List AnsweredData) → ((k : ℕ) → k < n → StandsIn (slips k) (of_operator k h)) → length h ≤ below n (λ k. length (slips k)) → (k : ℕ) → n ≤ k → of_operator k h ≡ []
+pub no_others : (n : ℕ) (h : List EntryData) (slips : ℕ → List AnsweredData) → ((k : ℕ) → k < n → IsSubsequence (slips k) (of_operator k h)) → length h ≤ below n (λ k. length (slips k)) → (k : ℕ) → n ≤ k → of_operator k h ≡ []
 no_others n h slips stand all k l =
     let p = parts (suc k) h in
     let le = below_le n (λ j. length (slips j)) (λ j. length (of_operator j h)) (λ j m. stands_length (slips j) (of_operator j h) (stand j m)) in

@@ -11,7 +11,7 @@ use Rattle.crush_editor.proofs.Parts.{of-append, of-push_hit}
 use Rattle.crush_gauge.proofs.Prefixes.{prefix_trans, prefix_whole, prefix_length}
 use Rattle.crush_gauge.specs.declared.view.View.{View}
 use Rattle.crush_gauge.specs.Rule.{Reads, Learns}
-use Rattle.crush_editor.specs.Seat.{StandsIn}
+use Rattle.crush_editor.specs.Seat.{IsSubsequence}
 use Rattle.atomic_table.specs.Seated.{TableId}
 use Rattle.crush_gauge.specs.Held.{Held, held}
 use Rattle.crush_editor.specs.Seat.{reads, seen_of, SeatData, seat_data, IsSeat, Answered, Sees}
@@ -21,9 +21,9 @@ use Rattle.crush_editor.proofs.Counting.{stands_more, stands_push}
 pub prefix_same : {A : Type 0} (xs ys : List A) → IsPrefix xs ys → IsPrefix ys xs → xs ≡ ys
 prefix_same xs ys p q = prefix_whole xs ys p (prefix_length ys xs q)
 
-pub stands_later : (k : ℕ) (slips : List AnsweredData) (seen now : List EntryData) → StandsIn slips (of_operator k seen) → IsPrefix seen now → StandsIn slips (of_operator k now)
+pub stands_later : (k : ℕ) (slips : List AnsweredData) (seen now : List EntryData) → IsSubsequence slips (of_operator k seen) → IsPrefix seen now → IsSubsequence slips (of_operator k now)
 stands_later k slips seen now stands p =
-    subst (λ h. StandsIn slips (of_operator k h)) p.1 (subst (StandsIn slips) (sym (of-append k seen p.0)) (stands_more slips (of_operator k seen) (of_operator k p.0) stands))
+    subst (λ h. IsSubsequence slips (of_operator k h)) p.1 (subst (IsSubsequence slips) (sym (of-append k seen p.0)) (stands_more slips (of_operator k seen) (of_operator k p.0) stands))
 
 pub seat_later : (o : MapData) (k : ℕ) (slips : List AnsweredData) (seen now : List EntryData) → IsSeat o k slips seen → IsPrefix seen now → IsLegalFrom o now → IsSeat o k slips now
 seat_later o k slips seen now seat p legal = record { below = seat.below; legal = legal; stands = stands_later k slips seen now seat.stands p }
@@ -32,7 +32,7 @@ pub seat_answered : (o : MapData) (k : ℕ) (slips : List AnsweredData) (seen h 
 seat_answered o k slips seen h c r seat p legal = record {
   below = seat.below;
   legal = legal;
-  stands = subst (StandsIn (slips ++ slip c r ∷ [])) (sym (of-push_hit k h (entry k c r) refl)) (stands_push slips (of_operator k h) (slip c r) (stands_later k slips seen h seat.stands p));
+  stands = subst (IsSubsequence (slips ++ slip c r ∷ [])) (sym (of-push_hit k h (entry k c r) refl)) (stands_push slips (of_operator k h) (slip c r) (stands_later k slips seen h seat.stands p));
 }
 
 pub answered : (o : MapData) (k : ℕ) (slips : List AnsweredData) (seen h : List EntryData) (c : Call) (r : Reply) → IsSeat o k slips seen → IsPrefix seen h → IsLegalFrom o (h ++ entry k c r ∷ []) → Answered o (seat_data k slips seen) c r (seat_data k (slips ++ slip c r ∷ []) (h ++ entry k c r ∷ []))

@@ -48,7 +48,7 @@ pub struct Book<A: Allocator> {
 impl<A: Allocator> Model for Book<A> {
     ghost use Rattle.crush_editor.specs.Book.{BookData, book_data, IsKept};
     ghost use Rattle.std.specs.Coded.{codes};
-    ghost use Rattle.crush_map.specs.MapData.{coded_map};
+    ghost use Rattle.crush_map.specs.Codes.{coded_map};
 
     ghost Value = { BookData };
 

@@ -12,7 +12,7 @@ ghost use Rattle.crush_calls.specs.History.{changes};
 ghost use Rattle.crush_editor.specs.History.{weight_from, OpensGauge};
 ghost use Rattle.crush_calls.specs.Turns.{StandsAsBefore};
 ghost use Rattle.crush_editor.specs.Book.{MakesAll};
-ghost use Rattle.crush_editor.specs.Seat.{Answered, Sees, InOrder, IsHistoryOf, seat_data, reads};
+ghost use Rattle.crush_editor.specs.Seat.{Answered, Sees, InOrder, IsHistoryOfSeats, seat_data, reads};
 
 use crate::book::{Book, Closed, SubmitFault};
 use crate::law::{MapBookSeat, MapGauge, MapNote, Reader};
@@ -45,7 +45,7 @@ impl<A: Allocator> Model for Started<A> {
     ghost use Rattle.std.specs.List.{All};
     ghost use Rattle.std.specs.Coded.{codes};
     ghost use Rattle.crush_units.specs.declared.limits.TheConstants.{MOST_OPERATORS};
-    ghost use Rattle.crush_map.specs.MapData.{coded_map};
+    ghost use Rattle.crush_map.specs.Codes.{coded_map};
     ghost use Rattle.crush_calls.specs.Turns.{StandsAsBefore};
     ghost use Rattle.crush_gauge.specs.Held.{held};
     ghost use Rattle.crush_editor.specs.Seat.{StartedData, reads};
@@ -304,7 +304,7 @@ impl<N: Desk> Editor<N> {
         requires count { vec_len seats ≡ N.parts }
         requires order { InOrder seats.items }
         ensures opening { result.opening ≡ N.opening }
-        ensures history { IsHistoryOf N.opening result.map result.history.items seats.items }
+        ensures history { IsHistoryOfSeats N.opening result.map result.history.items seats.items }
         ensures all { MakesAll N.opening result.map result.history.items }
         ensures few { length result.history.items ≤ MOST_ENTRIES }
     {

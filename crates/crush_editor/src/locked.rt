@@ -68,7 +68,7 @@ pub struct Locked<N: Desk> {
 impl<N: Desk> Model for Locked<N> {
     ghost use Rattle.std.specs.Prelude.{◌≡◌, length};
     ghost use Rattle.std.specs.Coded.{codes};
-    ghost use Rattle.crush_map.specs.MapData.{coded_map};
+    ghost use Rattle.crush_map.specs.Codes.{coded_map};
     ghost use Rattle.crush_editor.specs.Book.{BookData};
 
     ghost Value = { BookData };

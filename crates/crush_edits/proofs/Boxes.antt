@@ -9,7 +9,7 @@ use Rattle.crush_table.specs.Table.{Row}
 use Rattle.crush_table.proofs.Reorder.{reordered_comm}
 use Rattle.crush_table.proofs.Sums.{device_sum, below}
 use Rattle.crush_edits.specs.Put.{NewData, new_header, next_up, chain}
-use Rattle.crush_edits.specs.Boxes.{boxes, turned}
+use Rattle.crush_edits.specs.Boxes.{boxes, last_first}
 
 -- one more bucket on top: it holds those before it
 pub boxes-more : (m : ℕ) (items : Items) (ns : List NewData) (n : NewData) → boxes m items (ns ++ n ∷ []) ≡ bucket (new_header n) (weight_sum (boxes m items ns)) m (boxes m items ns) none
@@ -17,16 +17,16 @@ boxes-more m items [] n = refl
 boxes-more m items (x ∷ ns) n = boxes-more m (bucket (new_header x) (weight_sum items) m items none) ns n
 
 -- THE ROWS of items in new buckets: those of the buckets from the uppermost down, and those of the items in the lowest
-pub rows-boxes : (m : ℕ) (items : Items) (ns : List NewData) (top : Option ℕ) → rows top (boxes m items ns) ≡ turned (chain ns top) ++ rows (next_up ns top) items
+pub rows-boxes : (m : ℕ) (items : Items) (ns : List NewData) (top : Option ℕ) → rows top (boxes m items ns) ≡ last_first (chain ns top) ++ rows (next_up ns top) items
 rows-boxes m items [] top = refl
 rows-boxes m items (n ∷ ns) top =
     let row = bucket_row (next_up ns top) (new_header n) in
     rows-boxes m (bucket (new_header n) (weight_sum items) m items none) ns top
-    ∙ ap (λ z. turned (chain ns top) ++ row ∷ z) (append-nil (rows (Some n.id) items)) ∙ sym (append_assoc (turned (chain ns top)) (row ∷ []) (rows (Some n.id) items))
+    ∙ ap (λ z. last_first (chain ns top) ++ row ∷ z) (append-nil (rows (Some n.id) items)) ∙ sym (append_assoc (last_first (chain ns top)) (row ∷ []) (rows (Some n.id) items))
 
 -- of the new buckets alone
-pub rows-empty : (m : ℕ) (ns : List NewData) (top : Option ℕ) → rows top (boxes m none ns) ≡ turned (chain ns top)
-rows-empty m ns top = rows-boxes m none ns top ∙ append-nil (turned (chain ns top))
+pub rows-empty : (m : ℕ) (ns : List NewData) (top : Option ℕ) → rows top (boxes m none ns) ≡ last_first (chain ns top)
+rows-empty m ns top = rows-boxes m none ns top ∙ append-nil (last_first (chain ns top))
 
 -- they weigh what the items weigh, and store their sums where the items do
 pub weight_sum-boxes : (m : ℕ) (items : Items) (ns : List NewData) → weight_sum (boxes m items ns) ≡ weight_sum items
@@ -51,6 +51,6 @@ below-le b (bucket h w m k r) = omega (arith, either (h.id == b) (below-le b k),
   either false le = le
 
 -- the same rows in another order
-pub turned-reordered : (rs : List Row) → IsReordered (turned rs) rs
+pub turned-reordered : (rs : List Row) → IsReordered (last_first rs) rs
 turned-reordered [] = nothing
-turned-reordered (r ∷ rs) = through (reordered_comm (turned rs) (r ∷ [])) (keep (turned-reordered rs))
+turned-reordered (r ∷ rs) = through (reordered_comm (last_first rs) (r ∷ [])) (keep (turned-reordered rs))

@@ -27,7 +27,7 @@ use Rattle.crush_table.proofs.Relocated.{filter_all, under_parent}
 use Rattle.crush_table.proofs.Sums.{device_sum, below}
 use Rattle.crush_table.proofs.Weighs.{true_or_false, sums_light, All-found}
 use Rattle.crush_edits.specs.Put.{NewData, new_header, next_up, chain}
-use Rattle.crush_edits.specs.Boxes.{boxes, turned}
+use Rattle.crush_edits.specs.Boxes.{boxes, last_first}
 use Rattle.crush_edits.specs.New.{IsNew, AreNew}
 use Rattle.crush_edits.proofs.Boxes.{rows-empty, device_sum-boxes, below-le, turned-reordered}
 
@@ -109,7 +109,7 @@ module _ (t : List Row) (l : Lawful t) (ns : List NewData) (top : Option ℕ) (f
   abbrev pub new_rows : List Row
   new_rows = rows top (boxes m none ns)
 
-  pub new_are : new_rows ≡ turned (chain ns top)
+  pub new_are : new_rows ≡ last_first (chain ns top)
   new_are = rows-empty m ns top
 
   pub new-reordered : IsReordered new_rows (chain ns top)

@@ -13,7 +13,7 @@ use Rattle.crush_edits.specs.declared.refusal.Refusal.TheVariants.{AlreadyPlaced
 use Rattle.crush_edits.specs.Answer.{first_refusal, room_test, sum_test}
 use Rattle.crush_edits.specs.Edit.{refusal}
 use Rattle.crush_edits.specs.LawPut.{FullOfDevices, FullOfBuckets}
-use Rattle.crush_edits.specs.Located.{device_tests, end_tests}
+use Rattle.crush_edits.specs.Located.{located_device_tests, end_tests}
 use Rattle.crush_edits.specs.Placing.{edited_leaf, edited_device, after_insert}
 use Rattle.crush_edits.specs.Put.{put}
 use Rattle.crush_edits.specs.Setting.{SettingData}
@@ -37,11 +37,11 @@ over_buckets u b c k more full = grind (arith, nat_tests)
 
 module _ (s : SettingData) (t : List Row) (d : ℕ) (n : List ℕ) (w : ℕ) (l : List Pair) where
   -- the tests before that of room leave it to that
-  room_is_told : first_refusal (device_tests s t d n w l) ≡ None → is_placed t (Device d) ≡ false → first_refusal (end_tests t (stops s l)) ≡ None → has_too_many (put t (edited_device t d n w) (stops s l)) ≡ true → refusal s t (Insert d n w l) ≡ Some NoRoom
+  room_is_told : first_refusal (located_device_tests s t d n w l) ≡ None → is_placed t (Device d) ≡ false → first_refusal (end_tests t (stops s l)) ≡ None → has_too_many (put t (edited_device t d n w) (stops s l)) ≡ true → refusal s t (Insert d n w l) ≡ Some NoRoom
   room_is_told e free f many =
       let a = after_insert s t d n w l in
       let ends = end_tests t (stops s l) in
-      group_passes (device_tests s t d n w l) ((AlreadyPlaced, is_placed t (Device d)) ∷ (ends ++ (room_test a ∷ (sum_test a ∷ [])))) e
+      group_passes (located_device_tests s t d n w l) ((AlreadyPlaced, is_placed t (Device d)) ∷ (ends ++ (room_test a ∷ (sum_test a ∷ [])))) e
       ∙ ap (λ z. if z then Some AlreadyPlaced else first_refusal (ends ++ (room_test a ∷ (sum_test a ∷ [])))) free
       ∙ group_passes ends (room_test a ∷ (sum_test a ∷ [])) f
       ∙ ap (λ z. if z then Some NoRoom else first_refusal (sum_test a ∷ [])) many

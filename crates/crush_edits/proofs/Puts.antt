@@ -25,7 +25,7 @@ use Rattle.crush_table.proofs.Moved.{row_id}
 use Rattle.crush_table.proofs.Relocated.{relocate, relocate_device, filter_all, filter_none, filter_same}
 use Rattle.crush_table.proofs.Weighs.{All-found}
 use Rattle.crush_edits.specs.Put.{NewData, next_up, chain, put_at}
-use Rattle.crush_edits.specs.Boxes.{boxes, turned}
+use Rattle.crush_edits.specs.Boxes.{boxes, last_first}
 use Rattle.crush_edits.specs.New.{AreNew}
 use Rattle.crush_edits.proofs.Boxes.{rows-boxes}
 use Rattle.crush_edits.proofs.Chains.{new_rows, new_are, new-reordered, Lawful-with, ids-apart, is_part-with, chain-apart, without_row-with, one-kid}
@@ -37,11 +37,11 @@ last_kid true x [] ys e h = ap (λ z. z ++ x.id ∷ []) (e (omega arith))
 last_kid true x (y ∷ xs) ys e h = absurd (omega arith)
 last_kid false x xs ys e h = append-nil ys ∙ e h
 
-kids-turned_rows : (xs : List Row) (b : ℕ) → length (filter (λ (r : Row). is_parent b r.parent) xs) ≤ 1 → kids (turned xs) b ≡ kids xs b
+kids-turned_rows : (xs : List Row) (b : ℕ) → length (filter (λ (r : Row). is_parent b r.parent) xs) ≤ 1 → kids (last_first xs) b ≡ kids xs b
 kids-turned_rows [] b h = refl
-kids-turned_rows (x ∷ xs) b h = kids-append (turned xs) (x ∷ []) b ∙ last_kid (is_parent b x.parent) x (filter (λ (r : Row). is_parent b r.parent) xs) (kids (turned xs) b) (λ k. kids-turned_rows xs b k) h
+kids-turned_rows (x ∷ xs) b h = kids-append (last_first xs) (x ∷ []) b ∙ last_kid (is_parent b x.parent) x (filter (λ (r : Row). is_parent b r.parent) xs) (kids (last_first xs) b) (λ k. kids-turned_rows xs b k) h
 
-few_kids : (b : ℕ) (xs : List Row) → count_by (λ (r : Row). is_parent b r.parent) xs ≤ 1 → kids (turned xs) b ≡ kids xs b
+few_kids : (b : ℕ) (xs : List Row) → count_by (λ (r : Row). is_parent b r.parent) xs ≤ 1 → kids (last_first xs) b ≡ kids xs b
 few_kids b xs h = kids-turned_rows xs b (omega (arith, h, length-filter (λ (r : Row). is_parent b r.parent) xs))
 
 pub others_kept : (i : ItemId) (t : List Row) → is_there t i ≡ false → without_row i t ≡ t

@@ -14,7 +14,7 @@ use Rattle.std.proofs.lemmas.List.Elements.{All-head, All-tail}
 use Rattle.crush_units.specs.Id.{same_id}
 use Rattle.crush_edits.specs.Stops.{receiver}
 use Rattle.crush_edits.specs.Put.{NewData, new_buckets, chain, next_place, put}
-use Rattle.crush_edits.specs.Boxes.{turned}
+use Rattle.crush_edits.specs.Boxes.{last_first}
 use Rattle.crush_edits.specs.LawPut.{NoneNew, PutMovesOnly, NextStays, FormStays, EditedIsOwn}
 use Rattle.crush_edits.specs.LawRoute.{rows_made}
 use Rattle.crush_edits.proofs.Chains.{new_are, ids-apart, chain-apart}
@@ -22,7 +22,7 @@ use Rattle.crush_edits.proofs.Lawfuls.{next_there_with}
 use Rattle.crush_edits.proofs.PutLaws.{moves}
 use Rattle.crush_edits.proofs.Routes.{new_buckets-length, route_fresh, no_next}
 
-no_chain : (ns : List NewData) (top : Option ℕ) → length ns ≡ 0 → turned (chain ns top) ≡ []
+no_chain : (ns : List NewData) (top : Option ℕ) → length ns ≡ 0 → last_first (chain ns top) ≡ []
 no_chain [] top e = refl
 no_chain (n ∷ ns) top e = absurd (omega (arith, e))
 

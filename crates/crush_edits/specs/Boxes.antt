@@ -11,6 +11,6 @@ boxes m items [] = items
 boxes m items (n ∷ ns) = boxes m (bucket (new_header n) (weight_sum items) m items none) ns
 
 -- rows from the last to the first
-abbrev pub turned : List Row → List Row
-turned [] = []
-turned (r ∷ rs) = turned rs ++ r ∷ []
+abbrev pub last_first : List Row → List Row
+last_first [] = []
+last_first (r ∷ rs) = last_first rs ++ r ∷ []

@@ -15,8 +15,8 @@ abbrev pub AreNumbersOf : {Z : Type 0} → List KindData → BTreeMap (Vec ℕ Z
 AreNumbersOf kinds numbers = (n : List ℕ) → number_told numbers n ≡ first_number kinds n
 
 -- the same of each name as before
-abbrev pub TellsSame : {Z : Type 0} → BTreeMap (Vec ℕ Z) ℕ → BTreeMap (Vec ℕ Z) ℕ → Type 0
-TellsSame old new = (n : List ℕ) → number_told new n ≡ number_told old n
+abbrev pub TellsSameNumbers : {Z : Type 0} → BTreeMap (Vec ℕ Z) ℕ → BTreeMap (Vec ℕ Z) ℕ → Type 0
+TellsSameNumbers old new = (n : List ℕ) → number_told new n ≡ number_told old n
 
 -- this of one name, if it had no number, and of each other the same as before
 abbrev pub TellsFirst : {Z : Type 0} → BTreeMap (Vec ℕ Z) ℕ → BTreeMap (Vec ℕ Z) ℕ → List ℕ → ℕ → Type 0

@@ -26,7 +26,7 @@ use Rattle.crush_edits.specs.declared.edit.Edit.TheVariants.{Insert}
 use Rattle.crush_edits.specs.declared.refusal.Refusal.TheVariants.{NoRoom}
 use Rattle.crush_edits.specs.Answer.{first_refusal}
 use Rattle.crush_edits.specs.Edit.{refusal}
-use Rattle.crush_edits.specs.Located.{device_tests, end_tests}
+use Rattle.crush_edits.specs.Located.{located_device_tests, end_tests}
 
 -- the same with items in the lowest of them
 abbrev pub route_boxes : ℕ → Items → List Row → List StopData → Items
@@ -134,8 +134,8 @@ RoomForNewDevice = (t : List Row) (ps : List StopData) (d : LeafData) → Lawful
 -- NO ROOM, where no other test holds: beside 65,536 devices for another, and for a device whose route makes more buckets than 4,096
 abbrev pub FullOfDevices : Type 0
 FullOfDevices = (s : SettingData) (t : List Row) (d : ℕ) (n : List ℕ) (w : ℕ) (l : List Pair) → Lawful t → IsRoute t (stops s l) → is_there t (Device d) ≡ false
-    → first_refusal (device_tests s t d n w l) ≡ None → first_refusal (end_tests t (stops s l)) ≡ None → MOST_DEVICES ≤ device_count t → refusal s t (Insert d n w l) ≡ Some NoRoom
+    → first_refusal (located_device_tests s t d n w l) ≡ None → first_refusal (end_tests t (stops s l)) ≡ None → MOST_DEVICES ≤ device_count t → refusal s t (Insert d n w l) ≡ Some NoRoom
 
 abbrev pub FullOfBuckets : Type 0
 FullOfBuckets = (s : SettingData) (t : List Row) (d : ℕ) (n : List ℕ) (w : ℕ) (l : List Pair) → Lawful t → IsRoute t (stops s l) → is_there t (Device d) ≡ false
-    → first_refusal (device_tests s t d n w l) ≡ None → first_refusal (end_tests t (stops s l)) ≡ None → MOST_BUCKETS < bucket_count t + length (fresh_stops t (stops s l)) → refusal s t (Insert d n w l) ≡ Some NoRoom
+    → first_refusal (located_device_tests s t d n w l) ≡ None → first_refusal (end_tests t (stops s l)) ≡ None → MOST_BUCKETS < bucket_count t + length (fresh_stops t (stops s l)) → refusal s t (Insert d n w l) ≡ Some NoRoom

@@ -9,7 +9,7 @@ use Rattle.crush_table.specs.Lawful.{Lawful, has_too_many}
 use Rattle.crush_edits.specs.declared.location.Pair.{Pair}
 use Rattle.crush_edits.specs.Stops.{StopData, with_stop, stops, end_id, receiver}
 use Rattle.crush_edits.specs.Put.{NewData, new_buckets, next_up, chain, next_place}
-use Rattle.crush_edits.specs.Boxes.{boxes, turned}
+use Rattle.crush_edits.specs.Boxes.{boxes, last_first}
 use Rattle.crush_edits.specs.New.{IsRoute, AreNew}
 use Rattle.crush_edits.specs.Located.{is_bad_location, has_no_kind, names_it}
 use Rattle.crush_edits.specs.Setting.{SettingData, kind_number}
@@ -18,7 +18,7 @@ use Rattle.crush_units.specs.declared.limits.TheConstants.{MOST_PAIRS}
 
 -- the new buckets of a route, from the uppermost down, as a node has them
 abbrev pub rows_made : List Row → List StopData → List Row
-rows_made t ps = turned (chain (new_buckets t ps) (receiver t ps))
+rows_made t ps = last_first (chain (new_buckets t ps) (receiver t ps))
 
 -- STOPS: those of one pair more; by ascending type number; and each pair of a known type is a stop, as any sum over them tells
 abbrev pub StopsStep : Type 0
@@ -55,7 +55,7 @@ RouteLeads = (t : List Row) (ps : List StopData) → IsRoute t ps → (b : ℕ) 
 
 -- NEW BUCKETS as boxes: their rows, with those of the items in the lowest
 abbrev pub BoxesAreRows : Type 0
-BoxesAreRows = (m : ℕ) (n : Items) (ns : List NewData) (top : Option ℕ) → rows top (boxes m n ns) ≡ turned (chain ns top) ++ rows (next_up ns top) n
+BoxesAreRows = (m : ℕ) (n : Items) (ns : List NewData) (top : Option ℕ) → rows top (boxes m n ns) ≡ last_first (chain ns top) ++ rows (next_up ns top) n
 
 -- the table with new buckets is lawful where there is room, each sum and the total as before
 abbrev pub NewKeepsLawful : Type 0

@@ -44,8 +44,8 @@ is_wrong_kind t ps = meets (λ (p : StopData). meets (λ i. meets (λ k. not (k 
 abbrev pub location_tests : SettingData → List Pair → List (Refusal × Bool)
 location_tests s l = (BadLocation, is_bad_location s l) ∷ ((NoSuchType, has_no_kind s l) ∷ ((NoPlace, length l == 0) ∷ []))
 
-abbrev pub device_tests : SettingData → List Row → ℕ → List ℕ → ℕ → List Pair → List (Refusal × Bool)
-device_tests s t d n w l = (BadName, names_it l n) ∷ (location_tests s l ++ ((WeightTooLarge, is_heavy w) ∷ ((NameTaken, is_taken t (Device d) n) ∷ [])))
+abbrev pub located_device_tests : SettingData → List Row → ℕ → List ℕ → ℕ → List Pair → List (Refusal × Bool)
+located_device_tests s t d n w l = (BadName, names_it l n) ∷ (location_tests s l ++ ((WeightTooLarge, is_heavy w) ∷ ((NameTaken, is_taken t (Device d) n) ∷ [])))
 
 abbrev pub end_tests : List Row → List StopData → List (Refusal × Bool)
 end_tests t ps = (NotABucket, is_a_device (end_id t ps)) ∷ ((WrongType, is_wrong_kind t ps) ∷ [])

@@ -13,7 +13,7 @@ use Rattle.crush_edits.specs.Setting.{SettingData}
 use Rattle.crush_edits.specs.Stops.{StopData, stops, fresh_stops, end_id}
 use Rattle.crush_edits.specs.Put.{put, held}
 use Rattle.crush_edits.specs.Answer.{After, kept, on_some, meets, room_test, sum_test}
-use Rattle.crush_edits.specs.Located.{location_tests, device_tests, end_tests}
+use Rattle.crush_edits.specs.Located.{location_tests, located_device_tests, end_tests}
 
 -- an item put at the end of the route
 abbrev pub put_after : List Row → Row → List StopData → After
@@ -35,7 +35,7 @@ abbrev pub after_insert : SettingData → List Row → ℕ → List ℕ → ℕ 
 after_insert s t d n w l = put_after t (edited_device t d n w) (stops s l)
 
 abbrev pub insert_tests : SettingData → List Row → ℕ → List ℕ → ℕ → List Pair → After → List (Refusal × Bool)
-insert_tests s t d n w l a = device_tests s t d n w l ++ ((AlreadyPlaced, is_placed t (Device d)) ∷ (end_tests t (stops s l) ++ (room_test a ∷ (sum_test a ∷ []))))
+insert_tests s t d n w l a = located_device_tests s t d n w l ++ ((AlreadyPlaced, is_placed t (Device d)) ∷ (end_tests t (stops s l) ++ (room_test a ∷ (sum_test a ∷ []))))
 
 -- CREATE OR MOVE: nothing where it is held, else put with the weight that it keeps
 abbrev pub after_create_or_move : SettingData → List Row → ℕ → List ℕ → ℕ → List Pair → After
@@ -47,7 +47,7 @@ after_update s t d n w l = if held t (Device d) (stops s l) then kept (set_weigh
 
 -- the refusals of the two
 abbrev pub device_put_tests : SettingData → List Row → ℕ → List ℕ → ℕ → List Pair → After → List (Refusal × Bool)
-device_put_tests s t d n w l a = device_tests s t d n w l ++ (end_tests t (stops s l) ++ (room_test a ∷ (sum_test a ∷ [])))
+device_put_tests s t d n w l a = located_device_tests s t d n w l ++ (end_tests t (stops s l) ++ (room_test a ∷ (sum_test a ∷ [])))
 
 -- MOVE: nothing where it is held, else put with its row as it is
 abbrev pub move_item : SettingData → List Row → List Pair → ItemId → After
@@ -57,8 +57,8 @@ abbrev pub after_move : SettingData → List Row → List ℕ → List Pair → 
 after_move s t n l = on_some t (id_named t n) (move_item s t l)
 
 -- the item that ends the route is the moved one or below it
-abbrev pub is_loop : List Row → List ℕ → List StopData → Bool
-is_loop t n ps = meets (λ i. meets (is_part t i) (end_id t ps)) (id_named t n)
+abbrev pub makes_loop : List Row → List ℕ → List StopData → Bool
+makes_loop t n ps = meets (λ i. meets (is_part t i) (end_id t ps)) (id_named t n)
 
 abbrev pub move_tests : SettingData → List Row → List ℕ → List Pair → After → List (Refusal × Bool)
-move_tests s t n l a = location_tests s l ++ ((NoSuchItem, not (is_named t n)) ∷ (end_tests t (stops s l) ++ ((Loop, is_loop t n (stops s l)) ∷ (room_test a ∷ (sum_test a ∷ [])))))
+move_tests s t n l a = location_tests s l ++ ((NoSuchItem, not (is_named t n)) ∷ (end_tests t (stops s l) ++ ((Loop, makes_loop t n (stops s l)) ∷ (room_test a ∷ (sum_test a ∷ [])))))

@@ -73,7 +73,8 @@ pub struct Setting {
 }
 
 impl Model for Setting {
-    ghost use Rattle.crush_edits.specs.Setting.{SettingData, coded_setting};
+    ghost use Rattle.crush_edits.specs.Setting.{SettingData};
+    ghost use Rattle.crush_edits.specs.Codes.{coded_setting};
 
     ghost Value = { SettingData };
 

@@ -8,7 +8,7 @@ changes_of (e ∷ []) = e.0
 changes_of (e ∷ (f ∷ h)) = changes_of (f ∷ h)
 
 -- the weight of the last pair, or that of the opening
-abbrev pub weight_of : ℕ → List (ℕ × ℕ) → ℕ
-weight_of o [] = o
-weight_of o (e ∷ []) = e.1
-weight_of o (e ∷ (f ∷ h)) = weight_of o (f ∷ h)
+abbrev pub weight_behind : ℕ → List (ℕ × ℕ) → ℕ
+weight_behind o [] = o
+weight_behind o (e ∷ []) = e.1
+weight_behind o (e ∷ (f ∷ h)) = weight_behind o (f ∷ h)

@@ -12,13 +12,13 @@ use crush_gauge::{Gauge, Law};
 struct Pairs;
 
 impl Law<u64, (u64, u64)> for Pairs {
-    ghost use Rattle.crush_gauge_tests.specs.Pairs.{changes_of, weight_of};
+    ghost use Rattle.crush_gauge_tests.specs.Pairs.{changes_of, weight_behind};
 
     ghost legal = { λ o h. Unit {0} };
 
     ghost changes = { λ o h. changes_of h };
 
-    ghost weight = { λ o h. weight_of o h };
+    ghost weight = { λ o h. weight_behind o h };
 }
 
 type PairGauge = Gauge<u64, (u64, u64), Pairs>;

@@ -18,17 +18,17 @@ use Rattle.crush_table.specs.Items.{ShadowData}
 use Rattle.crush_table.specs.Table.{is_there, id_named, bucket_count}
 use Rattle.crush_edits.specs.Setting.{StepData, take, choose, set, emit, RuleData, kind_number}
 use Rattle.crush_edits.specs.Fits.{is_reserved}
-use Rattle.crush_edits.specs.Stops.{number_of as bucket_number}
-use Rattle.crush_map.specs.Built.{Draft, Pending, nothing, begun as is_begun, filling as is_filling, with_class_id, with_item, pending_with_id, pending_with_class_id}
+use Rattle.crush_edits.specs.Stops.{kind_of_word as bucket_number}
+use Rattle.crush_map.specs.Built.{Draft, Pending, nothing, begun as is_begun, filling as is_filling, with_class_id, with_next_item, pending_with_id, pending_with_class_id}
 use Rattle.crush_map.specs.Building.{IsPending, is_bucket_kind, has_name, has_bucket_id, has_class, has_pending_name, has_pending_id, pending_class_ids, closed_item, item_named, is_full_of_buckets, is_full_of_class_ids}
 use Rattle.crush_bytes.specs.Words.{is_brace_word}
 use Rattle.crush_text.specs.declared.opening.Opening.{Opening}
 use Rattle.crush_text.specs.declared.opening.Opening.TheVariants as openings
 use Rattle.crush_text.specs.Forms.{is_number, is_signed, signed_value}
-use Rattle.crush_text.specs.Role.{Role, value, number_of, opened, item_of, bucket_of, units, key, any_word, number, opening, tunable_name, type_number, type_name, device_id, new_name, bucket_id, id_or_alg, id_class, algorithm, item_or_end, item, lone_item, weight, rule_name, rule_id_key, rule_id, step_or_end, step_word, StepWord, takes, chooses, sets, emits, step_said, taken_bucket, step_order, step_count, step_type}
+use Rattle.crush_text.specs.Role.{Role, value, kind_of_word, opened, item_of, bucket_of_word, units, key, any_word, number, opening, tunable_name, type_number, type_name, device_id, new_name, bucket_id, id_or_alg, id_class, algorithm, item_or_end, item, lone_item, weight, rule_name, rule_id_key, rule_id, step_or_end, step_word, StepWord, takes, chooses, sets, emits, step_said, taken_bucket, step_order, step_count, step_type}
 use Rattle.crush_text.specs.Form.{Mode, first, second, begun, numbered, filling, ruled, Form, done, word, optional, ahead}
-use Rattle.crush_text.specs.Grammar.{tunable_line, type_line, device_class, device_line, bucket_line, id_line, class_id_line, alg_line, id_or_alg_line, item_line, new_rule, max_size, sizes, rule_line, step_behind, step_or_brace, statement, item_or_brace, lines}
-use Rattle.crush_text.specs.Tests.{Test, ◌when◌, tests, unless, is_either, is_weight_for, is_step_word}
+use Rattle.crush_text.specs.Grammar.{tunable_line, type_line, device_class, device_line, bucket_line, id_line, class_id_line, alg_line, id_or_alg_line, item_line, new_rule, max_size, sizes, rule_line, step_behind, step_or_brace, statement, item_or_brace, line_forms}
+use Rattle.crush_text.specs.Tests.{Test, ◌when◌, word_tests, unless, is_either, is_weight_for, is_step_word}
 use Rattle.crush_text.specs.Rows.{IsRight}
 use Rattle.crush_laws.specs.Admitted.{IsLawfulDraft, IsLawfulMode, IsFree, IsFor}
 use Rattle.crush_text.specs.Document.{IsMap}
@@ -50,8 +50,8 @@ all_pass ((f when true) ∷ ts) v h = let no = h.0 in absurd cc
 all_pass ((f when false) ∷ ts) v h = all_pass ts v h.1
 
 -- a word for which none holds is right
-pub passed : (d : Draft) (r : Role) (w : List ℕ) → Pass (tests d r w) → IsRight d r w
-passed d r w h = (word_right d r w (value d r w) (all_pass (tests d r w) (value d r w) h)).0
+pub passed : (d : Draft) (r : Role) (w : List ℕ) → Pass (word_tests d r w) → IsRight d r w
+passed d r w h = (word_right d r w (value d r w) (all_pass (word_tests d r w) (value d r w) h)).0
 
 -- THE FORMS of words
 -- digits aren't a brace
@@ -79,7 +79,7 @@ pub right_key : (d : Draft) (k w : List ℕ) → w ≡ k → IsRight d (key k) w
 right_key d k w h = passed d (key k) w (not_from_true _ ((bytes_eq-Decides w k).1 h), tt)
 
 -- a word that isn't reserved opens a bucket
-pub opens : (d : Draft) (w : List ℕ) (k : ℕ) → is_reserved w ≡ false → number_of d w ≡ k → opened d w ≡ openings.Bucket k
+pub opens : (d : Draft) (w : List ℕ) (k : ℕ) → is_reserved w ≡ false → kind_of_word d w ≡ k → opened d w ≡ openings.Bucket k
 opens d w k h e = let n = no_key w h in rw (n.tunable, n.device, n.kind, n.rule) (ap (λ (x : ℕ). openings.Bucket x) e)
 
 -- an item that is found is named so
@@ -88,7 +88,7 @@ found_named p None i e = absurd (let no : (let x : Option ItemId = None in x) �
 found_named p (Some j) i e = refl
 
 -- a weight with which the table is lawful is one for its item
-weight_fits : (d : Draft) (i : ItemId) (b w : ℕ) → d.pending ≡ is_filling b → is_there d.table i ≡ true → IsMap (with_item d i (Some w)) → is_weight_for i (Ok w) ≡ true
+weight_fits : (d : Draft) (i : ItemId) (b w : ℕ) → d.pending ≡ is_filling b → is_there d.table i ≡ true → IsMap (with_next_item d i (Some w)) → is_weight_for i (Ok w) ≡ true
 weight_fits d (Device n) b w p there m = le-leb w HEAVIEST_DEVICE (light_device d b n w p there m)
 weight_fits d (Bucket x) b w p there m = refl
 
@@ -114,10 +114,10 @@ Rightly d (ahead k f g) = Rightly d f × Rightly d g
 
 module _ (d : Draft) (m : IsMap d) where
   -- an item's weight
-  right_weight : (i : ItemId) (b : ℕ) (w : List ℕ) → d.pending ≡ is_filling b → is_there d.table i ≡ true → IsFor d (weight i) w → IsMap (with_item d i (Some (units w))) → IsRight d (weight i) w
+  right_weight : (i : ItemId) (b : ℕ) (w : List ℕ) → d.pending ≡ is_filling b → is_there d.table i ≡ true → IsFor d (weight i) w → IsMap (with_next_item d i (Some (units w))) → IsRight d (weight i) w
   right_weight i b w p there h l =
       let fit : is_weight_for i (weight_of_text w) ≡ true = ap (is_weight_for i) h ∙ weight_fits d i b (units w) p there l in
-      passed d (weight i) w (no_brace (λ x. is_weight_for i (weight_of_text x)) w refl refl fit, (not_from_true _ fit, (is_light (with_item d i (Some (units w))).table l.lawful, tt)))
+      passed d (weight i) w (no_brace (λ x. is_weight_for i (weight_of_text x)) w refl refl fit, (not_from_true _ fit, (is_light (with_next_item d i (Some (units w))).table l.lawful, tt)))
 
   -- the name of an item
   item_name : (x : List ℕ) → IsFree d x → is_brace_word x ≡ false
@@ -130,7 +130,7 @@ module _ (d : Draft) (m : IsMap d) where
       passed d item x (item_name x fx, (not_from_true _ (ap is_some fx.0), (fx.1, tt))),
       λ k fk pk. (right_key d (codes "weight") k fk, λ w fw pw. (right_weight (item_of d x) s.0 w s.1 (listable d x (item_of d x) fx.0).there fw pw.0.map, tt)),
     ),
-    λ x fx px. (passed d lone_item x (item_name x fx, (not_from_true _ (ap is_some fx.0), (fx.1, (is_light (with_item d (item_of d x) None).table px.0.map.lawful, tt)))), tt),
+    λ x fx px. (passed d lone_item x (item_name x fx, (not_from_true _ (ap is_some fx.0), (fx.1, (is_light (with_next_item d (item_of d x) None).table px.0.map.lawful, tt)))), tt),
   )
 
   -- a word that tells whether an item comes, or the end
@@ -208,7 +208,7 @@ module _ (d : Draft) (m : IsMap d) where
   right_id_or_alg s w (inr e) p = subst (IsRight d id_or_alg) (sym e) (passed d id_or_alg (codes "alg") (refl, (refl, tt)))
 
   -- one of these
-  right_numbered : Stage numbered d → Rightly d (lines d numbered)
+  right_numbered : Stage numbered d → Rightly d (line_forms d numbered)
   right_numbered s = λ w fw pw. (right_id_or_alg s w fw pw, by_it (bytes_eq w (codes "id")))
     where
       by_it : (b : Bool) → Rightly d (id_or_alg_line d b)
@@ -311,8 +311,8 @@ module _ (d : Draft) (m : IsMap d) where
   module _ (r : RuleData) where
     -- where a step's line ends lawfully there was room for it
     step_built : (w : StepWord) → Possible d (step_behind d r w) → (s : StepData) × StepFree d r s
-    step_built takes (b, fb, inl h) = (take (bucket_of d b) (Some h.2.0), step_free d r (take (bucket_of d b) (Some h.2.0)) h.2.2.1)
-    step_built takes (b, fb, inr h) = (take (bucket_of d b) None, step_free d r (take (bucket_of d b) None) h.1)
+    step_built takes (b, fb, inl h) = (take (bucket_of_word d b) (Some h.2.0), step_free d r (take (bucket_of_word d b) (Some h.2.0)) h.2.2.1)
+    step_built takes (b, fb, inr h) = (take (bucket_of_word d b) None, step_free d r (take (bucket_of_word d b) None) h.1)
     step_built (chooses leaf) h = let s : StepData = choose leaf (bytes_eq h.0 (codes "firstn")) (signed_value h.2.0) h.2.2.2.0 in (s, step_free d r s h.2.2.2.2.1)
     step_built (sets x) h = (set x (digits_value 10 h.0), step_free d r (set x (digits_value 10 h.0)) h.2.1)
     step_built emits h = (emit, step_free d r emit h.1)
@@ -346,7 +346,7 @@ module _ (d : Draft) (m : IsMap d) where
     -- a bucket that a step takes
     right_taken : (w : List ℕ) → IsFor d taken_bucket w → IsRight d taken_bucket w
     right_taken w h =
-        let found : is_some (item_named d w) ≡ true = bucket_found (item_named d w) (bucket_of d w) h in
+        let found : is_some (item_named d w) ≡ true = bucket_found (item_named d w) (bucket_of_word d w) h in
         passed d taken_bucket w (name_no_brace w (item_form d.table w m.lawful.rows (named (id_named d.table w) found)), (not_from_true _ (ap is_some h), tt))
       where
         named : (o : Option ItemId) → is_some (option_and_then (closed_item d.pending) o) ≡ true → is_some o ≡ true
@@ -359,7 +359,7 @@ module _ (d : Draft) (m : IsMap d) where
 
     -- a step
     right_step : (w : StepWord) → Rightly d (step_behind d r w)
-    right_step takes = λ b fb pb. (right_taken b fb, (λ k fk pk. (right_key d (codes "class") k fk, λ c fc pc. (right_any d c (step_free d r (take (bucket_of d b) (Some c)) pc.1).step, tt)), tt))
+    right_step takes = λ b fb pb. (right_taken b fb, (λ k fk pk. (right_key d (codes "class") k fk, λ c fc pc. (right_any d c (step_free d r (take (bucket_of_word d b) (Some c)) pc.1).step, tt)), tt))
     right_step (chooses leaf) = λ o fo po. (
       right_order o fo,
       λ n fn pn. (
@@ -374,7 +374,7 @@ module _ (d : Draft) (m : IsMap d) where
     right_step emits = tt
 
     -- a step, or the end
-    right_ruled : Rightly d (lines d (ruled r))
+    right_ruled : Rightly d (line_forms d (ruled r))
     right_ruled = λ w fw pw. (right_step_or_end w fw pw, by_it (bytes_eq w (codes "step")))
       where
         by_it : (b : Bool) → Rightly d (step_or_brace d r b)
@@ -404,19 +404,19 @@ module _ (d : Draft) (m : IsMap d) where
       (passed d (opening late) (codes "rule") (and_right late false refl, (refl, (refl, (f.few, tt)))), right_rule)
 
   -- of a bucket
-  opened_bucket : d.pending ≡ nothing → (late : Bool) (w : List ℕ) → 0 < number_of d w → Opened late w
+  opened_bucket : d.pending ≡ nothing → (late : Bool) (w : List ℕ) → 0 < kind_of_word d w → Opened late w
   opened_bucket idle late w some =
       let t = type_named d.setting.kinds w m.fits.setting.kinds some in
       let n = no_key w t.free in
-      let is : value d (opening late) w ≡ openings.Bucket (number_of d w) = opens d w (number_of d w) t.free refl in
+      let is : value d (opening late) w ≡ openings.Bucket (kind_of_word d w) = opens d w (kind_of_word d w) t.free refl in
       subst (λ (o : Opening). Possible d (statement d o) → IsRight d (opening late) w × Rightly d (statement d o)) (sym is) (λ p.
-      let known : is_bucket_kind d.setting (number_of d w) ≡ true = p.2.0.pending.known in
+      let known : is_bucket_kind d.setting (kind_of_word d w) ≡ true = p.2.0.pending.known in
       let full : is_full_of_buckets d ≡ false = lt-leb MOST_BUCKETS (bucket_count d.table) p.2.0.pending.few in (
         passed d (opening late) w (
           or_from _ _ (name_no_brace w t.form) (or_from _ _ n.class (and_right late _ (or_from _ _ n.tunable (or_from _ _ n.device n.kind)))),
           (not_from_true _ (or_right _ _ (or_right _ _ known)), (n.weights, (rw (n.tunable, n.device, n.kind, n.rule) full, tt))),
         ),
-        right_bucket idle (number_of d w),
+        right_bucket idle (kind_of_word d w),
       ))
 
   -- so it is of each
@@ -434,7 +434,7 @@ module _ (d : Draft) (m : IsMap d) where
       by_word late w (inr (inr some)) = opened_bucket idle late w some
 
   -- each line
-  pub right_lines : (mode : Mode) → Stage mode d → Rightly d (lines d mode)
+  pub right_lines : (mode : Mode) → Stage mode d → Rightly d (line_forms d mode)
   right_lines first s = right_statement false s
   right_lines second s = right_statement true s
   right_lines begun s = right_id_line s

@@ -24,7 +24,7 @@ use Rattle.crush_table.specs.Count.{one_if}
 use Rattle.crush_table.proofs.Tested.{bytes_itself}
 use Rattle.crush_print.proofs.PrintedTexts.{All-right}
 use Rattle.crush_table.proofs.Found.{times, row_of-absent}
-use Rattle.crush_map.specs.Built.{Draft, Pending, nothing, filling, with_tunable, with_kind, with_device, add_rule, placed_row, put_below, table_with_item, with_item}
+use Rattle.crush_map.specs.Built.{Draft, Pending, nothing, filling, with_tunable, with_kind, with_device, add_rule, placed_row, put_below, table_with_item, with_next_item}
 use Rattle.crush_map.specs.Building.{CanNumber, own_ids, has_name, has_pending_name, has_kind_number, has_kind_name, has_tunable, is_full_of_devices, is_full_of_kinds, is_full_of_tunables}
 use Rattle.crush_map.specs.Rules.{has_rule_name, has_rule_id, is_full_of_rules}
 use Rattle.crush_map.proofs.RowSteps.{new_device}
@@ -261,7 +261,7 @@ row_light n b w (r ∷ t) all there = by_id (same_id r.id (Device n)) refl all t
     by_id false e all there ih = ih all there
 
 -- so the table with a device in the bucket that is being filled tells that it may weigh that
-pub light_device : (d : Draft) (b n w : ℕ) → d.pending ≡ filling b → is_there d.table (Device n) ≡ true → IsMap (with_item d (Device n) (Some w)) → w ≤ HEAVIEST_DEVICE
+pub light_device : (d : Draft) (b n w : ℕ) → d.pending ≡ filling b → is_there d.table (Device n) ≡ true → IsMap (with_next_item d (Device n) (Some w)) → w ≤ HEAVIEST_DEVICE
 light_device d b n w p there m =
     let l : Lawful (put_below b (Device n) w d.table) = subst (λ (q : Pending). Lawful (table_with_item q (Device n) w d.table)) p m.lawful in
     row_light n b w d.table (All-right IsRow (without_row (Device n) d.table) (map (placed_row b w) (filter (λ (r : Row). same_id r.id (Device n)) d.table)) l.rows) there

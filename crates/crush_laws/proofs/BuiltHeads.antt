@@ -35,7 +35,7 @@ use Rattle.crush_print.proofs.PartTables.{bare, shown, part_of}
 use Rattle.crush_print.proofs.PartSteps.{with_one, with_one-it}
 use Rattle.crush_print.proofs.PartRows.{name_free, id_free}
 use Rattle.crush_print.proofs.PrintedOrder.{add}
-use Rattle.crush_text.specs.Role.{number_of}
+use Rattle.crush_text.specs.Role.{kind_of_word}
 use Rattle.crush_text.specs.Form.{at, numbered, filling}
 use Rattle.crush_text.specs.Flow.{between}
 use Rattle.crush_laws.specs.Admitted.{IsLawfulDraft}
@@ -203,8 +203,8 @@ module _ (s : SettingData) (names : ℕ → List ℕ) (t : List Row) (l : Lawful
   head_leads : (late : Bool) (others : List (List ℕ)) → Goes (between (at (idle late) (built s u nothing))) (head_words (names x.kind) x.name x.id) others (between (at numbered (built s u (is_numbered x.kind x.name b []))))
   head_leads late others =
       let f = form in
-      let is : number_of (built s u nothing) (names x.kind) ≡ x.kind = ap (λ o. unwrap_or o 0) (h.kinds b x found) in
-      let some : 0 < number_of (built s u nothing) (names x.kind) = let v = f.kind_some in omega (arith, is, v) in
+      let is : kind_of_word (built s u nothing) (names x.kind) ≡ x.kind = ap (λ o. unwrap_or o 0) (h.kinds b x found) in
+      let some : 0 < kind_of_word (built s u nothing) (names x.kind) = let v = f.kind_some in omega (arith, is, v) in
       let fits = h.setting in
       let named = type_named s.kinds (names x.kind) fits.kinds some in
       let can = can_number in

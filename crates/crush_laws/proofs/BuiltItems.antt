@@ -18,7 +18,7 @@ use Rattle.crush_table.proofs.Weighs.{All-both}
 use Rattle.crush_table.proofs.Moved.{row_id}
 use Rattle.crush_table.proofs.Renamed.{All-row}
 use Rattle.crush_edits.specs.Setting.{SettingData}
-use Rattle.crush_map.specs.Built.{filling as is_filling, Draft, with_item, placed_row, put_below, adjustment}
+use Rattle.crush_map.specs.Built.{filling as is_filling, Draft, with_next_item, placed_row, put_below, adjustment}
 use Rattle.crush_map.specs.Building.{item_named, closed_item}
 use Rattle.crush_map.proofs.ItemSteps.{only_row}
 use Rattle.crush_print.proofs.PrintedLines.{item_words, kid_words}
@@ -125,7 +125,7 @@ module _ (s : SettingData) (names : ℕ → List ℕ) (t : List Row) (l : Lawful
         let row : placed_row b (item_weight t i y.weight) (bare y) ≡ y = λ k. record y { parent = sym in_it k; weight = weight k } in
         ap (λ (zs : List Row). without_row i u ++ map (placed_row b (item_weight t i y.weight)) zs) (only_row u i (bare y) (lawful.ids i) row_there) ∙ ap (λ (z : Row). without_row i u ++ z ∷ []) row
 
-    with_item-is : with_item (built s u (is_filling b)) i (Some (item_weight t i y.weight)) ≡ built s (without_row i u ++ y ∷ []) (is_filling b)
+    with_item-is : with_next_item (built s u (is_filling b)) i (Some (item_weight t i y.weight)) ≡ built s (without_row i u ++ y ∷ []) (is_filling b)
     with_item-is =
         let none : 0 + adjustment u i (Some (item_weight t i y.weight)) ≡ 0 = omega (arith, no_adjustment i placed_in) in
         λ k. record { setting = s; table = put_row k; pending = is_filling b; adjusted = none k }

@@ -18,14 +18,14 @@ use Rattle.crush_units.proofs.Algs.{alg_of_text-alg_text}
 use Rattle.crush_units.proofs.ReadBack.{read_again}
 use Rattle.crush_units.specs.declared.limits.TheConstants.{LARGEST_TUNABLE}
 use Rattle.crush_table.specs.Table.{is_placed}
-use Rattle.crush_map.specs.Built.{Draft, with_tunable, with_kind, with_device, begun_bucket, with_id, with_class_id, with_alg, with_item, with_end}
+use Rattle.crush_map.specs.Built.{Draft, with_tunable, with_kind, with_device, begun_bucket, with_id, with_class_id, with_alg, with_next_item, with_end}
 use Rattle.crush_map.specs.Building.{item_named}
 use Rattle.crush_bytes.specs.Words.{Word, texts, begins_with_key}
 use Rattle.crush_text.specs.declared.opening.Opening.TheVariants as openings
 use Rattle.crush_text.specs.Forms.{is_number}
-use Rattle.crush_text.specs.Role.{value, number_of, item_of, opened, units, units_or_none, key, any_word, number, type_name, new_name, bucket_id, id_class}
+use Rattle.crush_text.specs.Role.{value, kind_of_word, item_of, opened, units, units_or_none, key, any_word, number, type_name, new_name, bucket_id, id_class}
 use Rattle.crush_text.specs.Form.{Mode, first, second, begun, numbered, filling, at, Form, done, word, optional, ahead}
-use Rattle.crush_text.specs.Grammar.{tunable_line, type_line, device_class, device_line, bucket_line, class_id_line, alg_line, weighed_item, item_weight, statement}
+use Rattle.crush_text.specs.Grammar.{tunable_line, type_line, device_class, device_line, bucket_line, class_id_line, alg_line, weighed_item, item_weight_line, statement}
 use Rattle.crush_print.proofs.PrintedLines.{class_words}
 use Rattle.crush_text.specs.Flow.{State, between, amid, arrive}
 use Rattle.crush_text.specs.Document.{IsWhole}
@@ -193,11 +193,11 @@ abbrev pub idle : Bool → Mode
 idle late = if late then second else first
 
 -- a bucket's type, its name and its id
-pub opens_bucket : (late : Bool) (d : Draft) (k : ℕ) (kind : List ℕ) (rest : List Word) → 0 < number_of d kind → opened d kind ≡ openings.Bucket k → WordLeads (between (at (idle late) d)) kind rest (amid d (bucket_line d k))
+pub opens_bucket : (late : Bool) (d : Draft) (k : ℕ) (kind : List ℕ) (rest : List Word) → 0 < kind_of_word d kind → opened d kind ≡ openings.Bucket k → WordLeads (between (at (idle late) d)) kind rest (amid d (bucket_line d k))
 opens_bucket true d k kind rest some is = (inr (inr some), ap (λ o. arrive d rest (statement d o)) (sym is))
 opens_bucket false d k kind rest some is = (inr (inr some), ap (λ o. arrive d rest (statement d o)) (sym is))
 
-pub head_goes : (late : Bool) (d : Draft) (k : ℕ) (kind x : List ℕ) (b : ℕ) (others : List (List ℕ)) → 0 < number_of d kind → opened d kind ≡ openings.Bucket k → b < 10 ^ 10
+pub head_goes : (late : Bool) (d : Draft) (k : ℕ) (kind x : List ℕ) (b : ℕ) (others : List (List ℕ)) → 0 < kind_of_word d kind → opened d kind ≡ openings.Bucket k → b < 10 ^ 10
     → IsLawfulDraft (begun_bucket d k x) → IsLawfulDraft (with_id (begun_bucket d k x) b)
     → Goes (between (at (idle late) d)) (kind ∷ x ∷ codes "{" ∷ codes "id" ∷ (45 ∷ decimal b) ∷ []) others (between (at numbered (with_id (begun_bucket d k x) b)))
 head_goes late d k kind x b others some is le l m = (
@@ -267,8 +267,8 @@ alg_goes d a others l = (
 )
 
 -- an item's, with its weight
-pub item_goes : (any : Bool) (d : Draft) (i : ItemId) (x : List ℕ) (w : ℕ) (others : List (List ℕ)) → item_named d x ≡ Some i → is_placed d.table i ≡ false → w < 2 ^ 32 → IsLawfulDraft (with_item d i (Some w))
-    → Goes (between (at (filling any) d)) (codes "item" ∷ x ∷ codes "weight" ∷ weight_text w ∷ []) others (between (at (filling true) (with_item d i (Some w))))
+pub item_goes : (any : Bool) (d : Draft) (i : ItemId) (x : List ℕ) (w : ℕ) (others : List (List ℕ)) → item_named d x ≡ Some i → is_placed d.table i ≡ false → w < 2 ^ 32 → IsLawfulDraft (with_next_item d i (Some w))
+    → Goes (between (at (filling any) d)) (codes "item" ∷ x ∷ codes "weight" ∷ weight_text w ∷ []) others (between (at (filling true) (with_next_item d i (Some w))))
 item_goes any d i x w others named free light l =
     let is : item_of d x ≡ i = ap (λ o. unwrap_or o (Device 0)) named in
     let says : units (weight_text w) ≡ w = ap units_or_none (read_again w light) in (
@@ -276,14 +276,14 @@ item_goes any d i x w others named free light l =
       (inl refl, refl),
       tt,
       (
-        amid d (word (key (codes "weight")) (λ _. item_weight d i)),
-        ((named ∙ ap (λ j. Some j) (sym is), ap (is_placed d.table) is ∙ free), ap (λ j. amid d (word (key (codes "weight")) (λ _. item_weight d j))) (sym is)),
+        amid d (word (key (codes "weight")) (λ _. item_weight_line d i)),
+        ((named ∙ ap (λ j. Some j) (sym is), ap (is_placed d.table) is ∙ free), ap (λ j. amid d (word (key (codes "weight")) (λ _. item_weight_line d j))) (sym is)),
         tt,
         (
-          amid d (item_weight d i),
+          amid d (item_weight_line d i),
           (refl, refl),
           tt,
-          (between (at (filling true) (with_item d i (Some w))), (read_again w light ∙ ap (λ v. Ok v) (sym says), ap (λ v. between (at (filling true) (with_item d i (Some v)))) (sym says)), (l, tt), refl),
+          (between (at (filling true) (with_next_item d i (Some w))), (read_again w light ∙ ap (λ v. Ok v) (sym says), ap (λ v. between (at (filling true) (with_next_item d i (Some v)))) (sym says)), (l, tt), refl),
         ),
       ),
     )

@@ -20,7 +20,7 @@ use Rattle.crush_print.specs.MapText.{device_numbers, kind_numbers, kind_text, m
 use Rattle.crush_print.proofs.PrintedLines.{tunable_words, device_words, kind_words, bucket_words, kid_words, rule_words, words_of, whole_words}
 use Rattle.crush_print.proofs.PrintedTexts.{row_kind, kind_text-is, map_words, map_text-holds, root_order}
 use Rattle.crush_text.specs.Form.{first, at}
-use Rattle.crush_text.specs.Flow.{State, between, is_idle}
+use Rattle.crush_text.specs.Flow.{State, between, takes_statement}
 use Rattle.crush_text.specs.Document.{IsMap, start}
 use Rattle.crush_laws.specs.Admitted.{IsLawfulText}
 use Rattle.crush_laws.specs.ReadingBack.{in_order, IsReadAs, PrintedTextsAreReadBack, CommentsBehindAreNoMatter}
@@ -133,7 +133,7 @@ module _ (s : SettingData) (t : List Row) (l : Lawful t) (f : Fits s t) where
       }
 
   -- the text may end there
-  may_end : (b : Bool) → is_idle (idle b) ≡ true
+  may_end : (b : Bool) → takes_statement (idle b) ≡ true
   may_end true = refl
   may_end false = refl
 

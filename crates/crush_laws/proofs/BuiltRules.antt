@@ -12,11 +12,11 @@ use Rattle.crush_units.specs.declared.limits.TheConstants.{FARTHEST_COUNT, LARGE
 use Rattle.crush_edits.specs.Setting.{take, choose, set, emit, RuleData}
 use Rattle.crush_edits.specs.Fits.{IsCount}
 use Rattle.crush_map.specs.Built.{Draft, add_rule}
-use Rattle.crush_map.specs.Rules.{bucket_named}
+use Rattle.crush_map.specs.Rules.{complete_bucket_named}
 use Rattle.crush_bytes.specs.Words.{Word, begins_with_key}
 use Rattle.crush_print.proofs.PrintedLines.{class_words, size_words, choice_word, order_word}
 use Rattle.crush_text.specs.Forms.{is_signed, signed_value}
-use Rattle.crush_text.specs.Role.{bucket_of, key, any_word, number, rule_id_key, rule_id, step_word, sets, step_said, step_count, step_type}
+use Rattle.crush_text.specs.Role.{bucket_of_word, key, any_word, number, rule_id_key, rule_id, step_word, sets, step_said, step_count, step_type}
 use Rattle.crush_text.specs.Form.{second, ruled, at, Form, done, word}
 use Rattle.crush_text.specs.Grammar.{new_rule, max_size, sizes, rule_line, with_step, step_done, take_step, choose_step, set_step, step_behind}
 use Rattle.crush_text.specs.Flow.{between, amid, arrive}
@@ -128,11 +128,11 @@ rule_head_goes late d x n k least most others le hl hm other another l =
     )
 
 -- STEPS
-pub take_goes : (d : Draft) (r : RuleData) (x : List ℕ) (b : ℕ) (class : Option (List ℕ)) (others : List (List ℕ)) → bucket_named d x ≡ Some b → begins_with_key (codes "class") (plain others) ≡ false
+pub take_goes : (d : Draft) (r : RuleData) (x : List ℕ) (b : ℕ) (class : Option (List ℕ)) (others : List (List ℕ)) → complete_bucket_named d x ≡ Some b → begins_with_key (codes "class") (plain others) ≡ false
     → IsLawfulState (between (at (ruled (with_step r (take b class))) d))
     → Goes (between (at (ruled r) d)) (codes "step" ∷ codes "take" ∷ x ∷ class_words class) others (between (at (ruled (with_step r (take b class))) d))
 take_goes d r x b None others named other l =
-    let is : bucket_of d x ≡ b = ap (λ o. unwrap_or o 0) named in (
+    let is : bucket_of_word d x ≡ b = ap (λ o. unwrap_or o 0) named in (
       amid d (word step_word (step_behind d r)),
       (inl refl, refl),
       tt,
@@ -144,7 +144,7 @@ take_goes d r x b None others named other l =
           between (at (ruled (with_step r (take b None))) d),
           (
             named ∙ ap (λ v. Some v) (sym is),
-            sym (ap (λ c. if c then amid d (word (key (codes "class")) (λ _. word any_word (λ y. step_done d r (take (bucket_of d x) (Some y))))) else between (at (ruled (with_step r (take (bucket_of d x) None))) d)) other ∙ ap (λ v. between (at (ruled (with_step r (take v None))) d)) is),
+            sym (ap (λ c. if c then amid d (word (key (codes "class")) (λ _. word any_word (λ y. step_done d r (take (bucket_of_word d x) (Some y))))) else between (at (ruled (with_step r (take (bucket_of_word d x) None))) d)) other ∙ ap (λ v. between (at (ruled (with_step r (take v None))) d)) is),
           ),
           l,
           refl,
@@ -152,7 +152,7 @@ take_goes d r x b None others named other l =
       ),
     )
 take_goes d r x b (Some c) others named other l =
-    let is : bucket_of d x ≡ b = ap (λ o. unwrap_or o 0) named in (
+    let is : bucket_of_word d x ≡ b = ap (λ o. unwrap_or o 0) named in (
       amid d (word step_word (step_behind d r)),
       (inl refl, refl),
       tt,

@@ -15,7 +15,7 @@ use Rattle.crush_edits.specs.Fits.{Fits, IsStep, IsRule, IsThere}
 use Rattle.crush_edits.specs.Stops.{number_of}
 use Rattle.crush_map.specs.Built.{nothing, add_rule}
 use Rattle.crush_map.specs.Building.{closed_item}
-use Rattle.crush_map.specs.Rules.{bucket_named}
+use Rattle.crush_map.specs.Rules.{complete_bucket_named}
 use Rattle.crush_print.specs.RuleLines.{bucket_name}
 use Rattle.crush_print.proofs.PrintedLines.{size_words, step_words, rule_words, rule_head_words}
 use Rattle.crush_print.proofs.PrintedTexts.{All-left, All-right}
@@ -62,7 +62,7 @@ module _ (s : SettingData) (t u : List Row) (l : Lawful t) (f : Fits s t) (built
   there_again : (b : ℕ) → IsThere t b → IsThere u b
   there_again b h = sym (ap is_some (row_of-same t u same.rows l.ids (Bucket b))) ∙ h
 
-  taken_again : (rs : List RuleData) (b : ℕ) → IsThere t b → bucket_named (quiet (ruled_setting rs) u) (bucket_name t b) ≡ Some b
+  taken_again : (rs : List RuleData) (b : ℕ) → IsThere t b → complete_bucket_named (quiet (ruled_setting rs) u) (bucket_name t b) ≡ Some b
   taken_again rs b h =
       let n = named t b h in
       let found : id_named u (bucket_name t b) ≡ Some (Bucket b) = ap (id_named u) n.2 ∙ found_by_name u (Bucket b) n.0 built.names (sym (row_of-same t u same.rows l.ids (Bucket b)) ∙ n.1) in

@@ -9,16 +9,16 @@ use Rattle.crush_table.specs.Table.{Row}
 use Rattle.crush_table.specs.Lawful.{Lawful}
 use Rattle.crush_edits.specs.Setting.{take, choose, set, emit, RuleData, taken_buckets}
 use Rattle.crush_edits.specs.Fits.{IsKind, HasKind}
-use Rattle.crush_map.specs.Built.{Draft, Pending, nothing, with_device, with_alg, with_item, device_weight, pending_with_id, pending_with_class_id, pending_row, put_below, table_with_item, add_rule}
+use Rattle.crush_map.specs.Built.{Draft, Pending, nothing, with_device, with_alg, with_next_item, weight_or_one, pending_with_id, pending_with_class_id, pending_row, put_below, table_with_item, add_rule}
 use Rattle.crush_map.specs.Building.{IsPending}
 use Rattle.crush_map.proofs.RowSteps.{new_device, new_bucket}
 use Rattle.crush_print.proofs.PrintedTexts.{All-left}
 use Rattle.crush_text.specs.declared.opening.Opening.{Opening}
 use Rattle.crush_text.specs.declared.opening.Opening.TheVariants as openings
 use Rattle.crush_text.specs.Forms.{signed_value}
-use Rattle.crush_text.specs.Role.{opening, StepWord, takes, chooses, sets, emits, item_of, bucket_of, units, opened, step_said}
+use Rattle.crush_text.specs.Role.{opening, StepWord, takes, chooses, sets, emits, item_of, bucket_of_word, units, opened, step_said}
 use Rattle.crush_text.specs.Form.{Mode, first, second, begun, numbered, filling, ruled, word}
-use Rattle.crush_text.specs.Grammar.{device_class, id_line, class_id_line, alg_line, id_or_alg_line, item_line, item_or_brace, max_size, sizes, step_behind, step_or_brace, statement, lines}
+use Rattle.crush_text.specs.Grammar.{device_class, id_line, class_id_line, alg_line, id_or_alg_line, item_line, item_or_brace, max_size, sizes, step_behind, step_or_brace, statement, line_forms}
 use Rattle.crush_text.specs.Document.{IsMap}
 use Rattle.crush_laws.specs.Admitted.{IsLawfulDraft, IsLawfulMode, IsFree}
 use Rattle.crush_laws.proofs.Admitted.{Possible}
@@ -125,11 +125,11 @@ module _ (d : Draft) where
     filling_draft any s m = record { map = m; pending = subst (IsPending d.setting d.table) (sym s.1) (s.3 m.lawful) }
 
     -- before an item
-    added_back : (any : Bool) (x : List ℕ) (w : Option ℕ) → Shape (filling any) d → IsFree d x → IsMap (with_item d (item_of d x) w) → IsMap d
+    added_back : (any : Bool) (x : List ℕ) (w : Option ℕ) → Shape (filling any) d → IsFree d x → IsMap (with_next_item d (item_of d x) w) → IsMap d
     added_back any x w s fx m =
         let i : ItemId = item_of d x in
-        let v : ℕ = device_weight w in
-        let is : (with_item d i w).table ≡ put_below s.0 i v d.table = ap (λ (q : Pending). table_with_item q i v d.table) s.1 in
+        let v : ℕ = weight_or_one w in
+        let is : (with_next_item d i w).table ≡ put_below s.0 i v d.table = ap (λ (q : Pending). table_with_item q i v d.table) s.1 in
         let l = subst Lawful is m.lawful in
         record {
           lawful = item_back d.table i s.0 v tied.loose fx.1 l;
@@ -143,14 +143,14 @@ module _ (d : Draft) where
 
     -- before a step
     step_before : (r : RuleData) (w : StepWord) → Shape (ruled r) d → Possible d (step_behind d r w) → IsMap d × IsMap (add_rule d r)
-    step_before r takes s (b, fb, inl h) = (h.2.2.0.map, step_back d r (take (bucket_of d b) (Some h.2.0)) h.2.2.0.map s.1 h.2.2.1)
-    step_before r takes s (b, fb, inr h) = (h.0.map, step_back d r (take (bucket_of d b) None) h.0.map s.1 h.1)
+    step_before r takes s (b, fb, inl h) = (h.2.2.0.map, step_back d r (take (bucket_of_word d b) (Some h.2.0)) h.2.2.0.map s.1 h.2.2.1)
+    step_before r takes s (b, fb, inr h) = (h.0.map, step_back d r (take (bucket_of_word d b) None) h.0.map s.1 h.1)
     step_before r (chooses leaf) s h = (h.2.2.2.2.0.map, step_back d r (choose leaf (bytes_eq h.0 (codes "firstn")) (signed_value h.2.0) h.2.2.2.0) h.2.2.2.2.0.map s.1 h.2.2.2.2.1)
     step_before r (sets x) s h = (h.2.0.map, step_back d r (set x (digits_value 10 h.0)) h.2.0.map s.1 h.2.1)
     step_before r emits s h = (h.0.map, step_back d r emit h.0.map s.1 h.1)
 
     -- before each line
-    pub line_back : (mode : Mode) → Shape mode d → Possible d (lines d mode) → IsLawfulDraft d × IsLawfulMode d mode
+    pub line_back : (mode : Mode) → Shape mode d → Possible d (line_forms d mode) → IsLawfulDraft d × IsLawfulMode d mode
     line_back first s p = (idle_draft d s.0 (opening_back false (λ _. s.1) p), tt)
     line_back second s p = (idle_draft d s (opening_back true (λ e. let no : true ≡ false = e in absurd cc) p), tt)
     line_back begun s p = (id_back s p, tt)

@@ -12,7 +12,7 @@ use Rattle.crush_bytes.specs.Words.{Word, words, begins_with_key}
 use Rattle.crush_text.specs.Role.{value}
 use Rattle.crush_text.specs.Form.{Mode, first, second, begun, numbered, filling, ruled, Form, done, word, optional, ahead}
 use Rattle.crush_text.specs.Grammar.{next}
-use Rattle.crush_text.specs.Flow.{State, between, amid, arrive, is_idle}
+use Rattle.crush_text.specs.Flow.{State, between, amid, arrive, takes_statement}
 use Rattle.crush_text.specs.Document.{IsMap, start}
 use Rattle.crush_laws.specs.Admitted.{IsLawfulDraft, IsLawfulMode, LeadsFrom, WordLeads, IsLawfulState, Build}
 use Rattle.crush_laws.specs.Final.{LeadTo}
@@ -51,7 +51,7 @@ word_shaped (amid d f) w rest u k h = form_shaped d f w rest u k h
 
 -- FROM THE END BACKWARDS
 -- the last line is whole, and so nothing is pending
-whole_lawful : (d : Draft) (mode : Mode) → is_idle mode ≡ true → Shape mode d → IsMap d → IsLawfulDraft d × IsLawfulMode d mode
+whole_lawful : (d : Draft) (mode : Mode) → takes_statement mode ≡ true → Shape mode d → IsMap d → IsLawfulDraft d × IsLawfulMode d mode
 whole_lawful d first idle s m = (idle_draft d s.0 m, tt)
 whole_lawful d second idle s m = (idle_draft d s m, tt)
 whole_lawful d begun idle s m = let no : false ≡ true = idle in absurd cc

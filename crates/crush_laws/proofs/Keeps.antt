@@ -18,15 +18,15 @@ use Rattle.crush_table.specs.Items.{ShadowData}
 use Rattle.crush_table.specs.Lawful.{Lawful, IsShadowId, is_too_heavy}
 use Rattle.crush_edits.specs.Setting.{KindData, StepData, take, choose, set, emit, RuleData, SettingData, kind_number, bucket_taken}
 use Rattle.crush_edits.specs.Fits.{Fits, IsKind, IsTunable, IsCount, IsStep, IsRule, IsThere, HasKind}
-use Rattle.crush_edits.specs.Stops.{number_of as bucket_number}
+use Rattle.crush_edits.specs.Stops.{kind_of_word as bucket_number}
 use Rattle.crush_table.specs.Count.{one_if}
 use Rattle.crush_table.specs.Table.{Row, bucket_count, member, used_ids}
 use Rattle.crush_table.proofs.Attached.{Lawful-nil}
 use Rattle.crush_map.specs.declared.fault.BuildFault.TheVariants as build
 use Rattle.crush_map.specs.Faults.{first_fault, class_id_fault}
-use Rattle.crush_map.specs.Built.{Draft, Pending, nothing, begun as is_begun, numbered as is_numbered, filling as is_filling, empty_draft, pending_with_id, pending_with_class_id, pending_row, pending_with_alg, with_alg, with_device, device_weight, with_item}
+use Rattle.crush_map.specs.Built.{Draft, Pending, nothing, begun as is_begun, numbered as is_numbered, filling as is_filling, empty_draft, pending_with_id, pending_with_class_id, pending_row, pending_with_alg, with_alg, with_device, weight_or_one, with_next_item}
 use Rattle.crush_map.specs.Building.{CanBegin, CanNumber, IsRoot, is_bucket_kind, is_full_of_kinds, is_full_of_tunables, is_full_of_devices, is_full_of_buckets, is_full_of_class_ids, item_named}
-use Rattle.crush_map.specs.Rules.{bucket_named, is_full_of_rules}
+use Rattle.crush_map.specs.Rules.{complete_bucket_named, is_full_of_rules}
 use Rattle.crush_map.proofs.KindSteps.{less}
 use Rattle.crush_map.proofs.RowSteps.{new_bucket, bucket_lawful, one_more_class_id}
 use Rattle.crush_edits.proofs.FitLaws.{Fits-push}
@@ -35,9 +35,9 @@ use Rattle.crush_bytes.proofs.Forms.{words_are_formed}
 use Rattle.crush_text.specs.declared.fault.TextFaultKind.TheVariants.{Unexpected, BadNumber, BadWeight, DuplicateId, DuplicateName, UnknownType, UnknownItem, LeftOut, UnknownBucketInRule, TooMany, SumTooLarge}
 use Rattle.crush_text.specs.declared.opening.Opening.TheVariants as openings
 use Rattle.crush_text.specs.Forms.{is_number, is_signed, signed_value}
-use Rattle.crush_text.specs.Role.{opening, device_id, new_name, weight, step_word, takes, chooses, sets, emits, value, number_of, item_of, bucket_of, units_or_none, units}
+use Rattle.crush_text.specs.Role.{opening, device_id, new_name, weight, step_word, takes, chooses, sets, emits, value, kind_of_word, item_of, bucket_of_word, units_or_none, units}
 use Rattle.crush_text.specs.Form.{Mode, first, second, begun, numbered, filling, ruled, Progress, at, Form, done, word, optional, ahead}
-use Rattle.crush_text.specs.Grammar.{tunable_line, type_line, device_line, bucket_line, id_line, class_id_line, alg_line, id_or_alg_line, item_line, rule_line, new_rule, with_step, step_behind, step_or_brace, statement, item_or_brace, lines, next}
+use Rattle.crush_text.specs.Grammar.{tunable_line, type_line, device_line, bucket_line, id_line, class_id_line, alg_line, id_or_alg_line, item_line, rule_line, new_rule, with_step, step_behind, step_or_brace, statement, item_or_brace, line_forms, next}
 use Rattle.crush_text.specs.Rows.{IsBrace, IsNoWeightOf, BeginsBucket, IsOneTooMany, IsRight}
 use Rattle.crush_text.specs.Flow.{State, between, amid, arrive}
 use Rattle.crush_text.specs.Document.{SpellsForm, SpellsNext, Spell, IsWhole, start, IsDocument, IsMap}
@@ -171,7 +171,7 @@ not_none None h = absurd (h refl)
 not_none (Some x) h = refl
 
 -- a bucket that is named is there
-pub bucket_there : (d : Draft) (w : List ℕ) → (bucket_named d w ≡ None → ⊥) → IsThere d.table (bucket_of d w)
+pub bucket_there : (d : Draft) (w : List ℕ) → (complete_bucket_named d w ≡ None → ⊥) → IsThere d.table (bucket_of_word d w)
 bucket_there d w h = by_item (item_named d w) refl h
   where
     by_item : (o : Option ItemId) → item_named d w ≡ o → (option_and_then bucket_number o ≡ None → ⊥) → IsThere d.table (unwrap_or (option_and_then bucket_number o) 0)
@@ -196,7 +196,7 @@ has_units i (Ok w) h = refl
 has_units i (Err f) h = absurd (h tt)
 
 -- and with them no sum is too large
-light_sum : (d : Draft) (i : ItemId) (w : List ℕ) → IsRight d (weight i) w → is_too_heavy (with_item d i (Some (units w))).table ≡ true → ⊥
+light_sum : (d : Draft) (i : ItemId) (w : List ℕ) → IsRight d (weight i) w → is_too_heavy (with_next_item d i (Some (units w))).table ≡ true → ⊥
 light_sum d i w r h =
     let is = has_units i (weight_of_text w) (r BadWeight) in
     r SumTooLarge (units w, is, λ no. r BadWeight (subst (λ (x : Result ℕ WeightFault). IsNoWeightOf i x) (sym is) no), h)
@@ -255,14 +255,14 @@ module _ (d : Draft) (m : IsMap d) where
       }
 
   -- the name of a bucket
-  keeps_bucket : (k : List ℕ) → is_bucket_kind d.setting (number_of d k) ≡ true → is_full_of_buckets d ≡ false → Keeps Good d (bucket_line d (number_of d k))
+  keeps_bucket : (k : List ℕ) → is_bucket_kind d.setting (kind_of_word d k) ≡ true → is_full_of_buckets d ≡ false → Keeps Good d (bucket_line d (kind_of_word d k))
   keeps_bucket k known few = λ x fx rx.
-      let some = ltb-true 0 (number_of d k) (and_parts (nat_lt 0 (number_of d k)) (list_any (λ (y : KindData). y.number == number_of d k) d.setting.kinds) known).0 in
-      let t = kind_there d.setting.kinds k (number_of d k) m.fits.setting.kinds refl some in
+      let some = ltb-true 0 (kind_of_word d k) (and_parts (nat_lt 0 (kind_of_word d k)) (list_any (λ (y : KindData). y.number == kind_of_word d k) d.setting.kinds) known).0 in
+      let t = kind_there d.setting.kinds k (kind_of_word d k) m.fits.setting.kinds refl some in
       record {
         map = record { lawful = m.lawful; fits = m.fits };
         stage = (
-          number_of d k,
+          kind_of_word d k,
           x,
           refl,
           record {
@@ -338,7 +338,7 @@ module _ (d : Draft) (m : IsMap d) where
   keeps_alg s = λ a fa ra. (λ h fh rh. λ z fz rz. made _ s, made _ s)
 
   -- one of these
-  keeps_numbered : Stage numbered d → Keeps Good d (lines d numbered)
+  keeps_numbered : Stage numbered d → Keeps Good d (line_forms d numbered)
   keeps_numbered s = λ w f r. by_it w (bytes_eq w (codes "id")) refl (r TooMany)
     where
       by_it : (w : List ℕ) (b : Bool) → bytes_eq w (codes "id") ≡ b → ((w ≡ codes "id") × (is_full_of_class_ids d ≡ true) → ⊥) → Keeps Good d (id_or_alg_line d b)
@@ -352,11 +352,11 @@ module _ (d : Draft) (m : IsMap d) where
     λ x fx rx. added x None (rx UnknownItem) (one_for (item_of d x)) (λ t. rx SumTooLarge (item_of d x, some_of (item_named d x) (rx UnknownItem), t)),
   )
     where
-      added : (x : List ℕ) (w : Option ℕ) → (item_named d x ≡ None → ⊥) → IsLight (item_of d x) (device_weight w) → (is_too_heavy (with_item d (item_of d x) w).table ≡ true → ⊥) → Good (at (filling true) (with_item d (item_of d x) w))
+      added : (x : List ℕ) (w : Option ℕ) → (item_named d x ≡ None → ⊥) → IsLight (item_of d x) (weight_or_one w) → (is_too_heavy (with_next_item d (item_of d x) w).table ≡ true → ⊥) → Good (at (filling true) (with_next_item d (item_of d x) w))
       added x w there light over = let e = map_with_item d x (item_of d x) w s.0 m s.1 s.2 (some_of (item_named d x) there) light (not_true _ over) in record { map = e.map; stage = (s.0, s.1, e.root) }
 
   -- an item, or the end
-  keeps_items : (any : Bool) → Stage (filling any) d → Keeps Good d (lines d (filling any))
+  keeps_items : (any : Bool) → Stage (filling any) d → Keeps Good d (line_forms d (filling any))
   keeps_items any s = λ w f r. by_it (bytes_eq w (codes "item"))
     where
       by_it : (b : Bool) → Keeps Good d (item_or_brace d b)
@@ -393,8 +393,8 @@ module _ (d : Draft) (m : IsMap d) where
 
         taken : Keeps Good d (step_behind d r takes)
         taken = λ b fb rb.
-            let there : All (IsThere d.table) (bucket_of d b ∷ []) = All-cons (IsThere d.table) (bucket_of d b) [] (bucket_there d b (rb UnknownBucketInRule)) (All-nil (IsThere d.table)) in
-            (λ k fk rk. λ c fc rc. longer (take (bucket_of d b) (Some c)) room (word_name c fc (rc Unexpected)) there, longer (take (bucket_of d b) None) room tt there)
+            let there : All (IsThere d.table) (bucket_of_word d b ∷ []) = All-cons (IsThere d.table) (bucket_of_word d b) [] (bucket_there d b (rb UnknownBucketInRule)) (All-nil (IsThere d.table)) in
+            (λ k fk rk. λ c fc rc. longer (take (bucket_of_word d b) (Some c)) room (word_name c fc (rc Unexpected)) there, longer (take (bucket_of_word d b) None) room tt there)
 
         is_set : starts_with nat_eq w (codes "set_") ≡ true → Keeps Good d (step_behind d r (sets w))
         is_set begins = λ n fn rn.
@@ -410,7 +410,7 @@ module _ (d : Draft) (m : IsMap d) where
         by_said false false false false ha hb hc he = is_set (not_false _ (λ none. q Unexpected (differs w _ ha, (differs w _ hb, differs w _ hc), differs w _ he, none, λ e. q LeftOut e)))
 
     -- a step, or the end
-    keeps_ruled : Keeps Good d (lines d (ruled r))
+    keeps_ruled : Keeps Good d (line_forms d (ruled r))
     keeps_ruled = λ w f q. by_it w (bytes_eq w (codes "step")) refl (q TooMany)
       where
         by_it : (w : List ℕ) (b : Bool) → bytes_eq w (codes "step") ≡ b → ((w ≡ codes "step") × (MOST_STEPS ≤ length r.steps) → ⊥) → Keeps Good d (step_or_brace d r b)
@@ -423,7 +423,7 @@ module _ (d : Draft) (m : IsMap d) where
     where
       by_it : (w : List ℕ) → IsRight d (opening late) w → (a b c e : Bool) → bytes_eq w (codes "tunable") ≡ a → bytes_eq w (codes "device") ≡ b → bytes_eq w (codes "type") ≡ c → bytes_eq w (codes "rule") ≡ e
           → (IsOneTooMany d w → ⊥)
-          → Keeps Good d (statement d (cond a openings.Tunable (cond b openings.Device (cond c openings.Type (cond e openings.Rule (openings.Bucket (number_of d w)))))))
+          → Keeps Good d (statement d (cond a openings.Tunable (cond b openings.Device (cond c openings.Type (cond e openings.Rule (openings.Bucket (kind_of_word d w)))))))
       by_it w r true b c e ha hb hc he few = keeps_tunable idle (not_true _ (λ t. few (inl ((bytes_eq-Decides w _).0 ha, t))))
       by_it w r false true c e ha hb hc he few = keeps_device idle (not_true _ (λ t. few (inr (inl ((bytes_eq-Decides w _).0 hb, t)))))
       by_it w r false false true e ha hb hc he few = keeps_type idle (not_true _ (λ t. few (inr (inr (inl ((bytes_eq-Decides w _).0 hc, t))))))
@@ -433,7 +433,7 @@ module _ (d : Draft) (m : IsMap d) where
           keeps_bucket w opens.1 (not_true _ (λ t. few (inr (inr (inr (inr (opens, t)))))))
 
   -- each line
-  pub keeps_lines : (mode : Mode) → Stage mode d → Keeps Good d (lines d mode)
+  pub keeps_lines : (mode : Mode) → Stage mode d → Keeps Good d (line_forms d mode)
   keeps_lines first s = keeps_statement false s
   keeps_lines second s = keeps_statement true s
   keeps_lines begun s = keeps_id s

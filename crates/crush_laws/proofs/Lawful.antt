@@ -17,7 +17,7 @@ use Rattle.crush_table.specs.Lawful.{Lawful, is_too_heavy}
 use Rattle.crush_edits.specs.Setting.{KindData}
 use Rattle.crush_edits.specs.Fits.{IsKind, Fits, is_reserved}
 use Rattle.crush_table.proofs.Appended.{row_of-append, unused_fresh}
-use Rattle.crush_map.specs.Built.{Draft, Pending, nothing, begun, numbered, filling, with_kind, with_device, with_tunable, placed_row, put_below, table_with_item, device_weight, with_item}
+use Rattle.crush_map.specs.Built.{Draft, Pending, nothing, begun, numbered, filling, with_kind, with_device, with_tunable, placed_row, put_below, table_with_item, weight_or_one, with_next_item}
 use Rattle.crush_map.specs.Building.{IsRoot, is_open, has_name, closed_item, item_named, has_kind_number, has_kind_name, has_tunable, is_full_of_devices, is_full_of_kinds, is_full_of_tunables}
 use Rattle.crush_map.proofs.KindSteps.{Fits-with_kind}
 use Rattle.crush_map.proofs.TunableSteps.{Fits-with_tunable}
@@ -121,15 +121,15 @@ lawful_below t (Bucket x) b w l small there stands far h =
 
 -- an item more
 pub record ItemMade (d : Draft) (i : ItemId) (w : Option ℕ) (b : ℕ) : Type 0 where
-  pub map : IsMap (with_item d i w)
-  pub root : IsRoot (with_item d i w).table b
+  pub map : IsMap (with_next_item d i w)
+  pub root : IsRoot (with_next_item d i w).table b
 
 -- an item's line makes it
-pub map_with_item : (d : Draft) (x : List ℕ) (i : ItemId) (w : Option ℕ) (b : ℕ) → IsMap d → d.pending ≡ filling b → IsRoot d.table b → item_named d x ≡ Some i → IsLight i (device_weight w) → is_too_heavy (with_item d i w).table ≡ false → ItemMade d i w b
+pub map_with_item : (d : Draft) (x : List ℕ) (i : ItemId) (w : Option ℕ) (b : ℕ) → IsMap d → d.pending ≡ filling b → IsRoot d.table b → item_named d x ≡ Some i → IsLight i (weight_or_one w) → is_too_heavy (with_next_item d i w).table ≡ false → ItemMade d i w b
 map_with_item d x i w b m p root named weight light =
     let l = listable d x i named in
-    let v : ℕ = device_weight w in
-    let is : (with_item d i w).table ≡ put_below b i v d.table = ap (λ (q : Pending). table_with_item q i v d.table) p in
+    let v : ℕ = weight_or_one w in
+    let is : (with_next_item d i w).table ≡ put_below b i v d.table = ap (λ (q : Pending). table_with_item q i v d.table) p in
     let other : same_id (Bucket b) i ≡ false = ap (λ (q : Pending). is_open q i) (sym p) ∙ l.closed in
     let far = is_no_part d.table m.lawful i b root other in
     let h : is_too_heavy (put_below b i v d.table) ≡ false = ap is_too_heavy (sym is) ∙ light in

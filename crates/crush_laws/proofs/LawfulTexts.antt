@@ -15,12 +15,12 @@ use Rattle.crush_units.specs.declared.limits.TheConstants.{FARTHEST_BUCKET_ID, L
 use Rattle.crush_edits.specs.Setting.{KindData}
 use Rattle.crush_map.specs.Built.{Draft}
 use Rattle.crush_map.specs.Building.{IsPending, item_named}
-use Rattle.crush_map.specs.Rules.{bucket_named}
+use Rattle.crush_map.specs.Rules.{complete_bucket_named}
 use Rattle.crush_bytes.specs.Words.{Word, words, AreFormed, begins_with_key}
 use Rattle.crush_bytes.proofs.Forms.{words_are_formed}
 use Rattle.crush_text.specs.declared.fault.TextFaultKind.TheVariants.{Unexpected, BadNumber, BadWeight, UnknownItem, SecondParent, OtherAlgorithm, LeftOut, UnknownBucketInRule}
 use Rattle.crush_text.specs.Forms.{is_number}
-use Rattle.crush_text.specs.Role.{Role, value, number_of, item_of, key, any_word, number, opening, tunable_name, type_number, type_name, device_id, new_name, bucket_id, id_or_alg, id_class, algorithm, item_or_end, item, lone_item, weight, rule_name, rule_id_key, rule_id, step_or_end, step_word, taken_bucket, step_order, step_count, step_type}
+use Rattle.crush_text.specs.Role.{Role, value, kind_of_word, item_of, key, any_word, number, opening, tunable_name, type_number, type_name, device_id, new_name, bucket_id, id_or_alg, id_class, algorithm, item_or_end, item, lone_item, weight, rule_name, rule_id_key, rule_id, step_or_end, step_word, taken_bucket, step_order, step_count, step_type}
 use Rattle.crush_text.specs.Form.{Mode, first, second, begun, numbered, filling, ruled, Progress, Form, done, word, optional, ahead}
 use Rattle.crush_text.specs.Grammar.{next}
 use Rattle.crush_text.specs.Rows.{ComesFirst, IsNeither, IsHeldItem, IsRight}
@@ -156,7 +156,7 @@ begins_statement d late w h = by_it (bytes_eq w (codes "tunable")) (bytes_eq w (
     by_it false false false true ha hb hc he = inr (inl ((bytes_eq-Decides w _).0 he))
     by_it false false false false ha hb hc he =
         let opens = begins_bucket d late w h ha hb hc he in
-        inr (inr (ltb-true 0 (number_of d w) (and_parts (nat_lt 0 (number_of d w)) (list_any (λ (y : KindData). y.number == number_of d w) d.setting.kinds) opens.1).0))
+        inr (inr (ltb-true 0 (kind_of_word d w) (and_parts (nat_lt 0 (kind_of_word d w)) (list_any (λ (y : KindData). y.number == kind_of_word d w) d.setting.kinds) opens.1).0))
 
 -- a word that opens a step
 begins_step : (d : Draft) (w : List ℕ) → IsRight d step_word w → BeginsStep w
@@ -197,7 +197,7 @@ is_for d rule_id_key w h = either_word w (codes "id") (codes "ruleset") (h Unexp
 is_for d rule_id w h = digits_of LARGEST_RULE_NUMBER w (h BadNumber)
 is_for d (step_or_end k) w h = either_word w (codes "step") (codes "}") (h Unexpected)
 is_for d step_word w h = begins_step d w h
-is_for d taken_bucket w h = some_bucket (bucket_named d w) (h UnknownBucketInRule)
+is_for d taken_bucket w h = some_bucket (complete_bucket_named d w) (h UnknownBucketInRule)
 is_for d step_order w h = either_word w (codes "firstn") (codes "indep") (h Unexpected)
 is_for d step_count w h = not_false _ (h BadNumber)
 is_for d step_type w h = tt

@@ -10,7 +10,7 @@ use Rattle.crush_text.specs.declared.opening.Opening.TheVariants as openings
 use Rattle.crush_text.specs.declared.fault.TextFault.{TextFault}
 use Rattle.crush_text.specs.Role.{El, StepWord, takes, chooses, sets, emits, value}
 use Rattle.crush_text.specs.Form.{Mode, first, second, begun, numbered, filling, ruled, Form, done, word, optional, ahead}
-use Rattle.crush_text.specs.Grammar.{id_or_alg_line, item_or_brace, step_behind, step_or_brace, statement, lines, next as next_line}
+use Rattle.crush_text.specs.Grammar.{id_or_alg_line, item_or_brace, step_behind, step_or_brace, statement, line_forms, next as next_line}
 use Rattle.crush_text.specs.Flow.{State, between, amid, arrive, outcome}
 use Rattle.crush_text.specs.Document.{SpellsForm, SpellsNext, Spell, start}
 use Rattle.crush_text.specs.Flaw.{IsFaulty}
@@ -57,7 +57,7 @@ step_looks d r (sets x) = λ n. tt
 step_looks d r emits = tt
 
 -- and in each line
-lines_look : (d : Draft) (m : Mode) → LooksForWeights (lines d m)
+lines_look : (d : Draft) (m : Mode) → LooksForWeights (line_forms d m)
 lines_look d first = statement_looks d
 lines_look d second = statement_looks d
 lines_look d begun = λ a b n. tt

@@ -16,12 +16,12 @@ use Rattle.crush_table.specs.Table.{Row}
 use Rattle.crush_table.specs.Lawful.{Lawful}
 use Rattle.crush_edits.specs.Setting.{StepData, SettingData}
 use Rattle.crush_edits.specs.Fits.{Fits}
-use Rattle.crush_map.specs.Built.{Draft, empty_draft, Pending, nothing, numbered as is_numbered, filling as is_filling, pending_with_id, pending_with_class_id, pending_row, pending_with_alg, put_below, device_weight, adjustment, table_with_item, with_id, with_class_id, with_alg, with_item, with_end, add_rule}
+use Rattle.crush_map.specs.Built.{Draft, empty_draft, Pending, nothing, numbered as is_numbered, filling as is_filling, pending_with_id, pending_with_class_id, pending_row, pending_with_alg, put_below, weight_or_one, adjustment, table_with_item, with_id, with_class_id, with_alg, with_next_item, with_end, add_rule}
 use Rattle.crush_bytes.specs.Numbers.{is_number}
 use Rattle.crush_bytes.specs.Words.{words, texts}
 use Rattle.crush_text.specs.declared.fault.TextFaultKind.TheVariants.{BadNumber}
 use Rattle.crush_text.specs.declared.opening.Opening.TheVariants as openings
-use Rattle.crush_text.specs.Role.{key, number, id_or_alg, algorithm, item, lone_item, item_or_end, step_or_end, weight, number_of, item_of, units}
+use Rattle.crush_text.specs.Role.{key, number, id_or_alg, algorithm, item, lone_item, item_or_end, step_or_end, weight, kind_of_word, item_of, units}
 use Rattle.crush_text.specs.Form.{Mode, first, second, begun, numbered, filling, ruled, at, done, word}
 use Rattle.crush_text.specs.Grammar.{id_or_alg_line, item_or_brace, step_or_brace, with_step, statement}
 use Rattle.crush_text.specs.Document.{start, IsMapText}
@@ -67,7 +67,7 @@ parse (suc n) first d ws e h = λ idle rules count. by_it (λ m u k. parse n m u
     more rec x idle rules count = more_first d x.statement ws h.0 e x.spelled (rec first (behind_first d x.statement) (along n (at first (behind_first d x.statement)) h.1 h.0 e x.leads h.3)) idle rules count
 
     by_it : ((m : Mode) (u : Draft) → Lines n (at m u) h.0 e → Goal m u h.0 e) → d.pending ≡ nothing → d.setting.rules ≡ [] → d.adjusted ≡ 0 → (a b c : Bool) → bytes_eq h.2.0 (codes "tunable") ≡ a → bytes_eq h.2.0 (codes "device") ≡ b → bytes_eq h.2.0 (codes "type") ≡ c
-        → Line d (statement d (cond a openings.Tunable (cond b openings.Device (cond c openings.Type (cond (bytes_eq h.2.0 (codes "rule")) openings.Rule (openings.Bucket (number_of d h.2.0))))))) h.2.1 h.0 h.1
+        → Line d (statement d (cond a openings.Tunable (cond b openings.Device (cond c openings.Type (cond (bytes_eq h.2.0 (codes "rule")) openings.Rule (openings.Bucket (kind_of_word d h.2.0))))))) h.2.1 h.0 h.1
         → FirstsRead d.setting.kinds d.setting.tunables d.table ws e
     by_it rec idle rules count true b c ha hb hc l = more rec (read_tunable d ws h.2.1 h.0 h.1 (opened_by h.2.0 (codes "tunable") h.2.1 h.2.2 ha) l) idle rules count
     by_it rec idle rules count false true c ha hb hc l = more rec (read_device d ws h.2.1 h.0 h.1 (opened_by h.2.0 (codes "device") h.2.1 h.2.2 hb) l) idle rules count
@@ -128,12 +128,12 @@ parse (suc n) numbered d ws e h = λ k x b cs pending. by_it (λ m u k. parse n 
         by_hash (inr z) = record { ids = []; alg = named.0; behind_alg = l.1; behind_hash = h.0; spelled = head; hash = inl z.0; items = rest z.1 }
 parse (suc n) (filling any) d ws e h = λ b pending. by_it (λ m u k. parse n m u h.0 e k) b pending (bytes_eq h.2.0 (codes "item")) refl h.2.4
   where
-    item_behind : ((m : Mode) (u : Draft) → Lines n (at m u) h.0 e → Goal m u h.0 e) → (b : ℕ) → d.pending ≡ is_filling b → (i j : ItemId) (w : Option ℕ) → i ≡ j → at (filling true) (with_item d i w) ≡ h.1 → ItemsRead b d.setting (put_below b j (device_weight w) d.table) (d.adjusted + adjustment d.table j w) h.0 e
+    item_behind : ((m : Mode) (u : Draft) → Lines n (at m u) h.0 e → Goal m u h.0 e) → (b : ℕ) → d.pending ≡ is_filling b → (i j : ItemId) (w : Option ℕ) → i ≡ j → at (filling true) (with_next_item d i w) ≡ h.1 → ItemsRead b d.setting (put_below b j (weight_or_one w) d.table) (d.adjusted + adjustment d.table j w) h.0 e
     item_behind rec b pending i j w is q =
-        let t : table_with_item d.pending i (device_weight w) d.table ≡ put_below b j (device_weight w) d.table = (λ k. table_with_item (pending k) (is k) (device_weight w) d.table) in
+        let t : table_with_item d.pending i (weight_or_one w) d.table ≡ put_below b j (weight_or_one w) d.table = (λ k. table_with_item (pending k) (is k) (weight_or_one w) d.table) in
         let a : d.adjusted + adjustment d.table i w ≡ d.adjusted + adjustment d.table j w = ap (λ (x : ItemId). d.adjusted + adjustment d.table x w) is in
-        subst (λ (x : ℕ). ItemsRead b d.setting (put_below b j (device_weight w) d.table) x h.0 e) a
-        (subst (λ (u : List Row). ItemsRead b d.setting u (d.adjusted + adjustment d.table i w) h.0 e) t (rec (filling true) (with_item d i w) (along n (at (filling true) (with_item d i w)) h.1 h.0 e q h.3) b pending))
+        subst (λ (x : ℕ). ItemsRead b d.setting (put_below b j (weight_or_one w) d.table) x h.0 e) a
+        (subst (λ (u : List Row). ItemsRead b d.setting u (d.adjusted + adjustment d.table i w) h.0 e) t (rec (filling true) (with_next_item d i w) (along n (at (filling true) (with_next_item d i w)) h.1 h.0 e q h.3) b pending))
 
     by_it : ((m : Mode) (u : Draft) → Lines n (at m u) h.0 e → Goal m u h.0 e) → (b : ℕ) → d.pending ≡ is_filling b → (c : Bool) → bytes_eq h.2.0 (codes "item") ≡ c → Line d (item_or_brace d c) h.2.1 h.0 h.1 → ItemsRead b d.setting d.table d.adjusted ws e
     by_it rec b pending true is (inl l) =

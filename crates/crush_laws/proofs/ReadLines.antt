@@ -7,7 +7,7 @@ use Rattle.crush_bytes.specs.Words.{Word, texts, begins_with_key}
 use Rattle.crush_text.specs.Role.{value}
 use Rattle.crush_text.specs.Form.{Progress, Form, done, word, optional, ahead}
 use Rattle.crush_text.specs.Grammar.{next}
-use Rattle.crush_text.specs.Flow.{State, between, amid, arrive, is_idle}
+use Rattle.crush_text.specs.Flow.{State, between, amid, arrive, takes_statement}
 use Rattle.crush_text.specs.Document.{SpellsForm, Spell, IsWhole}
 use Rattle.crush_text.specs.Rows.{IsRight}
 
@@ -20,7 +20,7 @@ Line d (ahead k f g) ws v p = Line d f ws v p ⊎ Line d g ws v p
 
 -- so many LINES to the end of the text
 abbrev pub Lines : ℕ → Progress → List (List ℕ) → Draft → Type 0
-Lines zero p ws e = (ws ≡ []) × (p.draft ≡ e) × (is_idle p.mode ≡ true)
+Lines zero p ws e = (ws ≡ []) × (p.draft ≡ e) × (takes_statement p.mode ≡ true)
 Lines (suc n) p ws e = (v : List (List ℕ)) × (q : Progress) × Line p.draft (next p) ws v q × Lines n q v e
 
 -- the rest of a line, and others

@@ -11,10 +11,10 @@ use Rattle.crush_table.specs.Items.{ShadowData}
 use Rattle.crush_table.specs.Table.{Row}
 use Rattle.crush_table.specs.ItemRows.{bucket_row}
 use Rattle.crush_edits.specs.Setting.{KindData, TunableData, StepData, RuleData, SettingData}
-use Rattle.crush_map.specs.Built.{Draft, nothing, begun as is_begun, numbered as is_numbered, filling as is_filling, put_below, device_weight, adjustment, begun_bucket}
+use Rattle.crush_map.specs.Built.{Draft, nothing, begun as is_begun, numbered as is_numbered, filling as is_filling, put_below, weight_or_one, adjustment, begun_bucket}
 use Rattle.crush_text.specs.declared.fault.TextFaultKind.TheVariants.{BadNumber, Unexpected}
 use Rattle.crush_text.specs.declared.opening.Opening.TheVariants as openings
-use Rattle.crush_text.specs.Role.{key, opening, rule_id_key, number_of, opened}
+use Rattle.crush_text.specs.Role.{key, opening, rule_id_key, kind_of_word, opened}
 use Rattle.crush_text.specs.Form.{Mode, first, second, begun, numbered, filling, ruled, Progress, at}
 use Rattle.crush_text.specs.Grammar.{bucket_line, rule_line, with_step, new_rule, statement}
 use Rattle.crush_text.specs.Rows.{IsRight, ComesFirst}
@@ -170,9 +170,9 @@ more_id k x b cs c s t a ws v e spelled h = record {
 }
 
 -- an item more
-pub more_item : (b : ℕ) (i : ItemLine) (s : SettingData) (t : List Row) (a : ℕ) (ws v : List (List ℕ)) (e : Draft) → SpellsItem i ws v → IsListable b t i.name → ItemsRead b s (put_below b (item_in t i.name) (device_weight i.weight) t) (a + adjustment t (item_in t i.name) i.weight) v e → ItemsRead b s t a ws e
+pub more_item : (b : ℕ) (i : ItemLine) (s : SettingData) (t : List Row) (a : ℕ) (ws v : List (List ℕ)) (e : Draft) → SpellsItem i ws v → IsListable b t i.name → ItemsRead b s (put_below b (item_in t i.name) (weight_or_one i.weight) t) (a + adjustment t (item_in t i.name) i.weight) v e → ItemsRead b s t a ws e
 more_item b i s t a ws v e spelled names h =
-    let u : List Row = put_below b (item_in t i.name) (device_weight i.weight) t in
+    let u : List Row = put_below b (item_in t i.name) (weight_or_one i.weight) t in
     record {
       items = i ∷ h.items;
       rest = h.rest;
@@ -248,11 +248,11 @@ open_second late n d ws v e q rest idle w us head right none l lines = by_it (by
         by_late true is = right Unexpected (inr (inr (is, early)))
         by_late false is = none is early
 
-    bucket_read : (k : ℕ) → 0 < number_of d w → number_of d w ≡ k → Line d (bucket_line d k) us v q → SecondsRead d.setting d.table d.adjusted ws e
+    bucket_read : (k : ℕ) → 0 < kind_of_word d w → kind_of_word d w ≡ k → Line d (bucket_line d k) us v q → SecondsRead d.setting d.table d.adjusted ws e
     bucket_read k some is x =
-        let u : Draft = begun_bucket d (number_of d w) x.0 in
+        let u : Draft = begun_bucket d (kind_of_word d w) x.0 in
         more_bucket w d.setting d.table d.adjusted ws v e x.0 some (head ∙ ap (λ (l : List (List ℕ)). w ∷ l) (cons_is us x.0 x.0 x.1 v x.2 refl x.4.0))
-        (rest begun u (along n (at begun u) q v e (ap (λ (y : ℕ). at begun (begun_bucket d y x.0)) is ∙ x.4.1) lines) (number_of d w) x.0 refl)
+        (rest begun u (along n (at begun u) q v e (ap (λ (y : ℕ). at begun (begun_bucket d y x.0)) is ∙ x.4.1) lines) (kind_of_word d w) x.0 refl)
 
     rule_read : ws ≡ codes "rule" ∷ us → Line d (rule_line d) us v q → SecondsRead d.setting d.table d.adjusted ws e
     rule_read head x =
@@ -287,11 +287,11 @@ open_second late n d ws v e q rest idle w us head right none l lines = by_it (by
         (rest (ruled r) d (along n (at (ruled r) d) q v e sizes_read.5 lines) idle)
 
     by_it : (a b c f : Bool) → bytes_eq w (codes "tunable") ≡ a → bytes_eq w (codes "device") ≡ b → bytes_eq w (codes "type") ≡ c → bytes_eq w (codes "rule") ≡ f
-        → Line d (statement d (cond a openings.Tunable (cond b openings.Device (cond c openings.Type (cond f openings.Rule (openings.Bucket (number_of d w))))))) us v q → SecondsRead d.setting d.table d.adjusted ws e
+        → Line d (statement d (cond a openings.Tunable (cond b openings.Device (cond c openings.Type (cond f openings.Rule (openings.Bucket (kind_of_word d w))))))) us v q → SecondsRead d.setting d.table d.adjusted ws e
     by_it true b c f ha hb hc hf x = absurd (out (inl (is_word w (codes "tunable") ha)))
     by_it false true c f ha hb hc hf x = absurd (out (inr (inl (is_word w (codes "device") hb))))
     by_it false false true f ha hb hc hf x = absurd (out (inr (inr (is_word w (codes "type") hc))))
     by_it false false false true ha hb hc hf x = rule_read (cons_is ws w (codes "rule") us us head (is_word w (codes "rule") hf) refl) x
     by_it false false false false ha hb hc hf x =
         let known = begins_bucket d late w right ha hb hc hf in
-        bucket_read (number_of d w) (ltb-true 0 (number_of d w) (and_parts (nat_lt 0 (number_of d w)) (list_any (λ (y : KindData). y.number == number_of d w) d.setting.kinds) known.1).0) refl x
+        bucket_read (kind_of_word d w) (ltb-true 0 (kind_of_word d w) (and_parts (nat_lt 0 (kind_of_word d w)) (list_any (λ (y : KindData). y.number == kind_of_word d w) d.setting.kinds) known.1).0) refl x

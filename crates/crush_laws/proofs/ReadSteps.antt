@@ -7,13 +7,13 @@ use Rattle.std.specs.Str.Parse.{digits_value}
 use Rattle.crush_units.specs.declared.id.ItemId.{ItemId}
 use Rattle.crush_table.specs.Table.{id_named}
 use Rattle.crush_edits.specs.Setting.{RuleData, take, choose}
-use Rattle.crush_edits.specs.Stops.{bucket_named, number_of}
+use Rattle.crush_edits.specs.Stops.{complete_bucket_named, number_of}
 use Rattle.crush_map.specs.Built.{Draft, Pending, nothing}
 use Rattle.crush_map.specs.Building.{closed_item}
-use Rattle.crush_map.specs.Rules.{bucket_named as bucket_of_name}
+use Rattle.crush_map.specs.Rules.{complete_bucket_named as bucket_of_name}
 use Rattle.crush_text.specs.declared.fault.TextFaultKind.TheVariants.{BadNumber}
 use Rattle.crush_text.specs.Forms.{signed_value}
-use Rattle.crush_text.specs.Role.{key, any_word, step_word, step_order, taken_bucket, value, bucket_of, takes as word_takes, chooses as word_chooses, sets as word_sets, emits as word_emits}
+use Rattle.crush_text.specs.Role.{key, any_word, step_word, step_order, taken_bucket, value, bucket_of_word, takes as word_takes, chooses as word_chooses, sets as word_sets, emits as word_emits}
 use Rattle.crush_text.specs.Form.{ruled, Progress, at, word}
 use Rattle.crush_text.specs.Grammar.{with_step, step_done, step_behind}
 use Rattle.crush_text.specs.Rows.{IsRight}
@@ -38,22 +38,22 @@ closed None = refl
 closed (Some i) = refl
 
 module _ (d : Draft) (r : RuleData) (idle : d.pending ≡ nothing) where
-  named : (x : List ℕ) → bucket_of_name d x ≡ bucket_named d.table x
+  named : (x : List ℕ) → bucket_of_name d x ≡ complete_bucket_named d.table x
   named x = ap (option_and_then number_of) (ap (λ (p : Pending). option_and_then (closed_item p) (id_named d.table x)) idle ∙ closed (id_named d.table x))
 
   read_take : (words us v : List (List ℕ)) (q : Progress) → words ≡ codes "step" ∷ codes "take" ∷ us → Line d (step_behind d r word_takes) us v q → StepRead d r words v q
   read_take words us v q e h = by_class h.4
     where
-      is : bucket_of d h.0 ≡ unwrap_or (bucket_named d.table h.0) 0
+      is : bucket_of_word d h.0 ≡ unwrap_or (complete_bucket_named d.table h.0) 0
       is = ap (λ (o : Option ℕ). unwrap_or o 0) (named h.0)
 
-      known : bucket_named d.table h.0 ≡ Some (unwrap_or (bucket_named d.table h.0) 0)
+      known : complete_bucket_named d.table h.0 ≡ Some (unwrap_or (complete_bucket_named d.table h.0) 0)
       known = sym (named h.0) ∙ is_for d taken_bucket h.0 h.3 ∙ ap (λ (b : ℕ). Some b) is
 
       head : words ≡ codes "step" ∷ codes "take" ∷ h.0 ∷ h.1
       head = e ∙ ap (λ (l : List (List ℕ)). codes "step" ∷ codes "take" ∷ l) h.2
 
-      by_class : (Line d (word (key (codes "class")) (λ _. word any_word (λ c. step_done d r (take (bucket_of d h.0) (Some c))))) h.1 v q) ⊎ (Line d (step_done d r (take (bucket_of d h.0) None)) h.1 v q) → StepRead d r words v q
+      by_class : (Line d (word (key (codes "class")) (λ _. word any_word (λ c. step_done d r (take (bucket_of_word d h.0) (Some c))))) h.1 v q) ⊎ (Line d (step_done d r (take (bucket_of_word d h.0) None)) h.1 v q) → StepRead d r words v q
       by_class (inl c) = record {
         step = takes h.0 (Some c.4.0);
         spelled = (h.1, head, cons_is h.1 c.0 (codes "class") c.1 (c.4.0 ∷ v) c.2 (is_for d (key (codes "class")) c.0 c.3) (cons_is c.1 c.4.0 c.4.0 c.4.1 v c.4.2 refl c.4.4.0));

@@ -18,7 +18,7 @@ use Rattle.crush_table.specs.Count.{one_if}
 use Rattle.crush_table.proofs.Found.{times-cons, times-append, times-is_there}
 use Rattle.crush_edits.specs.Setting.{StepData, take, choose, set, emit, RuleData, bucket_taken, taken_buckets}
 use Rattle.crush_edits.specs.Fits.{IsKind, IsThere}
-use Rattle.crush_map.specs.Built.{Draft, Pending, nothing, begun as is_begun, numbered as is_numbered, filling as is_filling, with_device, with_alg, with_item, device_weight, pending_with_id, pending_with_class_id, pending_row, pending_with_alg, placed_row, put_below, table_with_item, add_rule}
+use Rattle.crush_map.specs.Built.{Draft, Pending, nothing, begun as is_begun, numbered as is_numbered, filling as is_filling, with_device, with_alg, with_next_item, weight_or_one, pending_with_id, pending_with_class_id, pending_row, pending_with_alg, placed_row, put_below, table_with_item, add_rule}
 use Rattle.crush_map.specs.Building.{IsRoot, is_open}
 use Rattle.crush_map.proofs.ItemSteps.{root_put}
 use Rattle.crush_map.proofs.RowSteps.{new_device, new_bucket}
@@ -26,9 +26,9 @@ use Rattle.crush_print.proofs.PrintedTexts.{All-left}
 use Rattle.crush_text.specs.declared.opening.Opening.{Opening}
 use Rattle.crush_text.specs.declared.opening.Opening.TheVariants as openings
 use Rattle.crush_text.specs.Forms.{signed_value}
-use Rattle.crush_text.specs.Role.{opening, taken_bucket, StepWord, takes, chooses, sets, emits, value, number_of, item_of, bucket_of, units, opened, step_said}
+use Rattle.crush_text.specs.Role.{opening, taken_bucket, StepWord, takes, chooses, sets, emits, value, kind_of_word, item_of, bucket_of_word, units, opened, step_said}
 use Rattle.crush_text.specs.Form.{Mode, first, second, begun, numbered, filling, ruled, Progress, at, Form, done, word, optional, ahead}
-use Rattle.crush_text.specs.Grammar.{device_line, bucket_line, tunable_line, type_line, rule_line, id_line, class_id_line, alg_line, id_or_alg_line, item_line, item_or_brace, new_rule, with_step, step_behind, step_or_brace, statement, lines}
+use Rattle.crush_text.specs.Grammar.{device_line, bucket_line, tunable_line, type_line, rule_line, id_line, class_id_line, alg_line, id_or_alg_line, item_line, item_or_brace, new_rule, with_step, step_behind, step_or_brace, statement, line_forms}
 use Rattle.crush_laws.specs.Admitted.{IsFor, IsFree}
 use Rattle.crush_laws.proofs.Allowed.{type_named}
 use Rattle.crush_laws.proofs.Admitted.{opens}
@@ -128,7 +128,7 @@ early_opening d late h w (inl e) is kinds = h e.0 kinds
 early_opening d late h w (inr (inl e)) is kinds = let no : false ≡ true = ap (λ (x : List ℕ). is_early (opened d x)) (sym e) ∙ is in absurd cc
 early_opening d late h w (inr (inr some)) is kinds =
     let t = type_named d.setting.kinds w kinds some in
-    let bucket : opened d w ≡ openings.Bucket (number_of d w) = opens d w (number_of d w) t.free refl in
+    let bucket : opened d w ≡ openings.Bucket (kind_of_word d w) = opens d w (kind_of_word d w) t.free refl in
     let no : false ≡ true = sym (ap is_early bucket) ∙ is in
     absurd cc
 
@@ -212,11 +212,11 @@ module _ (d : Draft) (tied : IsTied (taken_buckets d.setting) d.table) where
   shapes_item : (any : Bool) → Shape (filling any) d → Shapes d (item_line d)
   shapes_item any s = (λ x fx k fk w fw. added x fx (Some (units w)), λ x fx. added x fx None)
     where
-      added : (x : List ℕ) → IsFree d x → (w : Option ℕ) → IsShaped (at (filling true) (with_item d (item_of d x) w))
+      added : (x : List ℕ) → IsFree d x → (w : Option ℕ) → IsShaped (at (filling true) (with_next_item d (item_of d x) w))
       added x fx w =
           let i : ItemId = item_of d x in
-          let v : ℕ = device_weight w in
-          let is : (with_item d i w).table ≡ put_below s.0 i v d.table = ap (λ (q : Pending). table_with_item q i v d.table) s.1 in
+          let v : ℕ = weight_or_one w in
+          let is : (with_next_item d i w).table ≡ put_below s.0 i v d.table = ap (λ (q : Pending). table_with_item q i v d.table) s.1 in
           let other : same_id (Bucket s.0) i ≡ false = ap (λ (q : Pending). is_open q i) (sym s.1) ∙ (listable d x i fx.0).closed in
           record {
             tied = subst (IsTied (taken_buckets d.setting)) (sym is) (tied_put (taken_buckets d.setting) d.table i s.0 v s.2 tied);
@@ -241,16 +241,16 @@ module _ (d : Draft) (tied : IsTied (taken_buckets d.setting) d.table) where
 
   -- by its first word
   shapes_step : (r : RuleData) (w : StepWord) → Shape (ruled r) d → Shapes d (step_behind d r w)
-  shapes_step r takes s = λ b fb. (λ k fk c fc. stepped r (take (bucket_of d b) (Some c)) s (taken b fb), stepped r (take (bucket_of d b) None) s (taken b fb))
+  shapes_step r takes s = λ b fb. (λ k fk c fc. stepped r (take (bucket_of_word d b) (Some c)) s (taken b fb), stepped r (take (bucket_of_word d b) None) s (taken b fb))
     where
-      taken : (b : List ℕ) → IsFor d taken_bucket b → All (IsThere d.table) (bucket_of d b ∷ [])
-      taken b fb = All-cons (IsThere d.table) (bucket_of d b) [] (bucket_there d b (λ e. let no : (let x : Option ℕ = None in x) ≡ Some (bucket_of d b) = sym e ∙ fb in cc)) (All-nil (IsThere d.table))
+      taken : (b : List ℕ) → IsFor d taken_bucket b → All (IsThere d.table) (bucket_of_word d b ∷ [])
+      taken b fb = All-cons (IsThere d.table) (bucket_of_word d b) [] (bucket_there d b (λ e. let no : (let x : Option ℕ = None in x) ≡ Some (bucket_of_word d b) = sym e ∙ fb in cc)) (All-nil (IsThere d.table))
   shapes_step r (chooses leaf) s = λ o fo n fn t ft k fk. stepped r (choose leaf (bytes_eq o (codes "firstn")) (signed_value n) k) s (All-nil (IsThere d.table))
   shapes_step r (sets x) s = λ n fn. stepped r (set x (digits_value 10 n)) s (All-nil (IsThere d.table))
   shapes_step r emits s = stepped r emit s (All-nil (IsThere d.table))
 
   -- each line
-  pub shapes_lines : (mode : Mode) → Shape mode d → Shapes d (lines d mode)
+  pub shapes_lines : (mode : Mode) → Shape mode d → Shapes d (line_forms d mode)
   shapes_lines first s = λ w fw. shapes_statement (opened d w) s.0 (early_opening d false (λ _. s.1) w fw)
   shapes_lines second s = λ w fw. shapes_statement (opened d w) s (early_opening d true (λ e. let no : true ≡ false = e in absurd cc) w fw)
   shapes_lines begun s = shapes_id s

@@ -14,7 +14,7 @@ use Rattle.crush_table.specs.Items.{ShadowData}
 use Rattle.crush_table.specs.Table.{Row, is_placed}
 use Rattle.crush_edits.specs.Setting.{KindData, TunableData, RuleData}
 use Rattle.crush_edits.specs.Fits.{is_reserved}
-use Rattle.crush_map.specs.Built.{Draft, Pending, numbered as is_numbered, filling as is_filling, with_class_id, with_alg, with_item, put_below, device_weight, adjustment}
+use Rattle.crush_map.specs.Built.{Draft, Pending, numbered as is_numbered, filling as is_filling, with_class_id, with_alg, with_next_item, put_below, weight_or_one, adjustment}
 use Rattle.crush_map.specs.Building.{closed_item, item_named}
 use Rattle.crush_bytes.specs.Words.{begins_with_key}
 use Rattle.crush_bytes.specs.Numbers.{is_number}
@@ -56,21 +56,21 @@ module _ (ks : List KindData) (ts : List TunableData) (rs : List RuleData) (e : 
 
   -- one item: the word behind one without a weight isn't `weight`
   item_leads : (any : Bool) (b : ℕ) (x : List ℕ) (w : Option ℕ) (t : List Row) (a : ℕ) (ws rest : List (List ℕ)) → SpellsWeighed x w ws rest → begins_with_key (codes "weight") (plain rest) ≡ false → IsListable b t x
-      → LeadTo (between (at (filling true) (with_item (amid_bucket t a (is_filling b)) (item_in t x) w))) (plain rest) e → LeadTo (between (at (filling any) (amid_bucket t a (is_filling b)))) (plain ws) e
+      → LeadTo (between (at (filling true) (with_next_item (amid_bucket t a (is_filling b)) (item_in t x) w))) (plain rest) e → LeadTo (between (at (filling any) (amid_bucket t a (is_filling b)))) (plain ws) e
   item_leads any b x None t a ws rest h other l k =
       let d : Draft = amid_bucket t a (is_filling b) in
       subst (λ (v : List (List ℕ)). LeadTo (between (at (filling any) d)) (plain v) e) (sym h)
       (words_lead (between (at (filling any) d)) (codes "item" ∷ []) (x ∷ rest) e (inl refl, tt)
       (lacking d (item_line d) (x ∷ rest) e other
       (words_lead (amid d (weightless_item d)) (x ∷ []) rest e (free t a b x l, tt)
-      (subst (λ (i : ItemId). LeadTo (between (at (filling true) (with_item d i None))) (plain rest) e) (sym (found_item t a b x l)) k))))
+      (subst (λ (i : ItemId). LeadTo (between (at (filling true) (with_next_item d i None))) (plain rest) e) (sym (found_item t a b x l)) k))))
   item_leads any b x (Some u) t a ws rest h other l k =
       let d : Draft = amid_bucket t a (is_filling b) in
       let is : units h.0 ≡ u = ap units_or_none h.1 in
       subst (λ (v : List (List ℕ)). LeadTo (between (at (filling any) d)) (plain v) e) (sym h.2)
       (words_lead (between (at (filling any) d)) (codes "item" ∷ x ∷ codes "weight" ∷ h.0 ∷ []) rest e (inl refl, (free t a b x l, (refl, (h.1 ∙ ap (λ (v : ℕ). Ok v) (sym is), tt))))
-      (subst (λ (i : ItemId). LeadTo (between (at (filling true) (with_item d i (Some (units h.0))))) (plain rest) e) (sym (found_item t a b x l))
-      (subst (λ (v : ℕ). LeadTo (between (at (filling true) (with_item d (item_in t x) (Some v)))) (plain rest) e) (sym is) k)))
+      (subst (λ (i : ItemId). LeadTo (between (at (filling true) (with_next_item d i (Some (units h.0))))) (plain rest) e) (sym (found_item t a b x l))
+      (subst (λ (v : ℕ). LeadTo (between (at (filling true) (with_next_item d (item_in t x) (Some v)))) (plain rest) e) (sym is) k)))
 
   -- what stands where items may isn't another word
   abbrev Begins : List ℕ → List (List ℕ) → Type 0
@@ -93,7 +93,7 @@ module _ (ks : List KindData) (ts : List TunableData) (rs : List RuleData) (e : 
       subst (λ (v : List (List ℕ)). LeadTo (between (at (filling any) d)) (plain v) e) (sym h)
       (words_lead (between (at (filling any) d)) (codes "}" ∷ []) rest e (inr refl, tt) (subst (λ (v : ℕ). LeadTo (between (at second (draft ks ts rs t v))) (plain rest) e) none k))
   items_lead any b (i ∷ is) t a ws rest h l k =
-      let u : List Row = put_below b (item_in t i.name) (device_weight i.weight) t in
+      let u : List Row = put_below b (item_in t i.name) (weight_or_one i.weight) t in
       let n : ℕ = adjustment t (item_in t i.name) i.weight in
       item_leads any b i.name i.weight t a ws h.0 h.1 (items_begin is h.0 rest (Begins (codes "weight")) (λ _. refl) refl h.2) l.0
       (items_lead true b is u (a + n) h.0 rest h.2 l.1

@@ -8,10 +8,10 @@ use Rattle.crush_table.specs.Table.{Row, is_placed}
 use Rattle.crush_edits.specs.Setting.{SettingData}
 use Rattle.crush_map.specs.Built.{Draft, add_rule}
 use Rattle.crush_map.specs.Building.{IsPending, item_named}
-use Rattle.crush_map.specs.Rules.{bucket_named}
+use Rattle.crush_map.specs.Rules.{complete_bucket_named}
 use Rattle.crush_bytes.specs.Words.{Word, ended, words}
 use Rattle.crush_text.specs.Forms.{is_number, is_signed}
-use Rattle.crush_text.specs.Role.{Role, value, number_of, item_of, bucket_of, units, key, any_word, number, opening, tunable_name, type_number, type_name, device_id, new_name, bucket_id, id_or_alg, id_class, algorithm, item_or_end, item, lone_item, weight, rule_name, rule_id_key, rule_id, step_or_end, step_word, taken_bucket, step_order, step_count, step_type}
+use Rattle.crush_text.specs.Role.{Role, value, kind_of_word, item_of, bucket_of_word, units, key, any_word, number, opening, tunable_name, type_number, type_name, device_id, new_name, bucket_id, id_or_alg, id_class, algorithm, item_or_end, item, lone_item, weight, rule_name, rule_id_key, rule_id, step_or_end, step_word, taken_bucket, step_order, step_count, step_type}
 use Rattle.crush_text.specs.Form.{Mode, first, second, begun, numbered, filling, ruled, Form, done, word, optional, ahead}
 use Rattle.crush_text.specs.Grammar.{next}
 use Rattle.crush_text.specs.Flow.{State, between, amid, arrive}
@@ -25,7 +25,7 @@ pub record IsLawfulDraft (d : Draft) : Type 0 where
 -- tunables, types and devices stand before buckets and rules; a rule begins so, and a bucket with the name of its type, which
 -- isn't type 0
 abbrev pub BeginsStatement : Draft → Bool → List ℕ → Type 0
-BeginsStatement d late w = ((late ≡ false) × ((w ≡ codes "tunable") ⊎ ((w ≡ codes "device") ⊎ (w ≡ codes "type")))) ⊎ ((w ≡ codes "rule") ⊎ (0 < number_of d w))
+BeginsStatement d late w = ((late ≡ false) × ((w ≡ codes "tunable") ⊎ ((w ≡ codes "device") ⊎ (w ≡ codes "type")))) ⊎ ((w ≡ codes "rule") ⊎ (0 < kind_of_word d w))
 
 -- the words with which a step begins
 abbrev pub BeginsStep : List ℕ → Type 0
@@ -61,7 +61,7 @@ IsFor d rule_id_key w = (w ≡ codes "id") ⊎ (w ≡ codes "ruleset")
 IsFor d rule_id w = are_digits 10 w ≡ true
 IsFor d (step_or_end k) w = (w ≡ codes "step") ⊎ (w ≡ codes "}")
 IsFor d step_word w = BeginsStep w
-IsFor d taken_bucket w = bucket_named d w ≡ Some (bucket_of d w)
+IsFor d taken_bucket w = complete_bucket_named d w ≡ Some (bucket_of_word d w)
 IsFor d step_order w = (w ≡ codes "firstn") ⊎ (w ≡ codes "indep")
 IsFor d step_count w = is_signed w ≡ true
 IsFor d step_type w = Unit {0}

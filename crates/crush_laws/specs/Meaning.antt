@@ -9,7 +9,7 @@ use Rattle.crush_table.specs.Lawful.{Lawful}
 use Rattle.crush_edits.specs.Setting.{KindData, TunableData, StepData, take, choose, set, emit, RuleData, SettingData, kind_number}
 use Rattle.crush_edits.specs.Stops.{bucket_named}
 use Rattle.crush_edits.specs.Fits.{Fits}
-use Rattle.crush_map.specs.Built.{put_below, device_weight, adjustment}
+use Rattle.crush_map.specs.Built.{put_below, weight_or_one, adjustment}
 use Rattle.crush_bytes.specs.Words.{words, texts, ended}
 use Rattle.crush_text.specs.Document.{IsMapText}
 use Rattle.crush_laws.specs.Document.{ItemLine, BucketLines, StepLine, takes, chooses, sets, emits, RuleLines, First, tunable, kind, device, Second, bucket, rule, Document}
@@ -41,7 +41,7 @@ item_in t name = unwrap_or (id_named t name) (Device 0)
 -- A BUCKET appends its row, and then each of its items is taken out and appended with this parent, a device also with its weight
 abbrev pub with_items : ℕ → List ItemLine → List Row → List Row
 with_items b [] t = t
-with_items b (i ∷ items) t = with_items b items (put_below b (item_in t i.name) (device_weight i.weight) t)
+with_items b (i ∷ items) t = with_items b items (put_below b (item_in t i.name) (weight_or_one i.weight) t)
 
 abbrev pub with_bucket : List KindData → BucketLines → List Row → List Row
 with_bucket kinds b t = t ++ bucket_row None (record { id = b.id; kind = kind_number_in kinds b.kind; name = b.name; alg = b.alg; class_ids = b.class_ids }) ∷ []
@@ -57,7 +57,7 @@ with_seconds kinds (x ∷ xs) t = with_seconds kinds xs (with_second kinds x t)
 -- how many of its items are buckets whose written weight isn't their sum
 abbrev pub adjusted_items : ℕ → List ItemLine → List Row → ℕ
 adjusted_items b [] t = 0
-adjusted_items b (i ∷ items) t = adjustment t (item_in t i.name) i.weight + adjusted_items b items (put_below b (item_in t i.name) (device_weight i.weight) t)
+adjusted_items b (i ∷ items) t = adjustment t (item_in t i.name) i.weight + adjusted_items b items (put_below b (item_in t i.name) (weight_or_one i.weight) t)
 
 abbrev pub adjusted_in : List KindData → Second → List Row → ℕ
 adjusted_in kinds (bucket b) t = adjusted_items b.id b.items (with_bucket kinds b t)
@@ -110,7 +110,7 @@ pub record IsListable (b : ℕ) (t : List Row) (name : List ℕ) : Type 0 where
 
 abbrev pub AreListable : ℕ → List ItemLine → List Row → Type 0
 AreListable b [] t = Unit {0}
-AreListable b (i ∷ items) t = IsListable b t i.name × AreListable b items (put_below b (item_in t i.name) (device_weight i.weight) t)
+AreListable b (i ∷ items) t = IsListable b t i.name × AreListable b items (put_below b (item_in t i.name) (weight_or_one i.weight) t)
 
 -- what a step takes is a bucket
 abbrev pub TakesBucket : List Row → StepLine → Type 0

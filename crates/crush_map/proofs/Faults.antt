@@ -5,13 +5,13 @@ use Rattle.std.specs.Prelude.{Option, Some, None, Result, Ok, Err, IfErr, IsErrA
 use Rattle.std.specs.List.{list_all}
 use Rattle.crush_map.specs.declared.fault.BuildFault.{BuildFault}
 use Rattle.crush_map.specs.declared.fault.BuildFault.TheVariants.{BadWeight, DuplicateId, DuplicateName, UnknownType, UnknownItem, SecondParent, UnknownBucketInRule, TooMany, SumTooLarge, OutOfMemory}
-use Rattle.crush_map.specs.Faults.{told, first_fault}
+use Rattle.crush_map.specs.Faults.{fault_told, first_fault}
 
 -- a fault whose test passes holds of the draft; want of memory is none of these
 abbrev is_told : BuildFault × Bool → Bool
-is_told p = is_some (told p.0)
+is_told p = is_some (fault_told p.0)
 
-told_itself : (f : BuildFault) → is_some (told f) ≡ true → told f ≡ Some f
+told_itself : (f : BuildFault) → is_some (fault_told f) ≡ true → fault_told f ≡ Some f
 told_itself BadWeight h = refl
 told_itself DuplicateId h = refl
 told_itself DuplicateName h = refl
@@ -23,14 +23,14 @@ told_itself TooMany h = refl
 told_itself SumTooLarge h = refl
 told_itself OutOfMemory h = absurd (let no : false ≡ true = h in cc)
 
-pub first_told : (ps : List (BuildFault × Bool)) → list_all is_told ps ≡ true → (f : BuildFault) → first_fault ps ≡ Some f → first_fault ps ≡ told f
+pub first_told : (ps : List (BuildFault × Bool)) → list_all is_told ps ≡ true → (f : BuildFault) → first_fault ps ≡ Some f → first_fault ps ≡ fault_told f
 first_told [] h f e = absurd (let no : ◌≡◌ {A = Option BuildFault} None (Some f) = e in cc)
 first_told (p ∷ ps) h f e = by_test p.1 e (first_told ps b.1 f) where
   b : (is_told p ≡ true) × (list_all is_told ps ≡ true)
   b = and_parts (is_told p) (list_all is_told ps) h
 
-  by_test : (v : Bool) → (if v then Some p.0 else first_fault ps) ≡ Some f → (first_fault ps ≡ Some f → first_fault ps ≡ told f) → (if v then Some p.0 else first_fault ps) ≡ told f
-  by_test true e ih = let same : p.0 ≡ f = cc in sym (told_itself p.0 b.0) ∙ (λ i. told (same i))
+  by_test : (v : Bool) → (if v then Some p.0 else first_fault ps) ≡ Some f → (first_fault ps ≡ Some f → first_fault ps ≡ fault_told f) → (if v then Some p.0 else first_fault ps) ≡ fault_told f
+  by_test true e ih = let same : p.0 ≡ f = cc in sym (told_itself p.0 b.0) ∙ (λ i. fault_told (same i))
   by_test false e ih = ih e
 
 -- where none is told, the first test fails and so do the others

@@ -33,7 +33,7 @@ use Rattle.crush_table.proofs.Relocated.{under_parent, relocate, relocate_device
 use Rattle.crush_nodes.specs.Ops.{StoresUpTo}
 use Rattle.crush_nodes.proofs.RowLaws.{StoresUpTo-lawful}
 use Rattle.crush_map.specs.Pending.{with_first_weight}
-use Rattle.crush_map.specs.Built.{Pending, filling, Draft, with_item, placed_row, put_below, table_with_item, device_weight, adjustment}
+use Rattle.crush_map.specs.Built.{Pending, filling, Draft, with_next_item, placed_row, put_below, table_with_item, weight_or_one, adjustment}
 use Rattle.crush_map.proofs.Held.{held-put}
 use Rattle.crush_map.specs.Building.{BuilderData, IsRoot, IsPending, IsDraft, held_buckets}
 use Rattle.crush_edits.proofs.Edits.{some_row}
@@ -253,21 +253,21 @@ has_no_parent None h = refl
 has_no_parent (Some p) h = absurd (let no : true ≡ false = h in cc)
 
 -- as many buckets are held as weights were adjusted
-put_held : (t : List Row) (i : ItemId) (k n : ℕ) (w : Option ℕ) → Lawful t → is_there t i ≡ true → is_placed t i ≡ false → n ≤ held_buckets t → n + adjustment t i w ≤ held_buckets (put_below k i (device_weight w) t)
+put_held : (t : List Row) (i : ItemId) (k n : ℕ) (w : Option ℕ) → Lawful t → is_there t i ≡ true → is_placed t i ≡ false → n ≤ held_buckets t → n + adjustment t i w ≤ held_buckets (put_below k i (weight_or_one w) t)
 put_held t i k n w l there free h =
     let r = some_row t i there in
-    subst (λ u. n + adjustment t i w ≤ held_buckets u) (sym (put_below-last k i (device_weight w) t r.0 (l.ids i) r.1)) (held-put t i k (device_weight w) n w r.0 l (has_no_parent (parent_of t i) free) r.1 h)
+    subst (λ u. n + adjustment t i w ≤ held_buckets u) (sym (put_below-last k i (weight_or_one w) t r.0 (l.ids i) r.1)) (held-put t i k (weight_or_one w) n w r.0 l (has_no_parent (parent_of t i) free) r.1 h)
 
 step_at : (b : BuilderData) (h : ForestData) (s : SettingData) (t : List Row) (a : ℕ) (i : ItemId) (k : ℕ) (w : Option ℕ) → IsDraft b (record { setting = s; table = t; pending = filling k; adjusted = a }) → is_there t i ≡ true → is_placed t i ≡ false → same_id (Bucket k) i ≡ false
-    → Stands h (put_below k i (device_weight w) t) → (more : ℕ) → more ≡ adjustment t i w → IsDraft (record b { forest = h; adjusted = b.adjusted + more }) (with_item (record { setting = s; table = t; pending = filling k; adjusted = a }) i w)
+    → Stands h (put_below k i (weight_or_one w) t) → (more : ℕ) → more ≡ adjustment t i w → IsDraft (record b { forest = h; adjusted = b.adjusted + more }) (with_next_item (record { setting = s; table = t; pending = filling k; adjusted = a }) i w)
 step_at b h s t a i k w at there free other st more is = record {
   setting = at.setting;
   pending = at.pending;
   adjusted = (λ j. at.adjusted j + is j);
   few = put_held t i k a w at.stands.lawful there free at.few;
   stands = st;
-  fits = put_fits s t i k (device_weight w) at.stands.lawful there at.fits;
-  part = root_put t i k (device_weight w) at.part other;
+  fits = put_fits s t i k (weight_or_one w) at.stands.lawful there at.fits;
+  part = root_put t i k (weight_or_one w) at.part other;
 }
 
 -- the table with the item, where a bucket is being filled
@@ -276,14 +276,14 @@ put_table d i k w e = ap (λ (p : Pending). table_with_item p i w d.table) e
 
 -- THE STEP: the item stands last in the bucket
 pub item_step : (b : BuilderData) (h : ForestData) (d : Draft) (i : ItemId) (k : ℕ) (w : Option ℕ) (n : Items) → IsDraft b d → b.pending ≡ filling k → is_there d.table i ≡ true → is_placed d.table i ≡ false → same_id (Bucket k) i ≡ false → IsOne n → Same (rows None n) (part i d.table)
-    → Stands h (table_without i d.table ++ rows (Some k) (with_first_weight (device_weight w) n)) → (more : ℕ) → more ≡ adjustment d.table i w → IsDraft (record b { forest = h; adjusted = b.adjusted + more }) (with_item d i w)
+    → Stands h (table_without i d.table ++ rows (Some k) (with_first_weight (weight_or_one w) n)) → (more : ℕ) → more ≡ adjustment d.table i w → IsDraft (record b { forest = h; adjusted = b.adjusted + more }) (with_next_item d i w)
 item_step b h d i k w n at e there free other one whole st more is =
     let p : d.pending ≡ filling k = sym at.pending ∙ e in
-    let v : ℕ = device_weight w in
+    let v : ℕ = weight_or_one w in
     let root = open_root d.setting d.table d.pending k p at.part in
     let far = is_no_part d.table at.stands.lawful i k root other in
     let put : Stands h (put_below k i v d.table) = same_stands h (table_without i d.table ++ rows (Some k) (with_first_weight v n)) (put_below k i v d.table) (item_same d.table i k v n at.stands.lawful there far one whole) st in
-    subst (λ (x : Pending). IsDraft (record b { forest = h; adjusted = b.adjusted + more }) (with_item (record { setting = d.setting; table = d.table; pending = x; adjusted = d.adjusted }) i w)) (sym p)
+    subst (λ (x : Pending). IsDraft (record b { forest = h; adjusted = b.adjusted + more }) (with_next_item (record { setting = d.setting; table = d.table; pending = x; adjusted = d.adjusted }) i w)) (sym p)
     (step_at b h d.setting d.table d.adjusted i k w (subst (λ (x : Pending). IsDraft b (record { setting = d.setting; table = d.table; pending = x; adjusted = d.adjusted })) p at) there free other put more is)
 
 -- the rows with the item, as it is put

@@ -28,7 +28,7 @@ use Rattle.crush_map.proofs.Faults.{passes, none_of_three, closed_there, closed_
 use Rattle.crush_map.proofs.Held.{one_at_most}
 use Rattle.std.proofs.lemmas.Bool.Decides.{nat_tests}
 use Rattle.crush_map.specs.Pending.{with_first_weight}
-use Rattle.crush_map.specs.Built.{Draft, Pending, filling, put_below, with_item, table_with_item, device_weight, adjustment}
+use Rattle.crush_map.specs.Built.{Draft, Pending, filling, put_below, with_next_item, table_with_item, weight_or_one, adjustment}
 use Rattle.crush_map.specs.Building.{BuilderData, BuilderFits, IsRoot, IsDraft, own_draft, is_open}
 use Rattle.crush_map.proofs.Drafts.{own_is_draft}
 use Rattle.crush_map.proofs.ItemSteps.{open_root, is_no_part, root_without, put_table, item_step, item_same, item_heavy, item_distinct, item_small, put_lawful, weighted_sums, weight_to_come}
@@ -77,16 +77,16 @@ pub record IsClear (d : Draft) (i : ItemId) (w : Option ℕ) : Type 0 where
   pub light : is_heavy_device i w ≡ false
   pub closed : is_closed d i ≡ true
   pub free : is_placed d.table i ≡ false
-  pub sums : is_too_heavy (with_item d i w).table ≡ false
+  pub sums : is_too_heavy (with_next_item d i w).table ≡ false
 
 pub item_clear : (d : Draft) (i : ItemId) (w : Option ℕ) → item_fault d i w ≡ None → IsClear d i w
 item_clear d i w h =
-    let tests : List (BuildFault × Bool) = (SecondParent, is_placed d.table i) ∷ ((SumTooLarge, is_too_heavy (with_item d i w).table) ∷ []) in
+    let tests : List (BuildFault × Bool) = (SecondParent, is_placed d.table i) ∷ ((SumTooLarge, is_too_heavy (with_next_item d i w).table) ∷ []) in
     let light = passes BadWeight (is_heavy_device i w) ((UnknownItem, not (is_closed d i)) ∷ tests) h in
-    let others = none_of_three UnknownItem SecondParent SumTooLarge (not (is_closed d i)) (is_placed d.table i) (is_too_heavy (with_item d i w).table) light.1 in
+    let others = none_of_three UnknownItem SecondParent SumTooLarge (not (is_closed d i)) (is_placed d.table i) (is_too_heavy (with_next_item d i w).table) light.1 in
     record { light = light.0; closed = not-false (is_closed d i) others.0; free = others.1.0; sums = others.1.1 }
 
-pub light_device : (i : ItemId) (w : Option ℕ) → is_heavy_device i w ≡ false → is_device_id i ≡ true → device_weight w ≤ 2147483647
+pub light_device : (i : ItemId) (w : Option ℕ) → is_heavy_device i w ≡ false → is_device_id i ≡ true → weight_or_one w ≤ 2147483647
 light_device i None h e = omega arith
 light_device (Device x) (Some w) h e = light_weight w h
 light_device (Bucket b) (Some w) h e = absurd (let no : false ≡ true = e in cc)
@@ -153,5 +153,5 @@ module _ (b : BuilderData) (i : ItemId) (k : ℕ) (n : Items) (took : Coming b i
       put_lawful (rows_of b.forest) i k w n took.own.stands.lawful (took.there (own_draft b) took.own) (root_at (own_draft b) took.own) took.other took.one (took.node (rows_of b.forest) took.own.stands) small
       (ap is_too_heavy (sym (put_table (own_draft b) i k w took.fills)) ∙ light)
 
-  pub put_is_draft : (h : ForestData) (w : Option ℕ) (d : Draft) → IsDraft b d → Stands h (table_without i d.table ++ rows (Some k) (with_first_weight (device_weight w) n)) → (more : ℕ) → more ≡ adjustment d.table i w → IsDraft (record b { forest = h; adjusted = b.adjusted + more }) (with_item d i w)
+  pub put_is_draft : (h : ForestData) (w : Option ℕ) (d : Draft) → IsDraft b d → Stands h (table_without i d.table ++ rows (Some k) (with_first_weight (weight_or_one w) n)) → (more : ℕ) → more ≡ adjustment d.table i w → IsDraft (record b { forest = h; adjusted = b.adjusted + more }) (with_next_item d i w)
   put_is_draft h w d at st more is = item_step b h d i k w n at took.fills (took.there d at) (took.free d at) took.other took.one (took.node d.table at.stands) st more is

@@ -23,10 +23,10 @@ use Rattle.crush_map.specs.declared.fault.BuildFault.TheVariants.{UnknownType, U
 use Rattle.crush_map.specs.declared.fault.RuleFault.{RuleFault}
 use Rattle.crush_map.specs.declared.fault.RulePart.{RulePart}
 use Rattle.crush_map.specs.declared.fault.RulePart.TheVariants.{Statement as AtStatement, Name as AtName, Id as AtId, Step as AtStep}
-use Rattle.crush_map.specs.Faults.{told}
+use Rattle.crush_map.specs.Faults.{fault_told}
 use Rattle.crush_map.specs.Built.{Draft, nothing}
 use Rattle.crush_map.specs.Building.{BuilderData, IsDraft, IsPending, closed_item, is_open}
-use Rattle.crush_map.specs.Rules.{IsStepForm, IsRuleForm, bucket_named, taken_number, kept_step, kept_rule, with_rule, has_rule_name, has_rule_id, is_full_of_rules, word_fault, step_fault, or_later, steps_fault, rule_fault, rule_told}
+use Rattle.crush_map.specs.Rules.{IsStepForm, IsRuleForm, complete_bucket_named, taken_number, kept_step, kept_rule, with_rule, has_rule_name, has_rule_id, is_full_of_rules, word_fault, step_fault, or_later, steps_fault, rule_fault, rule_told}
 use Rattle.crush_map.proofs.KindSteps.{count_one_more, less}
 use Rattle.crush_apply.proofs.Found.{there_by_name}
 
@@ -139,7 +139,7 @@ bucket_there d n (Some i) e h = by_open (is_open d.pending i) i e h where
 
 step_there : (d : Draft) (x : Step) → Words d x → All (IsThere d.table) (bucket_taken (kept_step d x))
 step_there d (Take name class) h =
-    All-cons (IsThere d.table) (taken_number (bucket_named d name)) [] (bucket_there d name (id_named d.table name) refl (some_if (is_some (bucket_named d name)) UnknownBucketInRule h)) (All-nil (IsThere d.table))
+    All-cons (IsThere d.table) (taken_number (complete_bucket_named d name)) [] (bucket_there d name (id_named d.table name) refl (some_if (is_some (complete_bucket_named d name)) UnknownBucketInRule h)) (All-nil (IsThere d.table))
 step_there d (Choose leaf firstn count kind) h = All-nil (IsThere d.table)
 step_there d (Set word value) h = All-nil (IsThere d.table)
 step_there d Emit h = All-nil (IsThere d.table)
@@ -192,14 +192,14 @@ rule_step b s d r i idle e form clear = record {
 
 -- WHAT IS TOLD of a rule holds of the draft; want of memory is none of these
 abbrev IsTold : BuildFault → Type 0
-IsTold f = is_some (told f) ≡ true
+IsTold f = is_some (fault_told f) ≡ true
 
 else_told : (b : Bool) (x f : BuildFault) → IsTold x → (if b then None else Some x) ≡ Some f → IsTold f
 else_told true x f t e = absurd (let no : ◌≡◌ {A = Option BuildFault} None (Some f) = e in cc)
 else_told false x f t e = let same : x ≡ f = cc in subst IsTold same t
 
 word_told : (d : Draft) (x : Step) (f : BuildFault) → word_fault d x ≡ Some f → IsTold f
-word_told d (Take name class) f e = else_told (is_some (bucket_named d name)) UnknownBucketInRule f refl e
+word_told d (Take name class) f e = else_told (is_some (complete_bucket_named d name)) UnknownBucketInRule f refl e
 word_told d (Choose leaf firstn count kind) f e = else_told (is_some (kind_number d.setting kind)) UnknownType f refl e
 word_told d (Set word value) f e = absurd (let no : ◌≡◌ {A = Option BuildFault} None (Some f) = e in cc)
 word_told d Emit f e = absurd (let no : ◌≡◌ {A = Option BuildFault} None (Some f) = e in cc)
@@ -231,10 +231,10 @@ rule_told_itself d r f e =
 -- and it is never want of memory
 pub never_lacking : (d : Draft) (r : Rule) (f : RuleFault) → rule_fault d r ≡ Some f → f.fault ≡ OutOfMemory → ⊥
 never_lacking d r f e lacks =
-    let none : rule_told f ≡ None = ap (λ x. if is_some (told x) then Some f else None) lacks in
+    let none : rule_told f ≡ None = ap (λ x. if is_some (fault_told x) then Some f else None) lacks in
     let no : Some f ≡ None = sym e ∙ rule_told_itself d r f e ∙ none in
     cc
 
 -- a step that takes a name is clear only where a bucket has it
-pub taken_named : (d : Draft) (name : List ℕ) (class : Option (List ℕ)) → bucket_named d name ≡ None → word_fault d (Take name class) ≡ None → ⊥
-taken_named d name class e h = let no : false ≡ true = sym (ap is_some e) ∙ some_if (is_some (bucket_named d name)) UnknownBucketInRule h in cc
+pub taken_named : (d : Draft) (name : List ℕ) (class : Option (List ℕ)) → complete_bucket_named d name ≡ None → word_fault d (Take name class) ≡ None → ⊥
+taken_named d name class e h = let no : false ≡ true = sym (ap is_some e) ∙ some_if (is_some (complete_bucket_named d name)) UnknownBucketInRule h in cc

@@ -1,8 +1,7 @@
 -- The state of a builder, the draft at which it is, and the tests that a reader makes before each step.
 pub use Rattle.crush_edits.specs.Setting.{has_tunable}
-use Rattle.std.specs.Prelude.{◌≡◌, ℕ, ◌<◌, ◌≤◌, List, [], ◌∷◌, All, map, Option, Some, None, Bool, true, false, ◌==◌, ◌||◌, ◌&&◌, if◌then◌else◌, length, bytes_eq, nat_lt, nat_le, refl, is_some, option_and_then}
+use Rattle.std.specs.Prelude.{◌≡◌, ℕ, ◌<◌, ◌≤◌, List, [], ◌∷◌, All, map, Option, Some, None, Bool, true, false, ◌==◌, ◌||◌, ◌&&◌, if◌then◌else◌, length, bytes_eq, nat_lt, nat_le, is_some, option_and_then}
 use Rattle.std.specs.List.{count_by, list_any}
-use Rattle.std.specs.Coded.{Coded, code_by, coded×, coded_ℕ}
 use Rattle.crush_units.specs.declared.id.ItemId.{ItemId}
 use Rattle.crush_units.specs.declared.id.ItemId.TheVariants.{Bucket}
 use Rattle.crush_units.specs.Id.{same_id}
@@ -10,12 +9,11 @@ use Rattle.crush_units.specs.Name.{IsName}
 use Rattle.crush_table.specs.Items.{ShadowData}
 use Rattle.crush_table.specs.Table.{Row, is_bucket, is_there, is_named, parent_of, id_named, used_ids, member, device_count, bucket_count}
 use Rattle.crush_table.specs.Lawful.{IsShadowId}
-use Rattle.crush_table.specs.Forest.{ForestData, coded_forest, rows_of}
+use Rattle.crush_table.specs.Forest.{ForestData, rows_of}
 use Rattle.crush_table.specs.Stands.{Stands}
-use Rattle.crush_edits.specs.Setting.{KindData, SettingData, coded_setting, kind_number}
+use Rattle.crush_edits.specs.Setting.{KindData, SettingData, kind_number}
 use Rattle.crush_edits.specs.Fits.{Fits}
 use Rattle.crush_map.specs.Built.{Pending, nothing, begun, numbered, filling, Draft}
-use Rattle.crush_map.specs.Stored.{coded_pending}
 use Rattle.crush_units.specs.declared.limits.TheConstants.{FARTHEST_BUCKET_ID, LAST_TYPE, MOST_BUCKETS, MOST_CLASS_IDS, MOST_DEVICES, MOST_TUNABLES, MOST_TYPES}
 
 -- what contracts see of a builder
@@ -24,12 +22,6 @@ pub record BuilderData : Type 0 where
   pub forest : ForestData
   pub pending : Pending
   pub adjusted : ℕ
-
--- a builder is stored as its fields
-abbrev pub coded_builder : Coded BuilderData
-coded_builder =
-    code_by (SettingData × (ForestData × (Pending × ℕ))) (coded× coded_setting (coded× coded_forest (coded× coded_pending coded_ℕ)))
-    (λ b. (b.setting, (b.forest, (b.pending, b.adjusted)))) (λ p. record { setting = p.0; forest = p.1.0; pending = p.1.1.0; adjusted = p.1.1.1 }) (λ _. refl)
 
 -- a type of buckets that the setting has
 abbrev pub is_bucket_kind : SettingData → ℕ → Bool

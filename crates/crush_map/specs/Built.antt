@@ -99,9 +99,9 @@ table_with_item (numbered kind name b class_ids) i w t = t
 table_with_item (filling b) i w t = put_below b i w t
 
 -- what a device weighs: what is written, or 1.0
-abbrev pub device_weight : Option ℕ → ℕ
-device_weight None = UNITS_OF_ONE
-device_weight (Some w) = w
+abbrev pub weight_or_one : Option ℕ → ℕ
+weight_or_one None = UNITS_OF_ONE
+weight_or_one (Some w) = w
 
 -- one for a bucket whose written weight isn't its sum
 abbrev pub adjustment : List Row → ItemId → Option ℕ → ℕ
@@ -109,8 +109,8 @@ adjustment t (Device x) w = 0
 adjustment t (Bucket b) None = 0
 adjustment t (Bucket b) (Some w) = one_if (not (w == sum_below t b))
 
-abbrev pub with_item : Draft → ItemId → Option ℕ → Draft
-with_item d i w = record d { table = table_with_item d.pending i (device_weight w) d.table; adjusted = d.adjusted + adjustment d.table i w }
+abbrev pub with_next_item : Draft → ItemId → Option ℕ → Draft
+with_next_item d i w = record d { table = table_with_item d.pending i (weight_or_one w) d.table; adjusted = d.adjusted + adjustment d.table i w }
 
 -- the bucket's closing brace
 abbrev pub with_end : Draft → Draft

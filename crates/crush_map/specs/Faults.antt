@@ -7,35 +7,35 @@ use Rattle.crush_table.specs.Lawful.{is_too_heavy}
 use Rattle.crush_map.specs.declared.fault.BuildFault.{BuildFault}
 use Rattle.crush_map.specs.declared.fault.BuildFault.TheVariants.{BadWeight, DuplicateId, DuplicateName, UnknownType, UnknownItem, SecondParent, UnknownBucketInRule, TooMany, SumTooLarge, OutOfMemory}
 use Rattle.crush_edits.specs.Setting.{has_tunable}
-use Rattle.crush_map.specs.Built.{Draft, with_item}
+use Rattle.crush_map.specs.Built.{Draft, with_next_item}
 use Rattle.crush_map.specs.Building.{is_open, has_kind_number, has_kind_name, has_name, has_bucket_id, has_class, names_bucket_kind, is_full_of_devices, is_full_of_buckets, is_full_of_class_ids, is_full_of_kinds, is_full_of_tunables}
 use Rattle.crush_units.specs.declared.limits.TheConstants.{HEAVIEST_DEVICE}
 
 -- the place in the order in which faults are told
-abbrev pub fault_number : BuildFault → ℕ
-fault_number BadWeight = 5
-fault_number DuplicateId = 6
-fault_number DuplicateName = 7
-fault_number UnknownType = 8
-fault_number UnknownItem = 9
-fault_number SecondParent = 10
-fault_number UnknownBucketInRule = 13
-fault_number TooMany = 14
-fault_number SumTooLarge = 15
-fault_number OutOfMemory = 16
+abbrev pub build_fault_number : BuildFault → ℕ
+build_fault_number BadWeight = 5
+build_fault_number DuplicateId = 6
+build_fault_number DuplicateName = 7
+build_fault_number UnknownType = 8
+build_fault_number UnknownItem = 9
+build_fault_number SecondParent = 10
+build_fault_number UnknownBucketInRule = 13
+build_fault_number TooMany = 14
+build_fault_number SumTooLarge = 15
+build_fault_number OutOfMemory = 16
 
 -- what a fault tells of the draft: that it holds there, and want of memory that none does
-abbrev pub told : BuildFault → Option BuildFault
-told OutOfMemory = None
-told BadWeight = Some BadWeight
-told DuplicateId = Some DuplicateId
-told DuplicateName = Some DuplicateName
-told UnknownType = Some UnknownType
-told UnknownItem = Some UnknownItem
-told SecondParent = Some SecondParent
-told UnknownBucketInRule = Some UnknownBucketInRule
-told TooMany = Some TooMany
-told SumTooLarge = Some SumTooLarge
+abbrev pub fault_told : BuildFault → Option BuildFault
+fault_told OutOfMemory = None
+fault_told BadWeight = Some BadWeight
+fault_told DuplicateId = Some DuplicateId
+fault_told DuplicateName = Some DuplicateName
+fault_told UnknownType = Some UnknownType
+fault_told UnknownItem = Some UnknownItem
+fault_told SecondParent = Some SecondParent
+fault_told UnknownBucketInRule = Some UnknownBucketInRule
+fault_told TooMany = Some TooMany
+fault_told SumTooLarge = Some SumTooLarge
 
 -- the first fault whose test holds
 abbrev pub first_fault : List (BuildFault × Bool) → Option BuildFault
@@ -62,12 +62,12 @@ abbrev pub class_id_fault : Draft → ℕ → List ℕ → Option BuildFault
 class_id_fault d b c = first_fault ((DuplicateId, has_bucket_id d b) ∷ ((DuplicateName, has_class d c) ∷ ((TooMany, is_full_of_class_ids d) ∷ [])))
 
 -- a written weight that no device has
-abbrev pub is_heavy : Option ℕ → Bool
-is_heavy None = false
-is_heavy (Some w) = nat_lt HEAVIEST_DEVICE w
+abbrev pub is_too_heavy_text : Option ℕ → Bool
+is_too_heavy_text None = false
+is_too_heavy_text (Some w) = nat_lt HEAVIEST_DEVICE w
 
 abbrev pub is_heavy_device : ItemId → Option ℕ → Bool
-is_heavy_device i w = is_device_id i && is_heavy w
+is_heavy_device i w = is_device_id i && is_too_heavy_text w
 
 -- a device, or a bucket that was closed
 abbrev pub is_closed : Draft → ItemId → Bool
@@ -75,4 +75,4 @@ is_closed d i = is_there d.table i && not (is_open d.pending i)
 
 abbrev pub item_fault : Draft → ItemId → Option ℕ → Option BuildFault
 item_fault d i w =
-    first_fault ((BadWeight, is_heavy_device i w) ∷ ((UnknownItem, not (is_closed d i)) ∷ ((SecondParent, is_placed d.table i) ∷ ((SumTooLarge, is_too_heavy (with_item d i w).table) ∷ []))))
+    first_fault ((BadWeight, is_heavy_device i w) ∷ ((UnknownItem, not (is_closed d i)) ∷ ((SecondParent, is_placed d.table i) ∷ ((SumTooLarge, is_too_heavy (with_next_item d i w).table) ∷ []))))

@@ -16,7 +16,7 @@ use Rattle.crush_map.specs.declared.fault.RulePart.{RulePart}
 use Rattle.crush_map.specs.declared.fault.RulePart.TheVariants.{Statement as AtStatement, Name as AtName, Id as AtId, Step as AtStep}
 use Rattle.crush_map.specs.Built.{Draft, add_rule}
 use Rattle.crush_map.specs.Building.{item_named}
-use Rattle.crush_map.specs.Faults.{told}
+use Rattle.crush_map.specs.Faults.{fault_told}
 
 -- THE FORM that the text gives a rule's words and numbers
 abbrev pub IsStepForm : Step → Type 0
@@ -34,8 +34,8 @@ pub record IsRuleForm (r : Rule) : Type 0 where
   pub steps : All IsStepForm r.steps.items
 
 -- the bucket of a name, where a device or no complete bucket has it none
-abbrev pub bucket_named : Draft → List ℕ → Option ℕ
-bucket_named d n = option_and_then number_of (item_named d n)
+abbrev pub complete_bucket_named : Draft → List ℕ → Option ℕ
+complete_bucket_named d n = option_and_then number_of (item_named d n)
 
 -- WHAT IS KEPT: the buckets by their ids
 abbrev pub taken_number : Option ℕ → ℕ
@@ -43,7 +43,7 @@ taken_number None = 0
 taken_number (Some b) = b
 
 abbrev pub kept_step : Draft → Step → StepData
-kept_step d (Take name class) = take (taken_number (bucket_named d name)) class
+kept_step d (Take name class) = take (taken_number (complete_bucket_named d name)) class
 kept_step d (Choose leaf firstn count kind) = choose leaf firstn count kind
 kept_step d (Set word value) = set word value
 kept_step d Emit = emit
@@ -66,7 +66,7 @@ is_full_of_rules d = nat_le MOST_RULES (length d.setting.rules)
 
 -- a step by itself: it names what isn't there
 abbrev pub word_fault : Draft → Step → Option BuildFault
-word_fault d (Take name class) = if is_some (bucket_named d name) then None else Some UnknownBucketInRule
+word_fault d (Take name class) = if is_some (complete_bucket_named d name) then None else Some UnknownBucketInRule
 word_fault d (Choose leaf firstn count kind) = if is_some (kind_number d.setting kind) then None else Some UnknownType
 word_fault d (Set word value) = None
 word_fault d Emit = None
@@ -93,4 +93,4 @@ rule_fault d r =
 
 -- what a fault tells of the draft: that it is this one there, and want of memory that none is
 abbrev pub rule_told : RuleFault → Option RuleFault
-rule_told f = if is_some (told f.fault) then Some f else None
+rule_told f = if is_some (fault_told f.fault) then Some f else None

@@ -1,7 +1,7 @@
 //! Why a call of the builder isn't made.
 
 ghost use Rattle.std.specs.Prelude.{◌≡◌};
-ghost use Rattle.crush_map.specs.Faults.{fault_number};
+ghost use Rattle.crush_map.specs.Faults.{build_fault_number};
 
 use std::alloc::AllocError;
 use thiserror::Error;
@@ -72,7 +72,7 @@ impl BuildFault {
     /// The fault's number, which is its place in the order in which faults are told. The faults of
     /// a text have the numbers that are missing here.
     pub fn number(self) -> u8
-        ensures { result ≡ fault_number self }
+        ensures { result ≡ build_fault_number self }
     {
         match self {
             BuildFault::BadWeight => 5,

@@ -16,7 +16,7 @@ use Rattle.crush_nodes.specs.Seen.{items_of, node_id}
 use Rattle.crush_nodes.specs.declared.node.Node.{Node}
 use Rattle.crush_nodes.specs.declared.node.Node.TheVariants.{Device, Bucket}
 use Rattle.crush_print.specs.Lines.{device_line}
-use Rattle.crush_print.specs.ItemsText.{id_number, leaves, texts}
+use Rattle.crush_print.specs.ItemsText.{id_number, leaves, texts_of_buckets}
 use Rattle.crush_print.specs.MapText.{ascending, device_number, root_number, device_numbers, root_numbers, of_row, bucket_texts, device_lines, root_texts}
 use Rattle.crush_print.proofs.Sorting.{lines_in_order, lines_of_rising, ascending-reordered}
 use Rattle.crush_print.proofs.ItemLines.{leaves-join}
@@ -75,11 +75,11 @@ section_pushed (Err e) old start out heading lines text begun ended are = tt
 
 -- THE ROOTS: each prints what the table says of the bucket of its number
 root_prints : {A : _} (s : SettingData) (t : List Row) (ns : List (Node A)) → Told t None (items_of ns) → OnlyBuckets (items_of ns) → size_of (items_of ns) ≤ length t
-    → All (λ node. bucket_texts s t (length t) (BucketItem (id_number (node_id node))) ≡ texts s (items_of (node ∷ []))) ns
-root_prints s t [] told only le = All-nil (λ node. bucket_texts s t (length t) (BucketItem (id_number (node_id node))) ≡ texts s (items_of (node ∷ [])))
+    → All (λ node. bucket_texts s t (length t) (BucketItem (id_number (node_id node))) ≡ texts_of_buckets s (items_of (node ∷ []))) ns
+root_prints s t [] told only le = All-nil (λ node. bucket_texts s t (length t) (BucketItem (id_number (node_id node))) ≡ texts_of_buckets s (items_of (node ∷ [])))
 root_prints s t (Device l ∷ ns) told only le = absurd only
 root_prints s t (Bucket b ∷ ns) told only le =
-    All-cons (λ node. bucket_texts s t (length t) (BucketItem (id_number (node_id node))) ≡ texts s (items_of (node ∷ []))) (Bucket b) ns
+    All-cons (λ node. bucket_texts s t (length t) (BucketItem (id_number (node_id node))) ≡ texts_of_buckets s (items_of (node ∷ []))) (Bucket b) ns
     (sym (append-nil (bucket_texts s t (length t) (BucketItem b.value.header.id)))
     ∙ texts_print s t (length t) None (bucket b.value.header b.value.weight b.value.capacity b.value.kids none) (omega arith) (told.0, told.1, told.2, told.3, tt))
     (root_prints s t ns told.4 only (omega arith))
@@ -92,7 +92,7 @@ root_node_numbers (Bucket b ∷ ns) only = ap (λ (l : List ℕ). b.value.header
 
 -- each root prints the buckets below it and itself, as the table tells them
 pub roots_print : {A : _} (s : SettingData) (f : ForestData) (t : List Row) (ns : List (Node A)) → items_of ns ≡ f.roots → IsSound f → Stands f t
-    → All (λ node. bucket_texts s t (length t) (BucketItem (id_number (node_id node))) ≡ texts s (items_of (node ∷ []))) ns
+    → All (λ node. bucket_texts s t (length t) (BucketItem (id_number (node_id node))) ≡ texts_of_buckets s (items_of (node ∷ []))) ns
 roots_print s f t ns are sound stands =
     let told : Told t None f.roots = told_join t None f.unplaced f.roots (stands_told f t stands) in
     root_prints s t ns (subst (Told t None) (sym are) told) (subst OnlyBuckets (sym are) sound.roots)

@@ -13,7 +13,7 @@ use Rattle.crush_nodes.specs.declared.node.Node.{Node}
 use Rattle.crush_nodes.specs.declared.node.Node.TheVariants.{Device, Bucket}
 use Rattle.crush_nodes.proofs.Steps.{items_of-taken, kids_smaller}
 use Rattle.crush_print.specs.Lines.{item_line, bucket_head}
-use Rattle.crush_print.specs.ItemsText.{item_lines, own_text, texts, leaves}
+use Rattle.crush_print.specs.ItemsText.{item_lines, own_text, texts_of_buckets, leaves}
 
 -- of the items of both
 pub item_lines-join : (a b : Items) → item_lines (join a b) ≡ item_lines a ++ item_lines b
@@ -22,10 +22,10 @@ item_lines-join (device d rest) b = ap (λ (l : List ℕ). item_line d.name d.we
 item_lines-join (bucket h w m kids rest) b = ap (λ (l : List ℕ). item_line h.name w ++ l) (item_lines-join rest b) ∙ sym (append_assoc (item_line h.name w) _ _)
 
 -- the buckets among the items of both
-pub texts-join : (s : SettingData) (a b : Items) → texts s (join a b) ≡ texts s a ++ texts s b
+pub texts-join : (s : SettingData) (a b : Items) → texts_of_buckets s (join a b) ≡ texts_of_buckets s a ++ texts_of_buckets s b
 texts-join s none b = refl
 texts-join s (device d rest) b = texts-join s rest b
-texts-join s (bucket h w m kids rest) b = ap (λ (l : List ℕ). (texts s kids ++ own_text s h w kids) ++ l) (texts-join s rest b) ∙ sym (append_assoc (texts s kids ++ own_text s h w kids) _ _)
+texts-join s (bucket h w m kids rest) b = ap (λ (l : List ℕ). (texts_of_buckets s kids ++ own_text s h w kids) ++ l) (texts-join s rest b) ∙ sym (append_assoc (texts_of_buckets s kids ++ own_text s h w kids) _ _)
 
 -- one item more
 pub item_lines-more : {A : _} (ns : List (Node A)) (i : ℕ) (x : Node A) → i < length ns → x ≡ get_or ns i x
@@ -34,8 +34,8 @@ item_lines-more ns i x lt is = ap item_lines (items_of-taken ns i x lt is) ∙ i
 
 -- the buckets among one item more
 pub texts-more : {A : _} (s : SettingData) (ns : List (Node A)) (i : ℕ) (x : Node A) → i < length ns → x ≡ get_or ns i x
-    → texts s (items_of (take (i + 1) ns)) ≡ texts s (items_of (take i ns)) ++ texts s (items_of (x ∷ []))
-texts-more s ns i x lt is = ap (texts s) (items_of-taken ns i x lt is) ∙ texts-join s (items_of (take i ns)) (items_of (x ∷ []))
+    → texts_of_buckets s (items_of (take (i + 1) ns)) ≡ texts_of_buckets s (items_of (take i ns)) ++ texts_of_buckets s (items_of (x ∷ []))
+texts-more s ns i x lt is = ap (texts_of_buckets s) (items_of-taken ns i x lt is) ∙ texts-join s (items_of (take i ns)) (items_of (x ∷ []))
 
 -- the devices among the items of both
 pub leaves-join : (a b : Items) → leaves (join a b) ≡ leaves a ++ leaves b

@@ -23,7 +23,7 @@ use Rattle.crush_table.proofs.Weighs.{All-found}
 use Rattle.crush_nodes.specs.Search.{kids_in}
 use Rattle.crush_tree.proofs.ReadLemmas.Items.{ids_of, kids_in-kids}
 use Rattle.crush_print.specs.Lines.{device_line, item_line, bucket_choice, bucket_lines}
-use Rattle.crush_print.specs.ItemsText.{item_lines, own_text, texts, leaves}
+use Rattle.crush_print.specs.ItemsText.{item_lines, own_text, texts_of_buckets, leaves}
 use Rattle.crush_print.specs.MapText.{of_row, kids_lines, bucket_text, bucket_texts, device_number, root_number, kind_text}
 
 -- each item has its row, and each bucket its items and its stored weight as its sum
@@ -60,15 +60,15 @@ own_prints s t p h w k row are sum told =
     ∙ ap (λ n. bucket_lines (kind_text s h.kind) (bucket_row p h) n (kids_lines t h.id)) sum ∙ ap (bucket_lines (kind_text s h.kind) (bucket_row p h) w) (kids_print t (Some h.id) h.id k are told)
 
 -- THE BUCKETS, AS DEEP AS THEY ARE
-pub texts_print : (s : SettingData) (t : List Row) (fuel : ℕ) (p : Option ℕ) (n : Items) → size_of n ≤ fuel → Told t p n → flat_map (bucket_texts s t fuel) (ids_of n) ≡ texts s n
+pub texts_print : (s : SettingData) (t : List Row) (fuel : ℕ) (p : Option ℕ) (n : Items) → size_of n ≤ fuel → Told t p n → flat_map (bucket_texts s t fuel) (ids_of n) ≡ texts_of_buckets s n
 unfolding bucket_texts
 texts_print s t fuel p none le told = refl
 texts_print s t fuel p (device d rest) le told = texts_print s t fuel p rest le told.1
 texts_print s t zero p (bucket h w m k rest) le told = absurd (omega arith)
 texts_print s t (suc fuel) p (bucket h w m k rest) le told =
-    let below : flat_map (bucket_texts s t fuel) (kids t h.id) ≡ texts s k = ap (flat_map (bucket_texts s t fuel)) told.1 ∙ texts_print s t fuel (Some h.id) k (omega arith) told.3 in
+    let below : flat_map (bucket_texts s t fuel) (kids t h.id) ≡ texts_of_buckets s k = ap (flat_map (bucket_texts s t fuel)) told.1 ∙ texts_print s t fuel (Some h.id) k (omega arith) told.3 in
     let own : bucket_text s t h.id ≡ own_text s h w k = own_prints s t p h w k told.0 told.1 told.2 told.3 in
-    (λ i. (below i ++ own i) ++ flat_map (bucket_texts s t (suc fuel)) (ids_of rest)) ∙ ap (λ (l : List ℕ). (texts s k ++ own_text s h w k) ++ l) (texts_print s t (suc fuel) p rest (omega arith) told.4)
+    (λ i. (below i ++ own i) ++ flat_map (bucket_texts s t (suc fuel)) (ids_of rest)) ∙ ap (λ (l : List ℕ). (texts_of_buckets s k ++ own_text s h w k) ++ l) (texts_print s t (suc fuel) p rest (omega arith) told.4)
 
 -- THE DEVICES
 same_line : (p : Option ℕ) (d : LeafData) → device_line (device_row p d) ≡ device_line (device_row None d)

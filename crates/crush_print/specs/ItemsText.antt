@@ -19,10 +19,10 @@ abbrev pub own_text : SettingData → HeaderData → ℕ → Items → List ℕ
 own_text s h w kids = bucket_lines (kind_text s h.kind) (bucket_row None h) w (item_lines kids)
 
 -- the buckets among items and below them, each behind those among its items
-abbrev pub texts : SettingData → Items → List ℕ
-texts s none = []
-texts s (device d rest) = texts s rest
-texts s (bucket h w m kids rest) = (texts s kids ++ own_text s h w kids) ++ texts s rest
+abbrev pub texts_of_buckets : SettingData → Items → List ℕ
+texts_of_buckets s none = []
+texts_of_buckets s (device d rest) = texts_of_buckets s rest
+texts_of_buckets s (bucket h w m kids rest) = (texts_of_buckets s kids ++ own_text s h w kids) ++ texts_of_buckets s rest
 
 -- the devices among items and below them
 abbrev pub leaves : Items → List LeafData

@@ -8,7 +8,7 @@ use Rattle.crush_calls.specs.Script.{scripts_data}
 use Rattle.crush_calls.specs.declared.script.Script.{Script}
 use Rattle.crush_calls.specs.History.{EntryData, of_operator}
 use Rattle.crush_calls.specs.Turns.{calls_at, calls_of}
-use Rattle.crush_editor.specs.Seat.{SeatData, seat_data, slips_of, IsHistoryOf}
+use Rattle.crush_editor.specs.Seat.{SeatData, seat_data, slips_of, IsHistoryOfSeats}
 use Rattle.crush_run.specs.Script.{Carries}
 
 at_place : (scripts : List Script) (k : ℕ) → k < length scripts → (e : Script) × (calls_at (scripts_data scripts) k ≡ (get_or scripts k e).calls.items)
@@ -21,7 +21,7 @@ past [] k above = refl
 past (x ∷ xs) zero above = absurd (omega arith)
 past (x ∷ xs) (suc k) above = past xs k (omega arith)
 
-pub carries : (o m : MapData) (h : List EntryData) (scripts : List Script) (seats : List SeatData) → IsHistoryOf o m h seats → length seats ≡ length scripts
+pub carries : (o m : MapData) (h : List EntryData) (scripts : List Script) (seats : List SeatData) → IsHistoryOfSeats o m h seats → length seats ≡ length scripts
     → ((k : ℕ) (e : Script) → k < length scripts → calls_of (slips_of seats k) ≡ (get_or scripts k e).calls.items) → Carries o scripts m h
 carries o m h scripts seats kept same each = record {
   legal = kept.legal;

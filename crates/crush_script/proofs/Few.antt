@@ -10,7 +10,8 @@ use Rattle.crush_script.proofs.Oks.{bind-if_ok_at, bind-if_ok, if_ok-either, if_
 use Rattle.crush_script.specs.declared.command.Command.{Command}
 use Rattle.crush_script.specs.declared.command.Command.TheVariants as says
 use Rattle.crush_script.specs.declared.sections.BegunBatch.{BegunBatch}
-use Rattle.crush_script.specs.Command.{◌>>=◌, command, operator}
+use Rattle.crush_text.specs.Flow.{◌>>=◌}
+use Rattle.crush_script.specs.Command.{command, operator}
 use Rattle.crush_script.specs.Lines.{line_words, begins_section}
 use Rattle.crush_calls.specs.Script.{ScriptData, call_count}
 use Rattle.crush_script.specs.Sections.{SectionsData, no_sections, call_in_last, in_line, without_batch, closed, has_operator, with_section, counted, with_call, with_edit, with_begin, with_commit, with_command, with_line, with_lines}

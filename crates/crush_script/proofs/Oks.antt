@@ -1,7 +1,7 @@
 -- What holds of the value in an Ok, through steps and tests.
 use Rattle.std.proofs.Common.{◌≡◌, Bool, true, false, cond, Result, Ok, Err, refl, subst}
 use Rattle.std.specs.Prelude.{IfOk}
-use Rattle.crush_script.specs.Command.{◌>>=◌}
+use Rattle.crush_text.specs.Flow.{◌>>=◌}
 
 -- a fact that holds after each step holds after the next one too
 pub bind-if_ok_at : {A B F : Type 0} (r : Result A F) (f : A → Result B F) (P : B → Type 0) (Q : A → Type 0) → IfOk r Q → ((x : A) → Q x → IfOk (f x) P) → IfOk (r >>= f) P

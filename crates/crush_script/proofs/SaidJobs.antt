@@ -17,7 +17,8 @@ use Rattle.crush_script.specs.declared.command.Command.{Command}
 use Rattle.crush_script.specs.declared.command.Command.TheVariants as says
 use Rattle.crush_script.specs.declared.command.LineFault.{LineFault}
 use Rattle.crush_script.specs.declared.sections.BegunBatch.{BegunBatch}
-use Rattle.crush_script.specs.Command.{◌>>=◌, command, operator}
+use Rattle.crush_text.specs.Flow.{◌>>=◌}
+use Rattle.crush_script.specs.Command.{command, operator}
 use Rattle.crush_script.specs.Lines.{lines, section_part, section_line, line_words, begins_section}
 use Rattle.crush_script.specs.Sections.{SectionsData, no_sections, call_in_last, in_line, without_batch, closed, has_operator, with_section, counted, with_call, with_edit, with_begin, with_commit, with_command, with_line, with_lines, sections_of}
 use Rattle.crush_script.specs.Job.{JobData, IsJob}

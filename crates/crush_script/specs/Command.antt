@@ -15,13 +15,8 @@ use Rattle.crush_script.specs.declared.command.Placement.TheVariants as place
 use Rattle.crush_script.specs.declared.command.Placing.{Placing}
 use Rattle.crush_script.specs.declared.command.LineFault.{LineFault}
 use Rattle.crush_script.specs.declared.command.LineFault.TheVariants.{BadLine, NoSuchCommand}
+use Rattle.crush_text.specs.Flow.{◌>>=◌}
 use Rattle.crush_script.specs.Words.{pair_of, can_add, device_named}
-
--- go on with what was read, or stop at the fault
-infixl 10 ◌>>=◌
-abbrev pub ◌>>=◌ : {A B F : Type 0} → Result A F → (A → Result B F) → Result B F
-Ok x >>= f = f x
-Err e >>= f = Err e
 
 -- what was read, and the words behind it
 pub record Read (X : Type 0) : Type 0 where

@@ -13,7 +13,8 @@ use Rattle.crush_script.specs.declared.fault.JobFault.TheVariants as job
 use Rattle.crush_script.specs.declared.sections.BegunBatch.{BegunBatch}
 use Rattle.crush_calls.specs.Script.{ScriptData, scripts_data}
 use Rattle.crush_script.specs.declared.sections.Sections.{Sections}
-use Rattle.crush_script.specs.Command.{◌>>=◌, command, operator}
+use Rattle.crush_text.specs.Flow.{◌>>=◌}
+use Rattle.crush_script.specs.Command.{command, operator}
 use Rattle.crush_script.specs.Lines.{lines, section_part, section_line, line_words, begins_section}
 use Rattle.crush_units.specs.declared.limits.TheConstants.{MOST_CALLS, MOST_EDITS, MOST_OPERATORS}
 

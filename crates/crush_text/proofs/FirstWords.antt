@@ -8,11 +8,11 @@ use Rattle.crush_text.specs.declared.fault.TextFault.{TextFault}
 use Rattle.crush_text.specs.declared.opening.Opening.{Opening}
 use Rattle.crush_text.specs.Role.{opening}
 use Rattle.crush_text.specs.Form.{at}
-use Rattle.crush_text.specs.Grammar.{statement, lines}
+use Rattle.crush_text.specs.Grammar.{statement, line_forms}
 use Rattle.crush_text.specs.Tests.{word_for}
 use Rattle.crush_text.specs.Flow.{◌>>=◌, between, placed, arrive, step, run, outcome, Reaches}
-use Rattle.crush_text.specs.Reads.{and_rest, next_at, word_at, line_at, then_on, Leads}
-use Rattle.crush_text.specs.ReadsLines.{IsIdle, StandsAt}
+use Rattle.crush_text.specs.Reads.{and_rest, next_at, word_at, line_at, then_on, LeadsOn}
+use Rattle.crush_text.specs.ReadsLines.{IsIdle, TakesLinesOf}
 use Rattle.crush_text.specs.ReadsStatements.{behind}
 use Rattle.crush_text.proofs.LineByLine.{word_goes, line_goes}
 use Rattle.crush_text.proofs.Weighed.{told_ok}
@@ -28,7 +28,7 @@ first_goes : (d : Draft) (late : Bool) (t rest : Text) (place : ℕ) (text : Lis
 unfolding line_at word_at next_at
 first_goes d late t rest place text is = ap (outcome (between (at (behind late) d))) is ∙ word_goes (behind late) d (record { place = place; text = text }) rest.words rest.stop ∙ by_mode late
   where
-    by_mode : (b : Bool) → then_on (line_at d (lines d (behind b)) (first_word place text rest)) ≡ then_on ((placed place (word_for d (opening b) text) >>= and_rest rest) >>= λ x. line_at d (statement d x.0) x.1)
+    by_mode : (b : Bool) → then_on (line_at d (line_forms d (behind b)) (first_word place text rest)) ≡ then_on ((placed place (word_for d (opening b) text) >>= and_rest rest) >>= λ x. line_at d (statement d x.0) x.1)
     by_mode true = refl
     by_mode false = refl
 
@@ -39,7 +39,7 @@ opening_ok d late t rest place text o is e = first_goes d late t rest place text
 
 -- which leads on to the statement
 pub opening_leads : (d : Draft) (late : Bool) (t rest : Text) (place : ℕ) (text : List ℕ) (o : Opening) → t ≡ first_word place text rest → Ok o ≡ placed place (word_for d (opening late) text)
-    → Leads (between (at (behind late) d)) t (arrive d rest.words (statement d o)) rest
+    → LeadsOn (between (at (behind late) d)) t (arrive d rest.words (statement d o)) rest
 unfolding outcome step
 opening_leads d late t rest place text o is e = record {
   same = opening_ok d late t rest place text o is e ∙ sym (line_goes d (statement d o) rest.words rest.stop);
@@ -70,6 +70,6 @@ unfolding run outcome
 opening_bad d late t place is = ap (outcome (between (at (behind late) d))) is
 
 -- behind a statement the builder is between two
-pub idle_behind : (late : Bool) (b : BuilderData) → StandsAt (behind late) b → IsIdle b
+pub idle_behind : (late : Bool) (b : BuilderData) → TakesLinesOf (behind late) b → IsIdle b
 idle_behind true b h = h
 idle_behind false b h = h

@@ -11,9 +11,9 @@ use Rattle.crush_text.specs.Fault.{fault_number}
 use Rattle.crush_text.specs.Role.{Role, El, value}
 use Rattle.crush_text.specs.Form.{Form, done, word, optional, ahead}
 use Rattle.crush_text.specs.Grammar.{next}
-use Rattle.crush_text.specs.Tests.{tests, word_for}
+use Rattle.crush_text.specs.Tests.{word_tests, word_for}
 use Rattle.crush_text.specs.Rows.{IsFault, IsRight}
-use Rattle.crush_text.specs.Flow.{State, between, amid, ◌>>=◌, arrive, take, step, placed, unfinished, stop_at, run, outcome, is_idle, Reaches}
+use Rattle.crush_text.specs.Flow.{State, between, amid, ◌>>=◌, arrive, take, step, placed, unfinished, stop_at, run, outcome, takes_statement, Reaches}
 use Rattle.crush_text.specs.Document.{SpellsForm, SpellsNext, Spell, IsWhole, start, IsDocument}
 use Rattle.crush_text.specs.Flaw.{FaultyForm, FaultyNext, IsFaulty, IsFlaw, IsWant}
 use Rattle.crush_text.specs.Want.{IsRightUpTo}
@@ -41,17 +41,17 @@ one_fault d r w f g hf hg =
 -- what a judge takes, no row refuses
 pub word_right : (d : Draft) (r : Role) (w : List ℕ) (v : El r) → word_for d r w ≡ Ok v → IsRight d r w × (value d r w ≡ v)
 word_right d r w v e =
-    let k = none_fires (tests d r w) (value d r w) v e in
-    (λ f h. let none : fires f (tests d r w) ≡ false = k.1 f in let some : fires f (tests d r w) ≡ true = (told d w f r).1 h in absurd cc, k.0)
+    let k = none_fires (word_tests d r w) (value d r w) v e in
+    (λ f h. let none : fires f (word_tests d r w) ≡ false = k.1 f in let some : fires f (word_tests d r w) ≡ true = (told d w f r).1 h in absurd cc, k.0)
 
 -- A JUDGE ANSWERS a fault where its row holds and no lesser row does
 pub word_fault : (d : Draft) (r : Role) (w : List ℕ) (f : TextFaultKind) → word_for d r w ≡ Err f → IsFault f d r w
 word_fault d r w f e =
-    let k = first_fires 2 (tests d r w) (value d r w) f (in_order d w r) e in (
+    let k = first_fires 2 (word_tests d r w) (value d r w) f (in_order d w r) e in (
       (told d w f r).0 k.0 k.1,
       λ g lt h.
-          let some : fires g (tests d r w) ≡ true = (told d w g r).1 h in
-          let none : fires g (tests d r w) ≡ false = k.1 g lt in
+          let some : fires g (word_tests d r w) ≡ true = (told d w g r).1 h in
+          let none : fires g (word_tests d r w) ≡ false = k.1 g lt in
           absurd cc,
     )
 
@@ -141,9 +141,9 @@ record Read (s : State) (ws : List Word) (stop : Stop) (r : Result Draft TextFau
 
 stops : (s : State) (stop : Stop) (r : Result Draft TextFault) → stop_at s stop ≡ r → Ends s [] stop r
 stops s stop (Ok d) e = (refl, e)
-stops (between q) (ended p) (Err f) e = by_it (is_idle q.mode) refl e
+stops (between q) (ended p) (Err f) e = by_it (takes_statement q.mode) refl e
   where
-    by_it : (b : Bool) → is_idle q.mode ≡ b → cond b (Ok q.draft) (unfinished p) ≡ Err f → (f ≡ record { kind = Ended; place = p }) × (is_idle q.mode ≡ false)
+    by_it : (b : Bool) → takes_statement q.mode ≡ b → cond b (Ok q.draft) (unfinished p) ≡ Err f → (f ≡ record { kind = Ended; place = p }) × (takes_statement q.mode ≡ false)
     by_it true k e = absurd cc
     by_it false k e = (cc, k)
 stops (amid d g) (ended p) (Err f) e = (cc, refl)
@@ -207,9 +207,9 @@ right_up_to t place h = let k = up_to t.words start place h in record { before =
 -- THE LAWS
 -- the text may end where it ended
 whole_stop : (m : State) (stop : Stop) (d : Draft) → stop_at m stop ≡ Ok d → IsWhole m d × ((p : ℕ) × (stop ≡ ended p))
-whole_stop (between q) (ended p) d e = by_it (is_idle q.mode) refl e
+whole_stop (between q) (ended p) d e = by_it (takes_statement q.mode) refl e
   where
-    by_it : (b : Bool) → is_idle q.mode ≡ b → cond b (Ok q.draft) (unfinished p) ≡ Ok d → ((q.draft ≡ d) × (is_idle q.mode ≡ true)) × ((n : ℕ) × (ended p ≡ ended n))
+    by_it : (b : Bool) → takes_statement q.mode ≡ b → cond b (Ok q.draft) (unfinished p) ≡ Ok d → ((q.draft ≡ d) × (takes_statement q.mode ≡ true)) × ((n : ℕ) × (ended p ≡ ended n))
     by_it true k e = ((cc, k), (p, refl))
     by_it false k e = absurd cc
 whole_stop (amid x g) (ended p) d e = absurd cc

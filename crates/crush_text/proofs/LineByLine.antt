@@ -8,9 +8,9 @@ use Rattle.crush_text.specs.declared.fault.TextFaultKind.TheVariants.{Ended}
 use Rattle.crush_text.specs.declared.fault.TextFault.{TextFault}
 use Rattle.crush_text.specs.Role.{El}
 use Rattle.crush_text.specs.Form.{Mode, first, at, Form, done, word, optional, ahead}
-use Rattle.crush_text.specs.Grammar.{lines}
+use Rattle.crush_text.specs.Grammar.{line_forms}
 use Rattle.crush_text.specs.Tests.{word_for}
-use Rattle.crush_text.specs.Flow.{◌>>=◌, placed, between, amid, arrive, step, is_idle, run, outcome}
+use Rattle.crush_text.specs.Flow.{◌>>=◌, placed, between, amid, arrive, step, takes_statement, run, outcome}
 use Rattle.crush_text.specs.Reads.{next_at, word_at, and_rest, line_at, then_on}
 
 -- one of two forms goes on
@@ -35,24 +35,24 @@ line_goes d (optional k f g) ws stop = either_goes (begins_with_key k ws) d f g 
 line_goes d (ahead k f g) ws stop = either_goes (begins_with_key k (drop 1 ws)) d f g (record { words = ws; stop = stop }) (line_goes d f ws stop) (line_goes d g ws stop)
 
 -- each line begins with a word
-begins_so : (d : Draft) (m : Mode) (ws : List Word) → arrive d ws (lines d m) ≡ amid d (lines d m)
+begins_so : (d : Draft) (m : Mode) (ws : List Word) → arrive d ws (line_forms d m) ≡ amid d (line_forms d m)
 begins_so d first ws = refl
 begins_so d m ws = refl
 
 -- where the text can't end, a line comes next
-pub next_goes : (m : Mode) (d : Draft) (t : Text) → is_idle m ≡ false → outcome (between (at m d)) t ≡ then_on (line_at d (lines d m) t)
+pub next_goes : (m : Mode) (d : Draft) (t : Text) → takes_statement m ≡ false → outcome (between (at m d)) t ≡ then_on (line_at d (line_forms d m) t)
 unfolding outcome run step
-next_goes m d t amid_line = begun_so t.words t.stop ∙ ap (λ s. run s t.words t.stop) (sym (begins_so d m t.words)) ∙ line_goes d (lines d m) t.words t.stop
+next_goes m d t amid_line = begun_so t.words t.stop ∙ ap (λ s. run s t.words t.stop) (sym (begins_so d m t.words)) ∙ line_goes d (line_forms d m) t.words t.stop
   where
-    begun_so : (ws : List Word) (stop : Stop) → run (between (at m d)) ws stop ≡ run (amid d (lines d m)) ws stop
+    begun_so : (ws : List Word) (stop : Stop) → run (between (at m d)) ws stop ≡ run (amid d (line_forms d m)) ws stop
     begun_so [] (ended p) = ap (λ b. cond b (Ok d) (Err (record { kind = Ended; place = p }))) amid_line
     begun_so [] (bad p) = refl
     begun_so (w ∷ ws) stop = refl
 
 -- where a word comes, a line begins with it
-pub word_goes : (m : Mode) (d : Draft) (w : Word) (ws : List Word) (stop : Stop) → outcome (between (at m d)) (record { words = w ∷ ws; stop = stop }) ≡ then_on (line_at d (lines d m) (record { words = w ∷ ws; stop = stop }))
+pub word_goes : (m : Mode) (d : Draft) (w : Word) (ws : List Word) (stop : Stop) → outcome (between (at m d)) (record { words = w ∷ ws; stop = stop }) ≡ then_on (line_at d (line_forms d m) (record { words = w ∷ ws; stop = stop }))
 unfolding outcome run step
-word_goes m d w ws stop = ap (λ s. run s (w ∷ ws) stop) (sym (begins_so d m (w ∷ ws))) ∙ line_goes d (lines d m) (w ∷ ws) stop
+word_goes m d w ws stop = ap (λ s. run s (w ∷ ws) stop) (sym (begins_so d m (w ∷ ws))) ∙ line_goes d (line_forms d m) (w ∷ ws) stop
 
 -- a fault of what is the same is the fault of all
 pub fails_so : {A Y : Type 0} (f : TextFault) (all mid : Result Y TextFault) → all ≡ mid → ⊥ ⊎ (mid ≡ Err f) → A ⊎ (all ≡ Err f)

@@ -10,7 +10,7 @@ use Rattle.crush_text.specs.declared.fault.TextFault.{TextFault}
 use Rattle.crush_text.specs.Role.{Role, El, value, key, any_word, number, tunable_name, type_number, type_name, device_id, new_name, bucket_id, id_class}
 use Rattle.crush_text.specs.Form.{first, numbered, at, Form, done, word, optional}
 use Rattle.crush_text.specs.Grammar.{tunable_line, type_line, device_line, device_class, class_id_line}
-use Rattle.crush_text.specs.Tests.{Test, ◌when◌, a_word, tests, unless, word_for}
+use Rattle.crush_text.specs.Tests.{Test, ◌when◌, a_word, word_tests, unless, word_for}
 use Rattle.crush_text.specs.Flow.{◌>>=◌, placed}
 use Rattle.crush_text.specs.Reads.{and_rest, next_at, word_at, line_at}
 use Rattle.crush_text.specs.ReadsLines.{IsIdle, IsAmid}
@@ -32,7 +32,7 @@ unfolding word_at
 next_fails d r t f h = ap (λ q. q >>= λ x. placed x.0.place (word_for d r x.0.text) >>= and_rest x.1) h
 
 -- where any word but a brace is at fault, so is the word of each role that judges such words further
-pub operand_fails : (d : Draft) (r : Role) (t : Text) (f : TextFault) → ((w : List ℕ) → (more : List Test) × (tests d r w ≡ a_word w more)) → word_at d any_word t ≡ Err f → word_at d r t ≡ Err f
+pub operand_fails : (d : Draft) (r : Role) (t : Text) (f : TextFault) → ((w : List ℕ) → (more : List Test) × (word_tests d r w ≡ a_word w more)) → word_at d any_word t ≡ Err f → word_at d r t ≡ Err f
 unfolding word_at
 operand_fails d r t f words h = by_word (next_at t) h
   where

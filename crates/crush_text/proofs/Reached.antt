@@ -9,11 +9,11 @@ use Rattle.crush_text.specs.declared.fault.TextFaultKind.TheVariants.{Unexpected
 use Rattle.crush_text.specs.declared.fault.TextFault.{TextFault}
 use Rattle.crush_text.specs.Role.{Role, El, key}
 use Rattle.crush_text.specs.Form.{Mode, first, Progress, at, Form, done, word, optional, ahead}
-use Rattle.crush_text.specs.Grammar.{lines}
+use Rattle.crush_text.specs.Grammar.{line_forms}
 use Rattle.crush_text.specs.Tests.{◌when◌, unless, word_for}
-use Rattle.crush_text.specs.Flow.{State, ◌>>=◌, placed, between, amid, arrive, step, is_idle, outcome, Reaches}
+use Rattle.crush_text.specs.Flow.{State, ◌>>=◌, placed, between, amid, arrive, step, takes_statement, outcome, Reaches}
 use Rattle.crush_text.specs.Flaw.{IsWant}
-use Rattle.crush_text.specs.Reads.{and_rest, next_of, next_at, word_at, line_at, then_on, Leads, Fails, FailsIn}
+use Rattle.crush_text.specs.Reads.{and_rest, next_of, next_at, word_at, line_at, then_on, LeadsOn, Fails, FailsIn}
 use Rattle.crush_text.specs.ReadsWords.{StoodAt}
 use Rattle.crush_text.specs.ReadsLines.{Goes}
 use Rattle.crush_text.proofs.LineByLine.{line_goes, next_goes}
@@ -110,28 +110,28 @@ reaches_behind d (word r more) q t rest p e h = by_word (word_at d r t) refl e (
 reaches_behind d (optional k f g) q t rest p e h = either_reaches (begins_with_key k t.words) d f g q t rest p e (λ a. reaches_behind d f q t rest p a h) (λ a. reaches_behind d g q t rest p a h)
 reaches_behind d (ahead k f g) q t rest p e h = either_reaches (begins_with_key k (drop 1 t.words)) d f g q t rest p e (λ a. reaches_behind d f q t rest p a h) (λ a. reaches_behind d g q t rest p a h)
 
-pub line_leads : (d : Draft) (f : Form) (q : Progress) (t rest : Text) → line_at d f t ≡ Ok (q, rest) → Leads (arrive d t.words f) t (between q) rest
+pub line_leads : (d : Draft) (f : Form) (q : Progress) (t rest : Text) → line_at d f t ≡ Ok (q, rest) → LeadsOn (arrive d t.words f) t (between q) rest
 unfolding outcome
 line_leads d f q t rest e = record { same = line_goes d f t.words t.stop ∙ ap then_on e; reaches = λ p h. reaches_behind d f q t rest p e h }
 
 -- where the text can't end, the line that comes next is reached
-pub next_leads : (m : Mode) (d : Draft) (t : Text) → is_idle m ≡ false → Leads (between (at m d)) t (arrive d t.words (lines d m)) t
+pub next_leads : (m : Mode) (d : Draft) (t : Text) → takes_statement m ≡ false → LeadsOn (between (at m d)) t (arrive d t.words (line_forms d m)) t
 unfolding outcome step
-next_leads m d t amid_line = record { same = next_goes m d t amid_line ∙ sym (line_goes d (lines d m) t.words t.stop); reaches = λ p h. by_mode m t.words p h }
+next_leads m d t amid_line = record { same = next_goes m d t amid_line ∙ sym (line_goes d (line_forms d m) t.words t.stop); reaches = λ p h. by_mode m t.words p h }
   where
-    by_words : (n : Mode) (ws : List Word) (p : ℕ) → Reaches p (amid d (lines d n)) ws → Reaches p (between (at n d)) ws
+    by_words : (n : Mode) (ws : List Word) (p : ℕ) → Reaches p (amid d (line_forms d n)) ws → Reaches p (between (at n d)) ws
     by_words n [] p h = h
     by_words n (w ∷ ws) p h = h
 
-    by_mode : (n : Mode) (ws : List Word) (p : ℕ) → Reaches p (arrive d ws (lines d n)) ws → Reaches p (between (at n d)) ws
+    by_mode : (n : Mode) (ws : List Word) (p : ℕ) → Reaches p (arrive d ws (line_forms d n)) ws → Reaches p (between (at n d)) ws
     by_mode first ws p h = by_words first ws p h
     by_mode n ws p h = by_words n ws p h
 
 -- one after the other
-pub leads_then : (s m n : State) (t u v : Text) → Leads s t m u → Leads m u n v → Leads s t n v
+pub leads_then : (s m n : State) (t u v : Text) → LeadsOn s t m u → LeadsOn m u n v → LeadsOn s t n v
 leads_then s m n t u v a b = record { same = a.same ∙ b.same; reaches = λ p h. a.reaches p (b.reaches p h) }
 
-pub no_words : (s : State) (t : Text) → Leads s t s t
+pub no_words : (s : State) (t : Text) → LeadsOn s t s t
 no_words s t = record { same = refl; reaches = λ p h. h }
 
 -- memory that was refused at a place that is reached
@@ -139,7 +139,7 @@ pub want_here : (f : TextFault) (p : ℕ) (s : State) (ws : List Word) → f ≡
 want_here f p s ws e h = (ap (λ (x : TextFault). x.kind) e, subst (λ (q : ℕ). Reaches q s ws) (sym (ap (λ (x : TextFault). x.place) e)) h)
 
 -- a fault behind words that lead on is one of all
-pub fails_then : (f : TextFault) (s m : State) (t u : Text) → Leads s t m u → Fails f m u → Fails f s t
+pub fails_then : (f : TextFault) (s m : State) (t u : Text) → LeadsOn s t m u → Fails f m u → Fails f s t
 fails_then f s m t u a (inl h) = inl (h.0, a.reaches f.place h.1)
 fails_then f s m t u a (inr h) = inr (a.same ∙ h)
 
@@ -150,6 +150,6 @@ fails_line f d g t (inl h) = inl h
 fails_line f d g t (inr h) = inr (line_goes d g t.words t.stop ∙ ap then_on h)
 
 -- a call that goes on where others ended
-pub goes_on : {X : Type 0} (m : X → Mode) (r : Result X TextFault) (b : BuilderData) (rest : Text) (s n : State) (t u : Text) → Leads s t n u → Goes m r b rest n u → Goes m r b rest s t
+pub goes_on : {X : Type 0} (m : X → Mode) (r : Result X TextFault) (b : BuilderData) (rest : Text) (s n : State) (t u : Text) → LeadsOn s t n u → Goes m r b rest n u → Goes m r b rest s t
 goes_on m (Ok x) b rest s n t u a h = (h.0, h.1, leads_then s n _ t u rest a h.2)
 goes_on m (Err f) b rest s n t u a h = fails_then f s n t u a h

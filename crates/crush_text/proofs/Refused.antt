@@ -10,7 +10,7 @@ use Rattle.crush_text.specs.declared.fault.TextFault.{TextFault}
 use Rattle.crush_text.specs.declared.reader.MapReader.{MapReader}
 use Rattle.crush_text.specs.Role.{Role, El}
 use Rattle.crush_text.specs.Form.{Mode, first, ruled, at, Form}
-use Rattle.crush_text.specs.Grammar.{rule_line, lines}
+use Rattle.crush_text.specs.Grammar.{rule_line, line_forms}
 use Rattle.crush_text.specs.Flow.{State, between}
 use Rattle.crush_text.specs.Reads.{word_at, line_at, number_behind, Fails, FailsIn}
 use Rattle.crush_text.specs.ReadsWords.{ReadsWord, ReadsValue, FindsWord, FindsValue}
@@ -52,7 +52,7 @@ no_size key old new f h = record { most = tt; gives = h; shorter = tt }
 pub no_step : {A : _} (form : Draft → RuleData → Form) (old new : MapReader A) (f : TextFault) → new.builder ≡ old.builder → ((d : Draft) (r : RuleData) → IsDraft old.builder d → FailsIn f d (form d r) old.text) → GivesStep form old new (Err f)
 no_step form old new f kept h = record { form = tt; gives = h; free = tt; kept = kept; shorter = tt }
 
-pub no_step_line : {A : _} (r q : Rule) (old new : MapReader A) (f : TextFault) → new.builder ≡ old.builder → ((d : Draft) → IsDraft old.builder d → FailsIn f d (lines d (ruled (kept_rule d r))) old.text) → ReadsStepLine r q old new (Err f)
+pub no_step_line : {A : _} (r q : Rule) (old new : MapReader A) (f : TextFault) → new.builder ≡ old.builder → ((d : Draft) → IsDraft old.builder d → FailsIn f d (line_forms d (ruled (kept_rule d r))) old.text) → ReadsStepLine r q old new (Err f)
 no_step_line r q old new f kept h = record { right = tt; reads = h; kept = kept; shorter = tt }
 
 pub no_steps : {A : _} (r q : Rule) (old new : MapReader A) (f : TextFault) → new.builder ≡ old.builder → ((d : Draft) → IsDraft old.builder d → Fails f (between (at (ruled (kept_rule d r)) d)) old.text) → ReadsSteps r q old new (Err f)

@@ -11,13 +11,13 @@ use Rattle.crush_map.specs.Built.{Draft}
 use Rattle.crush_edits.specs.declared.rule.Rule.{Rule}
 use Rattle.crush_units.specs.declared.limits.TheConstants.{MOST_STEPS}
 use Rattle.crush_map.specs.Building.{BuilderData, IsDraft}
-use Rattle.crush_map.specs.Rules.{bucket_named, taken_number, kept_step, kept_rule, has_rule_name, has_rule_id, step_fault, word_fault, steps_fault, or_later, IsRuleForm}
+use Rattle.crush_map.specs.Rules.{complete_bucket_named, taken_number, kept_step, kept_rule, has_rule_name, has_rule_id, step_fault, word_fault, steps_fault, or_later, IsRuleForm}
 use Rattle.crush_text.specs.Room.{IsHead}
 use Rattle.crush_bytes.specs.Words.{Text}
 use Rattle.crush_text.specs.declared.fault.TextFault.{TextFault}
-use Rattle.crush_text.specs.Role.{StepWord, bucket_of, taken_bucket, key, any_word, id_or_alg, rule_name, rule_id_key, rule_id, step_or_end, step_word}
+use Rattle.crush_text.specs.Role.{StepWord, bucket_of_word, taken_bucket, key, any_word, id_or_alg, rule_name, rule_id_key, rule_id, step_or_end, step_word}
 use Rattle.crush_text.specs.Form.{numbered, ruled, at, Progress, Form, done, word}
-use Rattle.crush_text.specs.Grammar.{id_or_alg_line, new_rule, rule_line, sizes, step_behind, step_or_brace, lines}
+use Rattle.crush_text.specs.Grammar.{id_or_alg_line, new_rule, rule_line, sizes, step_behind, step_or_brace, line_forms}
 use Rattle.crush_text.specs.Flow.{◌>>=◌, arrive, Reaches}
 use Rattle.crush_text.specs.Flaw.{IsWant}
 use Rattle.crush_text.specs.Reads.{Gives, GivesLine, FailsIn, word_at, line_at}
@@ -43,12 +43,12 @@ gives_line view (Ok x) d g t h = h
 gives_line view (Err f) d g t h = inr h
 
 -- a class id or the algorithm, as the first word says
-pub id_or_alg_goes : (d : Draft) (more : Bool) (t rest : Text) → word_at d id_or_alg t ≡ Ok (more, rest) → line_at d (lines d numbered) t ≡ line_at d (id_or_alg_line d more) rest
+pub id_or_alg_goes : (d : Draft) (more : Bool) (t rest : Text) → word_at d id_or_alg t ≡ Ok (more, rest) → line_at d (line_forms d numbered) t ≡ line_at d (id_or_alg_line d more) rest
 unfolding line_at
 id_or_alg_goes d more t rest is = ap (λ q. q >>= λ x. line_at d (id_or_alg_line d x.0) x.1) is
 
 -- and a fault behind that word
-pub id_or_alg_fails : (f : TextFault) (d : Draft) (more : Bool) (t rest : Text) → word_at d id_or_alg t ≡ Ok (more, rest) → FailsIn f d (id_or_alg_line d more) rest → FailsIn f d (lines d numbered) t
+pub id_or_alg_fails : (f : TextFault) (d : Draft) (more : Bool) (t rest : Text) → word_at d id_or_alg t ≡ Ok (more, rest) → FailsIn f d (id_or_alg_line d more) rest → FailsIn f d (line_forms d numbered) t
 id_or_alg_fails f d more t rest is (inl h) = inl (h.0, reaches_on d id_or_alg (id_or_alg_line d) more t rest f.place is h.1)
 id_or_alg_fails f d more t rest is (inr h) = inr (id_or_alg_goes d more t rest is ∙ h)
 
@@ -58,8 +58,8 @@ unfolding line_at
 done_reads d p t = refl
 
 -- a bucket that is taken, by its number
-pub bucket_taken : (d : Draft) (x : List ℕ) (t rest : Text) → word_at d taken_bucket t ≡ Ok (bucket_of d x, rest) → word_at d taken_bucket t ≡ Ok (taken_number (bucket_named d x), rest)
-bucket_taken d x t rest e = e ∙ ap (λ (n : ℕ). Ok (n, rest)) (by_it (bucket_named d x))
+pub bucket_taken : (d : Draft) (x : List ℕ) (t rest : Text) → word_at d taken_bucket t ≡ Ok (bucket_of_word d x, rest) → word_at d taken_bucket t ≡ Ok (taken_number (complete_bucket_named d x), rest)
+bucket_taken d x t rest e = e ∙ ap (λ (n : ℕ). Ok (n, rest)) (by_it (complete_bucket_named d x))
   where
     by_it : (o : Option ℕ) → unwrap_or o 0 ≡ taken_number o
     by_it None = refl
@@ -83,17 +83,17 @@ kind_reached d x n k t t1 t2 t3 t4 t5 t6 p a b c e f h is =
     (reaches_word d any_word (λ y. sizes d x n y) k t5 t6 t6 p h is)))))
 
 -- a step or the brace, as the first word says
-pub step_or_end_goes : (d : Draft) (r : RuleData) (n : ℕ) (more : Bool) (t rest : Text) → n ≡ length r.steps → word_at d (step_or_end n) t ≡ Ok (more, rest) → line_at d (lines d (ruled r)) t ≡ line_at d (step_or_brace d r more) rest
+pub step_or_end_goes : (d : Draft) (r : RuleData) (n : ℕ) (more : Bool) (t rest : Text) → n ≡ length r.steps → word_at d (step_or_end n) t ≡ Ok (more, rest) → line_at d (line_forms d (ruled r)) t ≡ line_at d (step_or_brace d r more) rest
 unfolding line_at
 step_or_end_goes d r n more t rest e is = ap (λ (m : ℕ). word_at d (step_or_end m) t >>= λ x. line_at d (step_or_brace d r x.0) x.1) (sym e) ∙ ap (λ q. q >>= λ x. line_at d (step_or_brace d r x.0) x.1) is
 
 -- and a fault of a step behind that word
-pub step_fails : (f : TextFault) (d : Draft) (r : RuleData) (n : ℕ) (t rest : Text) → n ≡ length r.steps → word_at d (step_or_end n) t ≡ Ok (true, rest) → FailsIn f d (word step_word (step_behind d r)) rest → FailsIn f d (lines d (ruled r)) t
+pub step_fails : (f : TextFault) (d : Draft) (r : RuleData) (n : ℕ) (t rest : Text) → n ≡ length r.steps → word_at d (step_or_end n) t ≡ Ok (true, rest) → FailsIn f d (word step_word (step_behind d r)) rest → FailsIn f d (line_forms d (ruled r)) t
 step_fails f d r n t rest e is (inl h) = inl (h.0, reaches_on d (step_or_end (length r.steps)) (step_or_brace d r) true t rest f.place (subst (λ (m : ℕ). word_at d (step_or_end m) t ≡ Ok (true, rest)) e is) h.1)
 step_fails f d r n t rest e is (inr h) = inr (step_or_end_goes d r n true t rest e is ∙ h)
 
 -- that word is reached
-pub step_or_end_reached : (d : Draft) (r : RuleData) (n : ℕ) (more : Bool) (t rest : Text) (p : ℕ) → n ≡ length r.steps → word_at d (step_or_end n) t ≡ Ok (more, rest) → StoodAt t rest p → Reaches p (arrive d t.words (lines d (ruled r))) t.words
+pub step_or_end_reached : (d : Draft) (r : RuleData) (n : ℕ) (more : Bool) (t rest : Text) (p : ℕ) → n ≡ length r.steps → word_at d (step_or_end n) t ≡ Ok (more, rest) → StoodAt t rest p → Reaches p (arrive d t.words (line_forms d (ruled r))) t.words
 step_or_end_reached d r n more t rest p e is at_it = reaches_word d (step_or_end (length r.steps)) (step_or_brace d r) more t rest rest p (subst (λ (m : ℕ). word_at d (step_or_end m) t ≡ Ok (more, rest)) e is) at_it
 
 -- one more step, as it is kept

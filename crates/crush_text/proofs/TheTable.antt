@@ -16,14 +16,14 @@ use Rattle.crush_table.specs.Table.{is_placed}
 use Rattle.crush_table.specs.Lawful.{is_too_heavy}
 use Rattle.crush_edits.specs.Setting.{kind_number}
 use Rattle.crush_edits.specs.Fits.{is_reserved}
-use Rattle.crush_map.specs.Built.{Draft, with_item}
+use Rattle.crush_map.specs.Built.{Draft, with_next_item}
 use Rattle.crush_map.specs.Building.{item_named, is_bucket_kind, is_full_of_devices, is_full_of_buckets, is_full_of_kinds, is_full_of_tunables}
-use Rattle.crush_map.specs.Rules.{bucket_named, is_full_of_rules}
+use Rattle.crush_map.specs.Rules.{complete_bucket_named, is_full_of_rules}
 use Rattle.crush_bytes.specs.Words.{is_brace_word}
 use Rattle.crush_text.specs.declared.fault.TextFaultKind.{TextFaultKind}
 use Rattle.crush_text.specs.declared.fault.TextFaultKind.TheVariants.{BadWord, Ended, Unexpected, BadNumber, BadWeight, DuplicateId, DuplicateName, UnknownType, UnknownItem, SecondParent, OtherAlgorithm, LeftOut, UnknownBucketInRule, TooMany, SumTooLarge, OutOfMemory}
-use Rattle.crush_text.specs.Role.{Role, number_of, units_or_none, key, number, opening, tunable_name, type_number, type_name, device_id, new_name, bucket_id, id_or_alg, id_class, algorithm, item_or_end, item, lone_item, weight, rule_name, rule_id_key, rule_id, step_or_end, step_word, taken_bucket, step_order, step_count, step_type}
-use Rattle.crush_text.specs.Tests.{Test, tests, is_either, comes_first, is_out_of_place, is_known, is_full, is_weight_for, is_step_word}
+use Rattle.crush_text.specs.Role.{Role, kind_of_word, units_or_none, key, number, opening, tunable_name, type_number, type_name, device_id, new_name, bucket_id, id_or_alg, id_class, algorithm, item_or_end, item, lone_item, weight, rule_name, rule_id_key, rule_id, step_or_end, step_word, taken_bucket, step_order, step_count, step_type}
+use Rattle.crush_text.specs.Tests.{Test, word_tests, is_either, comes_first, is_out_of_place, is_known, is_full, is_weight_for, is_step_word}
 use Rattle.crush_text.specs.Rows.{IsBrace, ComesFirst, IsNeither, IsNoStepWord, IsUnexpected, IsBadNumber, IsNoWeightOf, IsBadWeight, IsDuplicateId, IsDuplicateName, IsUnknownType, IsUnknownItem, IsSecondParent, IsOtherAlgorithm, IsLeftOut, IsUnknownBucketInRule, IsOneTooMany, IsTooMany, IsSumTooLarge, Holds}
 use Rattle.crush_text.proofs.Judged.{fires, NoneFires, above, not_below}
 use Rattle.crush_text.proofs.Reserved.{no_key, not_reserved}
@@ -102,7 +102,7 @@ no_weight_tells (Bucket b) (Ok w) = no_row
 -- THE FIRST WORD of a statement
 module _ (d : Draft) (w : List ℕ) where
   -- it isn't known, and so its row holds
-  unknown_row : bytes_eq w (codes "class") ≡ false → is_known d w ≡ false → (is_reserved w ≡ false) × (is_bucket_kind d.setting (number_of d w) ≡ false)
+  unknown_row : bytes_eq w (codes "class") ≡ false → is_known d w ≡ false → (is_reserved w ≡ false) × (is_bucket_kind d.setting (kind_of_word d w) ≡ false)
   unknown_row other unknown =
       let early = or_parts (comes_first w) _ unknown in
       let two = or_parts (bytes_eq w (codes "tunable")) _ early.0 in
@@ -112,7 +112,7 @@ module _ (d : Draft) (w : List ℕ) where
       (not_reserved w (record { tunable = two.0; device = three.0; kind = three.1; rule = last.0; class = other; weights = last.1 }), late.1)
 
   -- and the other way round
-  row_unknown : (is_reserved w ≡ false) × (is_bucket_kind d.setting (number_of d w) ≡ false) → is_known d w ≡ false
+  row_unknown : (is_reserved w ≡ false) × (is_bucket_kind d.setting (kind_of_word d w) ≡ false) → is_known d w ≡ false
   row_unknown h =
       let n = no_key w h.0 in
       or_from _ _ (or_from _ _ n.tunable (or_from _ _ n.device n.kind)) (or_from _ _ (or_from _ _ n.rule n.weights) h.1)
@@ -122,7 +122,7 @@ module _ (d : Draft) (w : List ℕ) where
   full_row other read known full = by_it (bytes_eq w (codes "tunable")) (bytes_eq w (codes "device")) (bytes_eq w (codes "type")) (bytes_eq w (codes "rule")) (bytes_eq w (codes "choose_args")) refl refl refl refl refl read known full
     where
       by_it : (a b c e x : Bool) → bytes_eq w (codes "tunable") ≡ a → bytes_eq w (codes "device") ≡ b → bytes_eq w (codes "type") ≡ c → bytes_eq w (codes "rule") ≡ e → bytes_eq w (codes "choose_args") ≡ x
-          → x ≡ false → ((a || (b || c)) || ((e || x) || is_bucket_kind d.setting (number_of d w))) ≡ true
+          → x ≡ false → ((a || (b || c)) || ((e || x) || is_bucket_kind d.setting (kind_of_word d w))) ≡ true
           → cond a (is_full_of_tunables d) (cond b (is_full_of_devices d) (cond c (is_full_of_kinds d) (cond e (is_full_of_rules d) (is_full_of_buckets d)))) ≡ true → IsOneTooMany d w
       by_it true b c e x ha hb hc he hx r k f = inl ((bytes_eq-Decides w _).0 ha, f)
       by_it false true c e x ha hb hc he hx r k f = inr (inl ((bytes_eq-Decides w _).0 hb, f))
@@ -198,11 +198,11 @@ alone b N A t = (λ e none. t.0 e, λ h. t.1 h)
 -- THE ROWS, one by one
 module _ (d : Draft) (w : List ℕ) where
   -- the tests stand in the order of the rows
-  pub in_order : (r : Role) → above 2 (tests d r w) ≡ true
+  pub in_order : (r : Role) → above 2 (word_tests d r w) ≡ true
   in_order (key k) = refl
   in_order r = refl
 
-  unexpected : (r : Role) → Decides (fires Unexpected (tests d r w)) (IsUnexpected r w)
+  unexpected : (r : Role) → Decides (fires Unexpected (word_tests d r w)) (IsUnexpected r w)
   unexpected (key k) = Decides-not _ (bytes_eq-Decides w k)
   unexpected (opening late) = Decides-or _ _ (brace_tells w) (Decides-or _ _ (bytes_eq-Decides w _) (Decides-and _ _ (itself late) (first_tells w)))
   unexpected (type_name n) = Decides-or _ _ (brace_tells w) (Decides-and _ _ (itself (is_reserved w)) (Decides-not _ (Decides-eqb n 0)))
@@ -214,7 +214,7 @@ module _ (d : Draft) (w : List ℕ) where
   unexpected step_order = none_of_two w _ _
   unexpected r = brace_tells w
 
-  bad_number : (r : Role) → Decides (fires BadNumber (tests d r w)) (IsBadNumber r w)
+  bad_number : (r : Role) → Decides (fires BadNumber (word_tests d r w)) (IsBadNumber r w)
   bad_number (number most) = isnt _
   bad_number type_number = isnt _
   bad_number device_id = isnt _
@@ -223,18 +223,18 @@ module _ (d : Draft) (w : List ℕ) where
   bad_number step_count = isnt _
   bad_number r = no_row
 
-  bad_weight : (r : Role) → Decides (fires BadWeight (tests d r w)) (IsBadWeight r w)
+  bad_weight : (r : Role) → Decides (fires BadWeight (word_tests d r w)) (IsBadWeight r w)
   bad_weight (weight i) = no_weight_tells i (weight_of_text w)
   bad_weight r = no_row
 
-  duplicate_id : (r : Role) → Decides (fires DuplicateId (tests d r w)) (IsDuplicateId d r w)
+  duplicate_id : (r : Role) → Decides (fires DuplicateId (word_tests d r w)) (IsDuplicateId d r w)
   duplicate_id type_number = itself _
   duplicate_id device_id = itself _
   duplicate_id bucket_id = itself _
   duplicate_id rule_id = itself _
   duplicate_id r = no_row
 
-  duplicate_name : (r : Role) → Decides (fires DuplicateName (tests d r w)) (IsDuplicateName d r w)
+  duplicate_name : (r : Role) → Decides (fires DuplicateName (word_tests d r w)) (IsDuplicateName d r w)
   duplicate_name tunable_name = itself _
   duplicate_name (type_name n) = itself _
   duplicate_name new_name = itself _
@@ -246,36 +246,36 @@ module _ (d : Draft) (w : List ℕ) where
   no_class : (late : Bool) → is_out_of_place late w ≡ false → bytes_eq w (codes "class") ≡ false
   no_class late e = (or_parts (bytes_eq w (codes "class")) _ (or_parts (is_brace_word w) _ e).1).0
 
-  unknown_type : (r : Role) → Means UnknownType (tests d r w) (IsUnknownType d r w)
+  unknown_type : (r : Role) → Means UnknownType (word_tests d r w) (IsUnknownType d r w)
   unknown_type (opening late) = (λ e none. unknown_row d w (no_class late (none Unexpected (omega arith))) ((isnt (is_known d w)).0 e), λ h. (isnt (is_known d w)).1 (row_unknown d w h))
   unknown_type step_type = alone _ _ _ (none_tells (kind_number d.setting w))
   unknown_type r = alone _ _ _ no_row
 
-  unknown_item : (r : Role) → Decides (fires UnknownItem (tests d r w)) (IsUnknownItem d r w)
+  unknown_item : (r : Role) → Decides (fires UnknownItem (word_tests d r w)) (IsUnknownItem d r w)
   unknown_item item = none_tells (item_named d w)
   unknown_item lone_item = none_tells (item_named d w)
   unknown_item r = no_row
 
-  second_parent : (r : Role) → Means SecondParent (tests d r w) (IsSecondParent d r w)
+  second_parent : (r : Role) → Means SecondParent (word_tests d r w) (IsSecondParent d r w)
   second_parent item = (λ e none. named_row (is_placed d.table) (item_named d w) (none UnknownItem (omega arith)) e, λ h. row_named (is_placed d.table) (item_named d w) h)
   second_parent lone_item = (λ e none. named_row (is_placed d.table) (item_named d w) (none UnknownItem (omega arith)) e, λ h. row_named (is_placed d.table) (item_named d w) h)
   second_parent r = alone _ _ _ no_row
 
-  other_algorithm : (r : Role) → Decides (fires OtherAlgorithm (tests d r w)) (IsOtherAlgorithm r w)
+  other_algorithm : (r : Role) → Decides (fires OtherAlgorithm (word_tests d r w)) (IsOtherAlgorithm r w)
   other_algorithm algorithm = none_tells (alg_of_text w)
   other_algorithm r = no_row
 
-  left_out : (r : Role) → Means LeftOut (tests d r w) (IsLeftOut r w)
+  left_out : (r : Role) → Means LeftOut (word_tests d r w) (IsLeftOut r w)
   left_out (opening late) = alone _ _ _ (bytes_eq-Decides w _)
   left_out (item_or_end any) = (λ e none. let is = (bytes_eq-Decides w _).0 e in (behind_item any w is (none Unexpected (omega arith)), is), λ h. (bytes_eq-Decides w _).1 h.1)
   left_out step_word = alone _ _ _ (bytes_eq-Decides w _)
   left_out r = alone _ _ _ no_row
 
-  no_bucket : (r : Role) → Decides (fires UnknownBucketInRule (tests d r w)) (IsUnknownBucketInRule d r w)
-  no_bucket taken_bucket = none_tells (bucket_named d w)
+  no_bucket : (r : Role) → Decides (fires UnknownBucketInRule (word_tests d r w)) (IsUnknownBucketInRule d r w)
+  no_bucket taken_bucket = none_tells (complete_bucket_named d w)
   no_bucket r = no_row
 
-  too_many : (r : Role) → Means TooMany (tests d r w) (IsTooMany d r w)
+  too_many : (r : Role) → Means TooMany (word_tests d r w) (IsTooMany d r w)
   too_many (opening late) = (
     λ e none. full_row d w (no_class late (none Unexpected (omega arith))) (none LeftOut (omega arith)) (not_not (is_known d w) (none UnknownType (omega arith))) e,
     λ h. row_full d w h,
@@ -286,25 +286,25 @@ module _ (d : Draft) (w : List ℕ) where
 
   -- whether it is too large with an item without a weight, or with one of this weight
   abbrev heavy_item : ItemId → Bool
-  heavy_item i = is_too_heavy (with_item d i None).table
+  heavy_item i = is_too_heavy (with_next_item d i None).table
 
   abbrev heavy_weight : ItemId → ℕ → Bool
-  heavy_weight i u = is_too_heavy (with_item d i (Some u)).table
+  heavy_weight i u = is_too_heavy (with_next_item d i (Some u)).table
 
-  sum_too_large : (r : Role) → Means SumTooLarge (tests d r w) (IsSumTooLarge d r w)
+  sum_too_large : (r : Role) → Means SumTooLarge (word_tests d r w) (IsSumTooLarge d r w)
   sum_too_large lone_item = (λ e none. named_row heavy_item (item_named d w) (none UnknownItem (omega arith)) e, λ h. row_named heavy_item (item_named d w) h)
   sum_too_large (weight i) = (λ e none. weighed_row i (heavy_weight i) (weight_of_text w) (none BadWeight (omega arith)) e, λ h. row_weighed i (heavy_weight i) (weight_of_text w) h)
   sum_too_large r = alone _ _ _ no_row
 
   -- a row that no word has
-  no_memory : (r : Role) → Decides (fires OutOfMemory (tests d r w)) ⊥
+  no_memory : (r : Role) → Decides (fires OutOfMemory (word_tests d r w)) ⊥
   no_memory (key k) = no_row
   no_memory r = no_row
 
   -- a test holds where its row does, and nowhere else where no lesser test holds
-  pub told : (f : TextFaultKind) (r : Role) → Means f (tests d r w) (Holds f d r w)
-  told BadWord r = alone _ _ _ (Decides-like _ (λ e. let n = not_below 2 (tests d r w) BadWord (in_order r) (omega arith) in absurd cc) (λ h. absurd h) (itself _))
-  told Ended r = alone _ _ _ (Decides-like _ (λ e. let n = not_below 2 (tests d r w) Ended (in_order r) (omega arith) in absurd cc) (λ h. absurd h) (itself _))
+  pub told : (f : TextFaultKind) (r : Role) → Means f (word_tests d r w) (Holds f d r w)
+  told BadWord r = alone _ _ _ (Decides-like _ (λ e. let n = not_below 2 (word_tests d r w) BadWord (in_order r) (omega arith) in absurd cc) (λ h. absurd h) (itself _))
+  told Ended r = alone _ _ _ (Decides-like _ (λ e. let n = not_below 2 (word_tests d r w) Ended (in_order r) (omega arith) in absurd cc) (λ h. absurd h) (itself _))
   told Unexpected r = alone _ _ _ (unexpected r)
   told BadNumber r = alone _ _ _ (bad_number r)
   told BadWeight r = alone _ _ _ (bad_weight r)

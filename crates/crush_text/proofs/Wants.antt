@@ -12,10 +12,10 @@ use Rattle.crush_edits.specs.declared.rule.Rule.{Rule}
 use Rattle.crush_map.specs.declared.fault.RuleFault.{RuleFault}
 use Rattle.crush_map.specs.Rules.{is_full_of_rules, rule_fault, rule_told}
 use Rattle.crush_text.specs.Room.{IsFreeRule}
-use Rattle.crush_map.specs.Faults.{told, first_fault, device_fault, is_heavy_device, is_closed}
+use Rattle.crush_map.specs.Faults.{fault_told, first_fault, device_fault, is_heavy_device, is_closed}
 
 -- what isn't told is want of memory
-is_want : (f : BuildFault) → None ≡ told f → f ≡ OutOfMemory
+is_want : (f : BuildFault) → None ≡ fault_told f → f ≡ OutOfMemory
 is_want BadWeight e = absurd (let no : ◌≡◌ {A = Option BuildFault} None (Some BadWeight) = e in cc)
 is_want DuplicateId e = absurd (let no : ◌≡◌ {A = Option BuildFault} None (Some DuplicateId) = e in cc)
 is_want DuplicateName e = absurd (let no : ◌≡◌ {A = Option BuildFault} None (Some DuplicateName) = e in cc)
@@ -28,13 +28,13 @@ is_want SumTooLarge e = absurd (let no : ◌≡◌ {A = Option BuildFault} None 
 is_want OutOfMemory e = refl
 
 -- nor is anything told where none of two tests holds
-pub want_of_two : (f g : BuildFault) (a b : Bool) (h : BuildFault) → a ≡ false → b ≡ false → first_fault ((f, a) ∷ ((g, b) ∷ [])) ≡ told h → h ≡ OutOfMemory
+pub want_of_two : (f g : BuildFault) (a b : Bool) (h : BuildFault) → a ≡ false → b ≡ false → first_fault ((f, a) ∷ ((g, b) ∷ [])) ≡ fault_told h → h ≡ OutOfMemory
 want_of_two f g true b h x y e = absurd (let no : true ≡ false = x in cc)
 want_of_two f g false true h x y e = absurd (let no : true ≡ false = y in cc)
 want_of_two f g false false h x y e = is_want h e
 
 -- or of three
-pub want_of_three : (f g k : BuildFault) (a b c : Bool) (h : BuildFault) → a ≡ false → b ≡ false → c ≡ false → first_fault ((f, a) ∷ ((g, b) ∷ ((k, c) ∷ []))) ≡ told h → h ≡ OutOfMemory
+pub want_of_three : (f g k : BuildFault) (a b c : Bool) (h : BuildFault) → a ≡ false → b ≡ false → c ≡ false → first_fault ((f, a) ∷ ((g, b) ∷ ((k, c) ∷ []))) ≡ fault_told h → h ≡ OutOfMemory
 want_of_three f g k true b c h x y z e = absurd (let no : true ≡ false = x in cc)
 want_of_three f g k false b c h x y z e = want_of_two g k b c h y z e
 
@@ -49,7 +49,7 @@ closed_so b d i h there shut = rw (there, ← h.pending, shut) refl
 
 -- a rule that has room and is free has no fault, so what isn't told of it is want of memory
 pub want_of_rule : (d : Draft) (r : Rule) (f : RuleFault) → is_full_of_rules d ≡ false → IsFreeRule d r → rule_fault d r ≡ rule_told f → f.fault ≡ OutOfMemory
-want_of_rule d r f room free e = is_want f.fault (untold (told f.fault) (sym none ∙ e))
+want_of_rule d r f room free e = is_want f.fault (untold (fault_told f.fault) (sym none ∙ e))
   where
     none : rule_fault d r ≡ None
     none = rw (room, free.name, free.id, free.steps) refl

@@ -6,7 +6,7 @@ use Rattle.crush_units.specs.declared.id.ItemId.{ItemId}
 use Rattle.crush_units.specs.Weight.{weight_of_text}
 use Rattle.crush_table.specs.Table.{is_placed}
 use Rattle.crush_table.specs.Lawful.{is_too_heavy}
-use Rattle.crush_map.specs.Built.{Draft, with_item}
+use Rattle.crush_map.specs.Built.{Draft, with_next_item}
 use Rattle.crush_map.specs.Building.{BuilderData, item_named}
 use Rattle.crush_map.specs.declared.fault.BuildFault.{BuildFault}
 use Rattle.crush_map.specs.declared.fault.BuildFault.TheVariants as build
@@ -16,7 +16,7 @@ use Rattle.crush_text.specs.declared.fault.TextFaultKind.TheVariants.{Unexpected
 use Rattle.crush_text.specs.declared.fault.TextFault.{TextFault}
 use Rattle.crush_text.specs.Role.{Role, El, item_of, units, key, item, lone_item, item_or_end, weight}
 use Rattle.crush_text.specs.Form.{filling, at, Form, done, word}
-use Rattle.crush_text.specs.Grammar.{item_weight, weighed_item, weightless_item, item_line, item_or_brace, lines}
+use Rattle.crush_text.specs.Grammar.{item_weight_line, weighed_item, weightless_item, item_line, item_or_brace, line_forms}
 use Rattle.crush_text.specs.Tests.{is_weight_for, word_for}
 use Rattle.crush_text.specs.Flow.{◌>>=◌, placed, arrive, Reaches}
 use Rattle.crush_text.specs.Reads.{own_weight, unless_heavy, and_rest, next_of, next_at, word_at, line_at, FailsIn}
@@ -25,26 +25,26 @@ use Rattle.crush_text.proofs.Reached.{reaches_word, reaches_on, key_taken}
 
 -- what comes of a weight that was told, with the item in its bucket
 abbrev with_weight : Draft → ItemId → Result ℕ TextFaultKind → Result ℕ TextFaultKind
-with_weight d i r = r >>= λ x. if is_too_heavy (with_item d i (Some x)).table then Err SumTooLarge else Ok x
+with_weight d i r = r >>= λ x. if is_too_heavy (with_next_item d i (Some x)).table then Err SumTooLarge else Ok x
 
 -- a weight's word is judged before it is put into the bucket, and then with it
 own_then : (d : Draft) (i : ItemId) (w : List ℕ) → word_for d (weight i) w ≡ with_weight d i (own_weight d i w)
 own_then d i w = by_tests (is_brace_word w) (not (is_weight_for i (weight_of_text w)))
   where
-    by_tests : (a b : Bool) → cond a (Err Unexpected) (cond b (Err BadWeight) (cond (is_too_heavy (with_item d i (Some (units w))).table) (Err SumTooLarge) (Ok (units w)))) ≡ with_weight d i (cond a (Err Unexpected) (cond b (Err BadWeight) (Ok (units w))))
+    by_tests : (a b : Bool) → cond a (Err Unexpected) (cond b (Err BadWeight) (cond (is_too_heavy (with_next_item d i (Some (units w))).table) (Err SumTooLarge) (Ok (units w)))) ≡ with_weight d i (cond a (Err Unexpected) (cond b (Err BadWeight) (Ok (units w))))
     by_tests true b = refl
     by_tests false true = refl
     by_tests false false = refl
 
 -- what comes of an item that was told, without a weight
 abbrev without_weight : Draft → Result ItemId TextFaultKind → Result ItemId TextFaultKind
-without_weight d r = r >>= λ i. if is_too_heavy (with_item d i None).table then Err SumTooLarge else Ok i
+without_weight d r = r >>= λ i. if is_too_heavy (with_next_item d i None).table then Err SumTooLarge else Ok i
 
 -- the name of an item without a weight is judged as any item's, and then with the item in its bucket
 lone_then : (d : Draft) (w : List ℕ) → word_for d lone_item w ≡ without_weight d (word_for d item w)
 lone_then d w = by_tests (is_brace_word w) (not (is_some (item_named d w))) (is_placed d.table (item_of d w))
   where
-    by_tests : (a b c : Bool) → cond a (Err Unexpected) (cond b (Err UnknownItem) (cond c (Err SecondParent) (cond (is_too_heavy (with_item d (item_of d w) None).table) (Err SumTooLarge) (Ok (item_of d w)))))
+    by_tests : (a b c : Bool) → cond a (Err Unexpected) (cond b (Err UnknownItem) (cond c (Err SecondParent) (cond (is_too_heavy (with_next_item d (item_of d w) None).table) (Err SumTooLarge) (Ok (item_of d w)))))
         ≡ without_weight d (cond a (Err Unexpected) (cond b (Err UnknownItem) (cond c (Err SecondParent) (Ok (item_of d w)))))
     by_tests true b c = refl
     by_tests false true c = refl
@@ -123,105 +123,105 @@ item_err d t f h = inr (both_err d t f (form_err d item _ t f h) (form_err d lon
 -- a name that is at fault
 pub item_fault : (d : Draft) (t rest : Text) (w : Word) (f : TextFault) → next_at t ≡ Ok (w, rest) → Err f ≡ placed w.place (word_for d item w.text) → FailsIn f d (item_line d) t
 item_fault d t rest w f n e = inr (both_err d t f
-    (form_goes d item (λ j. word (key (codes "weight")) (λ _. item_weight d j)) t rest w n ∙ ap (λ q. q >>= λ i. line_at d (word (key (codes "weight")) (λ _. item_weight d i)) rest) (sym e))
-    (form_goes d lone_item (λ j. done (at (filling true) (with_item d j None))) t rest w n ∙ ap (λ q. placed w.place q >>= λ i. line_at d (done (at (filling true) (with_item d i None))) rest) (lone_then d w.text)
-    ∙ ap (λ q. q >>= λ i. line_at d (done (at (filling true) (with_item d i None))) rest) (told_err w.place f (word_for d item w.text) _ e)))
+    (form_goes d item (λ j. word (key (codes "weight")) (λ _. item_weight_line d j)) t rest w n ∙ ap (λ q. q >>= λ i. line_at d (word (key (codes "weight")) (λ _. item_weight_line d i)) rest) (sym e))
+    (form_goes d lone_item (λ j. done (at (filling true) (with_next_item d j None))) t rest w n ∙ ap (λ q. placed w.place q >>= λ i. line_at d (done (at (filling true) (with_next_item d i None))) rest) (lone_then d w.text)
+    ∙ ap (λ q. q >>= λ i. line_at d (done (at (filling true) (with_next_item d i None))) rest) (told_err w.place f (word_for d item w.text) _ e)))
 
 -- `weight` follows the name
 weighed_goes : (d : Draft) (t rest : Text) (w : Word) (i : ItemId) → next_at t ≡ Ok (w, rest) → true ≡ begins (codes "weight") rest → Ok i ≡ placed w.place (word_for d item w.text)
-    → line_at d (item_line d) t ≡ line_at d (word (key (codes "weight")) (λ _. item_weight d i)) rest
+    → line_at d (item_line d) t ≡ line_at d (word (key (codes "weight")) (λ _. item_weight_line d i)) rest
 weighed_goes d t rest w i n b e =
-    item_is d t true (behind_name t rest w true n b) ∙ form_goes d item (λ j. word (key (codes "weight")) (λ _. item_weight d j)) t rest w n ∙ ap (λ q. q >>= λ j. line_at d (word (key (codes "weight")) (λ _. item_weight d j)) rest) (sym e)
+    item_is d t true (behind_name t rest w true n b) ∙ form_goes d item (λ j. word (key (codes "weight")) (λ _. item_weight_line d j)) t rest w n ∙ ap (λ q. q >>= λ j. line_at d (word (key (codes "weight")) (λ _. item_weight_line d j)) rest) (sym e)
 
 -- the words of the weight of an item whose name was read are reached as it is
 reaches_weight : (d : Draft) (t rest : Text) (w : Word) (i : ItemId) (p : ℕ) → next_at t ≡ Ok (w, rest) → true ≡ begins (codes "weight") rest → Ok i ≡ placed w.place (word_for d item w.text)
-    → Reaches p (arrive d (past rest).words (item_weight d i)) (past rest).words → Reaches p (arrive d t.words (item_line d)) t.words
+    → Reaches p (arrive d (past rest).words (item_weight_line d i)) (past rest).words → Reaches p (arrive d t.words (item_line d)) t.words
 reaches_weight d t rest w i p n b e h =
     subst (λ (c : Bool). Reaches p (if c then arrive d t.words (weighed_item d) else arrive d t.words (weightless_item d)) t.words) (sym (behind_name t rest w true n b))
-    (reaches_on d item (λ j. word (key (codes "weight")) (λ _. item_weight d j)) i t rest p (value_at d item i t rest w n e)
-    (reaches_on d (key (codes "weight")) (λ _. item_weight d i) tt rest (past rest) p (key_taken d (codes "weight") rest b) h))
+    (reaches_on d item (λ j. word (key (codes "weight")) (λ _. item_weight_line d j)) i t rest p (value_at d item i t rest w n e)
+    (reaches_on d (key (codes "weight")) (λ _. item_weight_line d i) tt rest (past rest) p (key_taken d (codes "weight") rest b) h))
 
 -- a weight that was read is the item's
 pub weighed_reads : (d : Draft) (t rest two : Text) (w : Word) (i : ItemId) (r : Result (Unit {0}) TextFault) (b : BuilderData) (u : Text) → next_at t ≡ Ok (w, rest) → true ≡ begins (codes "weight") rest → two ≡ past rest
-    → Ok i ≡ placed w.place (word_for d item w.text) → LineGoes (λ _. filling true) r b u d (item_weight d i) two → LineGoes (λ _. filling true) r b u d (item_line d) t
+    → Ok i ≡ placed w.place (word_for d item w.text) → LineGoes (λ _. filling true) r b u d (item_weight_line d i) two → LineGoes (λ _. filling true) r b u d (item_line d) t
 unfolding line_at
-weighed_reads d t rest two w i r b u n k is e h = by_it r (subst (λ (x : Text). LineGoes (λ _. filling true) r b u d (item_weight d i) x) is h)
+weighed_reads d t rest two w i r b u n k is e h = by_it r (subst (λ (x : Text). LineGoes (λ _. filling true) r b u d (item_weight_line d i) x) is h)
   where
-    goes : line_at d (item_line d) t ≡ line_at d (item_weight d i) (past rest)
-    goes = weighed_goes d t rest w i n k e ∙ ap (λ q. q >>= λ x. line_at d (item_weight d i) x.1) (key_taken d (codes "weight") rest k)
+    goes : line_at d (item_line d) t ≡ line_at d (item_weight_line d i) (past rest)
+    goes = weighed_goes d t rest w i n k e ∙ ap (λ q. q >>= λ x. line_at d (item_weight_line d i) x.1) (key_taken d (codes "weight") rest k)
 
-    by_it : (q : Result (Unit {0}) TextFault) → LineGoes (λ _. filling true) q b u d (item_weight d i) (past rest) → LineGoes (λ _. filling true) q b u d (item_line d) t
+    by_it : (q : Result (Unit {0}) TextFault) → LineGoes (λ _. filling true) q b u d (item_weight_line d i) (past rest) → LineGoes (λ _. filling true) q b u d (item_line d) t
     by_it (Ok x) h = (h.0, h.1, goes ∙ h.2)
     by_it (Err f) (inl h) = inl (h.0, reaches_weight d t rest w i f.place n k e h.1)
     by_it (Err f) (inr h) = inr (goes ∙ h)
 
 -- an item that was put into the bucket ends its line
-added : (d : Draft) (i : ItemId) (w : Option ℕ) (p : ℕ) (rest : Text) (r : Result (Unit {0}) TextFault) (b : BuilderData) (g : Form) (t : Text) → line_at d g t ≡ (placed p (unless_heavy (with_item d i w)) >>= λ e. Ok (at (filling true) e, rest))
-    → (is_too_heavy (with_item d i w).table ≡ false → Reaches p (arrive d t.words g) t.words) → Adds r b (with_item d i w) p (unless_heavy (with_item d i w)) → LineGoes (λ _. filling true) r b rest d g t
-added d i w p rest (Ok x) b g t e reached h = (with_item d i w, h.0, e ∙ ap (λ q. placed p q >>= λ y. Ok (at (filling true) y, rest)) h.1)
+added : (d : Draft) (i : ItemId) (w : Option ℕ) (p : ℕ) (rest : Text) (r : Result (Unit {0}) TextFault) (b : BuilderData) (g : Form) (t : Text) → line_at d g t ≡ (placed p (unless_heavy (with_next_item d i w)) >>= λ e. Ok (at (filling true) e, rest))
+    → (is_too_heavy (with_next_item d i w).table ≡ false → Reaches p (arrive d t.words g) t.words) → Adds r b (with_next_item d i w) p (unless_heavy (with_next_item d i w)) → LineGoes (λ _. filling true) r b rest d g t
+added d i w p rest (Ok x) b g t e reached h = (with_next_item d i w, h.0, e ∙ ap (λ q. placed p q >>= λ y. Ok (at (filling true) y, rest)) h.1)
 added d i w p rest (Err f) b g t e reached (inl h) = inl (h.0, subst (λ (q : ℕ). Reaches q (arrive d t.words g) t.words) (sym h.1) (reached h.2))
 added d i w p rest (Err f) b g t e reached (inr h) = inr (e ∙ ap (λ q. q >>= λ y. Ok (at (filling true) y, rest)) h)
 
 -- an item without a weight
 pub lone_reads : (d : Draft) (t rest two : Text) (w : Word) (i : ItemId) (r : Result (Unit {0}) TextFault) (b : BuilderData) → next_at t ≡ Ok (w, rest) → false ≡ begins (codes "weight") rest → two ≡ rest → Ok i ≡ placed w.place (word_for d item w.text)
-    → Adds r b (with_item d i None) w.place (unless_heavy (with_item d i None)) → LineGoes (λ _. filling true) r b two d (item_line d) t
+    → Adds r b (with_next_item d i None) w.place (unless_heavy (with_next_item d i None)) → LineGoes (λ _. filling true) r b two d (item_line d) t
 unfolding line_at
 lone_reads d t rest two w i r b n none same e h = subst (λ (u : Text). LineGoes (λ _. filling true) r b u d (item_line d) t) (sym same) (
     added d i None w.place rest r b (item_line d) t
-    (item_is d t false (behind_name t rest w false n none) ∙ form_goes d lone_item (λ j. done (at (filling true) (with_item d j None))) t rest w n
-    ∙ ap (λ q. placed w.place q >>= λ j. line_at d (done (at (filling true) (with_item d j None))) rest) (lone_then d w.text ∙ ap (without_weight d) (told_ok w.place i (word_for d item w.text) e))
-    ∙ by_it (is_too_heavy (with_item d i None).table))
+    (item_is d t false (behind_name t rest w false n none) ∙ form_goes d lone_item (λ j. done (at (filling true) (with_next_item d j None))) t rest w n
+    ∙ ap (λ q. placed w.place q >>= λ j. line_at d (done (at (filling true) (with_next_item d j None))) rest) (lone_then d w.text ∙ ap (without_weight d) (told_ok w.place i (word_for d item w.text) e))
+    ∙ by_it (is_too_heavy (with_next_item d i None).table))
     reached h)
   where
-    by_it : (c : Bool) → (placed w.place (if c then Err SumTooLarge else Ok i) >>= λ j. line_at d (done (at (filling true) (with_item d j None))) rest) ≡ (placed w.place (if c then Err SumTooLarge else Ok (with_item d i None)) >>= λ e. Ok (at (filling true) e, rest))
+    by_it : (c : Bool) → (placed w.place (if c then Err SumTooLarge else Ok i) >>= λ j. line_at d (done (at (filling true) (with_next_item d j None))) rest) ≡ (placed w.place (if c then Err SumTooLarge else Ok (with_next_item d i None)) >>= λ e. Ok (at (filling true) e, rest))
     by_it true = refl
     by_it false = refl
 
-    reached : is_too_heavy (with_item d i None).table ≡ false → Reaches w.place (arrive d t.words (item_line d)) t.words
+    reached : is_too_heavy (with_next_item d i None).table ≡ false → Reaches w.place (arrive d t.words (item_line d)) t.words
     reached light =
         let told : Ok i ≡ placed w.place (word_for d lone_item w.text) =
         ap (λ c. placed w.place (if c then Err SumTooLarge else Ok i)) (sym light) ∙ ap (λ q. placed w.place q) (sym (lone_then d w.text ∙ ap (without_weight d) (told_ok w.place i (word_for d item w.text) e))) in
         subst (λ (c : Bool). Reaches w.place (if c then arrive d t.words (weighed_item d) else arrive d t.words (weightless_item d)) t.words) (sym (behind_name t rest w false n none))
-        (reaches_word d lone_item (λ j. done (at (filling true) (with_item d j None))) i t rest rest w.place (value_at d lone_item i t rest w n told) (w.text, n))
+        (reaches_word d lone_item (λ j. done (at (filling true) (with_next_item d j None))) i t rest rest w.place (value_at d lone_item i t rest w n told) (w.text, n))
 
 -- THE WEIGHT of an item: none comes
-pub weight_err : (d : Draft) (i : ItemId) (t : Text) (f : TextFault) → next_at t ≡ Err f → FailsIn f d (item_weight d i) t
+pub weight_err : (d : Draft) (i : ItemId) (t : Text) (f : TextFault) → next_at t ≡ Err f → FailsIn f d (item_weight_line d i) t
 weight_err d i t f h = inr (form_err d (weight i) _ t f h)
 
 -- one that is at fault
-pub weight_fault : (d : Draft) (i : ItemId) (t rest : Text) (w : Word) (f : TextFault) → next_at t ≡ Ok (w, rest) → Err f ≡ placed w.place (own_weight d i w.text) → FailsIn f d (item_weight d i) t
+pub weight_fault : (d : Draft) (i : ItemId) (t rest : Text) (w : Word) (f : TextFault) → next_at t ≡ Ok (w, rest) → Err f ≡ placed w.place (own_weight d i w.text) → FailsIn f d (item_weight_line d i) t
 weight_fault d i t rest w f n e = inr (
-    form_goes d (weight i) (λ x. done (at (filling true) (with_item d i (Some x)))) t rest w n ∙ ap (λ q. placed w.place q >>= λ x. line_at d (done (at (filling true) (with_item d i (Some x)))) rest) (own_then d i w.text)
-    ∙ ap (λ q. q >>= λ x. line_at d (done (at (filling true) (with_item d i (Some x)))) rest) (told_err w.place f (own_weight d i w.text) _ e)
+    form_goes d (weight i) (λ x. done (at (filling true) (with_next_item d i (Some x)))) t rest w n ∙ ap (λ q. placed w.place q >>= λ x. line_at d (done (at (filling true) (with_next_item d i (Some x)))) rest) (own_then d i w.text)
+    ∙ ap (λ q. q >>= λ x. line_at d (done (at (filling true) (with_next_item d i (Some x)))) rest) (told_err w.place f (own_weight d i w.text) _ e)
     )
 
 -- one with which the item is put into the bucket
 pub weight_reads : (d : Draft) (i : ItemId) (t rest : Text) (w : Word) (x : ℕ) (r : Result (Unit {0}) TextFault) (b : BuilderData) → next_at t ≡ Ok (w, rest) → Ok x ≡ placed w.place (own_weight d i w.text)
-    → Adds r b (with_item d i (Some x)) w.place (unless_heavy (with_item d i (Some x))) → LineGoes (λ _. filling true) r b rest d (item_weight d i) t
+    → Adds r b (with_next_item d i (Some x)) w.place (unless_heavy (with_next_item d i (Some x))) → LineGoes (λ _. filling true) r b rest d (item_weight_line d i) t
 unfolding line_at
 weight_reads d i t rest w x r b n e h =
-    added d i (Some x) w.place rest r b (item_weight d i) t
-    (form_goes d (weight i) (λ x. done (at (filling true) (with_item d i (Some x)))) t rest w n
-    ∙ ap (λ q. placed w.place q >>= λ y. line_at d (done (at (filling true) (with_item d i (Some y)))) rest) (own_then d i w.text ∙ ap (with_weight d i) (told_ok w.place x (own_weight d i w.text) e))
-    ∙ by_it (is_too_heavy (with_item d i (Some x)).table))
+    added d i (Some x) w.place rest r b (item_weight_line d i) t
+    (form_goes d (weight i) (λ x. done (at (filling true) (with_next_item d i (Some x)))) t rest w n
+    ∙ ap (λ q. placed w.place q >>= λ y. line_at d (done (at (filling true) (with_next_item d i (Some y)))) rest) (own_then d i w.text ∙ ap (with_weight d i) (told_ok w.place x (own_weight d i w.text) e))
+    ∙ by_it (is_too_heavy (with_next_item d i (Some x)).table))
     reached h
   where
-    by_it : (c : Bool) → (placed w.place (if c then Err SumTooLarge else Ok x) >>= λ y. line_at d (done (at (filling true) (with_item d i (Some y)))) rest) ≡ (placed w.place (if c then Err SumTooLarge else Ok (with_item d i (Some x))) >>= λ e. Ok (at (filling true) e, rest))
+    by_it : (c : Bool) → (placed w.place (if c then Err SumTooLarge else Ok x) >>= λ y. line_at d (done (at (filling true) (with_next_item d i (Some y)))) rest) ≡ (placed w.place (if c then Err SumTooLarge else Ok (with_next_item d i (Some x))) >>= λ e. Ok (at (filling true) e, rest))
     by_it true = refl
     by_it false = refl
 
-    reached : is_too_heavy (with_item d i (Some x)).table ≡ false → Reaches w.place (arrive d t.words (item_weight d i)) t.words
+    reached : is_too_heavy (with_next_item d i (Some x)).table ≡ false → Reaches w.place (arrive d t.words (item_weight_line d i)) t.words
     reached light =
         let told : Ok x ≡ placed w.place (word_for d (weight i) w.text) =
         ap (λ c. placed w.place (if c then Err SumTooLarge else Ok x)) (sym light) ∙ ap (λ q. placed w.place q) (sym (own_then d i w.text ∙ ap (with_weight d i) (told_ok w.place x (own_weight d i w.text) e))) in
-        reaches_word d (weight i) (λ y. done (at (filling true) (with_item d i (Some y)))) x t rest rest w.place (value_at d (weight i) x t rest w n told) (w.text, n)
+        reaches_word d (weight i) (λ y. done (at (filling true) (with_next_item d i (Some y)))) x t rest rest w.place (value_at d (weight i) x t rest w n told) (w.text, n)
 
 -- a line of the items by its first word
-pub item_or_end_goes : (d : Draft) (any more : Bool) (t rest : Text) → word_at d (item_or_end any) t ≡ Ok (more, rest) → line_at d (lines d (filling any)) t ≡ line_at d (item_or_brace d more) rest
+pub item_or_end_goes : (d : Draft) (any more : Bool) (t rest : Text) → word_at d (item_or_end any) t ≡ Ok (more, rest) → line_at d (line_forms d (filling any)) t ≡ line_at d (item_or_brace d more) rest
 unfolding line_at
 item_or_end_goes d any more t rest is = ap (λ q. q >>= λ x. line_at d (item_or_brace d x.0) x.1) is
 
 -- and a fault behind that word
-pub item_or_end_fails : (f : TextFault) (d : Draft) (any more : Bool) (t rest : Text) → word_at d (item_or_end any) t ≡ Ok (more, rest) → FailsIn f d (item_or_brace d more) rest → FailsIn f d (lines d (filling any)) t
+pub item_or_end_fails : (f : TextFault) (d : Draft) (any more : Bool) (t rest : Text) → word_at d (item_or_end any) t ≡ Ok (more, rest) → FailsIn f d (item_or_brace d more) rest → FailsIn f d (line_forms d (filling any)) t
 item_or_end_fails f d any more t rest is (inl h) = inl (h.0, reaches_on d (item_or_end any) (item_or_brace d) more t rest f.place is h.1)
 item_or_end_fails f d any more t rest is (inr h) = inr (item_or_end_goes d any more t rest is ∙ h)

@@ -10,7 +10,7 @@ use Rattle.crush_text.specs.Role.{value}
 use Rattle.crush_text.specs.Form.{first, at, Form, done, word, optional, ahead}
 use Rattle.crush_text.specs.Grammar.{next}
 use Rattle.crush_text.specs.Rows.{IsRight}
-use Rattle.crush_text.specs.Flow.{State, between, amid, arrive, is_idle}
+use Rattle.crush_text.specs.Flow.{State, between, amid, arrive, takes_statement}
 
 -- a word spells what is due: no row of the table of faults holds, and the form goes on by the word's value
 abbrev pub SpellsForm : Draft → Form → List ℕ → List Word → State → Type 0
@@ -31,7 +31,7 @@ Spell s (w ∷ ws) others m = (u : State) × SpellsNext s w.text (ws ++ others) 
 
 -- the text may end, and what was built is this
 abbrev pub IsWhole : State → Draft → Type 0
-IsWhole (between p) d = (p.draft ≡ d) × (is_idle p.mode ≡ true)
+IsWhole (between p) d = (p.draft ≡ d) × (takes_statement p.mode ≡ true)
 IsWhole (amid e f) d = ⊥
 
 -- nothing was read

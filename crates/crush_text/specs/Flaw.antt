@@ -8,7 +8,7 @@ use Rattle.crush_bytes.specs.Words.{Word, Stop, ended, bad, Text, words}
 use Rattle.crush_text.specs.Form.{Form, done, word, optional, ahead}
 use Rattle.crush_text.specs.Grammar.{next}
 use Rattle.crush_text.specs.Rows.{IsFault}
-use Rattle.crush_text.specs.Flow.{State, between, amid, is_idle}
+use Rattle.crush_text.specs.Flow.{State, between, amid, takes_statement}
 use Rattle.crush_text.specs.Document.{Spell, start}
 
 -- a word is at fault where a form is due
@@ -25,7 +25,7 @@ FaultyNext f (amid d g) w = FaultyForm f d g w
 
 -- whether the text may end
 abbrev pub is_whole : State → Bool
-is_whole (between p) = is_idle p.mode
+is_whole (between p) = takes_statement p.mode
 is_whole (amid d f) = false
 
 -- the text ends inside a statement

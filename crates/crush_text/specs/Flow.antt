@@ -44,10 +44,10 @@ placed place (Ok x) = Ok x
 placed place (Err kind) = Err (record { kind = kind; place = place })
 
 -- whether a statement may come, and so the text may end
-abbrev pub is_idle : Mode → Bool
-is_idle first = true
-is_idle second = true
-is_idle m = false
+abbrev pub takes_statement : Mode → Bool
+takes_statement first = true
+takes_statement second = true
+takes_statement m = false
 
 -- the text ends too early
 abbrev pub unfinished : ℕ → Result Draft TextFault
@@ -55,7 +55,7 @@ unfinished place = Err (record { kind = Ended; place = place })
 
 -- the end of the text
 abbrev pub end_at : ℕ → State → Result Draft TextFault
-end_at place (between p) = if is_idle p.mode then Ok p.draft else unfinished place
+end_at place (between p) = if takes_statement p.mode then Ok p.draft else unfinished place
 end_at place (amid d f) = unfinished place
 
 -- what comes of the end of the words

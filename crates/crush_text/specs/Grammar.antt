@@ -2,7 +2,7 @@
 use Rattle.std.specs.Prelude.{ℕ, Bool, List, [], ◌∷◌, ◌++◌, Option, true, false, codes, length, if◌then◌else◌, Some, None}
 use Rattle.crush_units.specs.declared.id.ItemId.{ItemId}
 use Rattle.crush_edits.specs.Setting.{StepData, take, choose, set, emit, RuleData}
-use Rattle.crush_map.specs.Built.{Draft, with_tunable, with_kind, with_device, begun_bucket, with_id, with_class_id, with_alg, with_item, with_end, add_rule}
+use Rattle.crush_map.specs.Built.{Draft, with_tunable, with_kind, with_device, begun_bucket, with_id, with_class_id, with_alg, with_next_item, with_end, add_rule}
 use Rattle.crush_units.specs.declared.limits.TheConstants.{LARGEST_RULE_NUMBER, LARGEST_TUNABLE}
 use Rattle.crush_text.specs.declared.opening.Opening.{Opening}
 use Rattle.crush_text.specs.declared.opening.Opening.TheVariants as openings
@@ -77,23 +77,23 @@ abbrev pub id_or_alg_line : Draft → Bool → Form
 id_or_alg_line d more = if more then class_id_line d else alg_line d
 
 -- WEIGHT
-abbrev pub item_weight : Draft → ItemId → Form
-item_weight d i = do
+abbrev pub item_weight_line : Draft → ItemId → Form
+item_weight_line d i = do
   w ← weight i
-  done (at (filling true) (with_item d i (Some w)))
+  done (at (filling true) (with_next_item d i (Some w)))
 
 -- NAME `weight` WEIGHT
 abbrev pub weighed_item : Draft → Form
 weighed_item d = do
   i ← item
   key (codes "weight")
-  item_weight d i
+  item_weight_line d i
 
 -- NAME
 abbrev pub weightless_item : Draft → Form
 weightless_item d = do
   i ← lone_item
-  done (at (filling true) (with_item d i None))
+  done (at (filling true) (with_next_item d i None))
 
 -- NAME [`weight` WEIGHT], behind `item`
 abbrev pub item_line : Draft → Form
@@ -189,14 +189,14 @@ statement d (openings.Bucket k) = bucket_line d k
 statement d openings.Rule = rule_line d
 
 -- which lines may come
-abbrev pub lines : Draft → Mode → Form
-lines d first = opening false >>= statement d
-lines d second = opening true >>= statement d
-lines d begun = id_line d
-lines d numbered = id_or_alg >>= id_or_alg_line d
-lines d (filling any) = item_or_end any >>= item_or_brace d
-lines d (ruled r) = step_or_end (length r.steps) >>= step_or_brace d r
+abbrev pub line_forms : Draft → Mode → Form
+line_forms d first = opening false >>= statement d
+line_forms d second = opening true >>= statement d
+line_forms d begun = id_line d
+line_forms d numbered = id_or_alg >>= id_or_alg_line d
+line_forms d (filling any) = item_or_end any >>= item_or_brace d
+line_forms d (ruled r) = step_or_end (length r.steps) >>= step_or_brace d r
 
 -- the line that comes next
 abbrev pub next : Progress → Form
-next p = lines p.draft p.mode
+next p = line_forms p.draft p.mode

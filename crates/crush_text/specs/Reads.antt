@@ -92,7 +92,7 @@ GivesOn go (Ok x) read = read ≡ go x
 GivesOn go (Err f) read = read ≡ Err f
 
 -- words lead on: what comes of the rest is what comes of all, and a place that is reached from there is reached
-pub record Leads (s : State) (old : Text) (m : State) (new : Text) : Type 0 where
+pub record LeadsOn (s : State) (old : Text) (m : State) (new : Text) : Type 0 where
   pub same : outcome s old ≡ outcome m new
   pub reaches : (place : ℕ) → Reaches place m new.words → Reaches place s old.words
 

@@ -11,10 +11,10 @@ use Rattle.crush_bytes.specs.Words.{Text}
 use Rattle.crush_text.specs.declared.reader.MapReader.{MapReader}
 use Rattle.crush_units.specs.declared.limits.TheConstants.{LARGEST_RULE_NUMBER}
 use Rattle.crush_text.specs.Form.{second, ruled, at, Form}
-use Rattle.crush_text.specs.Grammar.{rule_line, lines}
+use Rattle.crush_text.specs.Grammar.{rule_line, line_forms}
 use Rattle.crush_text.specs.Flow.{State, between, arrive, Reaches}
 use Rattle.crush_text.specs.Room.{IsFreeRule}
-use Rattle.crush_text.specs.Reads.{line_at, number_behind, behind_step, GivesOn, Leads, Fails, FailsIn, GivesLine}
+use Rattle.crush_text.specs.Reads.{line_at, number_behind, behind_step, GivesOn, LeadsOn, Fails, FailsIn, GivesLine}
 
 -- a step of a rule was read, with which it is this one, or its brace at a place
 abbrev pub StepGoes : Result (Option ℕ) TextFault → Draft → RuleData → Text → Form → Text → Type 0
@@ -50,13 +50,13 @@ pub record GivesStep {A : _} (line : Draft → RuleData → Form) (old new : Map
 
 -- all steps of a rule were read, with which it is this one, and its brace at a place
 abbrev pub StepsGo : Result ℕ TextFault → Draft → RuleData → Text → State → Text → Type 0
-StepsGo (Ok place) d r rest s t = Leads s t (between (at second (add_rule d r))) rest × Reaches place s t.words
+StepsGo (Ok place) d r rest s t = LeadsOn s t (between (at second (add_rule d r))) rest × Reaches place s t.words
 StepsGo (Err f) d r rest s t = Fails f s t
 
 -- a line of a rule was read: one more step, or the brace
 pub record ReadsStepLine {A : _} (r q : Rule) (old new : MapReader A) (x : Result (Option ℕ) TextFault) : Type 0 where
   pub right : OnOk x (IsRightSoFar new.builder q)
-  pub reads : (d : Draft) → IsDraft old.builder d → StepGoes x d (kept_rule d q) new.text (lines d (ruled (kept_rule d r))) old.text
+  pub reads : (d : Draft) → IsDraft old.builder d → StepGoes x d (kept_rule d q) new.text (line_forms d (ruled (kept_rule d r))) old.text
   pub kept : new.builder ≡ old.builder
   pub shorter : OnOk x (length new.text.words < length old.text.words)
 

@@ -14,7 +14,7 @@ use Rattle.crush_text.specs.Form.{Mode, first, second, at}
 use Rattle.crush_text.specs.Tests.{word_for}
 use Rattle.crush_text.specs.Flow.{State, placed, between, outcome}
 use Rattle.crush_text.specs.Room.{HasRoom}
-use Rattle.crush_text.specs.Reads.{Leads, Fails}
+use Rattle.crush_text.specs.Reads.{LeadsOn, Fails}
 use Rattle.crush_text.specs.ReadsLines.{IsIdle}
 
 -- a statement was read, behind which only buckets and rules may come, or all may
@@ -24,7 +24,7 @@ behind late = if late then second else first
 -- what follows a statement, or the text is whole
 abbrev pub NextGoes : Result (Option Bool) TextFault → BuilderData → Text → State → Text → Type 0
 NextGoes (Ok None) builder rest s t = (e : Draft) × IsDraft builder e × (outcome s t ≡ Ok e)
-NextGoes (Ok (Some late)) builder rest s t = (e : Draft) × IsDraft builder e × Leads s t (between (at (behind late) e)) rest
+NextGoes (Ok (Some late)) builder rest s t = (e : Draft) × IsDraft builder e × LeadsOn s t (between (at (behind late) e)) rest
 NextGoes (Err f) builder rest s t = Fails f s t
 
 -- A STATEMENT was read, or the end of the text

@@ -11,7 +11,7 @@ use Rattle.crush_units.specs.Weight.{weight_of_text}
 use Rattle.crush_edits.specs.Setting.{kind_number}
 use Rattle.crush_map.specs.Built.{Draft}
 use Rattle.crush_map.specs.Building.{item_named}
-use Rattle.crush_map.specs.Rules.{bucket_named}
+use Rattle.crush_map.specs.Rules.{complete_bucket_named}
 use Rattle.crush_text.specs.declared.opening.Opening.{Opening}
 use Rattle.crush_text.specs.declared.opening.Opening.TheVariants as openings
 use Rattle.crush_text.specs.Forms.{signed_value}
@@ -85,16 +85,16 @@ El step_count = ℤ
 El step_type = List ℕ
 
 -- the number of a type's name, or 0 where it is none
-abbrev pub number_of : Draft → List ℕ → ℕ
-number_of d w = unwrap_or (kind_number d.setting w) 0
+abbrev pub kind_of_word : Draft → List ℕ → ℕ
+kind_of_word d w = unwrap_or (kind_number d.setting w) 0
 
 -- the item of a name
 abbrev pub item_of : Draft → List ℕ → ItemId
 item_of d w = unwrap_or (item_named d w) (Device 0)
 
 -- the bucket of a name
-abbrev pub bucket_of : Draft → List ℕ → ℕ
-bucket_of d w = unwrap_or (bucket_named d w) 0
+abbrev pub bucket_of_word : Draft → List ℕ → ℕ
+bucket_of_word d w = unwrap_or (complete_bucket_named d w) 0
 
 -- the units of a weight's text
 abbrev pub units_or_none : Result ℕ WeightFault → ℕ
@@ -111,7 +111,7 @@ opened d w =
     else (if bytes_eq w (codes "device") then openings.Device
     else (if bytes_eq w (codes "type") then openings.Type
     else (if bytes_eq w (codes "rule") then openings.Rule
-    else openings.Bucket (number_of d w))))
+    else openings.Bucket (kind_of_word d w))))
 
 -- what a step's first word says
 abbrev pub step_said : List ℕ → StepWord
@@ -146,7 +146,7 @@ value d rule_id_key w = tt
 value d rule_id w = digits_value 10 w
 value d (step_or_end k) w = bytes_eq w (codes "step")
 value d step_word w = step_said w
-value d taken_bucket w = bucket_of d w
+value d taken_bucket w = bucket_of_word d w
 value d step_order w = bytes_eq w (codes "firstn")
 value d step_count w = signed_value w
 value d step_type w = w

@@ -9,7 +9,7 @@ use Rattle.crush_edits.specs.Fits.{is_reserved}
 use Rattle.crush_map.specs.Built.{Draft}
 use Rattle.crush_map.specs.Building.{has_tunable, has_kind_number, has_kind_name, has_name, has_bucket_id, has_class, is_full_of_class_ids, is_full_of_tunables, is_full_of_devices, is_full_of_kinds, is_full_of_buckets}
 use Rattle.crush_map.specs.Faults.{is_closed}
-use Rattle.crush_map.specs.Rules.{bucket_named, is_full_of_rules, has_rule_name, has_rule_id, steps_fault}
+use Rattle.crush_map.specs.Rules.{complete_bucket_named, is_full_of_rules, has_rule_name, has_rule_id, steps_fault}
 use Rattle.crush_edits.specs.declared.rule.Rule.{Rule}
 use Rattle.crush_text.specs.declared.opening.Opening.{Opening}
 use Rattle.crush_text.specs.declared.opening.Opening.TheVariants as openings
@@ -30,7 +30,7 @@ IsFreeWord d (type_name n) w = (0 < n → is_reserved w ≡ false) × (has_kind_
 IsFreeWord d new_name w = has_name d w ≡ false
 IsFreeWord d id_class w = has_class d w ≡ false
 IsFreeWord d rule_name w = has_rule_name d.setting w ≡ false
-IsFreeWord d taken_bucket w = is_some (bucket_named d w) ≡ true
+IsFreeWord d taken_bucket w = is_some (complete_bucket_named d w) ≡ true
 IsFreeWord d step_type w = is_some (kind_number d.setting w) ≡ true
 IsFreeWord d r w = Unit {0}
 

@@ -11,16 +11,16 @@ use Rattle.crush_table.specs.Table.{is_there, is_placed}
 use Rattle.crush_table.specs.Lawful.{is_too_heavy}
 use Rattle.crush_edits.specs.Setting.{kind_number}
 use Rattle.crush_edits.specs.Fits.{is_reserved}
-use Rattle.crush_map.specs.Built.{Draft, with_item}
+use Rattle.crush_map.specs.Built.{Draft, with_next_item}
 use Rattle.crush_map.specs.Building.{has_name, has_bucket_id, has_class, item_named, is_bucket_kind, has_kind_number, has_kind_name, has_tunable, is_full_of_devices, is_full_of_buckets, is_full_of_kinds, is_full_of_tunables, is_full_of_class_ids}
-use Rattle.crush_map.specs.Rules.{bucket_named, has_rule_name, has_rule_id, is_full_of_rules}
+use Rattle.crush_map.specs.Rules.{complete_bucket_named, has_rule_name, has_rule_id, is_full_of_rules}
 use Rattle.crush_text.specs.declared.fault.TextFaultKind.{TextFaultKind}
 use Rattle.crush_text.specs.declared.fault.TextFaultKind.TheVariants.{Unexpected, BadNumber, BadWeight, DuplicateId, DuplicateName, UnknownType, UnknownItem, SecondParent, OtherAlgorithm, LeftOut, UnknownBucketInRule, TooMany, SumTooLarge}
 use Rattle.crush_units.specs.declared.limits.TheConstants.{LARGEST_RULE_NUMBER}
 use Rattle.crush_text.specs.Fault.{fault_number}
 use Rattle.crush_bytes.specs.Numbers.{is_number}
 use Rattle.crush_text.specs.Forms.{is_negative, is_signed}
-use Rattle.crush_text.specs.Role.{Role, number_of, key, number, opening, tunable_name, type_number, type_name, device_id, new_name, bucket_id, id_or_alg, id_class, algorithm, item_or_end, item, lone_item, weight, rule_name, rule_id_key, rule_id, step_or_end, step_word, taken_bucket, step_order, step_count, step_type}
+use Rattle.crush_text.specs.Role.{Role, kind_of_word, key, number, opening, tunable_name, type_number, type_name, device_id, new_name, bucket_id, id_or_alg, id_class, algorithm, item_or_end, item, lone_item, weight, rule_name, rule_id_key, rule_id, step_or_end, step_word, taken_bucket, step_order, step_count, step_type}
 use Rattle.crush_units.specs.declared.limits.TheConstants.{HEAVIEST_DEVICE, LAST_DEVICE_ID, LAST_TYPE, MOST_STEPS}
 
 -- `{` or `}`
@@ -92,7 +92,7 @@ IsDuplicateName d r w = ⊥
 -- a first word that names no type, or type 0, and is none of the words that only type 0 may have as its name; a step's type that
 -- isn't declared
 abbrev pub IsUnknownType : Draft → Role → List ℕ → Type 0
-IsUnknownType d (opening late) w = (is_reserved w ≡ false) × (is_bucket_kind d.setting (number_of d w) ≡ false)
+IsUnknownType d (opening late) w = (is_reserved w ≡ false) × (is_bucket_kind d.setting (kind_of_word d w) ≡ false)
 IsUnknownType d step_type w = kind_number d.setting w ≡ None
 IsUnknownType d r w = ⊥
 
@@ -125,12 +125,12 @@ IsLeftOut r w = ⊥
 
 -- a step takes what is no closed bucket
 abbrev pub IsUnknownBucketInRule : Draft → Role → List ℕ → Type 0
-IsUnknownBucketInRule d taken_bucket w = bucket_named d w ≡ None
+IsUnknownBucketInRule d taken_bucket w = complete_bucket_named d w ≡ None
 IsUnknownBucketInRule d r w = ⊥
 
 -- the first word of a bucket: it names a type, but type 0, and is none of the words that only type 0 may have as its name
 abbrev pub BeginsBucket : Draft → List ℕ → Type 0
-BeginsBucket d w = (is_reserved w ≡ false) × (is_bucket_kind d.setting (number_of d w) ≡ true)
+BeginsBucket d w = (is_reserved w ≡ false) × (is_bucket_kind d.setting (kind_of_word d w) ≡ true)
 
 -- the first word of a tunable, a device, a type, a rule or a bucket of which a map has no room for one more
 abbrev pub IsOneTooMany : Draft → List ℕ → Type 0
@@ -150,8 +150,8 @@ IsTooMany d r w = ⊥
 
 -- an item with which a bucket's sum or the total is out of range: one without a weight, or with a weight that it may have
 abbrev pub IsSumTooLarge : Draft → Role → List ℕ → Type 0
-IsSumTooLarge d lone_item w = (i : ItemId) × (item_named d w ≡ Some i) × (is_too_heavy (with_item d i None).table ≡ true)
-IsSumTooLarge d (weight i) w = (u : ℕ) × (weight_of_text w ≡ Ok u) × (IsNoWeightOf i (Ok u) → ⊥) × (is_too_heavy (with_item d i (Some u)).table ≡ true)
+IsSumTooLarge d lone_item w = (i : ItemId) × (item_named d w ≡ Some i) × (is_too_heavy (with_next_item d i None).table ≡ true)
+IsSumTooLarge d (weight i) w = (u : ℕ) × (weight_of_text w ≡ Ok u) × (IsNoWeightOf i (Ok u) → ⊥) × (is_too_heavy (with_next_item d i (Some u)).table ≡ true)
 IsSumTooLarge d r w = ⊥
 
 -- a row of the table holds of a word

@@ -11,16 +11,16 @@ use Rattle.crush_table.specs.Table.{is_there, is_placed}
 use Rattle.crush_table.specs.Lawful.{is_too_heavy}
 use Rattle.crush_edits.specs.Setting.{kind_number}
 use Rattle.crush_edits.specs.Fits.{is_reserved}
-use Rattle.crush_map.specs.Built.{Draft, with_item}
+use Rattle.crush_map.specs.Built.{Draft, with_next_item}
 use Rattle.crush_map.specs.Building.{has_name, has_bucket_id, has_class, item_named, has_kind_number, has_kind_name, has_tunable, is_bucket_kind, is_full_of_devices, is_full_of_buckets, is_full_of_kinds, is_full_of_tunables, is_full_of_class_ids}
-use Rattle.crush_map.specs.Rules.{bucket_named, has_rule_name, has_rule_id, is_full_of_rules}
+use Rattle.crush_map.specs.Rules.{complete_bucket_named, has_rule_name, has_rule_id, is_full_of_rules}
 use Rattle.crush_text.specs.declared.fault.TextFaultKind.{TextFaultKind}
 use Rattle.crush_text.specs.declared.fault.TextFaultKind.TheVariants.{Unexpected, BadNumber, BadWeight, DuplicateId, DuplicateName, UnknownType, UnknownItem, SecondParent, OtherAlgorithm, LeftOut, UnknownBucketInRule, TooMany, SumTooLarge}
 use Rattle.crush_bytes.specs.Numbers.{is_number}
 use Rattle.crush_bytes.specs.Words.{is_brace_word}
 use Rattle.crush_units.specs.declared.limits.TheConstants.{LARGEST_RULE_NUMBER}
 use Rattle.crush_text.specs.Forms.{is_negative, is_signed}
-use Rattle.crush_text.specs.Role.{Role, El, value, number_of, item_of, units, key, any_word, number, opening, tunable_name, type_number, type_name, device_id, new_name, bucket_id, id_or_alg, id_class, algorithm, item_or_end, item, lone_item, weight, rule_name, rule_id_key, rule_id, step_or_end, step_word, taken_bucket, step_order, step_count, step_type}
+use Rattle.crush_text.specs.Role.{Role, El, value, kind_of_word, item_of, units, key, any_word, number, opening, tunable_name, type_number, type_name, device_id, new_name, bucket_id, id_or_alg, id_class, algorithm, item_or_end, item, lone_item, weight, rule_name, rule_id_key, rule_id, step_or_end, step_word, taken_bucket, step_order, step_count, step_type}
 use Rattle.crush_units.specs.declared.limits.TheConstants.{HEAVIEST_DEVICE, LAST_DEVICE_ID, LAST_TYPE, MOST_STEPS}
 
 -- a fault, and whether the word has it
@@ -50,7 +50,7 @@ is_out_of_place late w = is_brace_word w || (bytes_eq w (codes "class") || (late
 
 -- whether it begins a statement by itself
 abbrev pub is_known : Draft → List ℕ → Bool
-is_known d w = comes_first w || (is_either w (codes "rule") (codes "choose_args") || is_bucket_kind d.setting (number_of d w))
+is_known d w = comes_first w || (is_either w (codes "rule") (codes "choose_args") || is_bucket_kind d.setting (kind_of_word d w))
 
 -- whether there is no room for one more of its statement
 abbrev pub is_full : Draft → List ℕ → Bool
@@ -80,33 +80,33 @@ abbrev pub is_step_word : List ℕ → Bool
 is_step_word w = bytes_eq w (codes "take") || (is_either w (codes "choose") (codes "chooseleaf") || (bytes_eq w (codes "emit") || starts_with nat_eq w (codes "set_")))
 
 -- the tests of each kind of word
-abbrev pub tests : Draft → Role → List ℕ → List Test
-tests d (key k) w = (Unexpected when not (bytes_eq w k)) ∷ []
-tests d any_word w = a_word w []
-tests d (number most) w = a_number most w []
-tests d (opening late) w = (Unexpected when is_out_of_place late w) ∷ (UnknownType when not (is_known d w)) ∷ (LeftOut when bytes_eq w (codes "choose_args")) ∷ (TooMany when is_full d w) ∷ []
-tests d tunable_name w = a_word w ((DuplicateName when has_tunable d.setting w) ∷ [])
-tests d type_number w = a_number LAST_TYPE w ((DuplicateId when has_kind_number d.setting (digits_value 10 w)) ∷ [])
-tests d (type_name n) w = (Unexpected when is_brace_word w || (is_reserved w && not (n == 0))) ∷ (DuplicateName when has_kind_name d.setting w) ∷ []
-tests d device_id w = a_number LAST_DEVICE_ID w ((DuplicateId when is_there d.table (Device (digits_value 10 w))) ∷ [])
-tests d new_name w = a_word w ((DuplicateName when has_name d w) ∷ [])
-tests d bucket_id w = a_word w ((BadNumber when not (is_negative w)) ∷ (DuplicateId when has_bucket_id d (digits_value 10 (drop 1 w))) ∷ [])
-tests d id_or_alg w = (Unexpected when not (is_either w (codes "id") (codes "alg"))) ∷ (TooMany when bytes_eq w (codes "id") && is_full_of_class_ids d) ∷ []
-tests d id_class w = a_word w ((DuplicateName when has_class d w) ∷ [])
-tests d algorithm w = a_word w ((OtherAlgorithm when not (is_some (alg_of_text w))) ∷ [])
-tests d (item_or_end any) w = (Unexpected when not (is_either w (codes "item") (codes "}") || (any && bytes_eq w (codes "pos")))) ∷ (LeftOut when bytes_eq w (codes "pos")) ∷ []
-tests d item w = item_tests d w []
-tests d lone_item w = item_tests d w ((SumTooLarge when is_too_heavy (with_item d (item_of d w) None).table) ∷ [])
-tests d (weight i) w = a_word w ((BadWeight when not (is_weight_for i (weight_of_text w))) ∷ (SumTooLarge when is_too_heavy (with_item d i (Some (units w))).table) ∷ [])
-tests d rule_name w = a_word w ((DuplicateName when has_rule_name d.setting w) ∷ [])
-tests d rule_id_key w = (Unexpected when not (is_either w (codes "id") (codes "ruleset"))) ∷ []
-tests d rule_id w = a_number LARGEST_RULE_NUMBER w ((DuplicateId when has_rule_id d.setting (digits_value 10 w)) ∷ [])
-tests d (step_or_end k) w = (Unexpected when not (is_either w (codes "step") (codes "}"))) ∷ (TooMany when bytes_eq w (codes "step") && nat_le MOST_STEPS k) ∷ []
-tests d step_word w = (Unexpected when not (is_step_word w || bytes_eq w (codes "choosemsr"))) ∷ (LeftOut when bytes_eq w (codes "choosemsr")) ∷ []
-tests d taken_bucket w = a_word w ((UnknownBucketInRule when not (is_some (bucket_named d w))) ∷ [])
-tests d step_order w = (Unexpected when not (is_either w (codes "firstn") (codes "indep"))) ∷ []
-tests d step_count w = a_word w ((BadNumber when not (is_signed w)) ∷ [])
-tests d step_type w = a_word w ((UnknownType when not (is_some (kind_number d.setting w))) ∷ [])
+abbrev pub word_tests : Draft → Role → List ℕ → List Test
+word_tests d (key k) w = (Unexpected when not (bytes_eq w k)) ∷ []
+word_tests d any_word w = a_word w []
+word_tests d (number most) w = a_number most w []
+word_tests d (opening late) w = (Unexpected when is_out_of_place late w) ∷ (UnknownType when not (is_known d w)) ∷ (LeftOut when bytes_eq w (codes "choose_args")) ∷ (TooMany when is_full d w) ∷ []
+word_tests d tunable_name w = a_word w ((DuplicateName when has_tunable d.setting w) ∷ [])
+word_tests d type_number w = a_number LAST_TYPE w ((DuplicateId when has_kind_number d.setting (digits_value 10 w)) ∷ [])
+word_tests d (type_name n) w = (Unexpected when is_brace_word w || (is_reserved w && not (n == 0))) ∷ (DuplicateName when has_kind_name d.setting w) ∷ []
+word_tests d device_id w = a_number LAST_DEVICE_ID w ((DuplicateId when is_there d.table (Device (digits_value 10 w))) ∷ [])
+word_tests d new_name w = a_word w ((DuplicateName when has_name d w) ∷ [])
+word_tests d bucket_id w = a_word w ((BadNumber when not (is_negative w)) ∷ (DuplicateId when has_bucket_id d (digits_value 10 (drop 1 w))) ∷ [])
+word_tests d id_or_alg w = (Unexpected when not (is_either w (codes "id") (codes "alg"))) ∷ (TooMany when bytes_eq w (codes "id") && is_full_of_class_ids d) ∷ []
+word_tests d id_class w = a_word w ((DuplicateName when has_class d w) ∷ [])
+word_tests d algorithm w = a_word w ((OtherAlgorithm when not (is_some (alg_of_text w))) ∷ [])
+word_tests d (item_or_end any) w = (Unexpected when not (is_either w (codes "item") (codes "}") || (any && bytes_eq w (codes "pos")))) ∷ (LeftOut when bytes_eq w (codes "pos")) ∷ []
+word_tests d item w = item_tests d w []
+word_tests d lone_item w = item_tests d w ((SumTooLarge when is_too_heavy (with_next_item d (item_of d w) None).table) ∷ [])
+word_tests d (weight i) w = a_word w ((BadWeight when not (is_weight_for i (weight_of_text w))) ∷ (SumTooLarge when is_too_heavy (with_next_item d i (Some (units w))).table) ∷ [])
+word_tests d rule_name w = a_word w ((DuplicateName when has_rule_name d.setting w) ∷ [])
+word_tests d rule_id_key w = (Unexpected when not (is_either w (codes "id") (codes "ruleset"))) ∷ []
+word_tests d rule_id w = a_number LARGEST_RULE_NUMBER w ((DuplicateId when has_rule_id d.setting (digits_value 10 w)) ∷ [])
+word_tests d (step_or_end k) w = (Unexpected when not (is_either w (codes "step") (codes "}"))) ∷ (TooMany when bytes_eq w (codes "step") && nat_le MOST_STEPS k) ∷ []
+word_tests d step_word w = (Unexpected when not (is_step_word w || bytes_eq w (codes "choosemsr"))) ∷ (LeftOut when bytes_eq w (codes "choosemsr")) ∷ []
+word_tests d taken_bucket w = a_word w ((UnknownBucketInRule when not (is_some (complete_bucket_named d w))) ∷ [])
+word_tests d step_order w = (Unexpected when not (is_either w (codes "firstn") (codes "indep"))) ∷ []
+word_tests d step_count w = a_word w ((BadNumber when not (is_signed w)) ∷ [])
+word_tests d step_type w = a_word w ((UnknownType when not (is_some (kind_number d.setting w))) ∷ [])
 
 -- a value, unless one of the tests holds: then the first one that does
 abbrev pub unless : {A : Type 0} → List Test → A → Result A TextFaultKind
@@ -115,4 +115,4 @@ unless ((f when b) ∷ ts) v = if b then Err f else unless ts v
 
 -- what a word is where it is for this
 abbrev pub word_for : Draft → (r : Role) → List ℕ → Result (El r) TextFaultKind
-word_for d r w = unless (tests d r w) (value d r w)
+word_for d r w = unless (word_tests d r w) (value d r w)

@@ -10,7 +10,7 @@ ghost use Rattle.crush_edits.specs.Answer.{on_some};
 ghost use Rattle.crush_edits.specs.Placing.{put_after, edited_device};
 ghost use Rattle.crush_edits.specs.Put.{held};
 ghost use Rattle.crush_apply.specs.Answered.{AnswersAs, last_answer};
-ghost use Rattle.crush_apply.specs.Coming.{CanMove, CanCome};
+ghost use Rattle.crush_apply.specs.Coming.{CanMove, CanArrive};
 
 use crate::route::Arrival;
 use crate::route::destination::Destination;
@@ -62,7 +62,7 @@ pub(crate) fn place_device<A: Allocator + Clone>(
     arrival: &Arrival<'_>,
     to: &Destination,
 ) -> Result<Done, EditFault>
-    requires can { (t : List Row) → Stands hierarchy.old t → CanCome t arrival.now.device
+    requires can { (t : List Row) → Stands hierarchy.old t → CanArrive t arrival.now.device
         arrival.now.name.now arrival.now.weight to.now }
     requires free { (t : List Row) → Stands hierarchy.old t
         → held t (Device arrival.now.device) to.now.stops ≡ false }
@@ -94,7 +94,7 @@ fn place_new<A: Allocator + Clone>(
     arrival: &Arrival<'_>,
     to: &Destination,
 ) -> Result<Done, EditFault>
-    requires can { (t : List Row) → Stands hierarchy.old t → CanCome t arrival.now.device
+    requires can { (t : List Row) → Stands hierarchy.old t → CanArrive t arrival.now.device
         arrival.now.name.now arrival.now.weight to.now }
     requires free { (t : List Row) → Stands hierarchy.old t
         → held t (Device arrival.now.device) to.now.stops ≡ false }

@@ -9,8 +9,8 @@ ghost use Rattle.crush_table.specs.Table.{Row, id_named, kind_of, name_of};
 ghost use Rattle.crush_table.specs.Stands.{Stands};
 ghost use Rattle.crush_edits.specs.declared.location.Pair.{Pair};
 ghost use Rattle.crush_edits.specs.Answer.{first_refusal, meets};
-ghost use Rattle.crush_edits.specs.Located.{has_twice, is_type_zero, is_bad_location, has_no_kind, names_it, is_taken, location_tests, device_tests};
-ghost use Rattle.crush_apply.specs.Destination.{item_tests};
+ghost use Rattle.crush_edits.specs.Located.{has_twice, is_type_zero, is_bad_location, has_no_kind, names_it, is_taken, location_tests, located_device_tests};
+ghost use Rattle.crush_apply.specs.Destination.{end_item_tests};
 
 use crate::route::Arrival;
 use crush_edits::{Location, Pair, Refusal, Setting};
@@ -47,10 +47,10 @@ pub(crate) fn check_device<A: Allocator>(
     arrival: &Arrival<'_>,
 ) -> Result<(), Refusal>
     ensures passes { OnOk result ((t : List Row) → Stands hierarchy.now t
-        → first_refusal (device_tests setting.now t arrival.now.device arrival.now.name.now
+        → first_refusal (located_device_tests setting.now t arrival.now.device arrival.now.name.now
         arrival.now.weight arrival.now.at.now) ≡ None) }
     ensures refused { IfErr result (λ r. (t : List Row) → Stands hierarchy.now t
-        → first_refusal (device_tests setting.now t arrival.now.device arrival.now.name.now
+        → first_refusal (located_device_tests setting.now t arrival.now.device arrival.now.name.now
         arrival.now.weight arrival.now.at.now) ≡ Some r) }
 {
     if names_bucket(arrival.at.pairs(), arrival.name) {
@@ -74,10 +74,10 @@ pub(crate) fn check_end<A: Allocator>(
     id: ItemId,
 ) -> Result<BucketId, Refusal>
     ensures passes { IfOk result (λ b. (t : List Row) → Stands hierarchy.now t
-        → first_refusal (item_tests t kind (Bucket b)) ≡ None) }
+        → first_refusal (end_item_tests t kind (Bucket b)) ≡ None) }
     ensures bucket { IfOk result (λ b. id ≡ Bucket b) }
     ensures refused { IfErr result (λ r. (t : List Row) → Stands hierarchy.now t
-        → first_refusal (item_tests t kind id) ≡ Some r) }
+        → first_refusal (end_item_tests t kind id) ≡ Some r) }
 {
     let ItemId::Bucket(bucket) = id else {
         return Err(Refusal::NotABucket);

@@ -2,7 +2,7 @@
 
 ghost use Rattle.std.specs.Prelude.{◌≡◌, ◌∷◌, [], ◌++◌, map, None, OnOk, OnErr, IfOk};
 ghost use Rattle.std.specs.Option.{option_copied};
-ghost use Rattle.crush_edits.specs.KindsTold.{TellsFirst, TellsSame};
+ghost use Rattle.crush_edits.specs.KindsTold.{TellsFirst, TellsSameNumbers};
 ghost use Rattle.crush_edits.specs.Setting.{first_number, first_name};
 ghost use Rattle.crush_edits.specs.SettingSeen.{kind_data};
 
@@ -26,7 +26,8 @@ pub(super) struct Kinds {
 impl Model for Kinds {
     ghost use Rattle.std.specs.Prelude.{List, map};
     ghost use Rattle.std.specs.Coded.{coded_list};
-    ghost use Rattle.crush_edits.specs.Setting.{KindData, coded_kind};
+    ghost use Rattle.crush_edits.specs.Setting.{KindData};
+    ghost use Rattle.crush_edits.specs.Codes.{coded_kind};
     ghost use Rattle.crush_edits.specs.SettingSeen.{kind_data};
     ghost use Rattle.crush_edits.specs.KindsTold.{AreNumbersOf};
 
@@ -118,7 +119,7 @@ fn tell_first(
     number: TypeId,
 ) -> Result<(), AllocError>
     ensures ok { OnOk result (TellsFirst numbers.old numbers.new name.items number) }
-    ensures err { OnErr result (TellsSame numbers.old numbers.new) }
+    ensures err { OnErr result (TellsSameNumbers numbers.old numbers.new) }
 {
     if !numbers.contains_key(&name) {
         numbers.insert(name, number)?;

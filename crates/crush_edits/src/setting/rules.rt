@@ -25,7 +25,8 @@ pub(super) struct Rules {
 impl Model for Rules {
     ghost use Rattle.std.specs.Prelude.{List, map};
     ghost use Rattle.std.specs.Coded.{coded_list};
-    ghost use Rattle.crush_edits.specs.Setting.{RuleData, coded_rule};
+    ghost use Rattle.crush_edits.specs.Setting.{RuleData};
+    ghost use Rattle.crush_edits.specs.Codes.{coded_rule};
     ghost use Rattle.crush_edits.specs.SettingSeen.{rule_data};
     ghost use Rattle.crush_edits.specs.RulesTold.{AreTakenBy};
 

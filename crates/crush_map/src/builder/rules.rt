@@ -6,7 +6,7 @@ ghost use Rattle.crush_edits.specs.SettingSeen.{step_data, rule_data};
 ghost use Rattle.crush_edits.specs.declared.setting.KeptRule.{KeptRule as DeclaredRule};
 ghost use Rattle.crush_map.specs.Built.{Draft, nothing};
 ghost use Rattle.crush_map.specs.Building.{IsDraft};
-ghost use Rattle.crush_map.specs.Rules.{IsRuleForm, bucket_named, kept_step, kept_rule, with_rule};
+ghost use Rattle.crush_map.specs.Rules.{IsRuleForm, complete_bucket_named, kept_step, kept_rule, with_rule};
 ghost use Rattle.crush_map.specs.Rules.{has_rule_name, has_rule_id, is_full_of_rules, word_fault};
 ghost use Rattle.crush_map.specs.Rules.{step_fault, steps_fault, rule_fault, rule_told};
 
@@ -141,7 +141,7 @@ impl<A: Allocator> MapBuilder<A> {
 
     /// The complete bucket of this name, or `None` where there is none.
     pub fn bucket_named(&self, name: &[u8]) -> Option<BucketId>
-        ensures { (d : Draft) → IsDraft self.now d → result ≡ bucket_named d name.now }
+        ensures { (d : Draft) → IsDraft self.now d → result ≡ complete_bucket_named d name.now }
     {
         match self.closed_item(name)? {
             ItemId::Bucket(bucket) => Some(bucket),

@@ -5,7 +5,7 @@ ghost use Rattle.std.specs.List.Sorted.{IsPermutation};
 ghost use Rattle.crush_table.specs.Stands.{Stands};
 ghost use Rattle.crush_table.specs.Table.{Row};
 ghost use Rattle.crush_nodes.specs.Seen.{items_of, node_id};
-ghost use Rattle.crush_print.specs.ItemsText.{id_number, texts};
+ghost use Rattle.crush_print.specs.ItemsText.{id_number, texts_of_buckets};
 ghost use Rattle.crush_print.specs.MapText.{ascending, bucket_section};
 
 use crate::lines;
@@ -74,7 +74,7 @@ fn push_nodes<A: Allocator>(
     out: &mut Vec<u8>,
 ) -> Result<(), AllocError>
     ensures { OnOk result (out.new.items ≡ out.old.items
-        ++ flat_map (λ r. texts setting.now (items_of (r.now ∷ []))) nodes.now) }
+        ++ flat_map (λ r. texts_of_buckets setting.now (items_of (r.now ∷ []))) nodes.now) }
 {
     for node in nodes {
         push_node(setting, *node, out)?;
@@ -89,7 +89,7 @@ fn push_node<A: Allocator>(
     out: &mut Vec<u8>,
 ) -> Result<(), AllocError>
     ensures { OnOk result (out.new.items ≡ out.old.items
-        ++ texts setting.now (items_of (node.now ∷ []))) }
+        ++ texts_of_buckets setting.now (items_of (node.now ∷ []))) }
 {
     match node {
         Node::Device(_) => Ok(()),

@@ -4,12 +4,12 @@ ghost use Rattle.std.specs.Prelude.{◌≡◌, false, IfOk, Some, None, drop, if
 ghost use Rattle.std.specs.Str.Parse.{digits_value};
 ghost use Rattle.crush_map.specs.Building.{is_begun, is_numbered};
 ghost use Rattle.crush_text.specs.Forms.{is_negative};
-ghost use Rattle.crush_text.specs.Role.{bucket_id, id_or_alg, id_class, algorithm, number_of};
+ghost use Rattle.crush_text.specs.Role.{bucket_id, id_or_alg, id_class, algorithm, kind_of_word};
 ghost use Rattle.crush_text.specs.Form.{second, begun, numbered, filling, at};
-ghost use Rattle.crush_text.specs.Grammar.{bucket_line, id_line, class_id_line, alg_line, lines};
+ghost use Rattle.crush_text.specs.Grammar.{bucket_line, id_line, class_id_line, alg_line, line_forms};
 ghost use Rattle.crush_text.specs.Flow.{between, arrive};
 ghost use Rattle.crush_text.specs.ReadsWords.{StoodAt, FindsWord, FindsValue, ReadsValue, AnyDraft};
-ghost use Rattle.crush_text.specs.ReadsLines.{IsAmid, behind_id, ReadsLine, ReadsOn, HasRoomForId, CanBegin};
+ghost use Rattle.crush_text.specs.ReadsLines.{IsAmid, behind_id, ReadsLine, ReadsOn, HasRoomForId, HasRoomForBucket};
 
 use crate::fault::{TextFault, TextFaultKind};
 use crate::reader::MapReader;
@@ -24,8 +24,8 @@ use std::alloc::Allocator;
 impl<'a, A: Allocator + Clone> MapReader<'a, A> {
     /// A bucket, behind the name of its type.
     pub(crate) fn bucket(&mut self, kind: &[u8]) -> Result<(), TextFault>
-        requires { CanBegin kind.now self.old.builder }
-        ensures { ReadsOn (λ d. arrive d self.old.text.words (bucket_line d (number_of d kind.now)))
+        requires { HasRoomForBucket kind.now self.old.builder }
+        ensures { ReadsOn (λ d. arrive d self.old.text.words (bucket_line d (kind_of_word d kind.now)))
             (λ _. second) self.old self.new result }
     {
         self.bucket_name(kind)?;
@@ -37,8 +37,8 @@ impl<'a, A: Allocator + Clone> MapReader<'a, A> {
     /// The name of a bucket.
     #[tactic(auto, unfolding(crate::specs::Reads::line_at))]
     fn bucket_name(&mut self, kind: &[u8]) -> Result<(), TextFault>
-        requires { CanBegin kind.now self.old.builder }
-        ensures { ReadsLine (λ d. bucket_line d (number_of d kind.now)) (λ _. begun)
+        requires { HasRoomForBucket kind.now self.old.builder }
+        ensures { ReadsLine (λ d. bucket_line d (kind_of_word d kind.now)) (λ _. begun)
             self.old self.new result }
     {
         let name = self.new_name()?;
@@ -77,7 +77,7 @@ impl<'a, A: Allocator + Clone> MapReader<'a, A> {
     #[tactic(auto, unfolding(crate::specs::Reads::line_at))]
     fn class_id_or_alg(&mut self) -> Result<bool, TextFault>
         requires { IsAmid is_numbered self.old.builder }
-        ensures { ReadsLine (λ d. lines d numbered) behind_id self.old self.new result }
+        ensures { ReadsLine (λ d. line_forms d numbered) behind_id self.old self.new result }
     {
         let more = self.id_or_alg()?;
         if !more {

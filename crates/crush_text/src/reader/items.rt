@@ -6,7 +6,7 @@ ghost use Rattle.crush_map.specs.Building.{IsDraft, is_filling, item_named};
 ghost use Rattle.crush_map.specs.Faults.{is_closed, is_heavy_device};
 ghost use Rattle.crush_text.specs.Role.{item_or_end, item};
 ghost use Rattle.crush_text.specs.Form.{second, filling, at};
-ghost use Rattle.crush_text.specs.Grammar.{item_line, item_weight, lines};
+ghost use Rattle.crush_text.specs.Grammar.{item_line, item_weight_line, line_forms};
 ghost use Rattle.crush_text.specs.Flow.{between, placed};
 ghost use Rattle.crush_text.specs.Tests.{word_for};
 ghost use Rattle.crush_text.specs.Room.{IsFreeItem};
@@ -40,7 +40,7 @@ impl<'a, A: Allocator + Clone> MapReader<'a, A> {
     #[tactic(auto, unfolding(crate::specs::Reads::line_at))]
     fn item_or_end(&mut self, any: bool) -> Result<bool, TextFault>
         requires { IsAmid is_filling self.old.builder }
-        ensures { ReadsLine (λ d. lines d (filling any)) behind_item self.old self.new result }
+        ensures { ReadsLine (λ d. line_forms d (filling any)) behind_item self.old self.new result }
     {
         let more = read_item_or_end(&mut self.text, any)?;
         if !more {
@@ -67,7 +67,7 @@ impl<'a, A: Allocator + Clone> MapReader<'a, A> {
     /// The weight of an item.
     fn weight(&mut self, item: ItemId) -> Result<(), TextFault>
         requires { CanTake item self.old.builder }
-        ensures { ReadsLine (λ d. item_weight d item) (λ _. filling true)
+        ensures { ReadsLine (λ d. item_weight_line d item) (λ _. filling true)
             self.old self.new result }
     {
         let word = next_word(&mut self.text)?;

@@ -3,8 +3,8 @@ use Rattle.crush_calls.specs.History.{EntryData, AnsweredData, of_operator, chan
 use Rattle.crush_map.specs.MapData.{MapData}
 use Rattle.crush_editor.specs.History.{IsLegalFrom}
 use Rattle.crush_editor.specs.Book.{MakesAll, StandsAfter}
-use Rattle.crush_editor.specs.Seat.{StandsIn}
-use Rattle.crush_editor.specs.Seat.{IsHistoryOf, SeatData, seen_of}
+use Rattle.crush_editor.specs.Seat.{IsSubsequence}
+use Rattle.crush_editor.specs.Seat.{IsHistoryOfSeats, SeatData, seen_of}
 use mathlib.Core.List.{IsPrefix}
 use Rattle.crush_editor.proofs.Closing.{Took, told, took-none, took-more, took-all}
 use Rattle.crush_editor.proofs.Seats.{stands_later}
@@ -19,7 +19,7 @@ loop-seat-preserved g c =
     let s = c.seat.inside in
     let h = c.loop-seat.book.history in
     let x = c.in-Some.seat in
-    let stands : StandsIn x.slips (of_operator x.operator h) = rw (← c.seat.view_is) (stands_later s.operator s.slips.items _ h c.seat.invariant.4.stands (subst (λ (x : List EntryData). IsPrefix x h) (ap (λ x. seen_of x.view) c.into_note.ensures) c.meet.ensures.begins)) in
+    let stands : IsSubsequence x.slips (of_operator x.operator h) = rw (← c.seat.view_is) (stands_later s.operator s.slips.items _ h c.seat.invariant.4.stands (subst (λ (x : List EntryData). IsPrefix x h) (ap (λ x. seen_of x.view) c.into_note.ensures) c.meet.ensures.begins)) in
     let more : c.merge.new.self.amount ≡ c.loop-seat.all.amount + told x = c.merge.ensures.amount ∙ ap (λ (k : ℕ). c.loop-seat.all.amount + k) (c.seat.invariant.3 ∙ ap told c.seat.view_is) in
     let next : c.merge.new.self.parts ≡ c.loop-seat.all.parts + 1 = c.merge.ensures.parts ∙ ap (λ (k : ℕ). c.loop-seat.all.parts + k) c.seat.invariant.2 in (
       c.meet.ensures.book ∙ i.0,

@@ -11,7 +11,7 @@ use Rattle.crush_table.specs.Stands.{Stands}
 use Rattle.crush_units.specs.declared.id.ItemId.TheVariants.{Bucket}
 use Rattle.crush_nodes.specs.Ops.{part_of}
 use Rattle.crush_map.specs.Pending.{pending_data, with_first_weight}
-use Rattle.crush_map.specs.Built.{Draft, with_item, device_weight, adjustment}
+use Rattle.crush_map.specs.Built.{Draft, with_next_item, weight_or_one, adjustment}
 use Rattle.crush_map.specs.Building.{BuilderData, IsDraft, own_draft, is_open}
 use Rattle.crush_map.proofs.Drafts.{own_is_draft, draft_fits}
 use Rattle.crush_map.proofs.Faults.{closed_there}
@@ -55,8 +55,8 @@ put-requires-clause-fits g c =
     let n : Items = part_of c.args.id (all_items h) in
     let took : Coming b c.args.id k n = clear_comes b c.args.self.now c.args.id k n c.args.written c.self.view_is c.recall_invariant.ensures c.self.invariant (ap pending_data c.in-Filling.is) (λ d i. sym (c.in_default-item_fault.ensures d i)) (λ t st. c.recall_part.ensures.rows t (c.reserve.ensures.stands t st)) c.recall_part.ensures.one c.recall_part.ensures.sums in
     subst (λ w. Lawful (table_without c.args.id (rows_of h) ++ rows (Some k) (with_first_weight w n))) (sym c.device_weight-weight.ensures)
-    (subst (λ (t : List Row). Lawful (table_without c.args.id t ++ rows (Some k) (with_first_weight (device_weight c.args.written) n))) (sym c.reserve.ensures.rows)
-    (can_put b c.args.id k n took (device_weight c.args.written) (light_device c.args.id c.args.written clear.light) clear.sums))
+    (subst (λ (t : List Row). Lawful (table_without c.args.id t ++ rows (Some k) (with_first_weight (weight_or_one c.args.written) n))) (sym c.reserve.ensures.rows)
+    (can_put b c.args.id k n took (weight_or_one c.args.written) (light_device c.args.id c.args.written clear.light) clear.sums))
 
 pub overflow_add-self : goal.overflow_add-self
 overflow_add-self g c =
@@ -79,9 +79,9 @@ invariant_of-self-2 g c =
     let took : Coming b c.args.id k n = clear_comes b c.args.self.now c.args.id k n c.args.written c.self.view_is c.recall_invariant.ensures c.self.invariant (ap pending_data c.in-Filling.is) (λ d i. sym (c.in_default-item_fault.ensures d i)) (λ t st. c.recall_part.ensures.rows t (c.reserve.ensures.stands t st)) c.recall_part.ensures.one c.recall_part.ensures.sums in
     let d : Draft = own_draft b in
     let at : IsDraft b d = own in
-    let st : Stands c.put.new.self (table_without c.args.id d.table ++ rows (Some k) (with_first_weight (device_weight c.args.written) n)) =
+    let st : Stands c.put.new.self (table_without c.args.id d.table ++ rows (Some k) (with_first_weight (weight_or_one c.args.written) n)) =
     subst (λ w. Stands c.put.new.self (table_without c.args.id d.table ++ rows (Some k) (with_first_weight w n))) c.device_weight-weight.ensures (c.put.ensures.stands d.table (c.reserve.ensures.stands d.table at.stands)) in
-    draft_fits (record b { forest = c.put.new.self; adjusted = b.adjusted + c.adjustment-adjustment.result }) (with_item d c.args.id c.args.written)
+    draft_fits (record b { forest = c.put.new.self; adjusted = b.adjusted + c.adjustment-adjustment.result }) (with_next_item d c.args.id c.args.written)
     (put_is_draft b c.args.id k n took c.put.new.self c.args.written d at st c.adjustment-adjustment.result (c.adjustment-adjustment.ensures d own_at (took.there d at)))
 
 pub returns-clause-ok : goal.returns-clause-ok
@@ -93,6 +93,6 @@ returns-clause-ok g c =
     let n : Items = part_of c.args.id (all_items h) in
     let took : Coming b c.args.id k n = clear_comes b c.args.self.now c.args.id k n c.args.written c.self.view_is c.recall_invariant.ensures c.self.invariant (ap pending_data c.in-Filling.is) (λ d i. sym (c.in_default-item_fault.ensures d i)) (λ t st. c.recall_part.ensures.rows t (c.reserve.ensures.stands t st)) c.recall_part.ensures.one c.recall_part.ensures.sums in
     let at : IsDraft b d = subst (λ (x : BuilderData). IsDraft x d) (sym c.self.view_is) i in
-    let st : Stands c.put.new.self (table_without c.args.id d.table ++ rows (Some k) (with_first_weight (device_weight c.args.written) n)) =
+    let st : Stands c.put.new.self (table_without c.args.id d.table ++ rows (Some k) (with_first_weight (weight_or_one c.args.written) n)) =
     subst (λ w. Stands c.put.new.self (table_without c.args.id d.table ++ rows (Some k) (with_first_weight w n))) c.device_weight-weight.ensures (c.put.ensures.stands d.table (c.reserve.ensures.stands d.table at.stands)) in
     (sym (c.in_default-item_fault.ensures d i), put_is_draft b c.args.id k n took c.put.new.self c.args.written d at st c.adjustment-adjustment.result (c.adjustment-adjustment.ensures d i (took.there d at)))

@@ -4,7 +4,7 @@ use Rattle.crush_map.specs.Built.{Draft}
 use Rattle.crush_map.specs.Building.{IsDraft, is_filling}
 use Rattle.crush_text.specs.Form.{filling, at}
 use Rattle.crush_text.specs.Flow.{between}
-use Rattle.crush_text.specs.Reads.{Leads}
+use Rattle.crush_text.specs.Reads.{LeadsOn}
 use Rattle.crush_text.specs.ReadsLines.{IsAmid}
 use Rattle.crush_text.proofs.reader.MapReader.items.Given as goal
 
@@ -12,7 +12,7 @@ abbrev pub invariant-items : goal.invariant-items
 invariant-items g l = record {
   part : IsAmid is_filling l.self.builder;
   shorter : length l.self.text.words ≤ length l.fn.self.text.words;
-  reads : (d : Draft) → IsDraft l.fn.self.builder d → (e : Draft) × IsDraft l.self.builder e × Leads (between (at (filling false) d)) l.fn.self.text (between (at (filling l.any) e)) l.self.text;
+  reads : (d : Draft) → IsDraft l.fn.self.builder d → (e : Draft) × IsDraft l.self.builder e × LeadsOn (between (at (filling false) d)) l.fn.self.text (between (at (filling l.any) e)) l.self.text;
 }
 
 abbrev pub decreases-items : goal.decreases-items

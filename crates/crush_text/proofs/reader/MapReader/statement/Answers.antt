@@ -6,11 +6,11 @@ use Rattle.crush_map.specs.Built.{Draft}
 use Rattle.crush_text.specs.declared.opening.Opening.TheVariants.{Bucket}
 use Rattle.crush_text.specs.declared.fault.TextFault.{TextFault}
 use Rattle.crush_bytes.specs.Words.{Text}
-use Rattle.crush_text.specs.Role.{number_of}
+use Rattle.crush_text.specs.Role.{kind_of_word}
 use Rattle.crush_text.specs.Form.{second, at}
 use Rattle.crush_text.specs.Flow.{between, arrive}
 use Rattle.crush_text.specs.Grammar.{tunable_line, device_line, type_line, bucket_line}
-use Rattle.crush_text.specs.Reads.{Leads, Fails}
+use Rattle.crush_text.specs.Reads.{LeadsOn, Fails}
 use Rattle.crush_text.specs.ReadsStatements.{IsKnown}
 use Rattle.crush_text.specs.Room.{HasRoom}
 use Rattle.crush_text.proofs.Reached.{line_leads, fails_line}
@@ -63,7 +63,7 @@ returns-in_err-kind-in-Type g c =
     (fails_line _ d (type_line d) _ (c.in_err-kind-in-Type.ensures.reads d h))))
 
 -- a bucket's type by its name
-by_name : (d : Draft) (w : List ℕ) (k : ℕ) → IsKnown d (Bucket k) w → number_of d w ≡ k
+by_name : (d : Draft) (w : List ℕ) (k : ℕ) → IsKnown d (Bucket k) w → kind_of_word d w ≡ k
 by_name d w k known = ap (λ (o : Option ℕ). unwrap_or o 0) known
 
 -- and a fault of its first line
@@ -81,7 +81,7 @@ returns-in_ok-bucket-in-Bucket g c = record {
   reads = λ d h.
       let k = c.in_ok-bucket-in-Bucket.ensures.reads d h in
       let known = by_name d _ _ (subst (λ o. IsKnown d o c.args.word.now) c.in-Bucket.is (c.requires.known d h)) in
-      rw c.in-Bucket.is (k.0, k.1, subst (λ (n : ℕ). Leads (arrive d c.args.self.now.text.words (bucket_line d n)) c.args.self.now.text (between (at second k.0)) c.bucket.new.self.text) known k.2);
+      rw c.in-Bucket.is (k.0, k.1, subst (λ (n : ℕ). LeadsOn (arrive d c.args.self.now.text.words (bucket_line d n)) c.args.self.now.text (between (at second k.0)) c.bucket.new.self.text) known k.2);
   stands = c.in_ok-bucket-in-Bucket.ensures.stands;
   shorter = c.in_ok-bucket-in-Bucket.ensures.shorter;
 }

@@ -5,7 +5,7 @@ use Rattle.crush_map.specs.Building.{IsDraft}
 use Rattle.crush_map.specs.Rules.{kept_rule}
 use Rattle.crush_text.specs.Form.{ruled, at}
 use Rattle.crush_text.specs.Flow.{between}
-use Rattle.crush_text.specs.Reads.{Leads}
+use Rattle.crush_text.specs.Reads.{LeadsOn}
 use Rattle.crush_text.specs.ReadsRules.{IsRightSoFar}
 use Rattle.crush_text.proofs.reader.MapReader.steps.Given as goal
 
@@ -14,7 +14,7 @@ invariant-steps g l = record {
   right : IsRightSoFar l.self.builder l.rule;
   kept : l.self.builder ≡ l.fn.self.builder;
   shorter : length l.self.text.words ≤ length l.fn.self.text.words;
-  reads : (d : Draft) → IsDraft l.fn.self.builder d → Leads (between (at (ruled (kept_rule d l.fn.rule)) d)) l.fn.self.text (between (at (ruled (kept_rule d l.rule)) d)) l.self.text;
+  reads : (d : Draft) → IsDraft l.fn.self.builder d → LeadsOn (between (at (ruled (kept_rule d l.fn.rule)) d)) l.fn.self.text (between (at (ruled (kept_rule d l.rule)) d)) l.self.text;
 }
 
 abbrev pub decreases-steps : goal.decreases-steps

@@ -4,7 +4,7 @@ use Rattle.std.specs.Prelude.{if◌then◌else◌}
 use Rattle.crush_bytes.specs.Words.{past}
 use Rattle.std.proofs.lemmas.Result.{err_from_is_err_and}
 use Rattle.crush_edits.specs.Setting.{take}
-use Rattle.crush_map.specs.Rules.{bucket_named, taken_number}
+use Rattle.crush_map.specs.Rules.{complete_bucket_named, taken_number}
 use Rattle.crush_text.specs.Grammar.{step_done}
 use Rattle.crush_text.proofs.LineByLine.{fails_so}
 use Rattle.crush_text.proofs.LineEnds.{word_fails, word_reads}
@@ -38,7 +38,7 @@ returns-in_err-class-2 g c =
     (
     inl (want_here _ _ _ _ c.in_err-class-2.ensures.memory
     (reaches_on d _ _ _ _ _ _ (bucket_taken d c.in_ok-bucket.bucket.text.now _ _ (c.in_ok-bucket.ensures.reads.gives d h))
-    (reaches_taken d _ _ (step_done d r (take (taken_number (bucket_named d c.in_ok-bucket.bucket.text.now)) None)) _ _ _ _ (sym c.if-not-take_key.false ∙ c.take_key.ensures.answer) (c.take_key.ensures.rest ∙ ap (λ (b : Bool). if b then past c.taken_bucket.new.self.text else c.taken_bucket.new.self.text) c.if-not-take_key.false) (reaches_word d _ _ _ _ _ _ _ (c.in_ok-class.ensures.gives d tt) (_, c.in_ok-class.ensures.next)))))
+    (reaches_taken d _ _ (step_done d r (take (taken_number (complete_bucket_named d c.in_ok-bucket.bucket.text.now)) None)) _ _ _ _ (sym c.if-not-take_key.false ∙ c.take_key.ensures.answer) (c.take_key.ensures.rest ∙ ap (λ (b : Bool). if b then past c.taken_bucket.new.self.text else c.taken_bucket.new.self.text) c.if-not-take_key.false) (reaches_word d _ _ _ _ _ _ _ (c.in_ok-class.ensures.gives d tt) (_, c.in_ok-class.ensures.next)))))
     )))
 
 pub returns : goal.returns

@@ -1,10 +1,16 @@
--- How a pending part is stored.
+-- Pending parts, builders and maps as values of one plain type, from which each can be told again.
 use Rattle.std.specs.Prelude.{◌≡◌, ℕ, List, [], ◌==◌, if◌then◌else◌, refl}
 use Rattle.std.specs.Coded.{Coded, code_by, coded×, coded_ℕ, coded_list}
-use Rattle.crush_table.specs.Items.{ShadowData, coded_shadow}
+use Rattle.crush_table.specs.Items.{ShadowData}
+use Rattle.crush_table.specs.Forest.{ForestData}
+use Rattle.crush_table.specs.Codes.{coded_shadow, coded_forest}
+use Rattle.crush_edits.specs.Setting.{SettingData}
+use Rattle.crush_edits.specs.Codes.{coded_setting}
 use Rattle.crush_map.specs.Built.{Pending, nothing, begun, numbered, filling}
+use Rattle.crush_map.specs.Building.{BuilderData}
+use Rattle.crush_map.specs.MapData.{MapData}
 
--- its kind, two numbers, a name and class ids
+-- of a pending part its kind, two numbers, a name and class ids
 abbrev pub Parts : Type 0
 Parts = ℕ × (ℕ × (ℕ × (List ℕ × List ShadowData)))
 
@@ -26,3 +32,13 @@ parts_pending-pending_parts (filling b) = refl
 
 abbrev pub coded_pending : Coded Pending
 coded_pending = code_by Parts (coded× coded_ℕ (coded× coded_ℕ (coded× coded_ℕ (coded× (coded_list coded_ℕ) (coded_list coded_shadow))))) pending_parts parts_pending parts_pending-pending_parts
+
+-- a builder by its fields
+abbrev pub coded_builder : Coded BuilderData
+coded_builder =
+    code_by (SettingData × (ForestData × (Pending × ℕ))) (coded× coded_setting (coded× coded_forest (coded× coded_pending coded_ℕ)))
+    (λ b. (b.setting, (b.forest, (b.pending, b.adjusted)))) (λ p. record { setting = p.0; forest = p.1.0; pending = p.1.1.0; adjusted = p.1.1.1 }) (λ _. refl)
+
+-- a map by its fields
+abbrev pub coded_map : Coded MapData
+coded_map = code_by (SettingData × ForestData) (coded× coded_setting coded_forest) (λ m. (m.setting, m.forest)) (λ p. record { setting = p.0; forest = p.1 }) (λ _. refl)
