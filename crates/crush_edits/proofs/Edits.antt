@@ -22,6 +22,7 @@ use Rattle.crush_table.proofs.Renamed.{Lawful-set_name, All-row}
 use Rattle.crush_table.proofs.Swapped.{Lawful-swap}
 use Rattle.crush_table.proofs.Weighs.{or_left, or_right, true_or_false}
 use Rattle.crush_edits.specs.declared.refusal.Refusal.{Refusal}
+use Rattle.crush_edits.specs.declared.refusal.Refusal.TheVariants.{BadName, BadLocation, NoSuchType, NoPlace, WeightTooLarge, NameTaken, NotPlaced, NotADevice, NotABucket, WrongType, Loop, Nested, NotEmpty, InUse, NoRoom, SumTooLarge}
 use Rattle.crush_edits.specs.declared.refusal.Dones.{Dones}
 use Rattle.crush_edits.specs.declared.edit.Edit.{Edit}
 use Rattle.crush_edits.specs.declared.edit.Edit.TheVariants.{Insert, CreateOrMove, Update, Move, Swap, Reweight, ReweightSubtree, Remove, AddBucket, Rename}
@@ -29,34 +30,23 @@ use Rattle.crush_edits.specs.declared.location.Pair.{Pair}
 use Rattle.crush_edits.specs.Stops.{StopData, stops, end_id, number_of, bucket_named, receiver}
 use Rattle.crush_edits.specs.Put.{put, is_id, held}
 use Rattle.crush_edits.specs.New.{IsRoute}
-use Rattle.crush_edits.specs.Answer.{kept, on_some, meets, is_a_device, is_a_bucket, is_heavy, first_refusal, answer}
+use Rattle.crush_edits.specs.Answer.{kept, on_some, meets, is_a_device, is_a_bucket, is_heavy, answer}
 use Rattle.crush_edits.specs.Located.{is_bad_location, has_no_kind, names_it, is_taken}
 use Rattle.crush_edits.specs.Placing.{put_after, edited_leaf, edited_device, kept_weight, move_item}
 use Rattle.crush_edits.specs.Weighing.{is_unplaced}
-use Rattle.crush_edits.specs.Edit.{after, tests, refusal}
+use Rattle.crush_edits.specs.Edit.{after, refusal}
 use Rattle.crush_edits.specs.Batch.{batch_done, no_dones, and_then, batch_from}
 use Rattle.crush_edits.specs.Setting.{SettingData, kind_number}
 use Rattle.crush_edits.specs.Fits.{HasKind}
 use Rattle.crush_edits.specs.Making.{holds_items, is_taken_by_rule, after_add_bucket}
 use Rattle.crush_edits.specs.Pushed.{IsLocation}
 use Rattle.crush_edits.specs.LawEdit.{IsEdit, EditKeeps, BatchKeeps, IsPlacing, Keeps}
+use Rattle.crush_edits.proofs.Order.{edit_passed}
 use Rattle.crush_edits.proofs.Others.{weights_fit, name_fits, swap_fits, remove_lawful, remove_fits, added_lawful, added_fits}
 use Rattle.crush_edits.proofs.PutLaws.{lawful_put, lawful_new, put_fits}
 use Rattle.crush_edits.proofs.Routes.{named_there}
 use Rattle.crush_edits.proofs.Stops.{location_route, no_stop_named}
 use Rattle.crush_edits.proofs.Tails.{form_stays, row_form, edited_is_own}
-
--- WHERE NOTHING IS TOLD no test holds
-abbrev pub NoneHold : List (Refusal × Bool) → Type 0
-NoneHold [] = Unit {0}
-NoneHold (p ∷ ps) = (p.1 ≡ false) × NoneHold ps
-
-pub none_hold : (ps : List (Refusal × Bool)) → first_refusal ps ≡ None → NoneHold ps
-none_hold [] e = tt
-none_hold (p ∷ ps) e = by_test p.1 refl e (none_hold ps) where
-  by_test : (b : Bool) → p.1 ≡ b → (if b then Some p.0 else first_refusal ps) ≡ None → (first_refusal ps ≡ None → NoneHold ps) → (p.1 ≡ false) × NoneHold ps
-  by_test true is f rest = absurd cc
-  by_test false is f rest = (is, rest f)
 
 -- what isn't too heavy is a device's weight
 pub not_heavy : (w : ℕ) → is_heavy w ≡ false → w ≤ HEAVIEST_DEVICE
@@ -242,35 +232,35 @@ module _ (s : SettingData) (t : List Row) (k : Keeps s t) where
 -- THE LAW
 pub edit_keeps : EditKeeps
 edit_keeps s t (Insert d n w l) k form told =
-    let h = none_hold (tests s t (Insert d n w l) (after s t (Insert d n w l))) told in
-    device_put s t k d n l form h.0 h.1.0 h.1.1.0 h.1.1.1.0 h.1.1.1.1.1.0 h.1.1.1.1.1.1.1.0 w (not_heavy w h.1.1.1.1.0) h.1.1.1.1.1.1.1.1.1.1.0 h.1.1.1.1.1.1.1.1.1.0
+    let h = edit_passed s t (Insert d n w l) told in
+    device_put s t k d n l form (h BadName) (h BadLocation) (h NoSuchType) (h NoPlace) (h NameTaken) (h NotABucket) w (not_heavy w (h WeightTooLarge)) (h SumTooLarge) (h NoRoom)
 edit_keeps s t (CreateOrMove d n w l) k form told =
-    let h = none_hold (tests s t (CreateOrMove d n w l) (after s t (CreateOrMove d n w l))) told in
-    create_or_move s t k d n l form h.0 h.1.0 h.1.1.0 h.1.1.1.0 h.1.1.1.1.1.0 h.1.1.1.1.1.1.0 (kept_weight t d w) (device_light t k.lawful d w (not_heavy w h.1.1.1.1.0)) (held t (Device d) (stops s l)) h.1.1.1.1.1.1.1.1.0 h.1.1.1.1.1.1.1.1.1.0
+    let h = edit_passed s t (CreateOrMove d n w l) told in
+    create_or_move s t k d n l form (h BadName) (h BadLocation) (h NoSuchType) (h NoPlace) (h NameTaken) (h NotABucket) (kept_weight t d w) (device_light t k.lawful d w (not_heavy w (h WeightTooLarge))) (held t (Device d) (stops s l)) (h NoRoom) (h SumTooLarge)
 edit_keeps s t (Update d n w l) k form told =
-    let h = none_hold (tests s t (Update d n w l) (after s t (Update d n w l))) told in
-    update s t k d n l form h.0 h.1.0 h.1.1.0 h.1.1.1.0 h.1.1.1.1.1.0 h.1.1.1.1.1.1.0 w (not_heavy w h.1.1.1.1.0) (held t (Device d) (stops s l)) (held_placed s t k (Device d) (stops s l)) h.1.1.1.1.1.1.1.1.0 h.1.1.1.1.1.1.1.1.1.0
+    let h = edit_passed s t (Update d n w l) told in
+    update s t k d n l form (h BadName) (h BadLocation) (h NoSuchType) (h NoPlace) (h NameTaken) (h NotABucket) w (not_heavy w (h WeightTooLarge)) (held t (Device d) (stops s l)) (held_placed s t k (Device d) (stops s l)) (h NoRoom) (h SumTooLarge)
 edit_keeps s t (Move n l) k form told =
-    let h = none_hold (tests s t (Move n l) (after s t (Move n l))) told in
-    move s t k l form h.0 h.1.0 h.1.1.0 h.1.1.1.1.0 (id_named t n) (named_there t n) h.1.1.1.1.1.1.0 h.1.1.1.1.1.1.1.0 h.1.1.1.1.1.1.1.1.0
+    let h = edit_passed s t (Move n l) told in
+    move s t k l form (h BadLocation) (h NoSuchType) (h NoPlace) (h NotABucket) (id_named t n) (named_there t n) (h Loop) (h NoRoom) (h SumTooLarge)
 edit_keeps s t (Swap m n) k form told =
-    let h = none_hold (tests s t (Swap m n) (after s t (Swap m n))) told in
-    swap s t k (bucket_named t m) (bucket_named t n) (bucket_there s t k m) (bucket_there s t k n) h.1.1.0 h.1.1.1.0
+    let h = edit_passed s t (Swap m n) told in
+    swap s t k (bucket_named t m) (bucket_named t n) (bucket_there s t k m) (bucket_there s t k n) (h Nested) (h SumTooLarge)
 edit_keeps s t (Reweight n w) k form told =
-    let h = none_hold (tests s t (Reweight n w) (after s t (Reweight n w))) told in
-    reweight s t k w (not_heavy w h.0) (id_named t n) h.1.1.0 h.1.1.1.0 h.1.1.1.1.0
+    let h = edit_passed s t (Reweight n w) told in
+    reweight s t k w (not_heavy w (h WeightTooLarge)) (id_named t n) (h NotPlaced) (h NotADevice) (h SumTooLarge)
 edit_keeps s t (ReweightSubtree n w) k form told =
-    let h = none_hold (tests s t (ReweightSubtree n w) (after s t (ReweightSubtree n w))) told in
-    subtree s t k w (not_heavy w h.0) (bucket_named t n) h.1.1.1.0
+    let h = edit_passed s t (ReweightSubtree n w) told in
+    subtree s t k w (not_heavy w (h WeightTooLarge)) (bucket_named t n) (h SumTooLarge)
 edit_keeps s t (Remove n) k form told =
-    let h = none_hold (tests s t (Remove n) (after s t (Remove n))) told in
-    remove s t k (id_named t n) h.1.0 h.1.1.0
+    let h = edit_passed s t (Remove n) told in
+    remove s t k (id_named t n) (h NotEmpty) (h InUse)
 edit_keeps s t (AddBucket n kind) k form told =
-    let h = none_hold (tests s t (AddBucket n kind) (after s t (AddBucket n kind))) told in
-    add_bucket s t k n kind form (kind_number s kind) refl h.0 h.1.0 h.1.1.0 h.1.1.1.0
+    let h = edit_passed s t (AddBucket n kind) told in
+    add_bucket s t k n kind form (kind_number s kind) refl (h NoSuchType) (h NameTaken) (h WrongType) (h NoRoom)
 edit_keeps s t (Rename from to) k form told =
-    let h = none_hold (tests s t (Rename from to) (after s t (Rename from to))) told in
-    rename s t k to form (id_named t from) (named_there t from) h.1.0
+    let h = edit_passed s t (Rename from to) told in
+    rename s t k to form (id_named t from) (named_there t from) (h NameTaken)
 
 -- and of batches
 batch_from_keeps : (s : SettingData) (es : List Edit) (d : Dones) (t u : List Row) (e : Dones) → Keeps s t → All IsEdit es → batch_from s es d t ≡ batch_done e u → Keeps s u

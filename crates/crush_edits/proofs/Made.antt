@@ -13,15 +13,16 @@ use Rattle.crush_table.proofs.Moved.{row_id}
 use Rattle.crush_table.proofs.Weighs.{true_or_false}
 use Rattle.crush_edits.specs.declared.edit.Edit.TheVariants.{Insert, CreateOrMove, Update, Move, Swap, Reweight, ReweightSubtree, Remove, AddBucket, Rename}
 use Rattle.crush_edits.specs.declared.location.Pair.{Pair}
+use Rattle.crush_edits.specs.declared.refusal.Refusal.TheVariants.{BadName, BadLocation, NoSuchType, NoPlace, NameTaken, NotABucket}
 use Rattle.crush_edits.specs.Stops.{stops, end_id, bucket_named}
 use Rattle.crush_edits.specs.Put.{put, held}
 use Rattle.crush_edits.specs.New.{IsRoute}
 use Rattle.crush_edits.specs.Answer.{After, kept, on_some}
 use Rattle.crush_edits.specs.Placing.{put_after, edited_leaf, edited_device, kept_weight, move_item}
-use Rattle.crush_edits.specs.Edit.{after, tests}
 use Rattle.crush_edits.specs.Setting.{SettingData}
 use Rattle.crush_edits.specs.LawEdit.{MadeAreBuckets, Keeps}
-use Rattle.crush_edits.proofs.Edits.{none_hold, no_device_ends, some_row, there_named, route}
+use Rattle.crush_edits.proofs.Edits.{no_device_ends, some_row, there_named, route}
+use Rattle.crush_edits.proofs.Order.{edit_passed}
 use Rattle.crush_edits.proofs.Others.{weight_id, added_counts}
 use Rattle.crush_edits.proofs.PutLaws.{counts_put, counts_new}
 use Rattle.crush_edits.proofs.Stops.{location_route}
@@ -73,21 +74,21 @@ module _ (s : SettingData) (t : List Row) (k : Keeps s t) (l : List Pair) (r : I
 -- THE LAW
 pub made_are_buckets : MadeAreBuckets
 made_are_buckets s t (Insert d n w l) k form told other =
-    let h = none_hold (tests s t (Insert d n w l) (after s t (Insert d n w l))) told in
-    device_makes s t k l (route s t k d n l form h.0 h.1.0 h.1.1.0 h.1.1.1.0 h.1.1.1.1.1.0 h.1.1.1.1.1.1.1.0) d n w (there_named s t k d n l form h.0 h.1.0 h.1.1.0 h.1.1.1.0 h.1.1.1.1.1.0 h.1.1.1.1.1.1.1.0)
+    let h = edit_passed s t (Insert d n w l) told in
+    device_makes s t k l (route s t k d n l form (h BadName) (h BadLocation) (h NoSuchType) (h NoPlace) (h NameTaken) (h NotABucket)) d n w (there_named s t k d n l form (h BadName) (h BadLocation) (h NoSuchType) (h NoPlace) (h NameTaken) (h NotABucket))
 made_are_buckets s t (CreateOrMove d n w l) k form told other =
-    let h = none_hold (tests s t (CreateOrMove d n w l) (after s t (CreateOrMove d n w l))) told in
-    let r = route s t k d n l form h.0 h.1.0 h.1.1.0 h.1.1.1.0 h.1.1.1.1.1.0 h.1.1.1.1.1.1.0 in
+    let h = edit_passed s t (CreateOrMove d n w l) told in
+    let r = route s t k d n l form (h BadName) (h BadLocation) (h NoSuchType) (h NoPlace) (h NameTaken) (h NotABucket) in
     held_makes s t k l r (held t (Device d) (stops s l)) t (put_after t (edited_device t d n (kept_weight t d w)) (stops s l)) refl
-    (device_makes s t k l r d n (kept_weight t d w) (there_named s t k d n l form h.0 h.1.0 h.1.1.0 h.1.1.1.0 h.1.1.1.1.1.0 h.1.1.1.1.1.1.0))
+    (device_makes s t k l r d n (kept_weight t d w) (there_named s t k d n l form (h BadName) (h BadLocation) (h NoSuchType) (h NoPlace) (h NameTaken) (h NotABucket)))
 made_are_buckets s t (Update d n w l) k form told other =
-    let h = none_hold (tests s t (Update d n w l) (after s t (Update d n w l))) told in
-    let r = route s t k d n l form h.0 h.1.0 h.1.1.0 h.1.1.1.0 h.1.1.1.1.1.0 h.1.1.1.1.1.1.0 in
+    let h = edit_passed s t (Update d n w l) told in
+    let r = route s t k d n l form (h BadName) (h BadLocation) (h NoSuchType) (h NoPlace) (h NameTaken) (h NotABucket) in
     held_makes s t k l r (held t (Device d) (stops s l)) (set_weight (Device d) w t) (put_after t (edited_device t d n w) (stops s l)) (weights_count (λ (x : Row). same_id x.id (Device d)) w t)
-    (device_makes s t k l r d n w (there_named s t k d n l form h.0 h.1.0 h.1.1.0 h.1.1.1.0 h.1.1.1.1.1.0 h.1.1.1.1.1.1.0))
+    (device_makes s t k l r d n w (there_named s t k d n l form (h BadName) (h BadLocation) (h NoSuchType) (h NoPlace) (h NameTaken) (h NotABucket)))
 made_are_buckets s t (Move n l) k form told other =
-    let h = none_hold (tests s t (Move n l) (after s t (Move n l))) told in
-    some_makes t (id_named t n) (move_item s t l) (move_makes s t k l (location_route s t l k.fits form.names form.few h.0 h.1.0 h.1.1.0 (no_device_ends (end_id t (stops s l)) h.1.1.1.1.0)))
+    let h = edit_passed s t (Move n l) told in
+    some_makes t (id_named t n) (move_item s t l) (move_makes s t k l (location_route s t l k.fits form.names form.few (h BadLocation) (h NoSuchType) (h NoPlace) (no_device_ends (end_id t (stops s l)) (h NotABucket))))
 made_are_buckets s t (Swap m n) k form told other =
     some_makes t (bucket_named t m) (λ a. on_some t (bucket_named t n) (λ b. kept (swap_buckets a b t)))
     (λ a. some_makes t (bucket_named t n) (λ b. kept (swap_buckets a b t)) (λ b. no_more (bucket_count (swap_buckets a b t)) (bucket_count t) (swap_count a b t)))

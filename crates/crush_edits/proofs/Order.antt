@@ -1,6 +1,6 @@
 -- The order of refusals.
 use Rattle.std.proofs.Common.{◌≡◌, ℕ, zero, suc, ◌+◌, ◌<◌, ◌≤◌, Bool, true, false, List, [], ◌∷◌, ◌++◌, sym, subst, refl, arith, ◌∙◌, ap}
-use Rattle.std.specs.Prelude.{◌&&◌, if◌then◌else◌, Some, None, All, map, nat_lt, slice_index}
+use Rattle.std.specs.Prelude.{◌==◌, ◌&&◌, if◌then◌else◌, Option, Some, None, IfSome, All, map, nat_lt, slice_index}
 use Rattle.std.specs.List.Sorted.{IsStrictlyIncreasing}
 use Rattle.std.proofs.lemmas.Bool.{and_parts, ltb-true}
 use Rattle.std.proofs.lemmas.List.Elements.{All-nil, All-cons, All-weaker, All-head, All-tail}
@@ -12,7 +12,7 @@ use Rattle.crush_edits.specs.declared.edit.Edit.TheVariants.{Insert, CreateOrMov
 use Rattle.crush_edits.specs.Setting.{SettingData}
 use Rattle.crush_edits.specs.Refusal.{refusal_number}
 use Rattle.crush_edits.specs.Answer.{After, first_refusal}
-use Rattle.crush_edits.specs.Edit.{after, tests}
+use Rattle.crush_edits.specs.Edit.{after, tests, refusal}
 use Rattle.crush_edits.specs.LawOrder.{RowsAreRefusals, TestsRise, LeastIsTold, NoneIsTold, NothingIsTold, GroupPasses, GroupRefuses}
 
 pub rows_are : RowsAreRefusals
@@ -110,6 +110,27 @@ none_of (p ∷ ps) e = by_test p.1 refl (none_of ps) e where
 
 pub none_told : NoneIsTold
 none_told s t e told = none_of (tests s t e (after s t e)) told
+
+-- BY ITS NAME: the test of a refusal in a list of tests
+abbrev pub test_of : Refusal → List (Refusal × Bool) → Option Bool
+test_of r [] = None
+test_of r (p ∷ ps) = if refusal_number p.0 == refusal_number r then Some p.1 else test_of r ps
+
+-- it is false where all are
+one_passed : (r : Refusal) (ps : List (Refusal × Bool)) → All (λ p. p.1 ≡ false) ps → IfSome (test_of r ps) (λ b. b ≡ false)
+one_passed r [] a = tt
+one_passed r (p ∷ ps) a = by_name (refusal_number p.0 == refusal_number r) (All-head (λ q. q.1 ≡ false) p ps a) (one_passed r ps (All-tail (λ q. q.1 ≡ false) p ps a)) where
+  by_name : (c : Bool) → p.1 ≡ false → IfSome (test_of r ps) (λ b. b ≡ false) → IfSome (if c then Some p.1 else test_of r ps) (λ b. b ≡ false)
+  by_name true here there = here
+  by_name false here there = there
+
+-- where nothing is told the test of each refusal is false, wherever in the list it stands
+pub passed : (ps : List (Refusal × Bool)) → first_refusal ps ≡ None → (r : Refusal) → IfSome (test_of r ps) (λ b. b ≡ false)
+passed ps told r = one_passed r ps (none_of ps told)
+
+-- so of an edit
+pub edit_passed : (s : SettingData) (t : List Row) (e : Edit) → refusal s t e ≡ None → (r : Refusal) → IfSome (test_of r (tests s t e (after s t e))) (λ b. b ≡ false)
+edit_passed s t e told r = passed (tests s t e (after s t e)) told r
 
 -- GROUPS of tests
 pub nothing_told : NothingIsTold
