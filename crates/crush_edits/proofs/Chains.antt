@@ -10,6 +10,7 @@ use Rattle.crush_units.specs.declared.id.ItemId.{ItemId}
 use Rattle.crush_units.specs.declared.id.ItemId.TheVariants.{Device, Bucket}
 use Rattle.crush_units.specs.Id.{same_id}
 use Rattle.crush_units.proofs.Ids.{same_id_tells}
+use Rattle.crush_units.specs.declared.limits.TheConstants.{HEAVIEST_BUCKET, HEAVIEST_MAP}
 use Rattle.crush_table.specs.Items.{none}
 use Rattle.crush_table.specs.Reordered.{IsReordered, through}
 use Rattle.crush_table.specs.ItemRows.{rows, bucket_row}
@@ -180,7 +181,7 @@ module _ (t : List Row) (l : Lawful t) (ns : List NewData) (top : Option ℕ) (f
   pub Lawful-with : has_too_many (t ++ new_rows) ≡ false → Lawful (t ++ new_rows)
   Lawful-with room =
       Lawful-attach t top (boxes m none ns) l fresh.there forms_new distinct_with names_with used_with
-      (sums_light (t ++ new_rows) (λ b. subst (λ n. n ≤ 4294967295) (sym (sum_below-with b)) (l.sums b)) (subst (λ n. n ≤ 8796093022207) (sym total-with) l.total)) room
+      (sums_light (t ++ new_rows) (λ b. subst (λ n. n ≤ HEAVIEST_BUCKET) (sym (sum_below-with b)) (l.sums b)) (subst (λ n. n ≤ HEAVIEST_MAP) (sym total-with) l.total)) room
 
   -- each new row is found
   pub found-chain : All (λ (r : Row). row_of (t ++ new_rows) r.id ≡ Some r) (chain ns top)

@@ -83,16 +83,16 @@ class_form t l d = by_row (row_of t (Device d)) refl where
   by_row None e = tt
   by_row (Some r) e = in_form r (subst (λ i. IsRowOf i r) (row_id (Device d) t r e) (row_form t l (Device d) r e).form)
 
-device_light : (t : List Row) → Lawful t → (d w : ℕ) → w ≤ 2147483647 → kept_weight t d w ≤ 2147483647
+device_light : (t : List Row) → Lawful t → (d w : ℕ) → w ≤ HEAVIEST_DEVICE → kept_weight t d w ≤ HEAVIEST_DEVICE
 device_light t l d w light = by_place (is_placed t (Device d)) where
-  in_form : (r : Row) → IsRowOf (Device d) r → r.weight ≤ 2147483647
+  in_form : (r : Row) → IsRowOf (Device d) r → r.weight ≤ HEAVIEST_DEVICE
   in_form r form = form.light
 
-  by_row : (o : Option Row) → row_of t (Device d) ≡ o → unwrap_or (option_map (λ (r : Row). r.weight) o) w ≤ 2147483647
+  by_row : (o : Option Row) → row_of t (Device d) ≡ o → unwrap_or (option_map (λ (r : Row). r.weight) o) w ≤ HEAVIEST_DEVICE
   by_row None e = light
   by_row (Some r) e = in_form r (subst (λ i. IsRowOf i r) (row_id (Device d) t r e) (row_form t l (Device d) r e).form)
 
-  by_place : (b : Bool) → (if b then unwrap_or (own_weight_of t (Device d)) w else w) ≤ 2147483647
+  by_place : (b : Bool) → (if b then unwrap_or (own_weight_of t (Device d)) w else w) ≤ HEAVIEST_DEVICE
   by_place true = by_row (row_of t (Device d)) refl
   by_place false = light
 
@@ -110,7 +110,7 @@ module _ (s : SettingData) (t : List Row) (k : Keeps s t) where
     pub route : IsRoute t (stops s l)
     route = location_route s t l k.fits form.at.names form.at.few good known some (no_device_ends (end_id t (stops s l)) ends)
 
-    row_new : (w : ℕ) → w ≤ 2147483647 → (b : ℕ) → IsRow (device_row (Some b) (edited_leaf t d n w))
+    row_new : (w : ℕ) → w ≤ HEAVIEST_DEVICE → (b : ℕ) → IsRow (device_row (Some b) (edited_leaf t d n w))
     row_new w light b = record { name = form.name; form = record { id = form.id; kind = refl; light = light; unplaced = λ e. absurd cc; alg = refl; class_ids = refl; class = class_form t k.lawful d } }
 
     pub there_named : (r : Row) → row_of t (Device d) ≡ Some r → r.name ≡ n
@@ -118,7 +118,7 @@ module _ (s : SettingData) (t : List Row) (k : Keeps s t) where
         (bytes_eq-Decides r.name n).0 (not-false (bytes_eq r.name n)
         (sym (ap (λ o. meets (λ m. not (bytes_eq m n)) (option_map (λ (x : Row). x.name) o)) e) ∙ or_right (meets (λ j. not (same_id j (Device d))) (id_named t n)) (meets (λ m. not (bytes_eq m n)) (name_of t (Device d))) own))
 
-    device_put_lawful : (w : ℕ) → w ≤ 2147483647 → is_too_heavy (put t (edited_device t d n w) (stops s l)) ≡ false → has_too_many (put t (edited_device t d n w) (stops s l)) ≡ false → Lawful (put t (edited_device t d n w) (stops s l))
+    device_put_lawful : (w : ℕ) → w ≤ HEAVIEST_DEVICE → is_too_heavy (put t (edited_device t d n w) (stops s l)) ≡ false → has_too_many (put t (edited_device t d n w) (stops s l)) ≡ false → Lawful (put t (edited_device t d n w) (stops s l))
     device_put_lawful w light sums room = ⊎_elim there_already not_there (true_or_false (is_there t (Device d))) where
       not_there : is_there t (Device d) ≡ false → Lawful (put t (edited_device t d n w) (stops s l))
       not_there gone =
@@ -136,16 +136,16 @@ module _ (s : SettingData) (t : List Row) (k : Keeps s t) where
           (lawful_put t (stops s l) k.lawful route found.0 w (ap (row_of t) is ∙ found.1) (subst (λ i. IfSome (receiver t (stops s l)) (λ b. is_part t i (Bucket b) ≡ false)) (sym is) (device_apart t d (receiver t (stops s l))))
           (λ b. (form_stays found.0 (row_form t k.lawful (Device d) found.0 found.1)).1 d b w is light) (ap is_too_heavy (sym put_same) ∙ sums) (ap has_too_many (sym put_same) ∙ room))
 
-    device_put : (w : ℕ) → w ≤ 2147483647 → is_too_heavy (put t (edited_device t d n w) (stops s l)) ≡ false → has_too_many (put t (edited_device t d n w) (stops s l)) ≡ false → Keeps s (put t (edited_device t d n w) (stops s l))
+    device_put : (w : ℕ) → w ≤ HEAVIEST_DEVICE → is_too_heavy (put t (edited_device t d n w) (stops s l)) ≡ false → has_too_many (put t (edited_device t d n w) (stops s l)) ≡ false → Keeps s (put t (edited_device t d n w) (stops s l))
     device_put w light sums room = record { lawful = device_put_lawful w light sums room; fits = put_fits s t l (edited_device t d n w) k.fits (λ more. absurd (omega arith)) }
 
     -- where it is held, or else put
-    create_or_move : (w : ℕ) → w ≤ 2147483647 → (b : Bool) → has_too_many (if b then kept t else put_after t (edited_device t d n w) (stops s l)).table ≡ false → is_too_heavy (if b then kept t else put_after t (edited_device t d n w) (stops s l)).table ≡ false
+    create_or_move : (w : ℕ) → w ≤ HEAVIEST_DEVICE → (b : Bool) → has_too_many (if b then kept t else put_after t (edited_device t d n w) (stops s l)).table ≡ false → is_too_heavy (if b then kept t else put_after t (edited_device t d n w) (stops s l)).table ≡ false
         → Keeps s (if b then kept t else put_after t (edited_device t d n w) (stops s l)).table
     create_or_move w light true room sums = k
     create_or_move w light false room sums = device_put w light sums room
 
-    update : (w : ℕ) → w ≤ 2147483647 → (b : Bool) → (b ≡ true → is_placed t (Device d) ≡ true) → has_too_many (if b then kept (set_weight (Device d) w t) else put_after t (edited_device t d n w) (stops s l)).table ≡ false
+    update : (w : ℕ) → w ≤ HEAVIEST_DEVICE → (b : Bool) → (b ≡ true → is_placed t (Device d) ≡ true) → has_too_many (if b then kept (set_weight (Device d) w t) else put_after t (edited_device t d n w) (stops s l)).table ≡ false
         → is_too_heavy (if b then kept (set_weight (Device d) w t) else put_after t (edited_device t d n w) (stops s l)).table ≡ false → Keeps s (if b then kept (set_weight (Device d) w t) else put_after t (edited_device t d n w) (stops s l)).table
     update w light true placed room sums = record { lawful = Lawful-set_weight t d w k.lawful (placed refl) light sums; fits = weights_fit s t (λ (r : Row). same_id r.id (Device d)) w k.fits }
     update w light false placed room sums = device_put w light sums room
@@ -188,12 +188,12 @@ module _ (s : SettingData) (t : List Row) (k : Keeps s t) where
   some_parent None h = absurd cc
   some_parent (Some p) h = refl
 
-  reweight : (w : ℕ) → w ≤ 2147483647 → (o : Option ItemId) → meets (is_unplaced t) o ≡ false → is_a_bucket o ≡ false → is_too_heavy (on_some t o (λ i. kept (set_weight i w t))).table ≡ false → Keeps s (on_some t o (λ i. kept (set_weight i w t))).table
+  reweight : (w : ℕ) → w ≤ HEAVIEST_DEVICE → (o : Option ItemId) → meets (is_unplaced t) o ≡ false → is_a_bucket o ≡ false → is_too_heavy (on_some t o (λ i. kept (set_weight i w t))).table ≡ false → Keeps s (on_some t o (λ i. kept (set_weight i w t))).table
   reweight w light None placed device sums = k
   reweight w light (Some (Device d)) placed device sums = record { lawful = Lawful-set_weight t d w k.lawful (some_parent (parent_of t (Device d)) placed) light sums; fits = weights_fit s t (λ (r : Row). same_id r.id (Device d)) w k.fits }
   reweight w light (Some (Bucket b)) placed device sums = absurd cc
 
-  subtree : (w : ℕ) → w ≤ 2147483647 → (o : Option ℕ) → is_too_heavy (on_some t o (λ b. kept (set_subtree b w t))).table ≡ false → Keeps s (on_some t o (λ b. kept (set_subtree b w t))).table
+  subtree : (w : ℕ) → w ≤ HEAVIEST_DEVICE → (o : Option ℕ) → is_too_heavy (on_some t o (λ b. kept (set_subtree b w t))).table ≡ false → Keeps s (on_some t o (λ b. kept (set_subtree b w t))).table
   subtree w light None sums = k
   subtree w light (Some b) sums = record { lawful = Lawful-set_subtree t b w k.lawful light sums; fits = weights_fit s t _ w k.fits }
 

@@ -5,6 +5,7 @@ use Rattle.std.specs.Prelude.{Option, Some, None, ◌||◌, if◌then◌else◌,
 use Rattle.std.specs.Option.{option_and_then}
 use Rattle.crush_units.specs.declared.id.ItemId.{ItemId}
 use Rattle.crush_units.specs.declared.id.ItemId.TheVariants.{Device}
+use Rattle.crush_units.specs.declared.limits.TheConstants.{MOST_BUCKETS, MOST_DEVICES}
 use Rattle.crush_table.specs.Lawful.{has_too_many}
 use Rattle.crush_table.specs.Table.{Row, row_of, is_there, is_placed, device_count, bucket_count}
 use Rattle.crush_edits.specs.declared.edit.Edit.TheVariants.{Insert}
@@ -29,10 +30,10 @@ gone_free t i gone = by_row (row_of t i) gone where
   by_row (Some r) e = absurd cc
 
 -- one more than there may be
-over_devices : (u d b : ℕ) → u ≡ d + 1 → 65536 ≤ d → (nat_lt 65536 u || nat_lt 4096 b) ≡ true
+over_devices : (u d b : ℕ) → u ≡ d + 1 → MOST_DEVICES ≤ d → (nat_lt MOST_DEVICES u || nat_lt MOST_BUCKETS b) ≡ true
 over_devices u d b more full = grind (arith, nat_tests)
 
-over_buckets : (u b c k : ℕ) → b ≡ c + k → 4096 < c + k → (nat_lt 65536 u || nat_lt 4096 b) ≡ true
+over_buckets : (u b c k : ℕ) → b ≡ c + k → MOST_BUCKETS < c + k → (nat_lt MOST_DEVICES u || nat_lt MOST_BUCKETS b) ≡ true
 over_buckets u b c k more full = grind (arith, nat_tests)
 
 module _ (s : SettingData) (t : List Row) (d : ℕ) (n : List ℕ) (w : ℕ) (l : List Pair) where

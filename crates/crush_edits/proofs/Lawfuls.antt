@@ -10,6 +10,7 @@ use Rattle.crush_units.specs.declared.id.ItemId.{ItemId}
 use Rattle.crush_units.specs.declared.id.ItemId.TheVariants.{Device, Bucket}
 use Rattle.crush_units.specs.Id.{same_id}
 use Rattle.crush_units.proofs.Ids.{same_id_refl}
+use Rattle.crush_units.specs.declared.limits.TheConstants.{MOST_BUCKETS, MOST_DEVICES}
 use Rattle.crush_table.specs.Reordered.{IsReordered, through}
 use Rattle.crush_table.specs.ItemRows.{bucket_row}
 use Rattle.crush_table.specs.Table.{Row, is_device, is_device_id, is_bucket, row_of, row_named, is_there, is_named, device_count, bucket_count}
@@ -45,11 +46,11 @@ nowhere_named (r ∷ t) n h = ⊎_elim
 nowhere_there : (t : List Row) (i : ItemId) → times i t ≡ 0 → is_there t i ≡ false
 nowhere_there t i h = ⊎_elim (λ e. absurd (omega (arith, h, is_there-times t i e))) (λ e. e) (true_or_false (is_there t i))
 
-pub few_too_many : (d b e c : ℕ) → d ≤ e → b ≤ c → (nat_lt 65536 e || nat_lt 4096 c) ≡ false → (nat_lt 65536 d || nat_lt 4096 b) ≡ false
+pub few_too_many : (d b e c : ℕ) → d ≤ e → b ≤ c → (nat_lt MOST_DEVICES e || nat_lt MOST_BUCKETS c) ≡ false → (nat_lt MOST_DEVICES d || nat_lt MOST_BUCKETS b) ≡ false
 few_too_many d b e c le ge h =
-    let devices : e ≤ 65536 = ltb-false 65536 e (or_left (nat_lt 65536 e) (nat_lt 4096 c) h) in
-    let buckets : c ≤ 4096 = ltb-false 4096 c (or_right (nat_lt 65536 e) (nat_lt 4096 c) h) in
-    λ k. le-ltb 65536 d (omega (arith, devices)) k || le-ltb 4096 b (omega (arith, buckets)) k
+    let devices : e ≤ MOST_DEVICES = ltb-false MOST_DEVICES e (or_left (nat_lt MOST_DEVICES e) (nat_lt MOST_BUCKETS c) h) in
+    let buckets : c ≤ MOST_BUCKETS = ltb-false MOST_BUCKETS c (or_right (nat_lt MOST_DEVICES e) (nat_lt MOST_BUCKETS c) h) in
+    λ k. le-ltb MOST_DEVICES d (omega (arith, devices)) k || le-ltb MOST_BUCKETS b (omega (arith, buckets)) k
 
 if_some : (P : ℕ → Type 0) (o : Option ℕ) (b : ℕ) → o ≡ Some b → IfSome o P → P b
 if_some P o b e h = subst (λ z. IfSome z P) e h
@@ -84,7 +85,7 @@ module _ (t : List Row) (l : Lawful t) (ns : List NewData) (top : Option ℕ) (f
         )
 
     pub room_put : has_too_many (without_row i t ++ (chain ns top ++ s ∷ [])) ≡ false → has_too_many with_new ≡ false
-    room_put h = (λ k. nat_lt 65536 (count_put is_device (ap is_device_id same) k) || nat_lt 4096 (count_put is_bucket (ap (λ j. not (is_device_id j)) same) k)) ∙ h
+    room_put h = (λ k. nat_lt MOST_DEVICES (count_put is_device (ap is_device_id same) k) || nat_lt MOST_BUCKETS (count_put is_bucket (ap (λ j. not (is_device_id j)) same) k)) ∙ h
 
   -- THE LAW: an item that is there, put, where the sums and counts stay in range
   pub Lawful-put_moved : (i : ItemId) (r : Row) (b w : ℕ) → row_of t i ≡ Some r → next_up ns top ≡ Some b → IfSome top (λ c. is_part t i (Bucket c) ≡ false) → IsRow (record r { parent = Some b; weight = w })
@@ -160,7 +161,7 @@ module _ (t : List Row) (l : Lawful t) (ns : List NewData) (top : Option ℕ) (f
 
     pub Lawful-put_new : is_too_heavy (put_at t r ns top) ≡ false → has_too_many (put_at t r ns top) ≡ false → Lawful (put_at t r ns top)
     Lawful-put_new light room =
-        let room_before : has_too_many before ≡ false = (λ k. nat_lt 65536 (count_new is_device refl k) || nat_lt 4096 (count_new is_bucket refl k)) ∙ room in
+        let room_before : has_too_many before ≡ false = (λ k. nat_lt MOST_DEVICES (count_new is_device refl k) || nat_lt MOST_BUCKETS (count_new is_bucket refl k)) ∙ room in
         let room_with : has_too_many with_new ≡ false = few_too_many (device_count with_new) (bucket_count with_new) (device_count before) (bucket_count before)
         (omega (arith, sum_by_push (λ (x : Row). one_if (is_device x)) with_new unplaced)) (omega (arith, sum_by_push (λ (x : Row). one_if (is_bucket x)) with_new unplaced)) room_before in
         let lawful : Lawful with_new = Lawful-with t l ns top fresh m room_with in

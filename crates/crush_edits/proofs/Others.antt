@@ -11,6 +11,7 @@ use Rattle.std.proofs.lemmas.List.Sums.{sum_by_push}
 use Rattle.crush_units.specs.declared.id.ItemId.{ItemId}
 use Rattle.crush_units.specs.declared.id.ItemId.TheVariants.{Device, Bucket}
 use Rattle.crush_units.specs.Id.{same_id}
+use Rattle.crush_units.specs.declared.limits.TheConstants.{FARTHEST_BUCKET_ID, LAST_TYPE, MOST_BUCKETS, MOST_DEVICES}
 use Rattle.crush_table.specs.Lawful.{IsShadowId, IsRow, Lawful, has_too_many}
 use Rattle.crush_table.specs.ItemRows.{bucket_row}
 use Rattle.crush_table.specs.Table.{Row, is_device, is_bucket, row_of, kids, member, used_ids, free_ids, device_count, bucket_count}
@@ -164,9 +165,9 @@ added_lawful s t n kind k l fits e some form unnamed room =
       name = form;
       form = record {
         some = All-head (λ x. 0 < x) free.0 [] ids.some;
-        most = All-head (λ x. x ≤ 2147483648) free.0 [] ids.most;
+        most = All-head (λ x. x ≤ FARTHEST_BUCKET_ID) free.0 [] ids.most;
         kind_some = positive;
-        kind_most = subst (λ o. IfSome o (λ x. x ≤ 65535)) e (kind_most s fits.setting.kinds kind);
+        kind_most = subst (λ o. IfSome o (λ x. x ≤ LAST_TYPE)) e (kind_most s fits.setting.kinds kind);
         weight = refl;
         class = refl;
         alg = λ f. cc;
@@ -181,8 +182,8 @@ added_lawful s t n kind k l fits e some form unnamed room =
 pub full_has_no_room : FullHasNoRoom
 full_has_no_room s t n kind k e some unnamed full =
     let count : bucket_count (after_add_bucket s t n kind).table ≡ bucket_count t + 1 = (added_counts s t n kind).1 in
-    let over : nat_lt 4096 (bucket_count (after_add_bucket s t n kind).table) ≡ true = lt-ltb 4096 (bucket_count (after_add_bucket s t n kind).table) (omega (arith, count, full)) in
-    let room : has_too_many (after_add_bucket s t n kind).table ≡ true = ap (λ b. nat_lt 65536 (device_count (after_add_bucket s t n kind).table) || b) over ∙ or-true (nat_lt 65536 (device_count (after_add_bucket s t n kind).table)) in
+    let over : nat_lt MOST_BUCKETS (bucket_count (after_add_bucket s t n kind).table) ≡ true = lt-ltb MOST_BUCKETS (bucket_count (after_add_bucket s t n kind).table) (omega (arith, count, full)) in
+    let room : has_too_many (after_add_bucket s t n kind).table ≡ true = ap (λ b. nat_lt MOST_DEVICES (device_count (after_add_bucket s t n kind).table) || b) over ∙ or-true (nat_lt MOST_DEVICES (device_count (after_add_bucket s t n kind).table)) in
     let told : refusal s t (AddBucket n kind) ≡ (if k == 0 then Some WrongType else Some NoRoom) =
     λ i. first_refusal ((NoSuchType, is_none (e i)) ∷ ((NameTaken, unnamed i) ∷ ((WrongType, meets (λ x. x == 0) (e i)) ∷ ((NoRoom, room i) ∷ [])))) in
     told ∙ ap (λ b. if b then Some WrongType else Some NoRoom) some

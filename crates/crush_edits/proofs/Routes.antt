@@ -10,6 +10,7 @@ use Rattle.crush_units.specs.declared.id.ItemId.{ItemId}
 use Rattle.crush_units.specs.declared.id.ItemId.TheVariants.{Device, Bucket}
 use Rattle.crush_units.specs.Id.{same_id}
 use Rattle.crush_units.proofs.Ids.{same_id_refl}
+use Rattle.crush_units.specs.declared.limits.TheConstants.{FARTHEST_BUCKET_ID}
 use Rattle.crush_table.specs.Table.{Row, is_device_id, row_named, id_named, is_named, is_there, member, used_ids, free_ids}
 use Rattle.crush_table.specs.Lawful.{Lawful}
 use Rattle.crush_table.specs.Count.{one_if}
@@ -93,7 +94,7 @@ new_buckets-length t ps = with_ids-length (free_ids t (length (fresh_stops t ps)
 -- free ids for stops that a table doesn't name make buckets that it can have
 pub numbered_new : (t : List Row) (m : ℕ) (ids : List ℕ) (ps : List StopData) (top : Option ℕ) → AreFreeIds t m ids → All IsStop ps → All (λ (p : StopData). is_named t p.name ≡ false) ps → OnceNamed ps → IfSome top (λ b. is_there t (Bucket b) ≡ true) → AreNew t (with_ids ids ps) top
 numbered_new t m ids ps top free forms unnamed once there = record {
-  forms = with_ids-All IsNew (λ k. (0 < k) × (k ≤ 2147483648)) IsStop (λ i p r f. record { some = r.0; most = r.1; kind_some = f.kind_some; kind_most = f.kind_most; name = f.name }) ids ps (λ k d h. (free.some k d h, free.most k d h)) forms;
+  forms = with_ids-All IsNew (λ k. (0 < k) × (k ≤ FARTHEST_BUCKET_ID)) IsStop (λ i p r f. record { some = r.0; most = r.1; kind_some = f.kind_some; kind_most = f.kind_most; name = f.name }) ids ps (λ k d h. (free.some k d h, free.most k d h)) forms;
   unused = with_ids-All (λ (n : NewData). member n.id (used_ids t) ≡ false) (λ k. member k (used_ids t) ≡ false) IsStop (λ i p h f. h) ids ps free.unused forms;
   unnamed = with_ids-All (λ (n : NewData). is_named t n.name ≡ false) (λ k. 0 < k) (λ (p : StopData). is_named t p.name ≡ false) (λ i p h f. f) ids ps free.some unnamed;
   ids = λ k. omega (arith, free.once k, with_ids-ids k ids ps);

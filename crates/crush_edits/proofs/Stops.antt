@@ -9,6 +9,7 @@ use Rattle.std.proofs.lemmas.List.{length-append, take-append-drop}
 use Rattle.std.proofs.lemmas.List.Sums.{sum_by-cons, sum_by-insert, fold-append}
 use Rattle.std.proofs.lemmas.List.Elements.{All-nil, All-cons, All-head, All-tail, All-append, All-take, All-drop, All-weaker}
 use Rattle.crush_units.specs.Name.{IsName}
+use Rattle.crush_units.specs.declared.limits.TheConstants.{LAST_TYPE, MOST_PAIRS}
 use Rattle.crush_table.specs.Table.{Row, is_device_id}
 use Rattle.crush_table.specs.Tested.{are_apart}
 use Rattle.crush_table.proofs.Reorder.{sum_by-map}
@@ -68,13 +69,13 @@ find_holds P test (x ∷ xs) a = by_test (test x) (find_holds P test xs (All-tai
   by_test true rest = All-head P x xs a
   by_test false rest = rest
 
-pub kind_most : (s : SettingData) → All IsKind s.kinds → (n : List ℕ) → IfSome (kind_number s n) (λ k. k ≤ 65535)
+pub kind_most : (s : SettingData) → All IsKind s.kinds → (n : List ℕ) → IfSome (kind_number s n) (λ k. k ≤ LAST_TYPE)
 kind_most s a n = by_kind (find (λ (k : KindData). bytes_eq k.name n) s.kinds) (find_holds IsKind (λ (k : KindData). bytes_eq k.name n) s.kinds a) where
-  by_kind : (o : Option KindData) → IfSome o IsKind → IfSome (option_map (λ (k : KindData). k.number) o) (λ k. k ≤ 65535)
+  by_kind : (o : Option KindData) → IfSome o IsKind → IfSome (option_map (λ (k : KindData). k.number) o) (λ k. k ≤ LAST_TYPE)
   by_kind None h = tt
   by_kind (Some k) h = h.number
 
-with_form : (o : Option ℕ) (m : List ℕ) (ps : List StopData) → IfSome o (λ k. k ≤ 65535) → meets (λ k. k == 0) o ≡ false → IsName m → All IsStop ps → All IsStop (with_stop o m ps)
+with_form : (o : Option ℕ) (m : List ℕ) (ps : List StopData) → IfSome o (λ k. k ≤ LAST_TYPE) → meets (λ k. k == 0) o ≡ false → IsName m → All IsStop ps → All IsStop (with_stop o m ps)
 with_form None m ps most some name a = a
 with_form (Some k) m ps most some name a =
     let i = position_or_len (λ (q : StopData). nat_le k q.kind) ps in
@@ -105,7 +106,7 @@ pub no_stop_named : (s : SettingData) (l : List Pair) (n : List ℕ) → names_i
 no_stop_named s l n h = omega (arith, fold_hit s n l [], none_named l n h)
 
 -- THE LAW: a location that passes its tests, and at whose end no device stands, is a route
-pub location_route : (s : SettingData) (t : List Row) (l : List Pair) → Fits s t → All (λ (p : Pair). IsName p.name) l → length l ≤ 16 → is_bad_location s l ≡ false → has_no_kind s l ≡ false → (length l == 0) ≡ false
+pub location_route : (s : SettingData) (t : List Row) (l : List Pair) → Fits s t → All (λ (p : Pair). IsName p.name) l → length l ≤ MOST_PAIRS → is_bad_location s l ≡ false → has_no_kind s l ≡ false → (length l == 0) ≡ false
     → IfSome (end_id t (stops s l)) (λ i. is_device_id i ≡ false) → IsRoute t (stops s l)
 location_route s t l fits names few good known some ends =
     let twice : Bool = has_twice (map (λ (p : Pair). p.name) l) in

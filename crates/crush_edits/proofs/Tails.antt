@@ -12,6 +12,7 @@ use Rattle.crush_table.proofs.Removed.{row_of-only}
 use Rattle.crush_table.proofs.Moved.{row_id}
 use Rattle.std.proofs.lemmas.List.Elements.{All-head, All-tail}
 use Rattle.crush_units.specs.Id.{same_id}
+use Rattle.crush_units.specs.declared.limits.TheConstants.{HEAVIEST_DEVICE}
 use Rattle.crush_edits.specs.Stops.{receiver}
 use Rattle.crush_edits.specs.Put.{NewData, new_buckets, chain, next_place, put}
 use Rattle.crush_edits.specs.Boxes.{last_first}
@@ -59,7 +60,7 @@ form_stays r row = (λ b. record { name = row.name; form = by_id r.id b row.form
   by_id (Device d) b form = record { id = form.id; kind = form.kind; light = form.light; unplaced = λ e. absurd cc; alg = form.alg; class_ids = form.class_ids; class = form.class }
   by_id (Bucket c) b form = record { some = form.some; most = form.most; kind_some = form.kind_some; kind_most = form.kind_most; weight = form.weight; class = form.class; alg = form.alg; class_ids = form.class_ids; few = form.few; classes = form.classes }
 
-  device : (d b w : ℕ) → w ≤ 2147483647 → IsRowOf (Device d) r → IsRowOf (Device d) (record r { parent = Some b; weight = w })
+  device : (d b w : ℕ) → w ≤ HEAVIEST_DEVICE → IsRowOf (Device d) r → IsRowOf (Device d) (record r { parent = Some b; weight = w })
   device d b w light form = record { id = form.id; kind = form.kind; light = light; unplaced = λ e. absurd cc; alg = form.alg; class_ids = form.class_ids; class = form.class }
 
 -- a device's row

@@ -1,6 +1,7 @@
 -- For each refusal but NoRoom edits of which its test alone holds.
-use Rattle.std.proofs.Common.{◌≡◌, [], ◌∷◌, refl}
+use Rattle.std.proofs.Common.{◌≡◌, ◌+◌, [], ◌∷◌, refl}
 use Rattle.std.specs.Prelude.{codes, None}
+use Rattle.crush_units.specs.declared.limits.TheConstants.{HEAVIEST_DEVICE}
 use Rattle.crush_edits.specs.declared.edit.Edit.TheVariants.{Insert, CreateOrMove, Update, Move, Swap, Reweight, ReweightSubtree, Remove, AddBucket, Rename}
 use Rattle.crush_edits.proofs.Worked.Examples.{a_bucket, table_with_spare, heavy_table, example_setting, plain_setting, at, host, rack, root, holding}
 
@@ -39,13 +40,13 @@ no_place_of_move : holding example_setting table_with_spare (Move (codes "h1") [
 no_place_of_move = refl
 
 -- 5: of a new device, of one that is held, where the weight is set and where it isn't used
-too_large : holding example_setting table_with_spare (Insert 13 (codes "osd.13") 2147483648 (host (codes "hy") ∷ [])) ≡ 5 ∷ []
+too_large : holding example_setting table_with_spare (Insert 13 (codes "osd.13") (HEAVIEST_DEVICE + 1) (host (codes "hy") ∷ [])) ≡ 5 ∷ []
 too_large = refl
 
-too_large_set : holding example_setting table_with_spare (Update 1 (codes "osd.1") 2147483648 (host (codes "h1") ∷ [])) ≡ 5 ∷ []
+too_large_set : holding example_setting table_with_spare (Update 1 (codes "osd.1") (HEAVIEST_DEVICE + 1) (host (codes "h1") ∷ [])) ≡ 5 ∷ []
 too_large_set = refl
 
-too_large_unused : holding example_setting table_with_spare (CreateOrMove 1 (codes "osd.1") 2147483648 (host (codes "h1") ∷ [])) ≡ 5 ∷ []
+too_large_unused : holding example_setting table_with_spare (CreateOrMove 1 (codes "osd.1") (HEAVIEST_DEVICE + 1) (host (codes "h1") ∷ [])) ≡ 5 ∷ []
 too_large_unused = refl
 
 -- 6
@@ -149,10 +150,10 @@ already_renamed : holding example_setting table_with_spare (Rename (codes "x") (
 already_renamed = refl
 
 -- 20: of a new device, a new weight, a moved device, two buckets
-sum_of_new : holding plain_setting heavy_table (Insert 4 (codes "d4") 2147483647 (root (codes "q") ∷ [])) ≡ 20 ∷ []
+sum_of_new : holding plain_setting heavy_table (Insert 4 (codes "d4") HEAVIEST_DEVICE (root (codes "q") ∷ [])) ≡ 20 ∷ []
 sum_of_new = refl
 
-subtree_to_the_limit : holding plain_setting heavy_table (ReweightSubtree (codes "p") 2147483647) ≡ []
+subtree_to_the_limit : holding plain_setting heavy_table (ReweightSubtree (codes "p") HEAVIEST_DEVICE) ≡ []
 subtree_to_the_limit = refl
 
 sum_of_moved : holding plain_setting heavy_table (Move (codes "d0") (root (codes "q") ∷ [])) ≡ 20 ∷ []

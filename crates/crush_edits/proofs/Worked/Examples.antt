@@ -3,6 +3,7 @@ use Rattle.std.specs.Prelude.{ℕ, List, [], ◌∷◌, Option, Some, None, Bool
 use Rattle.crush_units.specs.declared.id.ItemId.{ItemId}
 use Rattle.crush_units.specs.declared.id.ItemId.TheVariants.{Device, Bucket}
 use Rattle.crush_units.specs.declared.alg.Alg.TheVariants.{Straw2}
+use Rattle.crush_units.specs.declared.limits.TheConstants.{HEAVIEST_DEVICE}
 use Rattle.crush_table.specs.Table.{Row, is_bucket, kids, sum_below}
 use Rattle.crush_table.specs.ItemRows.{device_row, bucket_row}
 use Rattle.crush_edits.specs.declared.location.Pair.{Pair}
@@ -39,7 +40,7 @@ table_with_class =
 -- root p with host a and d1, a with d0, root q with d2 and d3, each device of the heaviest weight
 abbrev pub heavy_table : List Row
 heavy_table =
-    a_device 0 (codes "d0") (Some 2) 2147483647 ∷ (a_device 1 (codes "d1") (Some 1) 2147483647 ∷ (a_device 2 (codes "d2") (Some 3) 2147483647 ∷ (a_device 3 (codes "d3") (Some 3) 2147483647
+    a_device 0 (codes "d0") (Some 2) HEAVIEST_DEVICE ∷ (a_device 1 (codes "d1") (Some 1) HEAVIEST_DEVICE ∷ (a_device 2 (codes "d2") (Some 3) HEAVIEST_DEVICE ∷ (a_device 3 (codes "d3") (Some 3) HEAVIEST_DEVICE
     ∷ (a_bucket 2 1 (codes "a") (Some 1) ∷ (a_bucket 1 11 (codes "p") None ∷ (a_bucket 3 11 (codes "q") None ∷ []))))))
 
 abbrev pub a_kind : ℕ → List ℕ → KindData

@@ -1,6 +1,7 @@
 -- Edits of which several tests hold: the least number is told.
-use Rattle.std.proofs.Common.{◌≡◌, [], ◌∷◌, refl}
+use Rattle.std.proofs.Common.{◌≡◌, ◌+◌, [], ◌∷◌, refl}
 use Rattle.std.specs.Prelude.{codes}
+use Rattle.crush_units.specs.declared.limits.TheConstants.{HEAVIEST_DEVICE}
 use Rattle.crush_edits.specs.declared.refusal.Refusal.TheVariants.{BadName, BadLocation, NoSuchType, NoPlace, WeightTooLarge, NoSuchItem, NameTaken, AlreadyPlaced, NotABucket, WrongType, NotEmpty}
 use Rattle.crush_edits.specs.declared.edit.Edit.TheVariants.{Insert, CreateOrMove, Move, Swap, Reweight, ReweightSubtree, Remove, AddBucket, Rename}
 use Rattle.crush_edits.specs.Answer.{refused}
@@ -36,10 +37,10 @@ location_and_item : edit example_setting table_with_spare (Move (codes "x") (at 
 location_and_item = refl
 
 -- 3 and 5
-type_and_weight_hold : holding example_setting table_with_spare (Insert 3 (codes "osd.3") 2147483648 (at (codes "pod") (codes "p") ∷ [])) ≡ 3 ∷ (5 ∷ [])
+type_and_weight_hold : holding example_setting table_with_spare (Insert 3 (codes "osd.3") (HEAVIEST_DEVICE + 1) (at (codes "pod") (codes "p") ∷ [])) ≡ 3 ∷ (5 ∷ [])
 type_and_weight_hold = refl
 
-type_and_weight : edit example_setting table_with_spare (Insert 3 (codes "osd.3") 2147483648 (at (codes "pod") (codes "p") ∷ [])) ≡ refused NoSuchType
+type_and_weight : edit example_setting table_with_spare (Insert 3 (codes "osd.3") (HEAVIEST_DEVICE + 1) (at (codes "pod") (codes "p") ∷ [])) ≡ refused NoSuchType
 type_and_weight = refl
 
 -- 3 and 7
@@ -50,10 +51,10 @@ type_and_name : edit example_setting table_with_spare (AddBucket (codes "h1") (c
 type_and_name = refl
 
 -- 4 and 5
-place_and_weight_hold : holding example_setting table_with_spare (Insert 3 (codes "osd.3") 2147483648 []) ≡ 4 ∷ (5 ∷ [])
+place_and_weight_hold : holding example_setting table_with_spare (Insert 3 (codes "osd.3") (HEAVIEST_DEVICE + 1) []) ≡ 4 ∷ (5 ∷ [])
 place_and_weight_hold = refl
 
-place_and_weight : edit example_setting table_with_spare (Insert 3 (codes "osd.3") 2147483648 []) ≡ refused NoPlace
+place_and_weight : edit example_setting table_with_spare (Insert 3 (codes "osd.3") (HEAVIEST_DEVICE + 1) []) ≡ refused NoPlace
 place_and_weight = refl
 
 -- 4 and 6
@@ -64,24 +65,24 @@ place_and_item : edit example_setting table_with_spare (Move (codes "x") []) ≡
 place_and_item = refl
 
 -- 5 and 6
-weight_and_item_hold : holding example_setting table_with_spare (Reweight (codes "x") 2147483648) ≡ 5 ∷ (6 ∷ [])
+weight_and_item_hold : holding example_setting table_with_spare (Reweight (codes "x") (HEAVIEST_DEVICE + 1)) ≡ 5 ∷ (6 ∷ [])
 weight_and_item_hold = refl
 
-weight_and_item : edit example_setting table_with_spare (Reweight (codes "x") 2147483648) ≡ refused WeightTooLarge
+weight_and_item : edit example_setting table_with_spare (Reweight (codes "x") (HEAVIEST_DEVICE + 1)) ≡ refused WeightTooLarge
 weight_and_item = refl
 
 -- 5 and 7
-weight_and_name_hold : holding example_setting table_with_spare (Insert 9 (codes "disk") 2147483648 (host (codes "h1") ∷ [])) ≡ 5 ∷ (7 ∷ [])
+weight_and_name_hold : holding example_setting table_with_spare (Insert 9 (codes "disk") (HEAVIEST_DEVICE + 1) (host (codes "h1") ∷ [])) ≡ 5 ∷ (7 ∷ [])
 weight_and_name_hold = refl
 
-weight_and_name : edit example_setting table_with_spare (Insert 9 (codes "disk") 2147483648 (host (codes "h1") ∷ [])) ≡ refused WeightTooLarge
+weight_and_name : edit example_setting table_with_spare (Insert 9 (codes "disk") (HEAVIEST_DEVICE + 1) (host (codes "h1") ∷ [])) ≡ refused WeightTooLarge
 weight_and_name = refl
 
 -- 5 and 9
-weight_and_unplaced_hold : holding example_setting table_with_spare (Reweight (codes "osd.9") 2147483648) ≡ 5 ∷ (9 ∷ [])
+weight_and_unplaced_hold : holding example_setting table_with_spare (Reweight (codes "osd.9") (HEAVIEST_DEVICE + 1)) ≡ 5 ∷ (9 ∷ [])
 weight_and_unplaced_hold = refl
 
-weight_and_unplaced : edit example_setting table_with_spare (Reweight (codes "osd.9") 2147483648) ≡ refused WeightTooLarge
+weight_and_unplaced : edit example_setting table_with_spare (Reweight (codes "osd.9") (HEAVIEST_DEVICE + 1)) ≡ refused WeightTooLarge
 weight_and_unplaced = refl
 
 -- 5 and 10
@@ -92,10 +93,10 @@ weight_and_bucket : edit example_setting table_with_spare (Reweight (codes "h1")
 weight_and_bucket = refl
 
 -- 5 and 11
-weight_and_device_hold : holding example_setting table_with_spare (ReweightSubtree (codes "osd.0") 2147483648) ≡ 5 ∷ (11 ∷ [])
+weight_and_device_hold : holding example_setting table_with_spare (ReweightSubtree (codes "osd.0") (HEAVIEST_DEVICE + 1)) ≡ 5 ∷ (11 ∷ [])
 weight_and_device_hold = refl
 
-weight_and_device : edit example_setting table_with_spare (ReweightSubtree (codes "osd.0") 2147483648) ≡ refused WeightTooLarge
+weight_and_device : edit example_setting table_with_spare (ReweightSubtree (codes "osd.0") (HEAVIEST_DEVICE + 1)) ≡ refused WeightTooLarge
 weight_and_device = refl
 
 -- 6 and 11
@@ -176,10 +177,10 @@ type_and_loop : edit example_setting table_with_spare (Move (codes "h1") (rack (
 type_and_loop = refl
 
 -- 12 and 20
-type_and_sum_hold : holding plain_setting heavy_table (Insert 4 (codes "d4") 2147483647 (rack (codes "q") ∷ [])) ≡ 12 ∷ (20 ∷ [])
+type_and_sum_hold : holding plain_setting heavy_table (Insert 4 (codes "d4") HEAVIEST_DEVICE (rack (codes "q") ∷ [])) ≡ 12 ∷ (20 ∷ [])
 type_and_sum_hold = refl
 
-type_and_sum : edit plain_setting heavy_table (Insert 4 (codes "d4") 2147483647 (rack (codes "q") ∷ [])) ≡ refused WrongType
+type_and_sum : edit plain_setting heavy_table (Insert 4 (codes "d4") HEAVIEST_DEVICE (rack (codes "q") ∷ [])) ≡ refused WrongType
 type_and_sum = refl
 
 -- 15 and 16

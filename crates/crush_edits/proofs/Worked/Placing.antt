@@ -1,7 +1,8 @@
 -- Worked lines of the edits with a location.
-use Rattle.std.proofs.Common.{◌≡◌, true, false, [], ◌∷◌, refl}
+use Rattle.std.proofs.Common.{◌≡◌, ◌+◌, true, false, [], ◌∷◌, refl}
 use Rattle.std.specs.Prelude.{codes}
 use Rattle.crush_units.specs.declared.id.ItemId.TheVariants.{Device, Bucket}
+use Rattle.crush_units.specs.declared.limits.TheConstants.{HEAVIEST_DEVICE}
 use Rattle.crush_edits.specs.declared.refusal.Refusal.TheVariants.{WeightTooLarge, NoSuchItem, AlreadyPlaced, NotABucket, Loop, SumTooLarge}
 use Rattle.crush_edits.specs.declared.edit.Edit.TheVariants.{Insert, CreateOrMove, Update, Move, Remove}
 use Rattle.crush_edits.specs.Answer.{done}
@@ -37,18 +38,18 @@ move_onto_itself : shown (edit example_setting example_table (Move (codes "h1") 
 move_onto_itself = refl
 
 -- weights up to the limits: `add osd.10 32767.99998 host=hx rack=rx`, `add osd.11 32767.99998 host=hx`
-add_heavy : shown_batch (batch example_setting example_table (Insert 10 (codes "osd.10") 2147483647 (host (codes "hx") ∷ (rack (codes "rx") ∷ [])) ∷ (Insert 11 (codes "osd.11") 2147483647 (host (codes "hx") ∷ []) ∷ []))) ≡ all 2 2 2 (line 1 (codes "default") (Bucket 2 ∷ (Bucket 3 ∷ [])) 163840 ∷ (line 2 (codes "h1") (Device 0 ∷ (Device 1 ∷ [])) 131072 ∷ (line 3 (codes "h2") (Device 2 ∷ []) 32768 ∷ (line 4 (codes "hx") (Device 10 ∷ (Device 11 ∷ [])) 4294967294 ∷ (line 5 (codes "rx") (Bucket 4 ∷ []) 4294967294 ∷ [])))))
+add_heavy : shown_batch (batch example_setting example_table (Insert 10 (codes "osd.10") HEAVIEST_DEVICE (host (codes "hx") ∷ (rack (codes "rx") ∷ [])) ∷ (Insert 11 (codes "osd.11") HEAVIEST_DEVICE (host (codes "hx") ∷ []) ∷ []))) ≡ all 2 2 2 (line 1 (codes "default") (Bucket 2 ∷ (Bucket 3 ∷ [])) 163840 ∷ (line 2 (codes "h1") (Device 0 ∷ (Device 1 ∷ [])) 131072 ∷ (line 3 (codes "h2") (Device 2 ∷ []) 32768 ∷ (line 4 (codes "hx") (Device 10 ∷ (Device 11 ∷ [])) 4294967294 ∷ (line 5 (codes "rx") (Bucket 4 ∷ []) 4294967294 ∷ [])))))
 add_heavy = refl
 
 -- one more, `add osd.12 32767.99998 host=hy rack=rx`, and nothing is left of its new host
-add_too_heavy : shown_batch (batch example_setting example_table (Insert 10 (codes "osd.10") 2147483647 (host (codes "hx") ∷ (rack (codes "rx") ∷ [])) ∷ (Insert 11 (codes "osd.11") 2147483647 (host (codes "hx") ∷ []) ∷ (Insert 12 (codes "osd.12") 2147483647 (host (codes "hy") ∷ (rack (codes "rx") ∷ [])) ∷ [])))) ≡ no_at 2 SumTooLarge
+add_too_heavy : shown_batch (batch example_setting example_table (Insert 10 (codes "osd.10") HEAVIEST_DEVICE (host (codes "hx") ∷ (rack (codes "rx") ∷ [])) ∷ (Insert 11 (codes "osd.11") HEAVIEST_DEVICE (host (codes "hx") ∷ []) ∷ (Insert 12 (codes "osd.12") HEAVIEST_DEVICE (host (codes "hy") ∷ (rack (codes "rx") ∷ [])) ∷ [])))) ≡ no_at 2 SumTooLarge
 add_too_heavy = refl
 
-add_leaves_no_host : shown_batch (batch example_setting example_table (Insert 10 (codes "osd.10") 2147483647 (host (codes "hx") ∷ (rack (codes "rx") ∷ [])) ∷ (Insert 11 (codes "osd.11") 2147483647 (host (codes "hx") ∷ []) ∷ (Remove (codes "hy") ∷ [])))) ≡ no_at 2 NoSuchItem
+add_leaves_no_host : shown_batch (batch example_setting example_table (Insert 10 (codes "osd.10") HEAVIEST_DEVICE (host (codes "hx") ∷ (rack (codes "rx") ∷ [])) ∷ (Insert 11 (codes "osd.11") HEAVIEST_DEVICE (host (codes "hx") ∷ []) ∷ (Remove (codes "hy") ∷ [])))) ≡ no_at 2 NoSuchItem
 add_leaves_no_host = refl
 
 -- `add osd.13 32768 host=hy`
-add_weight_too_large : shown (edit example_setting example_table (Insert 13 (codes "osd.13") 2147483648 (host (codes "hy") ∷ []))) ≡ no WeightTooLarge
+add_weight_too_large : shown (edit example_setting example_table (Insert 13 (codes "osd.13") (HEAVIEST_DEVICE + 1) (host (codes "hy") ∷ []))) ≡ no WeightTooLarge
 add_weight_too_large = refl
 
 -- of two that add one device the later is refused: `add osd.7 1 host=h1`, `add osd.7 1 host=h2`
