@@ -7,6 +7,7 @@ use Rattle.std.proofs.lemmas.Bool.Decides.{nat_tests}
 use Rattle.std.proofs.lemmas.List.Elements.{All-nil, All-cons, All-head, All-tail, All-append}
 use Rattle.std.proofs.lemmas.List.Sums.{sum_by-cons}
 use Rattle.std.proofs.lemmas.Slice.Eq.{bytes_eq-Decides}
+use Rattle.crush_units.specs.declared.limits.TheConstants.{DEVICE_IDS, HEAVIEST_BUCKET, HEAVIEST_DEVICE, MOST_CLASS_IDS}
 use Rattle.crush_units.specs.Name.{IsName}
 use Rattle.crush_table.specs.Items.{LeafData, ShadowData, HeaderData, Items, none, device, bucket}
 use Rattle.crush_table.specs.Lawful.{IsRow}
@@ -34,7 +35,7 @@ pub typed_more : {A : _} (ns : List (Node A)) (i : ℕ) (x : Node A) → i < len
 typed_more ns i x lt e s t = subst AreTyped (sym (items_of-taken ns i x lt e)) (AreTyped-join (items_of (take i ns)) (items_of (x ∷ [])) s t)
 
 -- no sum that is stored is too large
-pub small_typed : (n : Items) → AreTyped n → StoresUpTo 4294967295 n
+pub small_typed : (n : Items) → AreTyped n → StoresUpTo HEAVIEST_BUCKET n
 small_typed none t = tt
 small_typed (device d r) t = small_typed r t.3
 small_typed (bucket h w m k r) t = (t.1, small_typed k t.2, small_typed r t.3)
@@ -79,27 +80,27 @@ once_classes (x ∷ xs) h =
 formed_bucket : (p : Option ℕ) (h : HeaderData) → is_formed h ≡ true → IsTyped h → IsRow (bucket_row p h)
 formed_bucket p h e t =
     let classes = map (λ (c : ShadowData). c.class) h.class_ids in
-    let rest = second_of (nat_lt 0 h.kind) (nat_le (length h.class_ids) 16 && are_apart (λ a b. bytes_eq b a) classes) e in
+    let rest = second_of (nat_lt 0 h.kind) (nat_le (length h.class_ids) MOST_CLASS_IDS && are_apart (λ a b. bytes_eq b a) classes) e in
     record {
       name = t.name;
       form = record {
         some = t.some;
         most = t.most;
-        kind_some = ltb-true 0 h.kind (first_of (nat_lt 0 h.kind) (nat_le (length h.class_ids) 16 && are_apart (λ a b. bytes_eq b a) classes) e);
+        kind_some = ltb-true 0 h.kind (first_of (nat_lt 0 h.kind) (nat_le (length h.class_ids) MOST_CLASS_IDS && are_apart (λ a b. bytes_eq b a) classes) e);
         kind_most = t.kind;
         weight = refl;
         class = refl;
         alg = λ q. absurd cc;
         class_ids = t.class_ids;
-        few = leb-true (length h.class_ids) 16 (first_of (nat_le (length h.class_ids) 16) (are_apart (λ a b. bytes_eq b a) classes) rest);
-        classes = λ c. subst (λ n. n ≤ 1) (class_count h.class_ids c) (classes_once classes (second_of (nat_le (length h.class_ids) 16) (are_apart (λ a b. bytes_eq b a) classes) rest) c);
+        few = leb-true (length h.class_ids) MOST_CLASS_IDS (first_of (nat_le (length h.class_ids) MOST_CLASS_IDS) (are_apart (λ a b. bytes_eq b a) classes) rest);
+        classes = λ c. subst (λ n. n ≤ 1) (class_count h.class_ids c) (classes_once classes (second_of (nat_le (length h.class_ids) MOST_CLASS_IDS) (are_apart (λ a b. bytes_eq b a) classes) rest) c);
       };
     }
 
 bucket_formed : (p : Option ℕ) (h : HeaderData) → IsRow (bucket_row p h) → is_formed h ≡ true
 bucket_formed p h r =
     let kind : nat_lt 0 h.kind ≡ true = positive h.kind r.form.kind_some in
-    let few : nat_le (length h.class_ids) 16 ≡ true = within (length h.class_ids) 16 r.form.few in
+    let few : nat_le (length h.class_ids) MOST_CLASS_IDS ≡ true = within (length h.class_ids) MOST_CLASS_IDS r.form.few in
     let classes = once_classes (map (λ (c : ShadowData). c.class) h.class_ids) (λ c. subst (λ n. n ≤ 1) (sym (class_count h.class_ids c)) (r.form.classes c)) in
     λ j. kind j && (few j && classes j)
   where
@@ -109,8 +110,8 @@ bucket_formed p h r =
     within : (m n : ℕ) → m ≤ n → nat_le m n ≡ true
     within m n h = grind (arith, nat_tests)
 
-formed_device : (p : Option ℕ) (d : LeafData) → nat_le d.weight 2147483647 ≡ true → d.id < 2147483648 → IsName d.name → IfSome d.class IsName → (p ≡ None → d.weight ≡ 0) → IsRow (device_row p d)
-formed_device p d e i n c w = record { name = n; form = record { id = i; kind = refl; light = leb-true d.weight 2147483647 e; unplaced = w; alg = refl; class_ids = refl; class = c } }
+formed_device : (p : Option ℕ) (d : LeafData) → nat_le d.weight HEAVIEST_DEVICE ≡ true → d.id < DEVICE_IDS → IsName d.name → IfSome d.class IsName → (p ≡ None → d.weight ≡ 0) → IsRow (device_row p d)
+formed_device p d e i n c w = record { name = n; form = record { id = i; kind = refl; light = leb-true d.weight HEAVIEST_DEVICE e; unplaced = w; alg = refl; class_ids = refl; class = c } }
 
 -- devices that nothing holds have no weight
 abbrev pub Weightless : Items → Type 0
@@ -121,8 +122,8 @@ Weightless (bucket h w m k r) = Weightless r
 pub formed_rows : (n : Items) (p : Option ℕ) → are_formed n ≡ true → AreTyped n → (p ≡ None → Weightless n) → All IsRow (rows p n)
 formed_rows none p e t w = All-nil IsRow
 formed_rows (device d r) p e t w =
-    All-cons IsRow (device_row p d) (rows p r) (formed_device p d (first_of (nat_le d.weight 2147483647) (are_formed r) e) t.0 t.1 t.2 (λ q. (w q).0))
-    (formed_rows r p (second_of (nat_le d.weight 2147483647) (are_formed r) e) t.3 (λ q. (w q).1))
+    All-cons IsRow (device_row p d) (rows p r) (formed_device p d (first_of (nat_le d.weight HEAVIEST_DEVICE) (are_formed r) e) t.0 t.1 t.2 (λ q. (w q).0))
+    (formed_rows r p (second_of (nat_le d.weight HEAVIEST_DEVICE) (are_formed r) e) t.3 (λ q. (w q).1))
 formed_rows (bucket h v m k r) p e t w =
     let rest = second_of (is_formed h) (are_formed k && are_formed r) e in
     All-cons IsRow (bucket_row p h) (rows (Some h.id) k ++ rows p r) (formed_bucket p h (first_of (is_formed h) (are_formed k && are_formed r) e) t.0)
@@ -141,7 +142,7 @@ pub rows_formed : (n : Items) (p : Option ℕ) → All IsRow (rows p n) → are_
 rows_formed none p a = refl
 rows_formed (device d r) p a =
     let row : IsRow (device_row p d) = All-head IsRow (device_row p d) (rows p r) a in
-    let light : nat_le d.weight 2147483647 ≡ true = within d.weight 2147483647 row.form.light in
+    let light : nat_le d.weight HEAVIEST_DEVICE ≡ true = within d.weight HEAVIEST_DEVICE row.form.light in
     λ j. light j && rows_formed r p (All-tail IsRow (device_row p d) (rows p r) a) j
   where
     within : (m n : ℕ) → m ≤ n → nat_le m n ≡ true

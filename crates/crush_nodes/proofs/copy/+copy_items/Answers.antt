@@ -1,9 +1,8 @@
-use Rattle.std.proofs.Common.{◌≡◌, ℕ, ◌+◌, ◌∷◌, [], ap, sym, subst, refl, ◌∙◌, arith}
+use Rattle.std.proofs.Common.{◌≡◌, ◌+◌, ◌∷◌, [], ap, sym, subst, refl, ◌∙◌, arith}
 use Rattle.std.specs.Prelude.{vec_len, vec_capacity}
 use Rattle.crush_table.specs.Items.{BucketData, size_of, none, device, bucket}
 use Rattle.crush_nodes.specs.Copies.{IsPushed}
 use Rattle.crush_nodes.specs.Ops.{without_capacity}
-use Rattle.crush_nodes.specs.Room.{bucket_room}
 use Rattle.crush_nodes.specs.Seen.{leaf_data, items_of}
 use Rattle.crush_nodes.proofs.CopyLaws.{Copied, copied_same, copied_full, bucket_room-full}
 use Rattle.crush_nodes.proofs.Steps.{kids_smaller, count-items_of}

@@ -3,6 +3,7 @@ use Rattle.std.specs.Bool.{OnTrue}
 use Rattle.std.specs.Prelude.{◌&&◌, All, bytes_eq, nat_lt, nat_le}
 use Rattle.std.proofs.lemmas.Bool.Decides.{nat_tests}
 use Rattle.std.proofs.lemmas.List.{length-map}
+use Rattle.crush_units.specs.declared.limits.TheConstants.{MOST_CLASS_IDS}
 use Rattle.crush_table.specs.Items.{ShadowData, HeaderData}
 use Rattle.crush_table.specs.Lawful.{IsShadowId}
 use Rattle.crush_table.specs.Tested.{are_apart}
@@ -29,13 +30,13 @@ holds_anyway false p = tt
 
 -- a bucket without a type, one with too many class ids, and any other
 untyped : (h : HeaderData) → h.kind ≡ 0 → false ≡ is_formed h
-untyped h e = sym (ap (λ k. nat_lt 0 k && (nat_le (length h.class_ids) 16 && are_apart (λ a b. bytes_eq b a) (map (λ (c : ShadowData). c.class) h.class_ids))) e)
+untyped h e = sym (ap (λ k. nat_lt 0 k && (nat_le (length h.class_ids) MOST_CLASS_IDS && are_apart (λ a b. bytes_eq b a) (map (λ (c : ShadowData). c.class) h.class_ids))) e)
 
-too_many : (h : HeaderData) → 16 < length h.class_ids → false ≡ is_formed h
-too_many h lt = second_off (nat_lt 0 h.kind) (nat_le (length h.class_ids) 16) (are_apart (λ a b. bytes_eq b a) (map (λ (c : ShadowData). c.class) h.class_ids)) (is_above 16 (length h.class_ids) lt)
+too_many : (h : HeaderData) → MOST_CLASS_IDS < length h.class_ids → false ≡ is_formed h
+too_many h lt = second_off (nat_lt 0 h.kind) (nat_le (length h.class_ids) MOST_CLASS_IDS) (are_apart (λ a b. bytes_eq b a) (map (λ (c : ShadowData). c.class) h.class_ids)) (is_above MOST_CLASS_IDS (length h.class_ids) lt)
 
-as_classes : (h : HeaderData) → (h.kind ≡ 0 → ⊥) → length h.class_ids ≤ 16 → are_apart (λ a b. bytes_eq b a) (map (λ (c : ShadowData). c.class) h.class_ids) ≡ is_formed h
-as_classes h some le = λ j. sym (is_some h.kind some) j && (sym (is_at_most 16 (length h.class_ids) le) j && are_apart (λ a b. bytes_eq b a) (map (λ (c : ShadowData). c.class) h.class_ids))
+as_classes : (h : HeaderData) → (h.kind ≡ 0 → ⊥) → length h.class_ids ≤ MOST_CLASS_IDS → are_apart (λ a b. bytes_eq b a) (map (λ (c : ShadowData). c.class) h.class_ids) ≡ is_formed h
+as_classes h some le = λ j. sym (is_some h.kind some) j && (sym (is_at_most MOST_CLASS_IDS (length h.class_ids) le) j && are_apart (λ a b. bytes_eq b a) (map (λ (c : ShadowData). c.class) h.class_ids))
 
 pub returns-then-number-eq0-clause-tested : goal.returns-then-number-eq0-clause-tested
 returns-then-number-eq0-clause-tested g c = untyped (header_data c.args.header.now) (sym c.number.ensures.value ∙ c.if-number-eq0.true)
@@ -48,7 +49,7 @@ returns-then-class_ids-gt-MOST_CLASS_IDS-clause-tested g c =
 pub returns-clause-tested : goal.returns-clause-tested
 returns-clause-tested g c =
     let h = c.args.header.now in
-    let few : length (map shadow_data h.class_ids.items) ≤ 16 = omega (arith, c.if-class_ids-gt-MOST_CLASS_IDS.false, ap length c.as_slice-class_ids.ensures.value, length-map h.class_ids.items shadow_data) in
+    let few : length (map shadow_data h.class_ids.items) ≤ MOST_CLASS_IDS = omega (arith, c.if-class_ids-gt-MOST_CLASS_IDS.false, ap length c.as_slice-class_ids.ensures.value, length-map h.class_ids.items shadow_data) in
     c.have_distinct_classes.ensures ∙ ap (λ zs. are_apart (λ a b. bytes_eq b a) (shadow_classes zs)) c.as_slice-class_ids.ensures.value
     ∙ as_classes (header_data h) (λ e. c.if-number-eq0.false (c.number.ensures.value ∙ e)) few
 
