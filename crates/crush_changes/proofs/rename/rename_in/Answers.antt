@@ -1,4 +1,5 @@
 use Rattle.std.proofs.Common.{sym, subst, ◌∙◌}
+use Rattle.crush_units.specs.declared.limits.TheConstants.{HEAVIEST_BUCKET}
 use Rattle.crush_nodes.specs.Ops.{StoresUpTo}
 use Rattle.crush_nodes.specs.Seen.{items_of}
 use Rattle.crush_changes.proofs.NewNameLaws.{named, name_taken, StoresUpTo-with_name}
@@ -11,7 +12,7 @@ change_at-requires g c =
     record {
       way = c.requires.way;
       can = tt;
-      fits = λ y out does. subst (StoresUpTo 4294967295) (sym (named i c.args.name t y c.requires.way.one c.requires.way.sums does.0)) (StoresUpTo-with_name 4294967295 i c.args.name t c.requires.stored);
+      fits = λ y out does. subst (StoresUpTo HEAVIEST_BUCKET) (sym (named i c.args.name t y c.requires.way.one c.requires.way.sums does.0)) (StoresUpTo-with_name HEAVIEST_BUCKET i c.args.name t c.requires.stored);
     }
 
 pub returns : goal.returns
