@@ -3,6 +3,7 @@ use Rattle.std.proofs.Common.{◌≡◌, ℕ, zero, suc, ◌+◌, ◌-◌, ◌<�
 use Rattle.std.specs.Prelude.{All}
 use Rattle.std.proofs.lemmas.List.{take_rest}
 use Rattle.std.proofs.lemmas.List.Elements.{All-head, All-tail}
+use Rattle.crush_units.specs.declared.limits.TheConstants.{HEAVIEST_BUCKET}
 use Rattle.crush_table.specs.Items.{Items, none, bucket}
 use Rattle.crush_table.specs.Stored.{weight_sum}
 use Rattle.crush_nodes.specs.Held.{bucket_with}
@@ -72,7 +73,7 @@ one_more l item ids xs k i d above below more h g empty so_far held =
     ∙ (λ j. boxes 1 item (with_ids (take (sym (add-one k) j) ids) (stops_data l (take (sym (add-one k) j) xs))))
 
 -- both weigh what the item weighs
-pub weigh_item : (item above below : Items) (h : _) (ns : List NewData) → weight_sum item ≤ 4294967295 → above ≡ bucket h 0 1 none none → below ≡ boxes 1 item ns → weight_sum above + weight_sum below ≤ 4294967295
+pub weigh_item : (item above below : Items) (h : _) (ns : List NewData) → weight_sum item ≤ HEAVIEST_BUCKET → above ≡ bucket h 0 1 none none → below ≡ boxes 1 item ns → weight_sum above + weight_sum below ≤ HEAVIEST_BUCKET
 weigh_item item above below h ns light empty so_far =
     let nothing : weight_sum above ≡ 0 = ap weight_sum empty in
     let within : weight_sum below ≡ weight_sum item = ap weight_sum so_far ∙ weight_sum-boxes 1 item ns in

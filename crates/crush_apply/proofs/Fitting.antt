@@ -4,6 +4,7 @@ use Rattle.std.proofs.lemmas.Bool.Decides.{nat_tests}
 use Rattle.std.specs.Prelude.{Some, None, IfSome, ◌||◌, nat_lt, nat_le, not}
 use Rattle.crush_units.specs.declared.id.ItemId.{ItemId}
 use Rattle.crush_units.specs.declared.id.ItemId.TheVariants.{Device, Bucket}
+use Rattle.crush_units.specs.declared.limits.TheConstants.{HEAVIEST_BUCKET, HEAVIEST_DEVICE, MOST_BUCKETS, MOST_DEVICES}
 use Rattle.crush_table.specs.Columns.{table_without, part, is_part}
 use Rattle.crush_table.specs.Items.{LeafData, Items, none, device, bucket}
 use Rattle.crush_table.specs.ItemRows.{rows, device_row}
@@ -27,29 +28,29 @@ use Rattle.crush_apply.specs.Destination.{DestinationData, Leads}
 use Rattle.crush_apply.proofs.Destinations.{parent_of_place, placed_boxes}
 
 -- COUNTS: of an item that is there, of a device that isn't
-too_many : (d b e c k : ℕ) → e ≤ 65536 → d ≡ e → b ≡ c + k → nat_lt 4096 (c + k) ≡ (nat_lt 65536 d || nat_lt 4096 b)
+too_many : (d b e c k : ℕ) → e ≤ MOST_DEVICES → d ≡ e → b ≡ c + k → nat_lt MOST_BUCKETS (c + k) ≡ (nat_lt MOST_DEVICES d || nat_lt MOST_BUCKETS b)
 too_many d b e c k few same more = grind (arith, nat_tests)
 
 pub lacks_room_is : (t : List Row) (to : DestinationData) (r : Row) (w fresh buckets : ℕ) → Lawful t → Leads t to → fresh ≡ to.fresh → row_of t r.id ≡ Some r → buckets ≡ bucket_count t
-    → nat_lt 4096 (buckets + fresh) ≡ has_too_many (put t (record r { weight = w }) to.stops)
+    → nat_lt MOST_BUCKETS (buckets + fresh) ≡ has_too_many (put t (record r { weight = w }) to.stops)
 lacks_room_is t to r w fresh buckets l leads many found counted =
     let counts = counts_put t to.stops l leads.route r w found in
     too_many (device_count (put t (record r { weight = w }) to.stops)) (bucket_count (put t (record r { weight = w }) to.stops)) (device_count t) buckets fresh l.devices counts.0 (omega (arith, counts.1, many, leads.fresh, counted))
 
 pub lacks_room_new : (t : List Row) (to : DestinationData) (d : LeafData) (fresh devices buckets : ℕ) → Lawful t → Leads t to → fresh ≡ to.fresh → is_there t (Device d.id) ≡ false → devices ≡ device_count t → buckets ≡ bucket_count t
-    → (nat_lt 65536 (devices + 1) || nat_lt 4096 (buckets + fresh)) ≡ has_too_many (put t (device_row None d) to.stops)
+    → (nat_lt MOST_DEVICES (devices + 1) || nat_lt MOST_BUCKETS (buckets + fresh)) ≡ has_too_many (put t (device_row None d) to.stops)
 lacks_room_new t to d fresh devices buckets l leads many gone counted_devices counted =
     let counts = counts_new t to.stops l leads.route d gone in
     let more : devices + 1 ≡ device_count (put t (device_row None d) to.stops) = omega (arith, counts.0, counted_devices) in
     let made : buckets + fresh ≡ bucket_count (put t (device_row None d) to.stops) = omega (arith, counts.1, many, leads.fresh, counted) in
-    λ j. nat_lt 65536 (more j) || nat_lt 4096 (made j)
+    λ j. nat_lt MOST_DEVICES (more j) || nat_lt MOST_BUCKETS (made j)
 
 -- what receives is apart from the item
 pub receiver_apart : (t : List Row) (i : ItemId) (to : DestinationData) → Leads t to → IsApart t i to.stops → IfSome (parent_at (place_at to.receiver)) (λ b. is_part t i (Bucket b) ≡ false)
 receiver_apart t i to leads apart = subst (λ o. IfSome o (λ b. is_part t i (Bucket b) ≡ false)) (sym (parent_of_place to.receiver ∙ leads.receiver)) apart
 
 -- what boxes store is small where the item's weight is
-small-boxes : (m : ℕ) (n : Items) (ns : List NewData) → weight_sum n ≤ 4294967295 → StoresUpTo 4294967295 n → StoresUpTo 4294967295 (boxes m n ns)
+small-boxes : (m : ℕ) (n : Items) (ns : List NewData) → weight_sum n ≤ HEAVIEST_BUCKET → StoresUpTo HEAVIEST_BUCKET n → StoresUpTo HEAVIEST_BUCKET (boxes m n ns)
 small-boxes m n [] le s = s
 small-boxes m n (x ∷ ns) le s = small-boxes m (bucket (new_header x) (weight_sum n) m n none) ns (omega (arith, le)) (le, s, tt)
 
@@ -58,7 +59,7 @@ module _ (t : List Row) (l : Lawful t) (to : DestinationData) (leads : Leads t t
   parent_is : receiver t to.stops ≡ parent_at (place_at to.receiver)
   parent_is = sym (parent_of_place to.receiver ∙ leads.receiver)
 
-  come : (u : List Row) (n : Items) → OnceIds (u ++ rows (receiver t to.stops) (route_boxes 1 n t to.stops)) → StoresSums n → StoresUpTo 4294967295 n → weight_sum n ≤ 4294967295 → CanCome u (place_at to.receiver) (route_boxes 1 n t to.stops)
+  come : (u : List Row) (n : Items) → OnceIds (u ++ rows (receiver t to.stops) (route_boxes 1 n t to.stops)) → StoresSums n → StoresUpTo HEAVIEST_BUCKET n → weight_sum n ≤ HEAVIEST_BUCKET → CanCome u (place_at to.receiver) (route_boxes 1 n t to.stops)
   come u n once sums small light =
       let next = route_next t to.stops leads.route in
       record {
@@ -71,7 +72,7 @@ module _ (t : List Row) (l : Lawful t) (to : DestinationData) (leads : Leads t t
   -- what a test tells that speaks of all items that can come
   told : (u : List Row) (n : Items) (v : List Row) (w : ℕ) (answer : Bool)
       → OnceIds (u ++ rows (receiver t to.stops) (route_boxes 1 n t to.stops)) × (is_too_heavy (u ++ rows (receiver t to.stops) (route_boxes 1 n t to.stops)) ≡ is_too_heavy v)
-      → StoresSums n → StoresUpTo 4294967295 n → weight_sum n ≤ 4294967295 → weight_sum n ≡ w
+      → StoresSums n → StoresUpTo HEAVIEST_BUCKET n → weight_sum n ≤ HEAVIEST_BUCKET → weight_sum n ≡ w
       → ((m : Items) → weight_sum m ≡ w → CanCome u (place_at to.receiver) m → answer ≡ not (is_too_heavy (u ++ rows (parent_at (place_at to.receiver)) m)))
       → answer ≡ not (is_too_heavy v)
   told u n v w answer both sums small light is test =
@@ -80,7 +81,7 @@ module _ (t : List Row) (l : Lawful t) (to : DestinationData) (leads : Leads t t
 
   -- an item as it is
   pub item_told : (i : ItemId) (r : Row) (n : Items) (w : ℕ) (answer : Bool) → row_of t i ≡ Some r → IsApart t i to.stops → has_too_many (put t r to.stops) ≡ false
-      → IsOne n → Same (rows None n) (part i t) → StoresSums n → StoresUpTo 4294967295 n → weight_sum n ≤ 4294967295 → weight_sum n ≡ w
+      → IsOne n → Same (rows None n) (part i t) → StoresSums n → StoresUpTo HEAVIEST_BUCKET n → weight_sum n ≤ HEAVIEST_BUCKET → weight_sum n ≡ w
       → ((m : Items) → weight_sum m ≡ w → CanCome (table_without i t) (place_at to.receiver) m → answer ≡ not (is_too_heavy (table_without i t ++ rows (parent_at (place_at to.receiver)) m)))
       → answer ≡ not (is_too_heavy (put t r to.stops))
   item_told i r n w answer found apart room one whole sums small light is test =
@@ -92,7 +93,7 @@ module _ (t : List Row) (l : Lawful t) (to : DestinationData) (leads : Leads t t
 
   -- a device with another weight
   pub device_told : (i : ItemId) (r : Row) (d : LeafData) (w : ℕ) (answer : Bool) → row_of t i ≡ Some r → IsApart t i to.stops → has_too_many (put t (record r { weight = w }) to.stops) ≡ false
-      → Same (rows None (device d none)) (part i t) → w ≤ 2147483647
+      → Same (rows None (device d none)) (part i t) → w ≤ HEAVIEST_DEVICE
       → ((m : Items) → weight_sum m ≡ w → CanCome (table_without i t) (place_at to.receiver) m → answer ≡ not (is_too_heavy (table_without i t ++ rows (parent_at (place_at to.receiver)) m)))
       → answer ≡ not (is_too_heavy (put t (record r { weight = w }) to.stops))
   device_told i r d w answer found apart room whole light test =
@@ -105,15 +106,15 @@ module _ (t : List Row) (l : Lawful t) (to : DestinationData) (leads : Leads t t
       told (table_without i t) n (put t after to.stops) w answer both tt tt (omega (arith, light)) (omega arith) test
 
   -- a device that isn't there
-  pub new_told : (d : LeafData) (w : ℕ) (answer : Bool) → is_there t (Device d.id) ≡ false → d.weight ≡ w → w ≤ 2147483647
+  pub new_told : (d : LeafData) (w : ℕ) (answer : Bool) → is_there t (Device d.id) ≡ false → d.weight ≡ w → w ≤ HEAVIEST_DEVICE
       → ((m : Items) → weight_sum m ≡ w → CanCome t (place_at to.receiver) m → answer ≡ not (is_too_heavy (t ++ rows (parent_at (place_at to.receiver)) m)))
       → answer ≡ not (is_too_heavy (put t (device_row None d) to.stops))
   new_told d w answer gone is light test =
       told t (device d none) (put t (device_row None d) to.stops) w answer (boxed_new t to.stops l leads.route d gone 1) tt tt (omega (arith, is, light)) (omega (arith, is)) test
 
 -- too many devices, or else as many buckets as there are
-pub full_of_devices : (d : ℕ) (b : Bool) → 65536 ≤ d → nat_le 65536 d ≡ (nat_lt 65536 (d + 1) || b)
-full_of_devices d b h = let one : nat_le 65536 d ≡ true = grind (arith, nat_tests) in let other : nat_lt 65536 (d + 1) ≡ true = grind (arith, nat_tests) in one ∙ ap (λ z. z || b) (sym other)
+pub full_of_devices : (d : ℕ) (b : Bool) → MOST_DEVICES ≤ d → nat_le MOST_DEVICES d ≡ (nat_lt MOST_DEVICES (d + 1) || b)
+full_of_devices d b h = let one : nat_le MOST_DEVICES d ≡ true = grind (arith, nat_tests) in let other : nat_lt MOST_DEVICES (d + 1) ≡ true = grind (arith, nat_tests) in one ∙ ap (λ z. z || b) (sym other)
 
-pub room_for_devices : (d : ℕ) (b : Bool) → d < 65536 → b ≡ (nat_lt 65536 (d + 1) || b)
-room_for_devices d b h = let no : nat_lt 65536 (d + 1) ≡ false = grind (arith, nat_tests) in ap (λ z. z || b) (sym no)
+pub room_for_devices : (d : ℕ) (b : Bool) → d < MOST_DEVICES → b ≡ (nat_lt MOST_DEVICES (d + 1) || b)
+room_for_devices d b h = let no : nat_lt MOST_DEVICES (d + 1) ≡ false = grind (arith, nat_tests) in ap (λ z. z || b) (sym no)

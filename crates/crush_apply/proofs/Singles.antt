@@ -1,5 +1,5 @@
 -- What the table answers where one row is taken out, and where an empty bucket comes.
-use Rattle.std.proofs.Common.{◌≡◌, ℕ, ◌<◌, List, [], ◌∷◌, ◌++◌, length, true, false, not, refl, sym, ap, subst, ◌∙◌, arith, ⊎_elim}
+use Rattle.std.proofs.Common.{◌≡◌, ℕ, ◌<◌, ◌≤◌, List, [], ◌∷◌, ◌++◌, length, true, false, not, refl, sym, ap, subst, ◌∙◌, arith, ⊎_elim}
 use Rattle.std.specs.Prelude.{Option, Some, None, IfSome, All, ◌||◌, ◌==◌, if◌then◌else◌, nat_lt, map, filter}
 use Rattle.std.proofs.lemmas.Bool.Decides.{eqb_tells}
 use Rattle.std.proofs.lemmas.List.Elements.{All-head, All-tail}
@@ -7,6 +7,7 @@ use Rattle.std.proofs.lemmas.Bool.Decides.{nat_tests}
 use Rattle.crush_units.specs.declared.id.ItemId.{ItemId}
 use Rattle.crush_units.specs.declared.id.ItemId.TheVariants.{Device, Bucket}
 use Rattle.crush_units.specs.Name.{IsName}
+use Rattle.crush_units.specs.declared.limits.TheConstants.{MOST_BUCKETS, MOST_DEVICES}
 use Rattle.crush_table.specs.ItemRows.{bucket_row}
 use Rattle.crush_table.specs.Table.{Row, is_there, is_parent, kids, free_ids, device_count, bucket_count}
 use Rattle.crush_table.specs.Columns.{table_without, without_row}
@@ -41,10 +42,10 @@ remove_done s t n i c =
 
 -- A BUCKET MORE
 -- there is room for it
-few : (d b : ℕ) → d < 65537 → b < 4097 → (nat_lt 65536 d || nat_lt 4096 b) ≡ false
+few : (d b : ℕ) → d ≤ MOST_DEVICES → b ≤ MOST_BUCKETS → (nat_lt MOST_DEVICES d || nat_lt MOST_BUCKETS b) ≡ false
 few d b h k = grind (arith, nat_tests)
 
-added_room : (s : SettingData) (t : List Row) (n kind : List ℕ) → Lawful t → bucket_count t < 4096 → has_too_many (after_add_bucket s t n kind).table ≡ false
+added_room : (s : SettingData) (t : List Row) (n kind : List ℕ) → Lawful t → bucket_count t < MOST_BUCKETS → has_too_many (after_add_bucket s t n kind).table ≡ false
 added_room s t n kind l room =
     let counts = added_counts s t n kind in
     few (device_count (after_add_bucket s t n kind).table) (bucket_count (after_add_bucket s t n kind).table) (omega (arith, counts.0, l.devices)) (omega (arith, counts.1, room))

@@ -4,6 +4,7 @@ use Rattle.std.specs.Prelude.{Bool, if◌then◌else◌, Some, None, IfSome, is_
 use Rattle.crush_units.specs.declared.id.ItemId.{ItemId}
 use Rattle.crush_units.specs.declared.id.ItemId.TheVariants.{Device, Bucket}
 use Rattle.crush_units.specs.Id.{same_id}
+use Rattle.crush_units.specs.declared.limits.TheConstants.{HEAVIEST_DEVICE}
 use Rattle.crush_table.specs.Items.{LeafData, Items, none, device, bucket}
 use Rattle.crush_table.specs.ItemRows.{rows, device_row}
 use Rattle.crush_table.specs.Forest.{ForestData, rows_of, OnlyDevices}
@@ -74,7 +75,7 @@ module _ (t : List Row) (l : Lawful t) (i : ItemId) (to : DestinationData) (lead
   pub put_lawful : ((b : ℕ) → IsRow (record r { parent = Some b; weight = w })) → Lawful (put t (record r { weight = w }) to.stops)
   put_lawful form = lawful_put t to.stops l leads.route r w found_own can.apart form can.light can.room
 
-  pub device_form : (d : ℕ) → i ≡ Device d → w ≤ 2147483647 → (b : ℕ) → IsRow (record r { parent = Some b; weight = w })
+  pub device_form : (d : ℕ) → i ≡ Device d → w ≤ HEAVIEST_DEVICE → (b : ℕ) → IsRow (record r { parent = Some b; weight = w })
   device_form d e light b = (form_stays r (row_form t l r.id r found_own)).1 d b w (own ∙ e) light
 
   pub device_same : (d : LeafData) (b : ℕ) → next_place t to.stops ≡ Some b → Same (rows None (device d none)) (part i (t ++ rows_made t to.stops))

@@ -13,6 +13,7 @@ use Rattle.crush_table.specs.Columns.{set_weight}
 use Rattle.crush_table.specs.Table.{Row, is_device, is_bucket, row_of, row_named, id_named, parent_of, is_placed, device_count, bucket_count}
 use Rattle.crush_table.specs.Lawful.{Lawful, is_too_heavy, has_too_many}
 use Rattle.crush_units.specs.Id.{is_device_id}
+use Rattle.crush_units.specs.declared.limits.TheConstants.{HEAVIEST_DEVICE, MOST_BUCKETS, MOST_DEVICES}
 use Rattle.crush_table.proofs.Changes.{with_weight, with_weight-id}
 use Rattle.crush_table.proofs.Columns.{count-map}
 use Rattle.crush_table.proofs.Passing.{lawful_room}
@@ -69,14 +70,14 @@ same_room i w t =
     let which : Row → Bool = λ r. same_id r.id i in
     let devices : device_count (set_weight i w t) ≡ device_count t = count-map (with_weight which w) is_device (λ r. ap is_device_id (with_weight-id which w r)) t in
     let buckets : bucket_count (set_weight i w t) ≡ bucket_count t = count-map (with_weight which w) is_bucket (λ r. ap (λ j. not (is_device_id j)) (with_weight-id which w r)) t in
-    λ k. nat_lt 65536 (devices k) || nat_lt 4096 (buckets k)
+    λ k. nat_lt MOST_DEVICES (devices k) || nat_lt MOST_BUCKETS (buckets k)
 
-light_weight : (w : ℕ) → w ≤ 2147483647 → is_heavy w ≡ false
+light_weight : (w : ℕ) → w ≤ HEAVIEST_DEVICE → is_heavy w ≡ false
 light_weight w h = grind (arith, nat_tests)
 
 -- THE HELD DEVICE: the update is the device's new weight
 pub held_update : (s : SettingData) (t : List Row) (d : ℕ) (n : List ℕ) (w : ℕ) (l : List Pair) → Lawful t → ((a : After) → first_refusal (device_put_tests s t d n w l a) ≡ last_refusal a)
-    → is_taken t (Device d) n ≡ false → w ≤ 2147483647 → held t (Device d) (stops s l) ≡ true → edit s t (Update d n w l) ≡ edit s t (Reweight n w)
+    → is_taken t (Device d) n ≡ false → w ≤ HEAVIEST_DEVICE → held t (Device d) (stops s l) ≡ true → edit s t (Update d n w l) ≡ edit s t (Reweight n w)
 held_update s t d n w l lawful last own light there =
     let u : List Row = set_weight (Device d) w t in
     let placed = held_placed t (Device d) (stops s l) there in
