@@ -4,5 +4,8 @@
 
 mod forest;
 
+pub use crush_changes::subtree::Change;
+pub use crush_nodes::guide::{Guide, Spot};
+pub use crush_nodes::search::counts_in;
 pub use crush_nodes::{Bucket, Counts, Header, Leaf, Node, Place, ShadowId, View};
 pub use forest::Forest;

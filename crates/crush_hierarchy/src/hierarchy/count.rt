@@ -6,8 +6,7 @@ ghost use Rattle.crush_table.specs.Items.{size_of};
 ghost use Rattle.crush_nodes.specs.Search.{devices_in};
 ghost use Rattle.crush_tree.specs.Seen.{items_of};
 
-use crush_nodes::search::counts_in;
-use crush_tree::{Bucket, Counts, Node};
+use crush_tree::{Bucket, Counts, Node, counts_in};
 use crush_units::Weight;
 use std::alloc::Allocator;
 
