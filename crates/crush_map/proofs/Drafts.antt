@@ -1,6 +1,7 @@
 -- A builder that is at one draft is at each with the same table.
 use Rattle.std.proofs.Common.{◌≡◌, ℕ, ◌<◌, ◌≤◌, false, List, [], refl, ap, sym, subst, ◌∙◌, arith}
 use Rattle.std.proofs.lemmas.List.Elements.{All-nil, All-weaker}
+use Rattle.crush_units.specs.declared.limits.TheConstants.{MOST_BUCKETS}
 use Rattle.crush_units.specs.declared.id.ItemId.TheVariants.{Bucket}
 use Rattle.crush_table.specs.Items.{ShadowData}
 use Rattle.crush_table.specs.Same.{Same}
@@ -26,7 +27,7 @@ CanBegin-same s t u k n l e c = record {
   most = c.most;
   form = c.form;
   free = sym (is_named-same t u e.rows l.names n) ∙ c.free;
-  few = subst (λ m. m < 4096) (bucket_count-same t u e.rows) c.few;
+  few = subst (λ m. m < MOST_BUCKETS) (bucket_count-same t u e.rows) c.few;
 }
 
 CanNumber-same : (t u : List Row) (b : ℕ) (cs : List ShadowData) → Same t u → CanNumber t b cs → CanNumber u b cs

@@ -3,6 +3,7 @@ use Rattle.std.proofs.Common.{◌≡◌, ℕ, ◌+◌, ◌≤◌, Bool, true, fa
 use Rattle.std.proofs.lemmas.List.Elements.{All-head, All-tail, All-weaker}
 use Rattle.std.proofs.lemmas.List.Sums.{sum_by_push, sum_by-cons}
 use Rattle.std.specs.Prelude.{Option, Some, None, ◌&&◌, ◌==◌, not, if◌then◌else◌, All, is_some, option_and_then}
+use Rattle.crush_units.specs.declared.limits.TheConstants.{MOST_BUCKETS}
 use Rattle.crush_units.specs.declared.id.ItemId.{ItemId}
 use Rattle.crush_units.specs.declared.id.ItemId.TheVariants.{Device, Bucket}
 use Rattle.crush_units.specs.Id.{same_id}
@@ -36,7 +37,7 @@ held_few : (t : List Row) → held_buckets t ≤ bucket_count t
 held_few [] = omega arith
 held_few (r ∷ t) = omega (arith, one_held (is_bucket r) (is_some r.parent), held_few t, sum_by-cons (λ (x : Row). one_if (is_held x)) r t, sum_by-cons (λ (x : Row). one_if (is_bucket x)) r t)
 
-pub held_at_most : (t : List Row) → Lawful t → held_buckets t ≤ 4096
+pub held_at_most : (t : List Row) → Lawful t → held_buckets t ≤ MOST_BUCKETS
 held_at_most t l = omega (arith, held_few t, l.buckets)
 
 -- without a row that no bucket holds as many are left

@@ -2,6 +2,7 @@
 use Rattle.std.proofs.Common.{◌≡◌, ℕ, ◌+◌, ◌≤◌, Bool, true, false, List, [], ◌∷◌, ◌++◌, refl, ap, sym, subst, ◌∙◌, arith, ⊎_elim}
 use Rattle.std.proofs.lemmas.List.Elements.{All-nil, All-cons, All-head, All-tail, All-filter, All-map, All-append, All-weaker}
 use Rattle.std.specs.Prelude.{Option, Some, None, if◌then◌else◌, ◌||◌, not, All, map, filter, is_some, option_and_then}
+use Rattle.crush_units.specs.declared.limits.TheConstants.{HEAVIEST_BUCKET, HEAVIEST_DEVICE}
 use Rattle.crush_units.specs.declared.id.ItemId.{ItemId}
 use Rattle.crush_units.specs.declared.id.ItemId.TheVariants.{Device, Bucket}
 use Rattle.crush_units.specs.Id.{same_id}
@@ -166,11 +167,11 @@ weighted_sums w (device d rest) s = s
 weighted_sums w (bucket h v m kids rest) s = s
 
 -- LAWFUL where it isn't too heavy
-placed_form : (i : ItemId) (k w : ℕ) (r : Row) → (is_device_id i ≡ true → w ≤ 2147483647) → r.id ≡ i → IsRowOf i r → IsRowOf i (placed_row k w r)
+placed_form : (i : ItemId) (k w : ℕ) (r : Row) → (is_device_id i ≡ true → w ≤ HEAVIEST_DEVICE) → r.id ≡ i → IsRowOf i r → IsRowOf i (placed_row k w r)
 placed_form (Device d) k w r h e form = record {
   id = form.id;
   kind = form.kind;
-  light = subst (λ b. (if b then w else r.weight) ≤ 2147483647) (sym (ap is_device_id e)) (h refl);
+  light = subst (λ b. (if b then w else r.weight) ≤ HEAVIEST_DEVICE) (sym (ap is_device_id e)) (h refl);
   unplaced = λ p. absurd (let no : ◌≡◌ {A = Option ℕ} (Some k) None = p in cc);
   alg = form.alg;
   class_ids = form.class_ids;
@@ -189,7 +190,7 @@ placed_form (Bucket b) k w r h e form = record {
   classes = form.classes;
 }
 
-pub item_lawful : (t : List Row) (i : ItemId) (k w : ℕ) → Lawful t → is_there t i ≡ true → is_there t (Bucket k) ≡ true → is_part t i (Bucket k) ≡ false → (is_device_id i ≡ true → w ≤ 2147483647) → is_too_heavy (put_below k i w t) ≡ false → Lawful (put_below k i w t)
+pub item_lawful : (t : List Row) (i : ItemId) (k w : ℕ) → Lawful t → is_there t i ≡ true → is_there t (Bucket k) ≡ true → is_part t i (Bucket k) ≡ false → (is_device_id i ≡ true → w ≤ HEAVIEST_DEVICE) → is_too_heavy (put_below k i w t) ≡ false → Lawful (put_below k i w t)
 item_lawful t i k w l there stands far h light =
     let r = some_row t i there in
     let put = put_below-last k i w t r.0 (l.ids i) r.1 in
@@ -288,7 +289,7 @@ item_step b h d i k w n at e there free other one whole st more is =
 
 -- the rows with the item, as it is put
 pub put_lawful : (t : List Row) (i : ItemId) (k w : ℕ) (n : Items) → Lawful t → is_there t i ≡ true → IsRoot t k → same_id (Bucket k) i ≡ false → IsOne n → Same (rows None n) (part i t)
-    → (is_device_id i ≡ true → w ≤ 2147483647) → is_too_heavy (put_below k i w t) ≡ false → Lawful (table_without i t ++ rows (Some k) (with_first_weight w n))
+    → (is_device_id i ≡ true → w ≤ HEAVIEST_DEVICE) → is_too_heavy (put_below k i w t) ≡ false → Lawful (table_without i t ++ rows (Some k) (with_first_weight w n))
 put_lawful t i k w n l there root other one whole h light =
     let far = is_no_part t l i k root other in
     let m : Items = with_first_weight w n in
@@ -319,11 +320,11 @@ part_lawful t i l root =
     subst Lawful (sym (map_same (as_root i) (filter (λ (r : Row). is_part t i r.id) t) (All-filter (λ (r : Row). is_part t i r.id) (λ (r : Row). as_root i r ≡ r) t (as_it_was t i l root))))
     (Lawful-only (is_part t i) t (part_closed t i l root) l)
 
-weighted_small : (w : ℕ) (n : Items) → StoresUpTo 4294967295 n → StoresUpTo 4294967295 (with_first_weight w n)
+weighted_small : (w : ℕ) (n : Items) → StoresUpTo HEAVIEST_BUCKET n → StoresUpTo HEAVIEST_BUCKET (with_first_weight w n)
 weighted_small w none s = s
 weighted_small w (device d rest) s = s
 weighted_small w (bucket h v m kids rest) s = s
 
-pub item_small : (t : List Row) (i : ItemId) (w : ℕ) (n : Items) → Lawful t → is_placed t i ≡ false → Same (rows None n) (part i t) → StoresSums n → StoresUpTo 4294967295 (with_first_weight w n)
+pub item_small : (t : List Row) (i : ItemId) (w : ℕ) (n : Items) → Lawful t → is_placed t i ≡ false → Same (rows None n) (part i t) → StoresSums n → StoresUpTo HEAVIEST_BUCKET (with_first_weight w n)
 item_small t i w n l free whole sums =
     weighted_small w n (StoresUpTo-lawful n sums (Lawful-same (part i t) (rows None n) (Same-sym (rows None n) (part i t) whole) (part_lawful t i l (has_no_parent (parent_of t i) free))))

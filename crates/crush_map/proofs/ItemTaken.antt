@@ -2,6 +2,7 @@
 use Rattle.std.proofs.Common.{◌≡◌, ℕ, ◌+◌, ◌≤◌, Bool, true, false, not, ◌==◌, List, ◌++◌, ap, sym, subst, ◌∙◌, arith, [], ◌∷◌}
 use Rattle.std.proofs.lemmas.Bool.{not-false}
 use Rattle.std.specs.Prelude.{Option, Some, None, if◌then◌else◌, nat_lt}
+use Rattle.crush_units.specs.declared.limits.TheConstants.{HEAVIEST_DEVICE}
 use Rattle.crush_units.specs.declared.id.ItemId.{ItemId}
 use Rattle.crush_units.specs.declared.id.ItemId.TheVariants.{Device, Bucket}
 use Rattle.crush_units.specs.Id.{same_id}
@@ -37,7 +38,7 @@ pub flip : (b c : Bool) → c ≡ not b → b ≡ not c
 flip true c h = ap not (sym h)
 flip false c h = ap not (sym h)
 
-light_weight : (w : ℕ) → nat_lt 2147483647 w ≡ false → w ≤ 2147483647
+light_weight : (w : ℕ) → nat_lt HEAVIEST_DEVICE w ≡ false → w ≤ HEAVIEST_DEVICE
 light_weight w h = grind (arith, nat_tests)
 
 -- the builder b fills the bucket k, and n is the item i
@@ -86,7 +87,7 @@ item_clear d i w h =
     let others = none_of_three UnknownItem SecondParent SumTooLarge (not (is_closed d i)) (is_placed d.table i) (is_too_heavy (with_next_item d i w).table) light.1 in
     record { light = light.0; closed = not-false (is_closed d i) others.0; free = others.1.0; sums = others.1.1 }
 
-pub light_device : (i : ItemId) (w : Option ℕ) → is_heavy_device i w ≡ false → is_device_id i ≡ true → weight_or_one w ≤ 2147483647
+pub light_device : (i : ItemId) (w : Option ℕ) → is_heavy_device i w ≡ false → is_device_id i ≡ true → weight_or_one w ≤ HEAVIEST_DEVICE
 light_device i None h e = omega arith
 light_device (Device x) (Some w) h e = light_weight w h
 light_device (Bucket b) (Some w) h e = absurd (let no : false ≡ true = e in cc)
@@ -148,7 +149,7 @@ module _ (b : BuilderData) (i : ItemId) (k : ℕ) (n : Items) (took : Coming b i
   fits_test w v weighs d at a test = heavy_at w d at a (test (with_first_weight w n) (sym weighs) (can_come w d at))
 
   -- what putting it needs, and what it makes
-  pub can_put : (w : ℕ) → (is_device_id i ≡ true → w ≤ 2147483647) → is_too_heavy (table_with_item b.pending i w (rows_of b.forest)) ≡ false → Lawful (table_without i (rows_of b.forest) ++ rows (Some k) (with_first_weight w n))
+  pub can_put : (w : ℕ) → (is_device_id i ≡ true → w ≤ HEAVIEST_DEVICE) → is_too_heavy (table_with_item b.pending i w (rows_of b.forest)) ≡ false → Lawful (table_without i (rows_of b.forest) ++ rows (Some k) (with_first_weight w n))
   can_put w small light =
       put_lawful (rows_of b.forest) i k w n took.own.stands.lawful (took.there (own_draft b) took.own) (root_at (own_draft b) took.own) took.other took.one (took.node (rows_of b.forest) took.own.stands) small
       (ap is_too_heavy (sym (put_table (own_draft b) i k w took.fills)) ∙ light)

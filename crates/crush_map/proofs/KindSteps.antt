@@ -10,6 +10,7 @@ use Rattle.std.specs.Prelude.{Option, Some, None, if◌then◌else◌, nat_le, �
 use Rattle.std.specs.List.{count_by, list_any}
 use Rattle.std.specs.Option.{option_map, option_copied}
 use denote.Ref.{Bor}
+use Rattle.crush_units.specs.declared.limits.TheConstants.{MOST_TYPES}
 use Rattle.crush_table.specs.Table.{Row}
 use Rattle.crush_edits.specs.Setting.{KindData, StepData, take, choose, set, emit, RuleData, SettingData, kind_number, kind_name}
 use Rattle.crush_edits.specs.Fits.{IsKind, IsStep, IsRule, Fits, HasKind}
@@ -84,7 +85,7 @@ rule_kept s k r h = record {
 }
 
 -- the types with one more fit
-pub Fits-with_kind : (s : SettingData) (t : List Row) (k : KindData) → Fits s t → IsKind k → has_kind_number s k.number ≡ false → has_kind_name s k.name ≡ false → nat_le 256 (length s.kinds) ≡ false → Fits (record s { kinds = s.kinds ++ k ∷ [] }) t
+pub Fits-with_kind : (s : SettingData) (t : List Row) (k : KindData) → Fits s t → IsKind k → has_kind_number s k.number ≡ false → has_kind_name s k.name ≡ false → nat_le MOST_TYPES (length s.kinds) ≡ false → Fits (record s { kinds = s.kinds ++ k ∷ [] }) t
 Fits-with_kind s t k f is number name few = record {
   setting = record {
     numbers = λ n. count_one_more (λ (x : KindData). x.number == n) k s.kinds (f.setting.numbers n) (λ e. subst (λ m. list_any (λ (x : KindData). x.number == m) s.kinds ≡ false) (eqb-true k.number n e) number);
@@ -95,7 +96,7 @@ Fits-with_kind s t k f is number name few = record {
     kinds = All-push IsKind s.kinds k f.setting.kinds is;
     tunables = f.setting.tunables;
     rules = All-weaker (IsRule s) (IsRule (record s { kinds = s.kinds ++ k ∷ [] })) (rule_kept s k) s.rules f.setting.rules;
-    few_kinds = let small : length s.kinds < 256 = less 256 (length s.kinds) few in omega (arith, length-append s.kinds (k ∷ []));
+    few_kinds = let small : length s.kinds < MOST_TYPES = less MOST_TYPES (length s.kinds) few in omega (arith, length-append s.kinds (k ∷ []));
     few_tunables = f.setting.few_tunables;
     few_rules = f.setting.few_rules;
   };

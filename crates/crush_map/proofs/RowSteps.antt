@@ -10,6 +10,7 @@ use Rattle.std.proofs.lemmas.Slice.Eq.{bytes_eq-Decides}
 use Rattle.std.specs.Prelude.{Option, Some, None, if◌then◌else◌, All, map, find, not, nat_le, nat_lt, ◌==◌, ◌||◌, ◌&&◌, bytes_eq, is_some, IfSome, option_and_then}
 use Rattle.std.specs.Option.{option_map}
 use Rattle.std.specs.List.{count_by, list_any}
+use Rattle.crush_units.specs.declared.limits.TheConstants.{DEVICE_IDS, FARTHEST_BUCKET_ID, LAST_TYPE, MOST_BUCKETS, MOST_CLASS_IDS, MOST_DEVICES}
 use Rattle.crush_units.specs.declared.id.ItemId.TheVariants.{Device, Bucket}
 use Rattle.crush_units.specs.declared.alg.Alg.{Alg}
 use Rattle.crush_units.specs.Name.{IsName}
@@ -44,17 +45,17 @@ is_positive k h = grind (arith, nat_tests)
 abbrev pub new_device : ℕ → List ℕ → Option (List ℕ) → Row
 new_device id name class = device_row None (record { id = id; name = name; weight = 0; class = class })
 
-device_room : (t : List Row) (r : Row) → Lawful t → is_device r ≡ true → is_bucket r ≡ false → nat_le 65536 (device_count t) ≡ false → has_too_many (t ++ r ∷ []) ≡ false
+device_room : (t : List Row) (r : Row) → Lawful t → is_device r ≡ true → is_bucket r ≡ false → nat_le MOST_DEVICES (device_count t) ≡ false → has_too_many (t ++ r ∷ []) ≡ false
 device_room t r l dev buck few =
     let one : one_if (is_device r) ≡ 1 = ap one_if dev in
     let no : one_if (is_bucket r) ≡ 0 = ap one_if buck in
-    let small : device_count t < 65536 = less 65536 (device_count t) few in
-    let devices : nat_lt 65536 (device_count (t ++ r ∷ [])) ≡ false = not_less 65536 (device_count (t ++ r ∷ [])) (omega (arith, one, small, sum_by_push (λ (x : Row). one_if (is_device x)) t r)) in
-    let buckets : nat_lt 4096 (bucket_count (t ++ r ∷ [])) ≡ false = not_less 4096 (bucket_count (t ++ r ∷ [])) (omega (arith, no, l.buckets, sum_by_push (λ (x : Row). one_if (is_bucket x)) t r)) in
+    let small : device_count t < MOST_DEVICES = less MOST_DEVICES (device_count t) few in
+    let devices : nat_lt MOST_DEVICES (device_count (t ++ r ∷ [])) ≡ false = not_less MOST_DEVICES (device_count (t ++ r ∷ [])) (omega (arith, one, small, sum_by_push (λ (x : Row). one_if (is_device x)) t r)) in
+    let buckets : nat_lt MOST_BUCKETS (bucket_count (t ++ r ∷ [])) ≡ false = not_less MOST_BUCKETS (bucket_count (t ++ r ∷ [])) (omega (arith, no, l.buckets, sum_by_push (λ (x : Row). one_if (is_bucket x)) t r)) in
     λ i. devices i || buckets i
 
 -- the table is lawful with it
-pub device_lawful : (t : List Row) (id : ℕ) (name : List ℕ) (class : Option (List ℕ)) → Lawful t → id < 2147483648 → IsName name → IfSome class IsName → is_there t (Device id) ≡ false → is_named t name ≡ false → nat_le 65536 (device_count t) ≡ false → Lawful (t ++ new_device id name class ∷ [])
+pub device_lawful : (t : List Row) (id : ℕ) (name : List ℕ) (class : Option (List ℕ)) → Lawful t → id < DEVICE_IDS → IsName name → IfSome class IsName → is_there t (Device id) ≡ false → is_named t name ≡ false → nat_le MOST_DEVICES (device_count t) ≡ false → Lawful (t ++ new_device id name class ∷ [])
 device_lawful t id name class l small form kind fresh free few =
     Lawful-push_device t id (new_device id name class) refl l
     (record { name = form; form = record { id = small; kind = refl; light = omega arith; unplaced = λ _. refl; alg = refl; class_ids = refl; class = kind } })
@@ -92,7 +93,7 @@ no_number d q n clear e =
     cc
 
 -- THE STEP: the first words of a bucket
-pub begin_step : (b : BuilderData) (d : Draft) (q : List ℕ) (k : ℕ) (n : List ℕ) → IsDraft b d → begin_fault d q n ≡ None → kind_number d.setting q ≡ Some k → k ≤ 65535 → IsName n → IsDraft (record b { pending = begun k n }) (begun_bucket d k n)
+pub begin_step : (b : BuilderData) (d : Draft) (q : List ℕ) (k : ℕ) (n : List ℕ) → IsDraft b d → begin_fault d q n ≡ None → kind_number d.setting q ≡ Some k → k ≤ LAST_TYPE → IsName n → IsDraft (record b { pending = begun k n }) (begun_bucket d k n)
 begin_step b d q k n i clear e most form =
     let none = none_of_three DuplicateName UnknownType TooMany (has_name d n) (not (names_bucket_kind d.setting q)) (is_full_of_buckets d) clear in
     record {
@@ -107,7 +108,7 @@ begin_step b d q k n i clear e most form =
         most = most;
         form = form;
         free = or_left _ _ none.0;
-        few = less 4096 (bucket_count d.table) none.1.1;
+        few = less MOST_BUCKETS (bucket_count d.table) none.1.1;
       };
     }
 
@@ -116,7 +117,7 @@ one_at_most : (b : Bool) → one_if b ≤ 1
 one_at_most true = omega arith
 one_at_most false = omega arith
 
-pub id_fits : (b : BuilderData) (k : ℕ) (n : List ℕ) (id : ℕ) → BuilderFits b → b.pending ≡ begun k n → 0 < id → id ≤ 2147483648 → has_bucket_id (own_draft b) id ≡ false → BuilderFits (record b { pending = numbered k n id [] })
+pub id_fits : (b : BuilderData) (k : ℕ) (n : List ℕ) (id : ℕ) → BuilderFits b → b.pending ≡ begun k n → 0 < id → id ≤ FARTHEST_BUCKET_ID → has_bucket_id (own_draft b) id ≡ false → BuilderFits (record b { pending = numbered k n id [] })
 id_fits b k n id keeps e some most free = record {
   fits = keeps.fits;
   part = (
@@ -144,14 +145,14 @@ not_among : (j : ℕ) (xs : List ℕ) → member j xs ≡ false → list_any (λ
 not_among j [] h = refl
 not_among j (x ∷ xs) h = λ i. or_left (x == j) (member j xs) h i || not_among j xs (or_right (x == j) (member j xs) h) i
 
-pub one_more_class_id : (d : Draft) (k b : ℕ) (n c : List ℕ) (i : ℕ) (cs : List ShadowData) → d.pending ≡ numbered k n b cs → CanNumber d.table b cs → 0 < i → i ≤ 2147483648 → IsName c → class_id_fault d i c ≡ None → CanNumber d.table b (cs ++ record { id = i; class = c } ∷ [])
+pub one_more_class_id : (d : Draft) (k b : ℕ) (n c : List ℕ) (i : ℕ) (cs : List ShadowData) → d.pending ≡ numbered k n b cs → CanNumber d.table b cs → 0 < i → i ≤ FARTHEST_BUCKET_ID → IsName c → class_id_fault d i c ≡ None → CanNumber d.table b (cs ++ record { id = i; class = c } ∷ [])
 one_more_class_id d k b n c i cs e num some most name clear =
     let x : ShadowData = record { id = i; class = c } in
     let none = none_of_three DuplicateId DuplicateName TooMany (has_bucket_id d i) (has_class d c) (is_full_of_class_ids d) clear in
     let fresh : member i (used_ids d.table) ≡ false = or_left _ _ none.0 in
     let other : member i (own_ids b cs) ≡ false = ap (λ (p : Pending). has_pending_id p i) (sym e) ∙ or_right (member i (used_ids d.table)) (has_pending_id d.pending i) none.0 in
     let new : list_any (λ (y : ShadowData). bytes_eq y.class c) cs ≡ false = ap (λ (p : Pending). list_any (λ (y : ShadowData). bytes_eq y.class c) (pending_class_ids p)) (sym e) ∙ none.1.0 in
-    let room : nat_le 16 (length cs) ≡ false = ap (λ (p : Pending). nat_le 16 (length (pending_class_ids p))) (sym e) ∙ none.1.1 in
+    let room : nat_le MOST_CLASS_IDS (length cs) ≡ false = ap (λ (p : Pending). nat_le MOST_CLASS_IDS (length (pending_class_ids p))) (sym e) ∙ none.1.1 in
     record {
       some = num.some;
       most = num.most;
@@ -161,7 +162,7 @@ one_more_class_id d k b n c i cs e num some most name clear =
       apart = λ j. subst (λ xs. count_by (λ u. u == j) xs ≤ 1) (sym (ids_pushed b cs x))
           (count_one_more (λ u. u == j) i (own_ids b cs) (num.apart j) (λ q. subst (λ m. list_any (λ u. u == m) (own_ids b cs) ≡ false) (eqb-true i j q) (not_among i (own_ids b cs) other)));
       classes = λ m. count_one_more (λ (y : ShadowData). bytes_eq y.class m) x cs (num.classes m) (λ q. subst (λ w. list_any (λ (y : ShadowData). bytes_eq y.class w) cs ≡ false) ((bytes_eq-Decides c m).0 q) new);
-      few = let small : length cs < 16 = less 16 (length cs) room in omega (arith, length-append cs (x ∷ []));
+      few = let small : length cs < MOST_CLASS_IDS = less MOST_CLASS_IDS (length cs) room in omega (arith, length-append cs (x ∷ []));
     }
 
 class_id_at : (b : BuilderData) (s : SettingData) (t : List Row) (a : ℕ) (k : ℕ) (n : List ℕ) (id i : ℕ) (c : List ℕ) (cs : List ShadowData) → IsDraft b (record { setting = s; table = t; pending = numbered k n id cs; adjusted = a }) → CanNumber t id (cs ++ record { id = i; class = c } ∷ []) →
@@ -177,7 +178,7 @@ class_id_at b s t a k n id i c cs at num = record {
 }
 
 -- THE STEP: a class id
-pub class_id_step : (b : BuilderData) (d : Draft) (k : ℕ) (n : List ℕ) (id i : ℕ) (c : List ℕ) (cs : List ShadowData) → IsDraft b d → b.pending ≡ numbered k n id cs → 0 < i → i ≤ 2147483648 → IsName c → class_id_fault d i c ≡ None →
+pub class_id_step : (b : BuilderData) (d : Draft) (k : ℕ) (n : List ℕ) (id i : ℕ) (c : List ℕ) (cs : List ShadowData) → IsDraft b d → b.pending ≡ numbered k n id cs → 0 < i → i ≤ FARTHEST_BUCKET_ID → IsName c → class_id_fault d i c ≡ None →
     IsDraft (record b { pending = numbered k n id (cs ++ record { id = i; class = c } ∷ []) }) (with_class_id d i c)
 class_id_step b d k n id i c cs at e some most name clear =
     let p : d.pending ≡ numbered k n id cs = sym at.pending ∙ e in
@@ -189,12 +190,12 @@ class_id_step b d k n id i c cs at e some most name clear =
 abbrev pub new_bucket : ℕ → List ℕ → ℕ → List ShadowData → Alg → Row
 new_bucket k n id cs alg = bucket_row None (record { id = id; kind = k; name = n; alg = alg; class_ids = cs })
 
-bucket_room : (t : List Row) (r : Row) → Lawful t → is_device r ≡ false → is_bucket r ≡ true → bucket_count t < 4096 → has_too_many (t ++ r ∷ []) ≡ false
+bucket_room : (t : List Row) (r : Row) → Lawful t → is_device r ≡ false → is_bucket r ≡ true → bucket_count t < MOST_BUCKETS → has_too_many (t ++ r ∷ []) ≡ false
 bucket_room t r l dev buck few =
     let no : one_if (is_device r) ≡ 0 = ap one_if dev in
     let one : one_if (is_bucket r) ≡ 1 = ap one_if buck in
-    let devices : nat_lt 65536 (device_count (t ++ r ∷ [])) ≡ false = not_less 65536 (device_count (t ++ r ∷ [])) (omega (arith, no, l.devices, sum_by_push (λ (x : Row). one_if (is_device x)) t r)) in
-    let buckets : nat_lt 4096 (bucket_count (t ++ r ∷ [])) ≡ false = not_less 4096 (bucket_count (t ++ r ∷ [])) (omega (arith, one, few, sum_by_push (λ (x : Row). one_if (is_bucket x)) t r)) in
+    let devices : nat_lt MOST_DEVICES (device_count (t ++ r ∷ [])) ≡ false = not_less MOST_DEVICES (device_count (t ++ r ∷ [])) (omega (arith, no, l.devices, sum_by_push (λ (x : Row). one_if (is_device x)) t r)) in
+    let buckets : nat_lt MOST_BUCKETS (bucket_count (t ++ r ∷ [])) ≡ false = not_less MOST_BUCKETS (bucket_count (t ++ r ∷ [])) (omega (arith, one, few, sum_by_push (λ (x : Row). one_if (is_bucket x)) t r)) in
     λ i. devices i || buckets i
 
 some_alg : (alg : Alg) → Some alg ≡ None → ⊥

@@ -7,6 +7,7 @@ use Rattle.std.proofs.lemmas.Slice.Eq.{bytes_eq-Decides}
 use Rattle.std.proofs.lemmas.Bool.{eqb-true}
 use Rattle.std.specs.Prelude.{Option, Some, None, nat_le, ◌||◌, ◌==◌, bytes_eq, map, flat_map, All, is_some, if◌then◌else◌, option_and_then}
 use Rattle.std.specs.List.{list_any}
+use Rattle.crush_units.specs.declared.limits.TheConstants.{MOST_RULES, MOST_STEPS}
 use Rattle.crush_units.specs.declared.id.ItemId.{ItemId}
 use Rattle.crush_units.specs.declared.id.ItemId.TheVariants.{Device, Bucket}
 use Rattle.crush_table.specs.Table.{id_named}
@@ -55,14 +56,14 @@ pub words_clear : (d : Draft) (k : ℕ) (xs : List Step) → steps_fault d k xs 
 words_clear d k [] h = All-nil (λ x. word_fault d x ≡ None)
 words_clear d k (x ∷ xs) h =
     let one = or_later_none _ (step_fault d k x) (steps_fault d (k + 1) xs) h in
-    All-cons (λ y. word_fault d y ≡ None) x xs (if_none (nat_le 64 k) TooMany (word_fault d x) one.0).1 (words_clear d (k + 1) xs one.1)
+    All-cons (λ y. word_fault d y ≡ None) x xs (if_none (nat_le MOST_STEPS k) TooMany (word_fault d x) one.0).1 (words_clear d (k + 1) xs one.1)
 
-pub steps_few : (d : Draft) (k : ℕ) (xs : List Step) → k ≤ 64 → steps_fault d k xs ≡ None → k + length xs ≤ 64
+pub steps_few : (d : Draft) (k : ℕ) (xs : List Step) → k ≤ MOST_STEPS → steps_fault d k xs ≡ None → k + length xs ≤ MOST_STEPS
 steps_few d k [] le h = omega (arith, le)
 steps_few d k (x ∷ xs) le h =
     let one = or_later_none _ (step_fault d k x) (steps_fault d (k + 1) xs) h in
-    let small : k < 64 = less 64 k (if_none (nat_le 64 k) TooMany (word_fault d x) one.0).0 in
-    let rest : (k + 1) + length xs ≤ 64 = steps_few d (k + 1) xs (omega (arith, small)) one.1 in
+    let small : k < MOST_STEPS = less MOST_STEPS k (if_none (nat_le MOST_STEPS k) TooMany (word_fault d x) one.0).0 in
+    let rest : (k + 1) + length xs ≤ MOST_STEPS = steps_few d (k + 1) xs (omega (arith, small)) one.1 in
     omega (arith, rest)
 
 pub record IsClearRule (d : Draft) (r : Rule) : Type 0 where
@@ -70,7 +71,7 @@ pub record IsClearRule (d : Draft) (r : Rule) : Type 0 where
   pub name : has_rule_name d.setting r.name ≡ false
   pub id : has_rule_id d.setting r.id ≡ false
   pub words : All (λ x. word_fault d x ≡ None) r.steps.items
-  pub short : length r.steps.items ≤ 64
+  pub short : length r.steps.items ≤ MOST_STEPS
 
 pub rule_clear : (d : Draft) (r : Rule) → rule_fault d r ≡ None → IsClearRule d r
 rule_clear d r h =
@@ -124,7 +125,7 @@ rule_form d r f c = record {
   kind = f.kind;
   min_size = f.min_size;
   max_size = f.max_size;
-  few = subst (λ n. n ≤ 64) (sym (length-map r.steps.items (kept_step d))) c.short;
+  few = subst (λ n. n ≤ MOST_STEPS) (sym (length-map r.steps.items (kept_step d))) c.short;
   steps = All-map (IsStep d.setting) (kept_step d) r.steps.items (steps_form d r.steps.items f.steps c.words);
 }
 
@@ -172,7 +173,7 @@ Fits-with_rule d r f form c =
         rules = All-push (IsRule (record s { rules = rs })) s.rules k (All-weaker (IsRule s) (IsRule (record s { rules = rs })) (rule_kept s rs) s.rules f.setting.rules) (rule_kept s rs k (rule_form d r form c));
         few_kinds = f.setting.few_kinds;
         few_tunables = f.setting.few_tunables;
-        few_rules = let small : length s.rules < 256 = less 256 (length s.rules) c.few in omega (arith, length-append s.rules (k ∷ []));
+        few_rules = let small : length s.rules < MOST_RULES = less MOST_RULES (length s.rules) c.few in omega (arith, length-append s.rules (k ∷ []));
       };
       types = f.types;
       taken = rules_there (IsThere d.table) s.rules k f.taken (steps_there d r.steps.items c.words);
@@ -218,7 +219,7 @@ later_told p (Some g) later f h k e = part_told true (record { part = p; fault =
 
 steps_told : (d : Draft) (k : ℕ) (xs : List Step) (f : RuleFault) → steps_fault d k xs ≡ Some f → IsTold f.fault
 steps_told d k [] f e = absurd (let no : ◌≡◌ {A = Option RuleFault} None (Some f) = e in cc)
-steps_told d k (x ∷ xs) f e = later_told (AtStep k) (step_fault d k x) (steps_fault d (k + 1) xs) f (λ g. if_told (nat_le 64 k) TooMany (word_fault d x) g refl (word_told d x g)) (steps_told d (k + 1) xs f) e
+steps_told d k (x ∷ xs) f e = later_told (AtStep k) (step_fault d k x) (steps_fault d (k + 1) xs) f (λ g. if_told (nat_le MOST_STEPS k) TooMany (word_fault d x) g refl (word_told d x g)) (steps_told d (k + 1) xs f) e
 
 pub rule_told_itself : (d : Draft) (r : Rule) (f : RuleFault) → rule_fault d r ≡ Some f → rule_fault d r ≡ rule_told f
 rule_told_itself d r f e =

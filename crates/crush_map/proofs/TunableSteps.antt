@@ -4,6 +4,7 @@ use Rattle.std.proofs.lemmas.Slice.Eq.{bytes_eq-Decides}
 use Rattle.std.proofs.lemmas.List.Elements.{All-push, All-weaker}
 use Rattle.std.specs.Prelude.{nat_le, bytes_eq}
 use Rattle.std.specs.List.{list_any}
+use Rattle.crush_units.specs.declared.limits.TheConstants.{MOST_TUNABLES}
 use Rattle.crush_table.specs.Table.{Row}
 use Rattle.crush_edits.specs.Setting.{TunableData, StepData, take, choose, set, emit, RuleData, SettingData, has_tunable}
 use Rattle.crush_edits.specs.Fits.{IsTunable, IsStep, IsRule, Fits}
@@ -30,7 +31,7 @@ rule_kept s k r h = record {
 }
 
 -- the tunables with one more fit
-pub Fits-with_tunable : (s : SettingData) (t : List Row) (k : TunableData) → Fits s t → IsTunable k → list_any (λ (x : TunableData). bytes_eq x.name k.name) s.tunables ≡ false → nat_le 64 (length s.tunables) ≡ false → Fits (record s { tunables = s.tunables ++ k ∷ [] }) t
+pub Fits-with_tunable : (s : SettingData) (t : List Row) (k : TunableData) → Fits s t → IsTunable k → list_any (λ (x : TunableData). bytes_eq x.name k.name) s.tunables ≡ false → nat_le MOST_TUNABLES (length s.tunables) ≡ false → Fits (record s { tunables = s.tunables ++ k ∷ [] }) t
 Fits-with_tunable s t k f is name few = record {
   setting = record {
     numbers = f.setting.numbers;
@@ -42,7 +43,7 @@ Fits-with_tunable s t k f is name few = record {
     tunables = All-push IsTunable s.tunables k f.setting.tunables is;
     rules = All-weaker (IsRule s) (IsRule (record s { tunables = s.tunables ++ k ∷ [] })) (rule_kept s k) s.rules f.setting.rules;
     few_kinds = f.setting.few_kinds;
-    few_tunables = let small : length s.tunables < 64 = less 64 (length s.tunables) few in omega (arith, length-append s.tunables (k ∷ []));
+    few_tunables = let small : length s.tunables < MOST_TUNABLES = less MOST_TUNABLES (length s.tunables) few in omega (arith, length-append s.tunables (k ∷ []));
     few_rules = f.setting.few_rules;
   };
   types = f.types;
