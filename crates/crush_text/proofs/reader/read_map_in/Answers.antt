@@ -26,7 +26,7 @@ returns-in_err-statements-clause-want g c =
 pub returns-clause-map : goal.returns-clause-map
 returns-clause-map g c =
     let a = c.in_ok-statements.ensures.reads empty_draft c.in-Ok.ensures in
-    let m = c.finish.ensures a.0 a.1 in
+    let m = c.finish.ensures.stands a.0 a.1 in
     let n = c.adjusted-adjusted.ensures a.0 a.1 in
     let text = is_map c.args.text.now c.new.result c.new.ensures a.0 a.2 in
     (a.0.table, subst (λ (k : ℕ). IsMapText c.args.text.now c.finish.result.setting a.0.table k) (sym n) (subst (λ (s : SettingData). IsMapText c.args.text.now s a.0.table a.0.adjusted) (sym m.setting) text), m.forest)
@@ -34,6 +34,6 @@ returns-clause-map g c =
 pub returns-clause-spelled : goal.returns-clause-spelled
 returns-clause-spelled g c = λ s t n k.
     let a = c.in_ok-statements.ensures.reads empty_draft c.in-Ok.ensures in
-    let m = c.finish.ensures a.0 a.1 in
+    let m = c.finish.ensures.stands a.0 a.1 in
     let o = only_map c.args.text.now c.new.result c.new.ensures a.0 s t n a.2 k in
     (record { setting = m.setting ∙ o.0; forest = subst (Stands c.finish.result.forest) o.1 m.forest }, c.adjusted-adjusted.ensures a.0 a.1 ∙ o.2)
