@@ -33,8 +33,10 @@ impl<A: Allocator> MapBuilder<A> {
             → rule_fault d rule.now ≡ rule_told f) }
         ensures memory { IfErr result (λ f. f.fault ≡ BuildFault.OutOfMemory
             → f.part ≡ RulePart.Statement) }
+        ensures clear { OnOk result ((d : Draft) → IsDraft self.old d
+            → rule_fault d rule.now ≡ None) }
         ensures ok { OnOk result ((d : Draft) → IsDraft self.old d
-            → (rule_fault d rule.now ≡ None) × IsDraft self.new (with_rule d rule.now)) }
+            → IsDraft self.new (with_rule d rule.now)) }
     {
         self.hierarchy.recall_invariant();
         if let Some(fault) = self.rule_fault(rule) {

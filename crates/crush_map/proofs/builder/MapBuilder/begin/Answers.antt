@@ -26,6 +26,9 @@ invariant_of-self g c =
     (subst (λ n. IsDraft (record b { pending = begun c.in-Some-kind_number.kind n }) (begun_bucket d c.in-Some-kind_number.kind c.args.name.now)) (sym c.in_ok-name.ensures)
     (begin_step b d c.args.kind.now c.in-Some-kind_number.kind c.args.name.now own (sym (c.in_default.ensures d at)) number (omega arith) c.requires.name))
 
+pub returns-clause-clear : goal.returns-clause-clear
+returns-clause-clear g c = λ d i. sym (c.in_default.ensures d i)
+
 pub returns-clause-ok : goal.returns-clause-ok
 returns-clause-ok g c = λ d k i e.
     let b : BuilderData = record { setting = c.self.inside.setting; forest = c.self.inside.hierarchy; pending = pending_data c.self.inside.pending; adjusted = c.self.inside.adjusted } in

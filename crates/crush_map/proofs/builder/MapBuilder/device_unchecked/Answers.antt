@@ -56,10 +56,12 @@ invariant_of-self-2 g c =
     (subst (λ (n : Items). Stands c.add.new.self (d.table ++ rows None n)) node (c.in_ok-add.ensures.stands d.table own.stands)))
 
 pub returns : goal.returns
-returns g c = λ d i.
-    let b : BuilderData = record { setting = c.self.inside.setting; forest = c.self.inside.hierarchy; pending = pending_data c.self.inside.pending; adjusted = c.self.inside.adjusted } in
-    let at : IsDraft b d = subst (λ (x : BuilderData). IsDraft x d) (sym c.self.view_is) i in
-    let node : ◌≡◌ {A = Items} (items_of (c.device-node.result ∷ [])) (device (record { id = c.args.id; name = c.args.name.now; weight = 0; class = option_copied c.args.class }) none) =
-    c.device-node.ensures ∙ (λ i. device (record { id = c.args.id; name = c.in_ok-name.ensures i; weight = c.from_units.ensures i; class = c.in_ok-class.ensures i }) none) in
-    device_step b c.add.new.self d c.args.id c.args.name.now (option_copied c.args.class) at (ap (λ (x : BuilderData). x.pending) c.self.view_is ∙ c.requires.idle)
-    (subst (λ (n : Items). Stands c.add.new.self (d.table ++ rows None n)) node (c.in_ok-add.ensures.stands d.table at.stands))
+returns g c = record {
+  ok = λ d i.
+      let b : BuilderData = record { setting = c.self.inside.setting; forest = c.self.inside.hierarchy; pending = pending_data c.self.inside.pending; adjusted = c.self.inside.adjusted } in
+      let at : IsDraft b d = subst (λ (x : BuilderData). IsDraft x d) (sym c.self.view_is) i in
+      let node : ◌≡◌ {A = Items} (items_of (c.device-node.result ∷ [])) (device (record { id = c.args.id; name = c.args.name.now; weight = 0; class = option_copied c.args.class }) none) =
+      c.device-node.ensures ∙ (λ i. device (record { id = c.args.id; name = c.in_ok-name.ensures i; weight = c.from_units.ensures i; class = c.in_ok-class.ensures i }) none) in
+      device_step b c.add.new.self d c.args.id c.args.name.now (option_copied c.args.class) at (ap (λ (x : BuilderData). x.pending) c.self.view_is ∙ c.requires.idle)
+      (subst (λ (n : Items). Stands c.add.new.self (d.table ++ rows None n)) node (c.in_ok-add.ensures.stands d.table at.stands));
+}

@@ -11,5 +11,8 @@ invariant_of-self g c =
     let at : IsDraft c.args.self.now (own_draft b) = subst (λ (x : BuilderData). IsDraft x (own_draft b)) c.self.view_is (own_is_draft b c.recall_invariant.ensures c.self.invariant) in
     id_fits b c.in-Begun.kind c.in-Begun.name c.args.id c.self.invariant (ap pending_data (sym c.replace.ensures.value ∙ c.in-Begun.is)) (omega arith) (omega arith) (sym (c.if-has_bucket_id.ensures (own_draft b) at))
 
+pub returns-clause-clear : goal.returns-clause-clear
+returns-clause-clear g c = search rules
+
 pub returns-clause-ok : goal.returns-clause-ok
 returns-clause-ok g c = search rules

@@ -84,6 +84,9 @@ invariant_of-self-2 g c =
     draft_fits (record b { forest = c.put.new.self; adjusted = b.adjusted + c.adjustment-adjustment.result }) (with_next_item d c.args.id c.args.written)
     (put_is_draft b c.args.id k n took c.put.new.self c.args.written d at st c.adjustment-adjustment.result (c.adjustment-adjustment.ensures d own_at (took.there d at)))
 
+pub returns-clause-clear : goal.returns-clause-clear
+returns-clause-clear g c = λ d i. sym (c.in_default-item_fault.ensures d i)
+
 pub returns-clause-ok : goal.returns-clause-ok
 returns-clause-ok g c =
     λ d i.
@@ -95,4 +98,4 @@ returns-clause-ok g c =
     let at : IsDraft b d = subst (λ (x : BuilderData). IsDraft x d) (sym c.self.view_is) i in
     let st : Stands c.put.new.self (table_without c.args.id d.table ++ rows (Some k) (with_first_weight (weight_or_one c.args.written) n)) =
     subst (λ w. Stands c.put.new.self (table_without c.args.id d.table ++ rows (Some k) (with_first_weight w n))) c.device_weight-weight.ensures (c.put.ensures.stands d.table (c.reserve.ensures.stands d.table at.stands)) in
-    (sym (c.in_default-item_fault.ensures d i), put_is_draft b c.args.id k n took c.put.new.self c.args.written d at st c.adjustment-adjustment.result (c.adjustment-adjustment.ensures d i (took.there d at)))
+    put_is_draft b c.args.id k n took c.put.new.self c.args.written d at st c.adjustment-adjustment.result (c.adjustment-adjustment.ensures d i (took.there d at))

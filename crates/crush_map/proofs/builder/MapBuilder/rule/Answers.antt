@@ -29,10 +29,13 @@ invariant_of-self-2 g c =
     draft_fits (record b { setting = c.push_rule.new.self }) (with_rule d c.args.rule.now)
     (rule_step b c.push_rule.new.self d c.args.rule.now own (ap (λ (x : BuilderData). x.pending) c.self.view_is ∙ c.requires.idle) rules c.requires.form clear)
 
+pub returns-clause-clear : goal.returns-clause-clear
+returns-clause-clear g c = λ d i. sym (c.in_default.ensures d i)
+
 pub returns-clause-ok : goal.returns-clause-ok
 returns-clause-ok g c = λ d i.
     let b : BuilderData = record { setting = c.self.inside.setting; forest = c.self.inside.hierarchy; pending = pending_data c.self.inside.pending; adjusted = c.self.inside.adjusted } in
     let at : IsDraft b d = subst (λ (x : BuilderData). IsDraft x d) (sym c.self.view_is) i in
     let rules = c.in_ok-push_rule.ensures.ok ∙ (λ j. record c.self.inside.setting { rules = c.self.inside.setting.rules ++ c.in_ok-kept.ensures d i j ∷ [] }) in
     let clear : rule_fault d c.args.rule.now ≡ None = sym (c.in_default.ensures d i) in
-    (clear, rule_step b c.push_rule.new.self d c.args.rule.now at (ap (λ (x : BuilderData). x.pending) c.self.view_is ∙ c.requires.idle) rules c.requires.form clear)
+    rule_step b c.push_rule.new.self d c.args.rule.now at (ap (λ (x : BuilderData). x.pending) c.self.view_is ∙ c.requires.idle) rules c.requires.form clear

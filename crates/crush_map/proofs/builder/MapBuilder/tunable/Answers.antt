@@ -34,6 +34,9 @@ invariant_of-self-2 g c =
     draft_fits (record b { setting = c.push_tunable.new.self }) (with_tunable d c.args.name.now c.args.value)
     (tunable_step b c.push_tunable.new.self d c.args.name.now c.args.value own (ap (λ (x : BuilderData). x.pending) c.self.view_is ∙ c.requires.idle) tunables is none.0 none.1)
 
+pub returns-clause-clear : goal.returns-clause-clear
+returns-clause-clear g c = λ d i. sym (c.in_default.ensures d i)
+
 pub returns-clause-ok : goal.returns-clause-ok
 returns-clause-ok g c = λ d i.
     let b : BuilderData = record { setting = c.self.inside.setting; forest = c.self.inside.hierarchy; pending = pending_data c.self.inside.pending; adjusted = c.self.inside.adjusted } in
@@ -42,4 +45,4 @@ returns-clause-ok g c = λ d i.
     let is : IsTunable (record { name = c.args.name.now; value = c.args.value }) = record { name = c.requires.name; value = omega arith } in
     let clear : tunable_fault d c.args.name.now ≡ None = sym (c.in_default.ensures d i) in
     let none = none_of_two DuplicateName TooMany (has_tunable d.setting c.args.name.now) (is_full_of_tunables d) clear in
-    (clear, tunable_step b c.push_tunable.new.self d c.args.name.now c.args.value at (ap (λ (x : BuilderData). x.pending) c.self.view_is ∙ c.requires.idle) tunables is none.0 none.1)
+    tunable_step b c.push_tunable.new.self d c.args.name.now c.args.value at (ap (λ (x : BuilderData). x.pending) c.self.view_is ∙ c.requires.idle) tunables is none.0 none.1

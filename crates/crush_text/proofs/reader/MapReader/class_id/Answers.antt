@@ -18,7 +18,7 @@ want-requires g c =
 pub returns-in-Ok : goal.returns-in-Ok
 returns-in-Ok g c = record {
   reads = λ d h.
-      (with_class_id d _ _, (c.in-Ok.ensures.ok d (still (c.in_ok-class.ensures.kept ∙ c.in_ok-id.ensures.kept) h)).1, class_id_reads d _ _ _ _ _ _ (c.in_ok-id.ensures.reads.gives d h) (c.in_ok-read_key.ensures.gives d tt) (c.in_ok-class.ensures.reads.gives d (still c.in_ok-id.ensures.kept h)));
+      (with_class_id d _ _, c.in-Ok.ensures.ok d (still (c.in_ok-class.ensures.kept ∙ c.in_ok-id.ensures.kept) h), class_id_reads d _ _ _ _ _ _ (c.in_ok-id.ensures.reads.gives d h) (c.in_ok-read_key.ensures.gives d tt) (c.in_ok-class.ensures.reads.gives d (still c.in_ok-id.ensures.kept h)));
   stands = search rules;
   shorter = search rules;
 }

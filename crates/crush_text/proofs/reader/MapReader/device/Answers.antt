@@ -42,9 +42,9 @@ pub returns-in-Ok : goal.returns-in-Ok
 returns-in-Ok g c = record {
   reads = λ d h.
       let head = device_reads d _ _ _ _ _ (c.in_ok-id.ensures.reads.gives d h) (c.in_ok-name.ensures.reads.gives d (still c.in_ok-id.ensures.kept h)) in
-      (with_device d _ _ _, c.in-Ok.ensures d (still (c.in_ok-name.ensures.kept ∙ c.in_ok-id.ensures.kept) h), head ∙ part_taken d _ _ _ _ _ _ (sym c.if-take_key.true ∙ c.take_key.ensures.answer) (c.take_key.ensures.rest ∙ ap (λ (b : Bool). if b then past c.new_name.new.self.text else c.new_name.new.self.text) c.if-take_key.true) ∙ class_reads d _ _ _ _ _ (c.in_ok-class.ensures.gives d tt));
+      (with_device d _ _ _, c.in-Ok.ensures.ok d (still (c.in_ok-name.ensures.kept ∙ c.in_ok-id.ensures.kept) h), head ∙ part_taken d _ _ _ _ _ _ (sym c.if-take_key.true ∙ c.take_key.ensures.answer) (c.take_key.ensures.rest ∙ ap (λ (b : Bool). if b then past c.new_name.new.self.text else c.new_name.new.self.text) c.if-take_key.true) ∙ class_reads d _ _ _ _ _ (c.in_ok-class.ensures.gives d tt));
   stands = let d = c.requires.idle.some in
-      still_idle _ _ d.0 _ c.requires.idle.part d.1 (c.in-Ok.ensures d.0 (still (c.in_ok-name.ensures.kept ∙ c.in_ok-id.ensures.kept) d.1)) refl;
+      still_idle _ _ d.0 _ c.requires.idle.part d.1 (c.in-Ok.ensures.ok d.0 (still (c.in_ok-name.ensures.kept ∙ c.in_ok-id.ensures.kept) d.1)) refl;
   shorter = search rules;
 }
 
@@ -57,9 +57,9 @@ pub returns-in-Ok-device_unchecked : goal.returns-in-Ok-device_unchecked
 returns-in-Ok-device_unchecked g c = record {
   reads = λ d h.
       let head = device_reads d _ _ _ _ _ (c.in_ok-id.ensures.reads.gives d h) (c.in_ok-name.ensures.reads.gives d (still c.in_ok-id.ensures.kept h)) in
-      (with_device d _ _ _, c.in-Ok-device_unchecked.ensures d (still (c.in_ok-name.ensures.kept ∙ c.in_ok-id.ensures.kept) h), head ∙ part_taken d _ _ _ _ _ _ (sym c.if-take_key.false ∙ c.take_key.ensures.answer) (c.take_key.ensures.rest ∙ ap (λ (b : Bool). if b then past c.new_name.new.self.text else c.new_name.new.self.text) c.if-take_key.false) ∙ done_reads d _ _);
+      (with_device d _ _ _, c.in-Ok-device_unchecked.ensures.ok d (still (c.in_ok-name.ensures.kept ∙ c.in_ok-id.ensures.kept) h), head ∙ part_taken d _ _ _ _ _ _ (sym c.if-take_key.false ∙ c.take_key.ensures.answer) (c.take_key.ensures.rest ∙ ap (λ (b : Bool). if b then past c.new_name.new.self.text else c.new_name.new.self.text) c.if-take_key.false) ∙ done_reads d _ _);
   stands = let d = c.requires.idle.some in
-      still_idle _ _ d.0 _ c.requires.idle.part d.1 (c.in-Ok-device_unchecked.ensures d.0 (still (c.in_ok-name.ensures.kept ∙ c.in_ok-id.ensures.kept) d.1)) refl;
+      still_idle _ _ d.0 _ c.requires.idle.part d.1 (c.in-Ok-device_unchecked.ensures.ok d.0 (still (c.in_ok-name.ensures.kept ∙ c.in_ok-id.ensures.kept) d.1)) refl;
   shorter = search rules;
 }
 

@@ -29,7 +29,7 @@ returns-in_err-id g c =
 pub returns : goal.returns
 returns g c = record {
   reads = λ d h.
-      (with_id d _, (c.in-Ok.ensures.ok d (still c.in_ok-id.ensures.kept h)).1, word_reads d _ _ _ _ _ (c.in_ok-read_key.ensures.gives d tt) ∙ word_reads d _ _ _ _ _ (c.in_ok-read_key-2.ensures.gives d tt) ∙ word_reads d _ _ _ _ _ (c.in_ok-id.ensures.reads.gives d h) ∙ done_reads d _ _);
+      (with_id d _, c.in-Ok.ensures.ok d (still c.in_ok-id.ensures.kept h), word_reads d _ _ _ _ _ (c.in_ok-read_key.ensures.gives d tt) ∙ word_reads d _ _ _ _ _ (c.in_ok-read_key-2.ensures.gives d tt) ∙ word_reads d _ _ _ _ _ (c.in_ok-id.ensures.reads.gives d h) ∙ done_reads d _ _);
   stands = search rules;
   shorter = search rules;
 }

@@ -24,8 +24,8 @@ returns-in_err-place g c =
 pub returns-in-Ok : goal.returns-in-Ok
 returns-in-Ok g c = record {
   reads = λ d h.
-      (with_rule d c.steps.new.rule, (c.in-Ok.ensures.ok d (still (c.in_ok-place.ensures.kept ∙ c.in_ok-rule.ensures.kept) h)).1, leads_then _ _ _ _ _ _ (line_leads d (rule_line d) _ _ _ (c.in_ok-rule.ensures.gives d h)) (c.in_ok-place.ensures.reads d (still c.in_ok-rule.ensures.kept h)).0);
-  stands = let d = c.requires.idle.some in still_idle _ _ d.0 _ c.requires.idle.part d.1 (c.in-Ok.ensures.ok d.0 (still (c.in_ok-place.ensures.kept ∙ c.in_ok-rule.ensures.kept) d.1)).1 refl;
+      (with_rule d c.steps.new.rule, c.in-Ok.ensures.ok d (still (c.in_ok-place.ensures.kept ∙ c.in_ok-rule.ensures.kept) h), leads_then _ _ _ _ _ _ (line_leads d (rule_line d) _ _ _ (c.in_ok-rule.ensures.gives d h)) (c.in_ok-place.ensures.reads d (still c.in_ok-rule.ensures.kept h)).0);
+  stands = let d = c.requires.idle.some in still_idle _ _ d.0 _ c.requires.idle.part d.1 (c.in-Ok.ensures.ok d.0 (still (c.in_ok-place.ensures.kept ∙ c.in_ok-rule.ensures.kept) d.1)) refl;
   shorter = search rules;
 }
 

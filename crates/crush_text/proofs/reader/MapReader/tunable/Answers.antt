@@ -18,9 +18,9 @@ want-requires g c =
 pub returns-in-Ok : goal.returns-in-Ok
 returns-in-Ok g c = record {
   reads = λ d h.
-      (with_tunable d _ _, (c.in-Ok.ensures.ok d (still c.in_ok-name.ensures.kept h)).1, tunable_reads d _ _ _ _ _ (c.in_ok-name.ensures.reads.gives d h) (c.in_ok-value.ensures.gives d tt));
+      (with_tunable d _ _, c.in-Ok.ensures.ok d (still c.in_ok-name.ensures.kept h), tunable_reads d _ _ _ _ _ (c.in_ok-name.ensures.reads.gives d h) (c.in_ok-value.ensures.gives d tt));
   stands = let d = c.requires.idle.some in
-      still_idle _ _ d.0 _ c.requires.idle.part d.1 (c.in-Ok.ensures.ok d.0 (still c.in_ok-name.ensures.kept d.1)).1 refl;
+      still_idle _ _ d.0 _ c.requires.idle.part d.1 (c.in-Ok.ensures.ok d.0 (still c.in_ok-name.ensures.kept d.1)) refl;
   shorter = search rules;
 }
 
