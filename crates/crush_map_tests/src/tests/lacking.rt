@@ -24,6 +24,11 @@ fn largest_piece(heap: &LocalHeap) -> usize {
     0
 }
 
+/// Takes a piece of the heap.
+fn ballast<'h>(rt: &impl Abort, heap: &'h LocalHeap, size: usize) -> Vec<u8, &'h LocalHeap> {
+    Vec::with_capacity(heap, size).expect(rt, "a piece")
+}
+
 /// What a call is answered.
 #[derive(Clone, Copy, PartialEq)]
 enum Told {
@@ -40,8 +45,7 @@ struct Call {
     told: Told,
     /// What is then true of the map.
     then: &'static [Fact],
-    /// How often memory lacks for it at least, beside the piece that the map gave back when it was
-    /// finished: a bucket or two are made in that.
+    /// How often memory lacks for it at least.
     least: usize,
 }
 
@@ -53,7 +57,8 @@ fn answer(rt: &impl Abort, map: &mut CrushMap<&LocalHeap>, edits: &[Edit]) -> To
     Told::Batch(make_batch(rt, map, edits))
 }
 
-/// What the map answers to the call where the largest piece of its heap is `spare` bytes.
+/// What the map answers to the call where the largest piece of its heap is `spare` bytes. The piece
+/// that the map gave back when it was finished is filled before.
 fn answer_with(
     rt: &impl Abort,
     heap: &LocalHeap,
@@ -61,9 +66,15 @@ fn answer_with(
     map: &mut CrushMap<&LocalHeap>,
     edits: &[Edit],
 ) -> Told {
-    let size = largest_piece(heap).saturating_sub(spare);
-    let _ballast: Vec<u8, &LocalHeap> = Vec::with_capacity(heap, size).expect(rt, "a piece");
-    answer(rt, map, edits)
+    let size = largest_piece(heap);
+    let largest = ballast(rt, heap, size);
+    let given_back = ballast(rt, heap, largest_piece(heap));
+    drop(largest);
+    let rest = ballast(rt, heap, size.saturating_sub(spare));
+    let told = answer(rt, map, edits);
+    drop(given_back);
+    drop(rest);
+    told
 }
 
 /// Whether memory lacked.
@@ -190,7 +201,7 @@ const PUTS: &[Call] = &[
             Fact::Holds("h2", &["osd.2", "osd.0"], 98304),
             Fact::Holds("default", &["h1", "h2"], 163840),
         ],
-        least: 0,
+        least: 1,
     },
     Call {
         asked: &[Asked::Set(1, 196608, &[("host", "h1")])],
@@ -206,7 +217,7 @@ const PUTS: &[Call] = &[
             Fact::HasId("r1", -4),
             Fact::Holds("default", &["h1", "r1"], 163840),
         ],
-        least: 0,
+        least: 1,
     },
 ];
 
@@ -266,7 +277,7 @@ const OTHERS: &[Call] = &[
             Fact::HasId("h9", -4),
             Fact::IsRoot("h9"),
         ],
-        least: 0,
+        least: 1,
     },
     Call {
         asked: &[Asked::Rename("h1", "hq")],
