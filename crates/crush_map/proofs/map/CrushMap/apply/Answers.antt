@@ -1,4 +1,4 @@
-use Rattle.std.proofs.Common.{◌≡◌, List, ap, sym, subst, ◌∙◌}
+use Rattle.std.proofs.Common.{rules, ◌≡◌, List, ap, sym, subst, ◌∙◌}
 use Rattle.std.specs.Prelude.{IfOk}
 use Rattle.crush_table.specs.Table.{Row}
 use Rattle.crush_table.specs.Forest.{ForestData}
@@ -23,3 +23,6 @@ returns-clause-refused g c = λ r is t st.
 pub returns-clause-change : goal.returns-clause-change
 returns-clause-change g c = λ is t st.
     subst (λ (m : MapData). IsChange (edit m.setting t c.args.asked.now)) c.self.view_is (c.apply_edit.ensures.change is t (of_forest _ _ t c.self.view_is st))
+
+pub returns-clause-unchanged : goal.returns-clause-unchanged
+returns-clause-unchanged g c = search rules
