@@ -3,7 +3,6 @@ use Rattle.std.specs.Prelude.{◌≡◌, ℕ, zero, suc, List, [], ◌∷◌, le
 use Rattle.crush_table.specs.Table.{Row}
 use Rattle.crush_edits.specs.Setting.{SettingData}
 use Rattle.crush_map.specs.MapData.{MapData, MapStands}
-use Rattle.crush_tree.specs.Sameness.{IsSameForest}
 use Rattle.crush_calls.specs.declared.call.Call.{Call}
 use Rattle.crush_calls.specs.declared.call.Reply.{Reply}
 use Rattle.crush_calls.specs.Script.{ScriptData, call_count}
@@ -12,15 +11,6 @@ use Rattle.crush_calls.specs.History.{call_outcome, EntryData, AnsweredData, IsL
 -- MADE: the reply is the table's, and the map stands for the table after, of each table for which it stood
 abbrev pub Makes : MapData → MapData → Call → Reply → Type 0
 Makes old new call reply = (s : SettingData) (t : List Row) → MapStands old s t → (reply ≡ (call_outcome s t call).reply) × MapStands new s (call_outcome s t call).table
-
--- KEPT: the map stands for each table for which it stood
-abbrev pub StandsAsBefore : MapData → MapData → Type 0
-StandsAsBefore old new = (s : SettingData) (t : List Row) → MapStands old s t → MapStands new s t
-
--- SAME: equal settings, and equal items in the same order, whatever room there is
-pub record IsSameMap (new old : MapData) : Type 0 where
-  pub setting : new.setting ≡ old.setting
-  pub forest : IsSameForest new.forest old.forest
 
 -- the calls of the script of a number, or none where there is no such script
 abbrev pub calls_at : List ScriptData → ℕ → List Call

@@ -1,8 +1,8 @@
 //! One call, made on a map.
 
-ghost use Rattle.std.specs.Prelude.{◌≤◌, length, IfOk, OnErr};
+ghost use Rattle.std.specs.Prelude.{◌≡◌, ◌≤◌, length, IfOk, OnErr};
 ghost use Rattle.crush_units.specs.declared.limits.TheConstants.{MOST_EDITS};
-ghost use Rattle.crush_calls.specs.Turns.{Makes, StandsAsBefore, IsSameMap};
+ghost use Rattle.crush_calls.specs.Turns.{Makes};
 
 use crate::call::{Call, Reply};
 use crush_edits::{BatchFault, Edit, EditFault};
@@ -12,8 +12,7 @@ use std::alloc::{AllocError, Allocator};
 /// Makes one edit.
 fn make_edit<A: Allocator + Clone>(map: &mut CrushMap<A>, asked: &Edit) -> Result<Reply, AllocError>
     ensures made { IfOk result (Makes map.old map.new (Call.One asked.now)) }
-    ensures kept { OnErr result (StandsAsBefore map.old map.new) }
-    ensures same { OnErr result (IsSameMap map.new map.old) }
+    ensures unchanged { OnErr result (map.new ≡ map.old) }
 {
     match map.apply(asked) {
         Ok(done) => Ok(Reply::Done(done)),
@@ -29,8 +28,7 @@ fn make_batch<A: Allocator + Clone>(
 ) -> Result<Reply, AllocError>
     requires { length asked.now ≤ MOST_EDITS }
     ensures made { IfOk result (Makes map.old map.new (Call.Batch asked.now)) }
-    ensures kept { OnErr result (StandsAsBefore map.old map.new) }
-    ensures same { OnErr result (IsSameMap map.new map.old) }
+    ensures unchanged { OnErr result (map.new ≡ map.old) }
 {
     match map.apply_batch(asked) {
         Ok(dones) => Ok(Reply::Dones(dones)),
@@ -43,15 +41,13 @@ fn make_batch<A: Allocator + Clone>(
 /// the map stands, and the map then stands for the table after; so a refused edit or batch changes
 /// nothing.
 ///
-/// An `Err` is want of memory. The map then has the setting and the items that it had, in the same
-/// order, and perhaps room for more.
+/// An `Err` is want of memory. The map is then as before, also its room.
 pub fn make_call<A: Allocator + Clone>(
     map: &mut CrushMap<A>,
     call: &Call,
 ) -> Result<Reply, AllocError>
     ensures made { IfOk result (Makes map.old map.new call.now) }
-    ensures kept { OnErr result (StandsAsBefore map.old map.new) }
-    ensures same { OnErr result (IsSameMap map.new map.old) }
+    ensures unchanged { OnErr result (map.new ≡ map.old) }
 {
     match call {
         Call::One(edit) => make_edit(map, edit),

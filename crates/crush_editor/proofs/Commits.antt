@@ -12,14 +12,14 @@ use Rattle.crush_map.specs.MapData.{MapData, MapStands}
 use Rattle.crush_calls.specs.declared.call.Call.{Call}
 use Rattle.crush_calls.specs.declared.call.Reply.{Reply}
 use Rattle.crush_calls.specs.History.{EntryData, call_outcome, table_after, IsLegal, is_change, changes}
-use Rattle.crush_calls.specs.Turns.{Makes, StandsAsBefore}
+use Rattle.crush_calls.specs.Turns.{Makes}
 use Rattle.crush_calls.proofs.Histories.{table_after-append, IsLegal-append}
 use Rattle.crush_calls.proofs.EntryLines.{changes-push}
 use Rattle.crush_gauge.specs.declared.view.View.{View}
 use Rattle.crush_gauge.specs.declared.view.View.TheVariants.{Book}
 use Rattle.crush_gauge.specs.Rule.{known, Follows, grown}
 use Rattle.crush_editor.specs.History.{entry, change_of, IsLegalFrom, table_from, weight_from, OpensGauge}
-use Rattle.crush_editor.specs.Book.{IsKept, MakesAll, StandsAfter}
+use Rattle.crush_editor.specs.Book.{IsKept, MakesAll, StandsAfter, StandsAsBefore}
 
 -- a history of one entry
 table_after-one : (s : SettingData) (u : List Row) (e : EntryData) → table_after s u (e ∷ []) ≡ (call_outcome s u e.call).table

@@ -7,7 +7,7 @@ use Rattle.crush_table.specs.Table.{Row}
 use Rattle.crush_edits.specs.Setting.{SettingData}
 use Rattle.crush_map.specs.MapData.{MapData, MapStands}
 use Rattle.crush_calls.specs.History.{EntryData, changes, table_after, IsLegal}
-use Rattle.crush_calls.specs.Turns.{IsSameMap}
+use Rattle.crush_tree.specs.Sameness.{IsSameForest}
 use Rattle.crush_gauge.specs.declared.view.View.{View}
 use Rattle.crush_gauge.specs.declared.view.View.TheVariants.{Book}
 use Rattle.crush_gauge.specs.Rule.{known}
@@ -31,6 +31,15 @@ StandsAfter o m h = MapStands m o.setting (table_from o h)
 abbrev pub MakesAll : MapData → MapData → List EntryData → Type 0
 MakesAll old new h = (s : SettingData) (t : List Row) → MapStands old s t → IsLegal s t h × MapStands new s (table_after s t h)
 
+-- SAME: equal settings, and equal items in the same order, whatever room there is
+pub record IsSameMap (new old : MapData) : Type 0 where
+  pub setting : new.setting ≡ old.setting
+  pub forest : IsSameForest new.forest old.forest
+
+-- the map stands for each table for which it stood
+abbrev pub StandsAsBefore : MapData → MapData → Type 0
+StandsAsBefore old new = (s : SettingData) (t : List Row) → MapStands old s t → MapStands new s t
+
 -- what each book keeps
 pub record IsKept (o m : MapData) (h : List EntryData) (count : ℕ) (view : View MapData EntryData) : Type 0 where
   pub legal : IsLegalFrom o h
@@ -40,10 +49,3 @@ pub record IsKept (o m : MapData) (h : List EntryData) (count : ℕ) (view : Vie
   pub room : length h ≤ MOST_ENTRIES
   pub counted : count ≡ changes h
   pub shown : view ≡ Book (known o h)
-
--- a book that has the same history, and a map with the same setting and items
-pub record IsSameBook (new old : BookData) : Type 0 where
-  pub table : new.table ≡ old.table
-  pub opening : new.opening ≡ old.opening
-  pub map : IsSameMap new.map old.map
-  pub history : new.history ≡ old.history

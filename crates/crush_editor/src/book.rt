@@ -4,12 +4,12 @@ ghost use Rattle.std.specs.Prelude.{◌≡◌, ◌<◌, ◌≤◌, ◌++◌, ◌
 ghost use mathlib.Core.Logic.{◌↔◌};
 ghost use Rattle.crush_units.specs.declared.limits.TheConstants.{MOST_ENTRIES, MOST_OPERATORS};
 ghost use Rattle.crush_calls.specs.History.{EntryData, changes};
-ghost use Rattle.crush_calls.specs.Turns.{Makes, IsSameMap, StandsAsBefore};
+ghost use Rattle.crush_calls.specs.Turns.{Makes};
 ghost use Rattle.crush_gauge.specs.declared.view.View.TheVariants.{Book as BookSees};
 ghost use Rattle.crush_gauge.specs.Rule.{known, Follows, grown};
 ghost use Rattle.crush_gauge.specs.Held.{held};
 ghost use Rattle.crush_editor.specs.History.{entry, change_of, IsLegalFrom, weight_from};
-ghost use Rattle.crush_editor.specs.Book.{IsSameBook, MakesAll, StandsAfter};
+ghost use Rattle.crush_editor.specs.Book.{IsSameMap, MakesAll, StandsAfter, StandsAsBefore};
 ghost use Rattle.crush_editor.specs.Seat.{seen_of, reads};
 ghost use mathlib.Core.List.{IsPrefix};
 
@@ -89,8 +89,7 @@ impl<A: Allocator + Clone> Book<A> {
     /// the call is refused. The gauge is the book's.
     ///
     /// `Full` is judged first, and exactly where there are 65,536 entries. After either fault the book
-    /// is as before, but that its map may have room for more: all memory is taken before anything
-    /// changes.
+    /// is as before, its map also in its room: all memory is taken before anything changes.
     pub fn commit(
         &mut self,
         alloc: Global,
@@ -104,12 +103,12 @@ impl<A: Allocator + Clone> Book<A> {
         ensures history { IfOk result (λ r.
             self.new.history ≡ self.old.history ++ entry k call.now r ∷ []) }
         ensures full { (result ≡ Err SubmitFault.Full) ↔ (length self.old.history ≡ MOST_ENTRIES) }
-        ensures unchanged { result ≡ Err SubmitFault.Full → self.new ≡ self.old }
-        ensures err { OnErr result (IsSameBook self.new self.old) }
+        ensures unchanged { OnErr result (self.new ≡ self.old) }
         ensures opening { self.new.opening ≡ self.old.opening }
         ensures table { self.new.table ≡ self.old.table }
     {
-        if self.history.len() == MOST_ENTRIES {
+        let entries = self.history.len();
+        if entries == MOST_ENTRIES {
             return Err(SubmitFault::Full);
         }
         let Ok(copy) = call.try_copy(alloc) else {
@@ -173,7 +172,7 @@ impl<A: Allocator + Clone> Book<A> {
         ensures history { IfOk result (λ r.
             self.new.history ≡ self.old.history ++ entry k call.now r ∷ []) }
         ensures full { (result ≡ Err SubmitFault.Full) ↔ (length self.old.history ≡ MOST_ENTRIES) }
-        ensures err { OnErr result (IsSameBook self.new self.old) }
+        ensures unchanged { OnErr result (self.new ≡ self.old) }
         ensures opening { self.new.opening ≡ self.old.opening }
         ensures table { self.new.table ≡ self.old.table }
         ensures begins { IsPrefix (seen_of reader.old.view) self.old.history }

@@ -10,8 +10,7 @@ ghost use Rattle.crush_gauge.specs.Held.{held};
 ghost use Rattle.std.specs.List.{All};
 ghost use Rattle.crush_calls.specs.History.{changes};
 ghost use Rattle.crush_editor.specs.History.{weight_from, OpensGauge};
-ghost use Rattle.crush_calls.specs.Turns.{StandsAsBefore};
-ghost use Rattle.crush_editor.specs.Book.{MakesAll};
+ghost use Rattle.crush_editor.specs.Book.{MakesAll, StandsAsBefore};
 ghost use Rattle.crush_editor.specs.Seat.{Answered, Sees, InOrder, IsHistoryOfSeats, seat_data, reads};
 
 use crate::book::{Book, Closed, SubmitFault};
@@ -46,8 +45,8 @@ impl<A: Allocator> Model for Started<A> {
     ghost use Rattle.std.specs.Coded.{codes};
     ghost use Rattle.crush_units.specs.declared.limits.TheConstants.{MOST_OPERATORS};
     ghost use Rattle.crush_map.specs.Codes.{coded_map};
-    ghost use Rattle.crush_calls.specs.Turns.{StandsAsBefore};
     ghost use Rattle.crush_gauge.specs.Held.{held};
+    ghost use Rattle.crush_editor.specs.Book.{StandsAsBefore};
     ghost use Rattle.crush_editor.specs.Seat.{StartedData, reads};
 
     ghost Value = { StartedData };

@@ -107,7 +107,7 @@ impl<N: Desk> Locked<N> {
             .book
             .serve(alloc, gauge, &mut seat.reader, operator, call);
         let reply = match outcome {
-            Ok(reply) => reply,
+            Ok(answer) => answer,
             Err(fault) => return Err(fault),
         };
         self.count.add(&mut seat.share, 1);

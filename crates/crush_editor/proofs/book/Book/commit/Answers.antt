@@ -25,3 +25,27 @@ invariant_of-self-2 g c =
     let i = c.self.inside in
     rw (c.push_reserved.ensures.items, c.reserve.ensures.items, c.in-Ok.ensures, c.change_of.ensures, ap (λ b. b.view) c.publish.ensures, c.in-Ok.ensures)
     (kept_push i.opening i.map c.make_call.new.map i.history.items i.changes i.seat.view c.args.k c.args.call.now c.in-Ok-make_call.reply c.self.invariant c.in-Ok-make_call.ensures.made c.requires.operator (λ e. absurd (omega arith)))
+
+pub returns-then-entries-eq-MOST_ENTRIES-clause-full : goal.returns-then-entries-eq-MOST_ENTRIES-clause-full
+returns-then-entries-eq-MOST_ENTRIES-clause-full g c = search rules
+
+pub returns-in_default-clause-full : goal.returns-in_default-clause-full
+returns-in_default-clause-full g c = search rules
+
+pub returns-then-is_err-clause-full : goal.returns-then-is_err-clause-full
+returns-then-is_err-clause-full g c = search rules
+
+pub returns-in_default-make_call-clause-full : goal.returns-in_default-make_call-clause-full
+returns-in_default-make_call-clause-full g c = search rules
+
+pub returns-clause-full : goal.returns-clause-full
+returns-clause-full g c = search rules
+
+pub returns-clause-made : goal.returns-clause-made
+returns-clause-made g c = rw (← c.self.view_is) c.in-Ok-make_call.ensures.made
+
+pub returns-clause-history : goal.returns-clause-history
+returns-clause-history g c = search rules
+
+pub returns-clause-opening : goal.returns-clause-opening
+returns-clause-opening g c = search rules
