@@ -2,6 +2,7 @@
 use Rattle.std.proofs.Common.{◌≡◌, true, false, [], ◌∷◌, refl, lit<}
 use Rattle.std.proofs.lemmas.Fmt.{decimal_digit}
 use Rattle.std.specs.Prelude.{codes}
+use Rattle.crush_units.specs.declared.limits.TheConstants.{UNITS_OF_ONE}
 use Rattle.crush_edits.specs.declared.edit.Edit.TheVariants.{Insert, Reweight, Remove, Rename}
 use Rattle.crush_edits.specs.declared.refusal.Refusal.TheVariants.{NotPlaced, NoSuchItem}
 use Rattle.crush_calls.specs.declared.call.Call.TheVariants.{One, Batch}
@@ -16,7 +17,7 @@ remove_text : edit_text (Remove (codes "osd.0")) ≡ codes "rm osd.0"
 remove_text = refl
 
 -- the lines of a history
-done_line : line_text 1 (codes "a") (One (Reweight (codes "osd.2") 65536)) (Done (record { changed = true; made = 0 })) ≡ codes "# 1 a reweight osd.2 1.00000 = done changed 1 made 0\n"
+done_line : line_text 1 (codes "a") (One (Reweight (codes "osd.2") UNITS_OF_ONE)) (Done (record { changed = true; made = 0 })) ≡ codes "# 1 a reweight osd.2 1.00000 = done changed 1 made 0\n"
 unfolding line_front line_end
 done_line = rw (decimal_digit 1 (lit< tt), decimal_digit 0 (lit< tt)) refl
 
@@ -24,7 +25,7 @@ same_line : line_text 2 (codes "b") (One (Reweight (codes "osd.0") 131072)) (Don
 unfolding line_front line_end
 same_line = rw (decimal_digit 2 (lit< tt), decimal_digit 0 (lit< tt)) refl
 
-refused_line : line_text 3 (codes "a") (One (Reweight (codes "osd.9") 65536)) (Refused NotPlaced) ≡ codes "# 3 a reweight osd.9 1.00000 = refused NotPlaced 2\n"
+refused_line : line_text 3 (codes "a") (One (Reweight (codes "osd.9") UNITS_OF_ONE)) (Refused NotPlaced) ≡ codes "# 3 a reweight osd.9 1.00000 = refused NotPlaced 2\n"
 unfolding line_front line_end
 refused_line = rw (decimal_digit 3 (lit< tt), decimal_digit 1 (lit< tt), decimal_digit 2 (lit< tt)) refl
 

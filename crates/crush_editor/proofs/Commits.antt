@@ -3,6 +3,7 @@ use Rattle.std.proofs.Common.{◌≡◌, ◌≢◌, ℕ, ◌+◌, ◌<◌, ◌�
 use Rattle.std.specs.Prelude.{if◌then◌else◌}
 use Rattle.std.proofs.lemmas.List.Elements.{All-push, All-nil}
 use Rattle.std.specs.List.{All}
+use Rattle.crush_units.specs.declared.limits.TheConstants.{MOST_ENTRIES, MOST_OPERATORS}
 use Rattle.crush_table.specs.Table.{Row, total}
 use Rattle.crush_table.specs.Forest.{IsSound, rows_of}
 use Rattle.crush_table.specs.Stands.{Stands}
@@ -15,6 +16,7 @@ use Rattle.crush_calls.specs.History.{EntryData, call_outcome, table_after, IsLe
 use Rattle.crush_calls.specs.Turns.{Makes}
 use Rattle.crush_calls.proofs.Histories.{table_after-append, IsLegal-append}
 use Rattle.crush_calls.proofs.EntryLines.{changes-push}
+use Rattle.crush_gauge.specs.declared.limits.TheConstants.{MOST_CHANGES}
 use Rattle.crush_gauge.specs.declared.view.View.{View}
 use Rattle.crush_gauge.specs.declared.view.View.TheVariants.{Book}
 use Rattle.crush_gauge.specs.Rule.{known, Follows, grown}
@@ -47,7 +49,7 @@ unfolding changes
 changes-le [] = omega arith
 changes-le (e ∷ h) = let c = change-le (is_change e.reply) in let r = changes-le h in omega arith
 
-pub counts : (o m : MapData) (h : List EntryData) (n : ℕ) (v : View MapData EntryData) (r : Reply) → IsKept o m h n v → n + change_of r ≤ 65537
+pub counts : (o m : MapData) (h : List EntryData) (n : ℕ) (v : View MapData EntryData) (r : Reply) → IsKept o m h n v → n + change_of r ≤ MOST_ENTRIES + 1
 counts o m h n v r kept = let c = change-le (is_change r) in let l = changes-le h in let a = kept.room in let b = kept.counted in omega arith
 
 module _ (o m n : MapData) (h : List EntryData) (c : ℕ) (v : View MapData EntryData) (k : ℕ) (call : Call) (r : Reply) (kept : IsKept o m h c v) (made : Makes m n call r) where
@@ -73,21 +75,21 @@ module _ (o m n : MapData) (h : List EntryData) (c : ℕ) (v : View MapData Entr
   changes_push = changes-push h e ∙ ap (λ (x : ℕ). x + change_of r) (sym kept.counted)
 
   -- the history with the entry may be published
-  pub follows : (w : ℕ) → length h ≢ 65536 → ((t : List Row) → Stands n.forest t → w ≡ total t) → Follows IsLegalFrom (λ _. changes) weight_from v (e ∷ []) (c + change_of r) w
+  pub follows : (w : ℕ) → length h ≢ MOST_ENTRIES → ((t : List Row) → Stands n.forest t → w ≡ total t) → Follows IsLegalFrom (λ _. changes) weight_from v (e ∷ []) (c + change_of r) w
   follows w room weighs =
-      let few : changes (h ++ e ∷ []) ≤ 65536 = (let a = changes-le (h ++ e ∷ []) in let l = length-append h (e ∷ []) in let b = kept.room in omega arith) in
+      let few : changes (h ++ e ∷ []) ≤ MOST_CHANGES = (let a = changes-le (h ++ e ∷ []) in let l = length-append h (e ∷ []) in let b = kept.room in omega arith) in
       let u : List Row = table_from o (h ++ e ∷ []) in
       let is : w ≡ total u = weighs u stands_push.forest in
       let light = stands_push.forest.lawful.total in
       subst (λ (x : View MapData EntryData). Follows IsLegalFrom (λ _. changes) weight_from x (e ∷ []) (c + change_of r) w) (sym kept.shown)
       ((legal_push, few, omega arith), changes_push, sym is)
 
-  pub kept_push : k < 16 → length h ≢ 65536 → IsKept o n (h ++ e ∷ []) (c + change_of r) (grown (e ∷ []) v)
+  pub kept_push : k < MOST_OPERATORS → length h ≢ MOST_ENTRIES → IsKept o n (h ++ e ∷ []) (c + change_of r) (grown (e ∷ []) v)
   kept_push below room = record {
     legal = legal_push;
     stands = stands_push;
     all = all_push;
-    operators = All-push (λ (x : EntryData). x.operator < 16) h e kept.operators below;
+    operators = All-push (λ (x : EntryData). x.operator < MOST_OPERATORS) h e kept.operators below;
     room = let l = length-append h (e ∷ []) in let w = kept.room in omega arith;
     counted = sym changes_push;
     shown = ap (grown (e ∷ [])) kept.shown;
@@ -123,7 +125,7 @@ kept_new o m h v sound setting stands none shown =
       legal = first.0;
       stands = record { setting = setting; forest = subst (Stands m.forest) (sym first.1) (stands (rows_of o.forest) (stands_for_rows o.forest sound)) };
       all = all_new o m setting stands;
-      operators = All-nil (λ (e : EntryData). e.operator < 16);
+      operators = All-nil (λ (e : EntryData). e.operator < MOST_OPERATORS);
       room = omega arith;
       counted = no_changes;
       shown = shown;
