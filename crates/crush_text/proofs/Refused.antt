@@ -1,5 +1,6 @@
 -- Where a function fails it promises no more than its fault.
-use Rattle.std.proofs.Common.{◌≡◌, ℕ, Bool, List, Err, Option}
+use Rattle.std.proofs.Common.{◌≡◌, ℕ, Bool, List, Result, Ok, Err, Option, inl}
+use Rattle.std.specs.Prelude.{OnOk, IsErrAnd, MatchResult}
 use Rattle.crush_map.specs.Built.{Draft}
 use Rattle.crush_map.specs.Building.{IsDraft}
 use Rattle.crush_map.specs.Rules.{kept_rule}
@@ -7,16 +8,18 @@ use Rattle.crush_edits.specs.declared.rule.Rule.{Rule}
 use Rattle.crush_edits.specs.Setting.{RuleData}
 use Rattle.crush_bytes.specs.Words.{Text}
 use Rattle.crush_text.specs.declared.fault.TextFault.{TextFault}
+use Rattle.crush_text.specs.declared.fault.TextFaultKind.TheVariants.{OutOfMemory}
 use Rattle.crush_text.specs.declared.reader.MapReader.{MapReader}
 use Rattle.crush_text.specs.Role.{Role, El}
 use Rattle.crush_text.specs.Form.{Mode, first, ruled, at, Form}
 use Rattle.crush_text.specs.Grammar.{rule_line, line_forms}
-use Rattle.crush_text.specs.Flow.{State, between}
+use Rattle.crush_text.specs.Flow.{State, between, arrive, Reaches}
 use Rattle.crush_text.specs.Reads.{word_at, line_at, number_behind, Fails, FailsIn}
 use Rattle.crush_text.specs.ReadsWords.{ReadsWord, ReadsValue, FindsWord, FindsValue}
 use Rattle.crush_text.specs.ReadsLines.{ReadsLine, ReadsOn}
 use Rattle.crush_text.specs.ReadsRules.{ReadsHead, ReadsSize, GivesStep, ReadsStepLine, ReadsSteps}
 use Rattle.crush_text.specs.ReadsStatements.{behind, ReadsNext, ReadsAll}
+use Rattle.crush_text.proofs.Reached.{want_here}
 
 -- no name was read
 pub no_name : (r : Role) (drafts : Draft → Type 0) (old new : Text) (f : TextFault) → ((d : Draft) → drafts d → word_at d r old ≡ Err f) → ReadsWord r drafts old new (Err f)
@@ -37,9 +40,25 @@ finds_no_value r old new f kept h = record { reads = no_value r _ _ _ f h; kept 
 pub no_line : {A : _} {X : Type 0} (form : Draft → Form) (mode : X → Mode) (old new : MapReader A) (f : TextFault) → ((d : Draft) → IsDraft old.builder d → FailsIn f d (form d) old.text) → ReadsLine form mode old new (Err f)
 no_line form mode old new f h = record { reads = h; stands = tt; shorter = tt }
 
+-- the builder makes what a line says, or lacks memory, which is told at a place that the line reaches
+pub line_or_want : {A : _} {E P : Type 0} {form : Draft → Form} {mode : Unit {0} → Mode} {old new : MapReader A} (made : Result (Unit {0}) E) (told : E → TextFault → Type 0) (x : Result (Unit {0}) TextFault) (place : ℕ)
+    → MatchResult made (λ u. x ≡ Ok u) (λ e. IsErrAnd x (told e)) → ((e : E) (f : TextFault) → told e f → f ≡ record { kind = OutOfMemory; place = place }) → ((d : Draft) → IsDraft old.builder d → Reaches place (arrive d old.text.words (form d)) old.text.words)
+    → OnOk made P → (P → ReadsLine form mode old new (Ok tt)) → ReadsLine form mode old new x
+line_or_want (Ok u) told x place is want here ok reads = rw is (reads ok)
+line_or_want (Err e) told (Ok u) place is want here ok reads = absurd is
+line_or_want {form = form} {mode = mode} {old = old} {new = new} (Err e) told (Err f) place is want here ok reads = no_line form mode old new f (λ d h. inl (want_here f place (arrive d old.text.words (form d)) old.text.words (want e f is) (here d h)))
+
 -- no lines
 pub no_lines : {A : _} {X : Type 0} (from : Draft → State) (mode : X → Mode) (old new : MapReader A) (f : TextFault) → ((d : Draft) → IsDraft old.builder d → Fails f (from d) old.text) → ReadsOn from mode old new (Err f)
 no_lines from mode old new f h = record { reads = h; stands = tt; shorter = tt }
+
+-- the builder makes what lines say, or lacks memory
+pub lines_or_want : {A : _} {E P : Type 0} {from : Draft → State} {mode : Unit {0} → Mode} {old new : MapReader A} (made : Result (Unit {0}) E) (told : E → TextFault → Type 0) (x : Result (Unit {0}) TextFault) (place : ℕ)
+    → MatchResult made (λ u. x ≡ Ok u) (λ e. IsErrAnd x (told e)) → ((e : E) (f : TextFault) → told e f → f ≡ record { kind = OutOfMemory; place = place }) → ((d : Draft) → IsDraft old.builder d → Reaches place (from d) old.text.words)
+    → OnOk made P → (P → ReadsOn from mode old new (Ok tt)) → ReadsOn from mode old new x
+lines_or_want (Ok u) told x place is want here ok reads = rw is (reads ok)
+lines_or_want (Err e) told (Ok u) place is want here ok reads = absurd is
+lines_or_want {from = from} {mode = mode} {old = old} {new = new} (Err e) told (Err f) place is want here ok reads = no_lines from mode old new f (λ d h. inl (want_here f place (from d) old.text.words (want e f is) (here d h)))
 
 -- no head of a rule, no size
 pub no_head : {A : _} (old new : MapReader A) (f : TextFault) → new.builder ≡ old.builder → ((d : Draft) → IsDraft old.builder d → FailsIn f d (rule_line d) old.text) → ReadsHead old new (Err f)

@@ -14,7 +14,7 @@ ghost use Rattle.crush_text.specs.ReadsLines.{IsAmid, behind_id, ReadsLine, Read
 use crate::fault::{TextFault, TextFaultKind};
 use crate::reader::MapReader;
 use crate::reader::roles::{read_key, read_number, read_word};
-use crate::reader::word::{PlacedWord, next_word};
+use crate::reader::word::{PlacedWord, next_word, want_at};
 use crush_bytes::Reader;
 use crush_bytes::number::number_up_to;
 use crush_units::limits::FARTHEST_BUCKET_ID;
@@ -42,10 +42,9 @@ impl<'a, A: Allocator + Clone> MapReader<'a, A> {
             self.old self.new result }
     {
         let name = self.new_name()?;
-        match self.builder.begin(kind, name.text) {
-            Ok(()) => Ok(()),
-            Err(fault) => Err(name.want(fault)),
-        }
+        self.builder
+            .begin(kind, name.text)
+            .map_err(|fault| want_at(name.place, fault))
     }
 
     /// The opening brace of a bucket and its id.
@@ -97,10 +96,9 @@ impl<'a, A: Allocator + Clone> MapReader<'a, A> {
         let id = self.bucket_id()?;
         read_key(&mut self.text, b"class")?;
         let class = self.id_class()?;
-        match self.builder.class_id(id, class.text) {
-            Ok(()) => Ok(()),
-            Err(fault) => Err(class.want(fault)),
-        }
+        self.builder
+            .class_id(id, class.text)
+            .map_err(|fault| want_at(class.place, fault))
     }
 
     /// The algorithm of a bucket, and its hash where that is given, behind the word `alg`.
@@ -113,13 +111,7 @@ impl<'a, A: Allocator + Clone> MapReader<'a, A> {
         if self.text.take_key(b"hash") {
             read_number(&mut self.text, 0)?;
         }
-        let Ok(()) = self.builder.alg(alg) else {
-            return Err(TextFault {
-                kind: TextFaultKind::OutOfMemory,
-                place,
-            });
-        };
-        Ok(())
+        self.builder.alg(alg).map_err(|fault| want_at(place, fault))
     }
 
     /// A bucket's id that is free, `-` and a number from 1 to 2147483648.

@@ -10,6 +10,7 @@ use crate::fault::{TextFault, TextFaultKind};
 use crate::opening::Opening;
 use crate::reader::MapReader;
 use crate::reader::roles::read_word;
+use crate::reader::word::memory_at;
 use crush_bytes::number::number_up_to;
 use crush_units::DeviceId;
 use crush_units::limits::LAST_DEVICE_ID;
@@ -26,18 +27,14 @@ impl<'a, A: Allocator + Clone> MapReader<'a, A> {
         let name = self.new_name()?;
         if self.text.take_key(b"class") {
             let class = read_word(&mut self.text)?;
-            return match self
+            return self
                 .builder
                 .device_unchecked(id, name.text, Some(class.text))
-            {
-                Ok(()) => Ok(()),
-                Err(_) => Err(class.fault(TextFaultKind::OutOfMemory)),
-            };
+                .map_err(|_| memory_at(class.place));
         }
-        match self.builder.device_unchecked(id, name.text, None) {
-            Ok(()) => Ok(()),
-            Err(_) => Err(name.fault(TextFaultKind::OutOfMemory)),
-        }
+        self.builder
+            .device_unchecked(id, name.text, None)
+            .map_err(|_| memory_at(name.place))
     }
 
     /// The id of a device that isn't there.

@@ -6,7 +6,6 @@ ghost use Rattle.crush_map.specs.Built.{Draft};
 ghost use Rattle.crush_map.specs.Rules.{IsRuleForm};
 ghost use Rattle.crush_units.specs.declared.limits.TheConstants.{LARGEST_RULE_NUMBER};
 ghost use Rattle.crush_units.specs.declared.limits.TheConstants.{MOST_STEPS};
-ghost use Rattle.crush_text.specs.declared.fault.TextFaultKind.TheVariants.{OutOfMemory};
 ghost use Rattle.crush_text.specs.Flaw.{IsWant};
 ghost use Rattle.crush_text.specs.Room.{IsHead};
 ghost use Rattle.crush_text.specs.Role.{rule_name, rule_id_key, rule_id, step_or_end};
@@ -22,10 +21,10 @@ use crate::fault::{TextFault, TextFaultKind};
 use crate::opening::Opening;
 use crate::reader::MapReader;
 use crate::reader::roles::{read_key, read_number, read_word};
-use crate::reader::word::{PlacedWord, next_word};
+use crate::reader::word::{PlacedWord, next_word, want_at};
 use crush_bytes::Reader;
 use crush_bytes::number::number_up_to;
-use crush_map::{BuildFault, Rule, RuleFault, Step};
+use crush_map::{Rule, Step};
 use crush_units::limits::{LARGEST_RULE_NUMBER, MOST_STEPS};
 use std::alloc::{Allocator, Global};
 
@@ -38,10 +37,9 @@ impl<'a, A: Allocator> MapReader<'a, A> {
     {
         let mut rule = self.rule_head()?;
         let place = self.steps(&mut rule)?;
-        match self.builder.rule(&rule) {
-            Ok(()) => Ok(()),
-            Err(refused) => Err(want_at(place, refused)),
-        }
+        self.builder
+            .rule(&rule)
+            .map_err(|refused| want_at(place, refused.fault))
     }
 
     /// The head of a rule, up to its first step.
@@ -114,20 +112,6 @@ impl<'a, A: Allocator> MapReader<'a, A> {
             return Err(word.fault(TextFaultKind::DuplicateId));
         }
         Ok(id)
-    }
-}
-
-/// What the builder refuses at the end of a rule, where nothing is left that it can lack but memory.
-fn want_at(place: usize, refused: RuleFault) -> TextFault
-    requires { refused.fault ≡ BuildFault.OutOfMemory }
-    ensures { result ≡ record { kind = OutOfMemory; place = place } }
-{
-    let BuildFault::OutOfMemory = refused.fault else {
-        unreachable!()
-    };
-    TextFault {
-        kind: TextFaultKind::OutOfMemory,
-        place,
     }
 }
 

@@ -10,7 +10,7 @@ use crate::fault::{TextFault, TextFaultKind};
 use crate::opening::Opening;
 use crate::reader::MapReader;
 use crate::reader::roles::{read_number, read_word};
-use crate::reader::word::PlacedWord;
+use crate::reader::word::{PlacedWord, want_at};
 use crush_units::limits::LARGEST_TUNABLE;
 use std::alloc::Allocator;
 
@@ -23,10 +23,9 @@ impl<'a, A: Allocator> MapReader<'a, A> {
     {
         let name = self.tunable_name()?;
         let value = read_number(&mut self.text, LARGEST_TUNABLE)?;
-        match self.builder.tunable(name.text, value) {
-            Ok(()) => Ok(()),
-            Err(fault) => Err(name.want(fault)),
-        }
+        self.builder
+            .tunable(name.text, value)
+            .map_err(|fault| want_at(name.place, fault))
     }
 
     /// A name that no tunable has.

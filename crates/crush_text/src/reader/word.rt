@@ -37,6 +37,27 @@ pub(crate) fn next_word<'a>(reader: &mut Reader<'a>) -> Result<PlacedWord<'a>, T
     }
 }
 
+/// Want of memory at a place.
+pub(crate) fn memory_at(place: usize) -> TextFault
+    ensures { result ≡ record { kind = OutOfMemory; place = place } }
+{
+    TextFault {
+        kind: TextFaultKind::OutOfMemory,
+        place,
+    }
+}
+
+/// What the builder refuses at a place, where nothing is left that it can lack but memory.
+pub(crate) fn want_at(place: usize, fault: BuildFault) -> TextFault
+    requires { fault ≡ BuildFault.OutOfMemory }
+    ensures { result ≡ record { kind = OutOfMemory; place = place } }
+{
+    let BuildFault::OutOfMemory = fault else {
+        unreachable!()
+    };
+    memory_at(place)
+}
+
 impl<'a> PlacedWord<'a> {
     /// A fault at the word.
     pub(crate) fn fault(self, kind: TextFaultKind) -> TextFault
@@ -46,17 +67,6 @@ impl<'a> PlacedWord<'a> {
             kind,
             place: self.place,
         }
-    }
-
-    /// What the builder refuses behind the word, where nothing is left that it can lack but memory.
-    pub(crate) fn want(self, fault: BuildFault) -> TextFault
-        requires { fault ≡ BuildFault.OutOfMemory }
-        ensures { result ≡ record { kind = OutOfMemory; place = self.entry.place } }
-    {
-        let BuildFault::OutOfMemory = fault else {
-            unreachable!()
-        };
-        self.fault(TextFaultKind::OutOfMemory)
     }
 
     /// Whether the word is this one.

@@ -1,12 +1,14 @@
 -- The head of a rule, its steps and its end.
-use Rattle.std.proofs.Common.{◌∙◌, rules, inl, refl}
-use Rattle.std.proofs.lemmas.Result.{err_from_is_err_and}
+use Rattle.std.proofs.Common.{◌≡◌, ◌∙◌, Err, rules, refl}
+use Rattle.std.proofs.lemmas.Result.{err_from_is_err_and, IfErr-at_err}
+use Rattle.crush_map.specs.declared.fault.BuildFault.TheVariants.{OutOfMemory}
+use Rattle.crush_map.specs.declared.fault.RuleFault.{RuleFault}
 use Rattle.crush_map.specs.Rules.{with_rule}
 use Rattle.crush_text.specs.Grammar.{rule_line}
 use Rattle.crush_text.proofs.LineEnds.{still, still_idle}
 use Rattle.crush_text.proofs.Wants.{want_of_rule}
-use Rattle.crush_text.proofs.Reached.{line_leads, leads_then, fails_then, fails_line, want_here}
-use Rattle.crush_text.proofs.Refused.{no_lines}
+use Rattle.crush_text.proofs.Reached.{line_leads, leads_then, fails_then, fails_line}
+use Rattle.crush_text.proofs.Refused.{no_lines, lines_or_want}
 use Rattle.crush_text.proofs.reader.MapReader.rule.Goals as goal
 
 pub returns-in_err-rule : goal.returns-in_err-rule
@@ -21,21 +23,22 @@ returns-in_err-place g c =
     rw (p.1, p.2) (no_lines _ _ _ _ _ (λ d h.
     (fails_then _ _ _ _ _ (line_leads d (rule_line d) _ _ _ (c.in_ok-rule.ensures.gives d h)) (c.in_err-place.ensures.reads d (still c.in_ok-rule.ensures.kept h)))))
 
-pub returns-in-Ok : goal.returns-in-Ok
-returns-in-Ok g c = record {
-  reads = λ d h.
-      (with_rule d c.steps.new.rule, c.in-Ok.ensures.ok d (still (c.in_ok-place.ensures.kept ∙ c.in_ok-rule.ensures.kept) h), leads_then _ _ _ _ _ _ (line_leads d (rule_line d) _ _ _ (c.in_ok-rule.ensures.gives d h)) (c.in_ok-place.ensures.reads d (still c.in_ok-rule.ensures.kept h)).0);
-  stands = let d = c.requires.idle.some in still_idle _ _ d.0 _ c.requires.idle.part d.1 (c.in-Ok.ensures.ok d.0 (still (c.in_ok-place.ensures.kept ∙ c.in_ok-rule.ensures.kept) d.1)) refl;
-  shorter = search rules;
-}
-
-pub want_at-requires : goal.want_at-requires
-want_at-requires g c =
+pub map_err-requires : goal.map_err-requires
+map_err-requires g c =
     let d = c.requires.idle.some in
-    want_of_rule d.0 _ _ (c.requires.room d.0 d.1) (c.in_ok-place.ensures.right.free d.0 (still (c.in_ok-place.ensures.kept ∙ c.in_ok-rule.ensures.kept) d.1)) (c.in-Err.ensures.refused d.0 (still (c.in_ok-place.ensures.kept ∙ c.in_ok-rule.ensures.kept) d.1))
+    let h = still (c.in_ok-place.ensures.kept ∙ c.in_ok-rule.ensures.kept) d.1 in
+    let want : (f : RuleFault) → c.rule.result ≡ Err f → f.fault ≡ OutOfMemory = λ f is. want_of_rule d.0 _ _ (c.requires.room d.0 d.1) (c.in_ok-place.ensures.right.free d.0 h) (IfErr-at_err _ is c.rule.ensures.refused d.0 h) in
+    search (want)
 
 pub returns : goal.returns
 returns g c =
-    no_lines _ _ _ _ _ (λ d h.
-    let head = line_leads d (rule_line d) _ _ _ (c.in_ok-rule.ensures.gives d h) in
-    inl (want_here _ _ _ _ c.want_at.ensures (head.reaches _ (c.in_ok-place.ensures.reads d (still c.in_ok-rule.ensures.kept h)).1)))
+    lines_or_want c.rule.result _ c.map_err.result c.in_ok-place.place c.map_err.ensures.cases (λ e f told. search rules)
+    (λ d h. (line_leads d (rule_line d) _ _ _ (c.in_ok-rule.ensures.gives d h)).reaches _ (c.in_ok-place.ensures.reads d (still c.in_ok-rule.ensures.kept h)).1)
+    c.rule.ensures.ok
+    (λ ok. record {
+      reads = λ d h.
+          (with_rule d c.steps.new.rule, ok d (still (c.in_ok-place.ensures.kept ∙ c.in_ok-rule.ensures.kept) h), leads_then _ _ _ _ _ _ (line_leads d (rule_line d) _ _ _ (c.in_ok-rule.ensures.gives d h)) (c.in_ok-place.ensures.reads d (still c.in_ok-rule.ensures.kept h)).0);
+      stands = let d = c.requires.idle.some in
+          still_idle _ _ d.0 _ c.requires.idle.part d.1 (ok d.0 (still (c.in_ok-place.ensures.kept ∙ c.in_ok-rule.ensures.kept) d.1)) refl;
+      shorter = search rules;
+    })
