@@ -1,69 +1,70 @@
 -- A statement by its first word.
-use Rattle.std.proofs.Common.{◌≡◌, rules, ℕ, List, Option, ap, subst}
+use Rattle.std.proofs.Common.{◌≡◌, ℕ, List, Option, Ok, Err, false, ap, subst, arith}
 use Rattle.std.proofs.lemmas.Result.{err_from_is_err_and}
 use Rattle.std.specs.Prelude.{unwrap_or}
 use Rattle.crush_map.specs.Built.{Draft}
-use Rattle.crush_text.specs.declared.opening.Opening.TheVariants.{Bucket}
+use Rattle.crush_map.specs.Building.{BuilderData}
+use Rattle.crush_text.specs.declared.reader.MapReader.{MapReader}
+use Rattle.crush_text.specs.declared.opening.Opening.{Opening}
+use Rattle.crush_text.specs.declared.opening.Opening.TheVariants as openings
 use Rattle.crush_text.specs.declared.fault.TextFault.{TextFault}
 use Rattle.crush_bytes.specs.Words.{Text}
 use Rattle.crush_text.specs.Role.{kind_of_word}
-use Rattle.crush_text.specs.Form.{second, at}
+use Rattle.crush_text.specs.Form.{first, second, at}
 use Rattle.crush_text.specs.Flow.{between, arrive}
-use Rattle.crush_text.specs.Grammar.{tunable_line, device_line, type_line, bucket_line}
+use Rattle.crush_text.specs.Grammar.{bucket_line, statement}
 use Rattle.crush_text.specs.Reads.{LeadsOn, Fails}
-use Rattle.crush_text.specs.ReadsStatements.{IsKnown}
+use Rattle.crush_text.specs.ReadsLines.{ReadsLine, ReadsOn, HasRoomFor}
+use Rattle.crush_text.specs.ReadsStatements.{behind, IsKnown, CanOpen}
 use Rattle.crush_text.specs.Room.{HasRoom}
 use Rattle.crush_text.proofs.Reached.{line_leads, fails_line}
 use Rattle.crush_text.proofs.Refused.{no_lines}
 use Rattle.crush_text.proofs.reader.MapReader.statement.Goals as goal
 
+-- a statement of one line was read, behind which all may come
+one_line : {A : _} (o s : Opening) (old new : MapReader A) → o ≡ s → ReadsLine (λ d. statement d s) (λ (x : Unit {0}). first) old new (Ok tt) → ReadsOn (λ d. arrive d old.text.words (statement d o)) behind old new (Ok false)
+one_line o s old new is h = rw is (record {
+  reads = λ d at.
+      let k = h.reads d at in
+      (k.0, k.1, line_leads d (statement d s) _ _ _ k.2);
+  stands = h.stands;
+  shorter = let lt = h.shorter in omega (arith, lt);
+})
+
+-- or has a fault
+no_one_line : {A : _} (o s : Opening) (old new : MapReader A) (f : TextFault) → o ≡ s → ReadsLine (λ d. statement d s) (λ (x : Unit {0}). first) old new (Err f) → ReadsOn (λ d. arrive d old.text.words (statement d o)) behind old new (Err f)
+no_one_line o s old new f is h = rw is (no_lines _ _ _ _ _ (λ d at. fails_line _ d (statement d s) _ (h.reads d at)))
+
+-- there is room for what a first word opens
+room_for : {w : List ℕ} {b : BuilderData} (o s : Opening) → o ≡ s → CanOpen o w b → HasRoomFor s b
+room_for o s is h = record { idle = h.idle; room = λ d at. subst (HasRoom d) is (h.room d at) }
+
 pub returns-in_ok-tunable-in-Tunable : goal.returns-in_ok-tunable-in-Tunable
-returns-in_ok-tunable-in-Tunable g c = record {
-  reads = λ d h.
-      let k = c.in_ok-tunable-in-Tunable.ensures.reads d h in
-      rw c.in-Tunable.is (k.0, k.1, line_leads d (tunable_line d) _ _ _ k.2);
-  stands = c.in_ok-tunable-in-Tunable.ensures.stands;
-  shorter = search rules;
-}
+returns-in_ok-tunable-in-Tunable g c = one_line _ openings.Tunable _ _ c.in-Tunable.is c.in_ok-tunable-in-Tunable.ensures
 
 pub returns-in_err-tunable-in-Tunable : goal.returns-in_err-tunable-in-Tunable
 returns-in_err-tunable-in-Tunable g c =
     let p = err_from_is_err_and c.from_residual.result c.from_residual.ensures.1 in
-    rw (p.1, p.2, c.in-Tunable.is) (no_lines _ _ _ _ _ (λ d h.
-    (fails_line _ d (tunable_line d) _ (c.in_err-tunable-in-Tunable.ensures.reads d h))))
+    rw (p.1, p.2) (no_one_line _ openings.Tunable _ _ _ c.in-Tunable.is c.in_err-tunable-in-Tunable.ensures)
 
 pub returns-in_ok-device-in-Device : goal.returns-in_ok-device-in-Device
-returns-in_ok-device-in-Device g c = record {
-  reads = λ d h.
-      let k = c.in_ok-device-in-Device.ensures.reads d h in
-      rw c.in-Device.is (k.0, k.1, line_leads d (device_line d) _ _ _ k.2);
-  stands = c.in_ok-device-in-Device.ensures.stands;
-  shorter = search rules;
-}
+returns-in_ok-device-in-Device g c = one_line _ openings.Device _ _ c.in-Device.is c.in_ok-device-in-Device.ensures
 
 pub returns-in_err-device-in-Device : goal.returns-in_err-device-in-Device
 returns-in_err-device-in-Device g c =
     let p = err_from_is_err_and c.from_residual-in_err-device-in-Device.result c.from_residual-in_err-device-in-Device.ensures.1 in
-    rw (p.1, p.2, c.in-Device.is) (no_lines _ _ _ _ _ (λ d h.
-    (fails_line _ d (device_line d) _ (c.in_err-device-in-Device.ensures.reads d h))))
+    rw (p.1, p.2) (no_one_line _ openings.Device _ _ _ c.in-Device.is c.in_err-device-in-Device.ensures)
 
 pub returns-in_ok-kind-in-Type : goal.returns-in_ok-kind-in-Type
-returns-in_ok-kind-in-Type g c = record {
-  reads = λ d h.
-      let k = c.in_ok-kind-in-Type.ensures.reads d h in
-      rw c.in-Type.is (k.0, k.1, line_leads d (type_line d) _ _ _ k.2);
-  stands = c.in_ok-kind-in-Type.ensures.stands;
-  shorter = search rules;
-}
+returns-in_ok-kind-in-Type g c = one_line _ openings.Type _ _ c.in-Type.is c.in_ok-kind-in-Type.ensures
 
 pub returns-in_err-kind-in-Type : goal.returns-in_err-kind-in-Type
 returns-in_err-kind-in-Type g c =
     let p = err_from_is_err_and c.from_residual-in_err-kind-in-Type.result c.from_residual-in_err-kind-in-Type.ensures.1 in
-    rw (p.1, p.2, c.in-Type.is) (no_lines _ _ _ _ _ (λ d h.
-    (fails_line _ d (type_line d) _ (c.in_err-kind-in-Type.ensures.reads d h))))
+    rw (p.1, p.2) (no_one_line _ openings.Type _ _ _ c.in-Type.is c.in_err-kind-in-Type.ensures)
 
 -- a bucket's type by its name
-by_name : (d : Draft) (w : List ℕ) (k : ℕ) → IsKnown d (Bucket k) w → kind_of_word d w ≡ k
+by_name : (d : Draft) (w : List ℕ) (k : ℕ) → IsKnown d (openings.Bucket k) w → kind_of_word d w ≡ k
 by_name d w k known = ap (λ (o : Option ℕ). unwrap_or o 0) known
 
 -- and a fault of its first line
@@ -109,13 +110,13 @@ returns-in_err-rule-in-Rule g c =
     (c.in_err-rule-in-Rule.ensures.reads d h)))
 
 pub tunable-requires : goal.tunable-requires
-tunable-requires g c = record { idle = c.requires.idle; room = λ d h. subst (HasRoom d) c.in-Tunable.is (c.requires.room d h) }
+tunable-requires g c = room_for _ openings.Tunable c.in-Tunable.is c.requires
 
 pub device-requires : goal.device-requires
-device-requires g c = record { idle = c.requires.idle; room = λ d h. subst (HasRoom d) c.in-Device.is (c.requires.room d h) }
+device-requires g c = room_for _ openings.Device c.in-Device.is c.requires
 
 pub kind-requires : goal.kind-requires
-kind-requires g c = record { idle = c.requires.idle; room = λ d h. subst (HasRoom d) c.in-Type.is (c.requires.room d h) }
+kind-requires g c = room_for _ openings.Type c.in-Type.is c.requires
 
 pub rule-requires : goal.rule-requires
-rule-requires g c = record { idle = c.requires.idle; room = λ d h. subst (HasRoom d) c.in-Rule.is (c.requires.room d h) }
+rule-requires g c = room_for _ openings.Rule c.in-Rule.is c.requires
