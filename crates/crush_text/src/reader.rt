@@ -5,8 +5,6 @@ ghost use Rattle.crush_edits.specs.Setting.{SettingData};
 ghost use Rattle.crush_table.specs.Table.{Row};
 ghost use Rattle.crush_table.specs.Stands.{Stands};
 ghost use Rattle.crush_map.specs.MapData.{MapStands};
-ghost use Rattle.crush_map.specs.Built.{Draft};
-ghost use Rattle.crush_map.specs.Building.{IsDraft};
 ghost use Rattle.crush_text.specs.Document.{IsMapText};
 ghost use Rattle.crush_text.specs.Flaw.{IsWant, IsFlawOrWant};
 ghost use Rattle.crush_text.specs.Want.{IsToldInTime};
