@@ -6,11 +6,11 @@ use Rattle.std.specs.Str.Parse.{digits_value}
 use Rattle.crush_units.specs.declared.limits.TheConstants.{FARTHEST_BUCKET_ID}
 use Rattle.crush_units.specs.declared.limits.TheConstants.{FARTHEST_COUNT, LARGEST_COUNT}
 
--- `-` and 1 to 10 digits, a value from -1 to -2147483648
+-- `-` and 1 to 10 digits, a value from -1 to -FARTHEST_BUCKET_ID
 abbrev pub is_negative : List ℕ → Bool
 is_negative text = (slice_index text 0 == 45) && is_number FARTHEST_BUCKET_ID (drop 1 text) && nat_lt 0 (digits_value 10 (drop 1 text))
 
--- an optional `-` and 1 to 10 digits, a value from -2147483648 to 2147483647
+-- an optional `-` and 1 to 10 digits, a value from -FARTHEST_COUNT to LARGEST_COUNT
 abbrev pub is_signed : List ℕ → Bool
 is_signed text = if slice_index text 0 == 45 then is_number FARTHEST_COUNT (drop 1 text) else is_number LARGEST_COUNT text
 
