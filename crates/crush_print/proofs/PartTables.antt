@@ -4,6 +4,7 @@ use Rattle.std.proofs.lemmas.List.Elements.{All-map, All-weaker}
 use Rattle.std.proofs.lemmas.List.Sums.{sum_by-le-sum_by}
 use Rattle.std.specs.Prelude.{IfSome, map, is_some, option_and_then, if◌then◌else◌, bytes_eq}
 use Rattle.std.specs.Option.{option_map}
+use Rattle.crush_units.specs.declared.limits.TheConstants.{MOST_DEVICES, MOST_BUCKETS}
 use Rattle.crush_units.specs.declared.id.ItemId.{ItemId}
 use Rattle.crush_units.specs.declared.id.ItemId.TheVariants.{Device, Bucket}
 use Rattle.crush_table.specs.Table.{Row, is_device, is_device_id, is_bucket, row_of, is_there, parent_of, then_up, climb, above, is_below, sum_below, summed_weight}
@@ -136,8 +137,8 @@ module _ (P : ItemId → Bool) (t : List Row) (l : Lawful t) where
       sum_by-map (λ (r : Row). if is_some r.parent then summed_weight r else 0) (shown P) t,
       sum_by-le-sum_by (λ (r : Row). if is_some (shown P r).parent then summed_weight (shown P r) else 0) (λ (r : Row). if is_some r.parent then summed_weight r else 0) t (λ r. total_by (P r.id) r),
     );
-    devices = subst (λ n. n ≤ 65536) (sym (count-map (shown P) is_device (λ r. ap is_device_id (shown-id P r)) t)) l.devices;
-    buckets = subst (λ n. n ≤ 4096) (sym (count-map (shown P) is_bucket (λ r. ap (λ i. is_bucket (record r { id = i })) (shown-id P r)) t)) l.buckets;
+    devices = subst (λ n. n ≤ MOST_DEVICES) (sym (count-map (shown P) is_device (λ r. ap is_device_id (shown-id P r)) t)) l.devices;
+    buckets = subst (λ n. n ≤ MOST_BUCKETS) (sym (count-map (shown P) is_bucket (λ r. ap (λ i. is_bucket (record r { id = i })) (shown-id P r)) t)) l.buckets;
   } where
     still : (o : Option ℕ) → IfSome o (λ p. is_there t (Bucket p) ≡ true) → IfSome o (λ p. is_there (map (shown P) t) (Bucket p) ≡ true)
     still None h = h

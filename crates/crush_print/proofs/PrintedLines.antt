@@ -4,6 +4,7 @@ use Rattle.std.proofs.lemmas.List.Elements.{All-weaker}
 use Rattle.std.specs.Prelude.{All, IfSome, flat_map, decimal, ℤ, pos, negsuc, codes, if◌then◌else◌}
 use Rattle.std.specs.Option.{option_map_or}
 use Rattle.std.specs.Fmt.{signed_decimal}
+use Rattle.crush_units.specs.declared.limits.TheConstants.{LARGEST_RULE_NUMBER}
 use Rattle.crush_units.specs.Name.{IsName}
 use Rattle.crush_units.specs.Weight.{weight_text}
 use Rattle.crush_units.specs.Alg.{alg_text}
@@ -214,7 +215,7 @@ rule_head_text_spells name id kind n i k = simp append_assoc
     (spells_word (codes "rule") 32 _ _ (fixed (codes "rule") refl) refl (spells_word name 32 _ _ n refl (spells_brace 123 _ _ refl refl refl (spells_blank 10 _ _ refl refl (spells_blank 9 _ _ refl refl
     (spells_word (codes "id") 32 _ _ (fixed (codes "id") refl) refl (spells_word id 10 _ _ i refl (spells_blank 9 _ _ refl refl (spells_word (codes "type") 32 _ _ (fixed (codes "type") refl) refl (spells_word kind 10 [] [] k refl spells_nothing))))))))))
 
-size_spells : (key : List ℕ) (size : Option ℕ) → IsName key → IfSome size (λ n. n ≤ 2147483647) → Spells (size_line (9 ∷ (key ++ 32 ∷ [])) size) (size_words key size)
+size_spells : (key : List ℕ) (size : Option ℕ) → IsName key → IfSome size (λ n. n ≤ LARGEST_RULE_NUMBER) → Spells (size_line (9 ∷ (key ++ 32 ∷ [])) size) (size_words key size)
 unfolding size_line
 size_spells key None n h = spells_nothing
 size_spells key (Some m) n h = simp append_assoc (spells_blank 9 _ _ refl refl (spells_word key 32 _ _ n refl (spells_word (decimal m) 10 [] [] (number_name m (omega (arith, h))) refl spells_nothing)))
