@@ -6,7 +6,6 @@ ghost use Rattle.crush_edits.specs.Setting.{SettingData};
 ghost use Rattle.crush_table.specs.Stands.{Stands};
 ghost use Rattle.crush_map.specs.MapData.{MapStands};
 ghost use Rattle.crush_text.specs.Document.{IsMapText};
-ghost use Rattle.crush_script.specs.Lines.{map_part};
 ghost use Rattle.crush_calls.specs.Script.{scripts_data, call_count};
 ghost use Rattle.crush_script.specs.Job.{IsJob, IsJobFault, JobData, JobStands};
 ghost use Rattle.crush_script.specs.MapPart.{IsMapFault};
