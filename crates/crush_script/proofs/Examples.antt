@@ -1,6 +1,7 @@
 -- The definitions, computed on worked examples.
 use Rattle.std.proofs.Common.{◌≡◌, ℕ, List, [], ◌∷◌, Ok, Err, Some, None, refl}
 use Rattle.std.specs.Prelude.{codes}
+use Rattle.crush_units.specs.declared.limits.TheConstants.{UNITS_OF_ONE, LAST_DEVICE_ID}
 use Rattle.crush_edits.specs.declared.edit.Edit.TheVariants.{Insert, CreateOrMove, Update, Move, Swap, Reweight, ReweightSubtree, Remove, AddBucket, Rename}
 use Rattle.crush_calls.specs.declared.call.Call.TheVariants.{One, Batch}
 use Rattle.crush_script.specs.declared.command.Command.TheVariants.{Nothing, Edit, Begin, Commit}
@@ -21,14 +22,14 @@ return_in_a_word : line_words (codes "x\r\r") ≡ (codes "x\r" ∷ [])
 unfolding words_between_blanks
 return_in_a_word = refl
 
--- the id of a device's name is plain: no leading zero, and at most 2147483647
+-- the id of a device's name is plain: no leading zero, and at most LAST_DEVICE_ID
 plain_id : device_named (codes "osd.10") ≡ Some 10
 plain_id = refl
 
 zero_id : device_named (codes "osd.0") ≡ Some 0
 zero_id = refl
 
-last_id : device_named (codes "osd.2147483647") ≡ Some 2147483647
+last_id : device_named (codes "osd.2147483647") ≡ Some LAST_DEVICE_ID
 last_id = refl
 
 late_id : device_named (codes "osd.2147483648") ≡ None
@@ -41,7 +42,7 @@ no_digits : device_named (codes "osd.") ≡ None
 no_digits = refl
 
 -- each command
-one_weight : command (codes "reweight" ∷ (codes "osd.2" ∷ (codes "1.0" ∷ []))) ≡ Ok (Edit (Reweight (codes "osd.2") 65536))
+one_weight : command (codes "reweight" ∷ (codes "osd.2" ∷ (codes "1.0" ∷ []))) ≡ Ok (Edit (Reweight (codes "osd.2") UNITS_OF_ONE))
 unfolding name_at weight_at end_at with_pair with_pairs location_at placing_at located_at one_name_at two_names_at weighed_at keyword_of moving_keyword naming_keyword edit_at command
 one_weight = refl
 
@@ -58,7 +59,7 @@ unfolding name_at weight_at end_at with_pair with_pairs location_at placing_at l
 one_choice = refl
 
 -- an empty location is read, and refused as an edit
-no_location : command (codes "add" ∷ (codes "osd.3" ∷ (codes "1" ∷ []))) ≡ Ok (Edit (Insert 3 (codes "osd.3") 65536 []))
+no_location : command (codes "add" ∷ (codes "osd.3" ∷ (codes "1" ∷ []))) ≡ Ok (Edit (Insert 3 (codes "osd.3") UNITS_OF_ONE []))
 unfolding name_at weight_at end_at with_pair with_pairs location_at placing_at located_at one_name_at two_names_at weighed_at keyword_of moving_keyword naming_keyword edit_at command
 no_location = refl
 

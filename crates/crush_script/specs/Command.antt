@@ -28,7 +28,7 @@ unfoldable pub name_at : List (List ℕ) → Result (Read (List ℕ)) LineFault
 name_at [] = Err BadLine
 name_at (word ∷ rest) = if is_name word then Ok (record { value = word; rest = rest }) else Err BadLine
 
--- a weight's text is one of at most 4294967295 units
+-- a weight's text is one of at most HEAVIEST_BUCKET units
 abbrev pub read_weight : Result ℕ WeightFault → List (List ℕ) → Result (Read ℕ) LineFault
 read_weight (Ok units) rest = Ok (record { value = units; rest = rest })
 read_weight (Err fault) rest = Err BadLine
