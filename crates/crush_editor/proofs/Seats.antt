@@ -79,6 +79,19 @@ pub after_reading : (o : MapData) (v w : View MapData EntryData) (c x : ℕ) →
 after_reading o v w c x is r =
     let t = subst (λ (y : View MapData EntryData). Reads IsLegalFrom (λ _. changes) weight_from y c x w) is r in (t.0, t.1, t.2, t.3.0)
 
+-- what a reading tells is of the history that the seat has then seen
+pub tells_seen : (o : MapData) (v w : View MapData EntryData) (c x : ℕ) → v ≡ reads o (seen_of v) → Reads IsLegalFrom (λ _. changes) weight_from v c x w → (c ≡ changes (seen_of w)) × (x ≡ weight_from o (seen_of w))
+tells_seen o v w c x is r =
+    let t = subst (λ (y : View MapData EntryData). Reads IsLegalFrom (λ _. changes) weight_from y c x w) is r in
+    let seen : seen_of w ≡ t.0 = ap seen_of t.1 in
+    (t.4 ∙ ap changes (sym seen), t.5 ∙ ap (weight_from o) (sym seen))
+
 pub after_learning : (o : MapData) (v j w : View MapData EntryData) → v ≡ reads o (seen_of v) → j ≡ reads o (seen_of j) → Learns IsLegalFrom (λ _. changes) weight_from v j w → (h : List EntryData) × (w ≡ reads o h) × IsPrefix (seen_of v) h × IsLegalFrom o h
 after_learning o v j w is also l =
     let t = subst (λ (y : View MapData EntryData × View MapData EntryData). Learns IsLegalFrom (λ _. changes) weight_from y.0 y.1 w) (λ i. (is i, also i)) l in (t.0, t.1, t.4, t.3.0)
+
+-- a seat that learned a note has seen what the note's seat had
+pub note_is_seen : (o : MapData) (v j w : View MapData EntryData) → v ≡ reads o (seen_of v) → j ≡ reads o (seen_of j) → Learns IsLegalFrom (λ _. changes) weight_from v j w → IsPrefix (seen_of j) (seen_of w)
+note_is_seen o v j w is also l =
+    let t = subst (λ (y : View MapData EntryData × View MapData EntryData). Learns IsLegalFrom (λ _. changes) weight_from y.0 y.1 w) (λ i. (is i, also i)) l in
+    subst (IsPrefix (seen_of j)) (sym (ap seen_of t.1)) t.5

@@ -13,3 +13,6 @@ invariant_of-result g c = (
   search rules,
   subst (λ o. All (λ s. s ≡ held c.in-Ok.gauge.table.shared.table_id (reads o [])) c.in-Ok.readers.items) (sym c.in_ok-book.ensures.opening) c.in-Ok.ensures.readers,
 )
+
+pub returns-clause-operators : goal.returns-clause-operators
+returns-clause-operators g c = search rules
