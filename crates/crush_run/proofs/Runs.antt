@@ -1,5 +1,5 @@
 -- Runs of a job: in turn, at once, and where nothing came of one.
-use Rattle.std.proofs.Common.{◌≡◌, ℕ, zero, suc, ◌<◌, ◌≤◌, ◌==◌, Bool, true, false, List, [], ◌∷◌, ◌++◌, Option, Result, Ok, Err, length, map, filter, nat_lt, refl, sym, ap, subst, ◌∙◌, arith, rules, tests}
+use Rattle.std.proofs.Common.{◌≡◌, ℕ, zero, suc, ◌<◌, ◌≤◌, ◌==◌, Bool, true, false, List, [], ◌∷◌, ◌++◌, Option, Result, Ok, Err, length, nat_lt, refl, sym, ap, subst, ◌∙◌, arith, rules, tests}
 use Rattle.std.specs.Prelude.{IfOk}
 use Rattle.std.proofs.lemmas.List.{length-append, length-map}
 use Rattle.std.proofs.lemmas.List.Elements.{All-nil, All-cons}
@@ -8,11 +8,10 @@ use Rattle.crush_table.specs.Table.{Row}
 use Rattle.crush_edits.specs.Setting.{SettingData}
 use Rattle.crush_map.specs.MapData.{MapData, MapStands}
 use Rattle.crush_options.specs.declared.asked.Mode.{Mode}
-use Rattle.crush_calls.specs.declared.call.Call.{Call}
 use Rattle.crush_calls.specs.declared.script.Script.{Script}
 use Rattle.crush_calls.specs.Entries.{AreOf}
 use Rattle.crush_calls.specs.Script.{ScriptData, script_data, scripts_data}
-use Rattle.crush_calls.specs.History.{EntryData, IsLegal, changes, of_operator, table_after, turns}
+use Rattle.crush_calls.specs.History.{EntryData, of_operator, table_after, turns}
 use Rattle.crush_calls.specs.Turns.{calls_at, calls_of}
 use Rattle.crush_calls.specs.HistoryText.{names_of}
 use Rattle.crush_print.specs.MapText.{map_text}
@@ -23,7 +22,7 @@ use Rattle.crush_run.specs.declared.fault.RunFault.{RunFault}
 use Rattle.crush_run.specs.declared.summary.Summary.{Summary}
 use Rattle.crush_script.specs.Job.{JobData}
 use Rattle.crush_run.specs.Run.{Ends, IsRunOf, lines_asked, output_of}
-use Rattle.crush_run.specs.Stages.{HaveRun, RunsScripts}
+use Rattle.crush_run.specs.Stages.{RunsScripts}
 use Rattle.crush_run.proofs.Told.{nothing_written}
 
 -- the turns of the scripts are a run, in turn and at once

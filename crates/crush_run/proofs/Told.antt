@@ -1,5 +1,5 @@
 -- What is known of the bytes of a job is known of all that the reader gave.
-use Rattle.std.proofs.Common.{◌≡◌, ℕ, ◌≤◌, ◌<◌, Bool, true, false, cond, List, [], Option, Some, None, Result, Ok, Err, length, take, refl, sym, ap, subst, ◌∙◌, arith}
+use Rattle.std.proofs.Common.{◌≡◌, ℕ, ◌≤◌, ◌<◌, Bool, true, false, cond, List, Option, Some, None, Result, Ok, Err, length, take, refl, sym, ap, subst, ◌∙◌, arith}
 use Rattle.std.specs.Prelude.{IfOk, IfErr, IfSome}
 use Rattle.crush_bytes.specs.Writes.{Writes}
 use Rattle.crush_bytes.proofs.Appending.{nothing_is_less}

@@ -1,7 +1,5 @@
-use Rattle.std.proofs.Common.{◌≡◌, ◌++◌, ◌∷◌, [], ℕ, ◌+◌, List, take, ap, subst, ◌∙◌, refl, arith}
+use Rattle.std.proofs.Common.{◌≡◌, ◌++◌, ◌+◌, take, subst, ◌∙◌, refl, arith}
 use Rattle.std.proofs.lemmas.List.{take_all}
-use Rattle.crush_table.specs.Table.{Row}
-use Rattle.crush_edits.specs.Setting.{SettingData}
 use Rattle.crush_map.specs.MapData.{MapStands}
 use Rattle.crush_calls.specs.History.{table_after, turn}
 use Rattle.crush_calls.proofs.InTurn.{call_made, table_made, no_call, no_table}
