@@ -1,7 +1,7 @@
 -- The lines of a history, one line more.
 use Rattle.std.proofs.Common.{◌≡◌, ℕ, ◌+◌, ◌<◌, List, [], ◌∷◌, ◌++◌, length, take, get_or, refl, sym, ap, subst, ◌∙◌, append_assoc, arith}
 use Rattle.std.specs.Prelude.{slice_index_or, if◌then◌else◌}
-use Rattle.std.proofs.lemmas.List.{append-nil, take_more, map_push, length-take-le, length-map, get_or-map}
+use Rattle.std.proofs.lemmas.List.{append-nil, take_more, length-take-le, length-map, get_or-map}
 use Rattle.std.proofs.lemmas.List.Elements.{All-nil, All-push}
 use Rattle.crush_calls.specs.History.{EntryData, changes, is_change}
 use Rattle.crush_calls.specs.HistoryText.{line_text, entry_text, entries_text, names_of}

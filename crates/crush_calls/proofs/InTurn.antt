@@ -1,16 +1,13 @@
 -- Calls that are made one after the other, one call more and one script more.
-use Rattle.std.proofs.Common.{◌≡◌, ℕ, suc, ◌+◌, ◌<◌, List, [], ◌∷◌, ◌++◌, length, take, drop, get_or, refl, sym, ap, ◌∙◌, append_assoc, arith}
-use Rattle.std.proofs.lemmas.List.{append-nil, map-append, take_more, take-append-drop, map_push, length-take-le, length-map}
-use Rattle.std.proofs.lemmas.List.Sums.{sum_by-append, sum_by-cons}
-use Rattle.std.specs.List.{sum_by}
-use Rattle.std.specs.Prelude.{Result, Ok, Err, OnErr}
+use Rattle.std.proofs.Common.{◌≡◌, ℕ, suc, ◌+◌, ◌<◌, List, [], ◌∷◌, ◌++◌, length, take, get_or, refl, sym, ap, ◌∙◌, append_assoc, arith}
+use Rattle.std.proofs.lemmas.List.{append-nil, take_more, map_push, length-take-le, length-map}
 use Rattle.crush_table.specs.Table.{Row}
 use Rattle.crush_edits.specs.Setting.{SettingData}
 use Rattle.crush_calls.specs.declared.call.Call.{Call}
 use Rattle.crush_calls.specs.declared.call.Reply.{Reply}
 use Rattle.crush_calls.specs.declared.script.Script.{Script}
 use Rattle.crush_calls.proofs.Histories.{table_after-append}
-use Rattle.crush_calls.specs.Script.{ScriptData, script_data, scripts_data, call_count}
+use Rattle.crush_calls.specs.Script.{ScriptData, script_data, scripts_data}
 use Rattle.crush_calls.specs.History.{EntryData, call_outcome, table_after, turn, turns, turns_from}
 
 -- the entry of a call that an operator makes on a table

@@ -2,8 +2,8 @@
 use denote.RattleType.{RattleType}
 use denote.Hole.{as_row}
 use denote.Param.Send.{IsSend, view_send, sendable}
-use denote.Param.SendFields.{FieldsHave, declared_send, as_row_send}
-use denote.Struct.Field.{Field, u64-field}
+use denote.Param.SendFields.{declared_send, as_row_send}
+use denote.Struct.Field.{u64-field}
 use Rattle.std.proofs.Crossing.{crosses, Vec-send, Box-send}
 use Rattle.std.specs.contracts.alloc.Global as Global
 use Rattle.std.specs.contracts.impls.GlobalAllocator.TheImpl as GlobalImpl

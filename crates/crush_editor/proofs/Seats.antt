@@ -1,5 +1,5 @@
 -- What a seat knows after a call.
-use Rattle.std.proofs.Common.{◌≡◌, ◌≢◌, ℕ, ◌+◌, ◌<◌, ◌≤◌, List, [], ◌∷◌, ◌++◌, length, refl, sym, ap, ◌∙◌, subst, arith, length-append}
+use Rattle.std.proofs.Common.{◌≡◌, ℕ, ◌+◌, List, [], ◌∷◌, ◌++◌, refl, sym, ap, ◌∙◌, subst}
 use mathlib.Core.List.{IsPrefix}
 use Rattle.crush_calls.specs.declared.call.Call.{Call}
 use Rattle.crush_calls.specs.declared.call.Reply.{Reply}
@@ -14,7 +14,7 @@ use Rattle.crush_gauge.specs.Rule.{Reads, Learns}
 use Rattle.crush_editor.specs.Seat.{IsSubsequence}
 use Rattle.atomic_table.specs.Seated.{TableId}
 use Rattle.crush_gauge.specs.Held.{Held, held}
-use Rattle.crush_editor.specs.Seat.{reads, seen_of, SeatData, seat_data, IsSeat, Answered, Sees}
+use Rattle.crush_editor.specs.Seat.{reads, seen_of, seat_data, IsSeat, Answered, Sees}
 use Rattle.crush_editor.proofs.Counting.{stands_more, stands_push}
 
 -- two lists that begin each other

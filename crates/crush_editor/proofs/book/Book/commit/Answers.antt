@@ -1,4 +1,4 @@
-use Rattle.std.proofs.Common.{◌≡◌, ◌∙◌, ◌+◌, ◌<◌, ◌^◌, List, ap, sym, refl, subst, arith, rules}
+use Rattle.std.proofs.Common.{ap, refl, arith, rules}
 use Rattle.crush_editor.proofs.Commits.{counts, follows, kept_push}
 use Rattle.crush_editor.proofs.book.Book.commit.Goals as goal
 

@@ -1,12 +1,12 @@
-use Rattle.std.proofs.Common.{◌≡◌, ◌∙◌, ◌+◌, ◌<◌, ℕ, List, length, ap, sym, refl, subst, arith, rules, vec_len}
-use Rattle.crush_calls.specs.History.{EntryData, AnsweredData, of_operator, changes}
+use Rattle.std.proofs.Common.{◌≡◌, ◌∙◌, ◌+◌, ℕ, List, length, ap, sym, refl, subst, arith, rules}
+use Rattle.crush_calls.specs.History.{EntryData, of_operator}
 use Rattle.crush_map.specs.MapData.{MapData}
 use Rattle.crush_editor.specs.History.{IsLegalFrom}
 use Rattle.crush_editor.specs.Book.{MakesAll, StandsAfter}
 use Rattle.crush_editor.specs.Seat.{IsSubsequence}
-use Rattle.crush_editor.specs.Seat.{IsHistoryOfSeats, SeatData, seen_of}
+use Rattle.crush_editor.specs.Seat.{seen_of}
 use mathlib.Core.List.{IsPrefix}
-use Rattle.crush_editor.proofs.Closing.{Took, told, took-none, took-more, took-all}
+use Rattle.crush_editor.proofs.Closing.{told, took-none, took-more, took-all}
 use Rattle.crush_editor.proofs.Seats.{stands_later}
 use Rattle.crush_editor.proofs.editor.Editor.close.Goals as goal
 

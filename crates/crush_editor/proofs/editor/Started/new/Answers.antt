@@ -1,4 +1,4 @@
-use Rattle.std.proofs.Common.{◌≡◌, [], rules, sym, subst, arith}
+use Rattle.std.proofs.Common.{◌≡◌, [], rules, sym, subst}
 use Rattle.std.specs.Prelude.{All}
 use Rattle.crush_gauge.specs.Held.{held}
 use Rattle.crush_editor.specs.Seat.{reads}

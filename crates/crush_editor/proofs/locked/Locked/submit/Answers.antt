@@ -1,4 +1,4 @@
-use Rattle.std.proofs.Common.{◌≡◌, ◌∙◌, ◌+◌, List, [], ◌∷◌, length, ap, sym, refl, subst, arith, rules, length-append}
+use Rattle.std.proofs.Common.{◌∙◌, [], ◌∷◌, length, ap, arith, rules, length-append}
 use Rattle.crush_editor.specs.History.{slip}
 use Rattle.crush_editor.proofs.Seats.{missed_all, answered_all}
 use Rattle.crush_editor.proofs.locked.Locked.submit.Goals as goal
