@@ -18,7 +18,7 @@ use Rattle.crush_table.specs.Items.{ShadowData}
 use Rattle.crush_table.specs.Table.{is_there, id_named, bucket_count}
 use Rattle.crush_edits.specs.Setting.{StepData, take, choose, set, emit, RuleData, kind_number}
 use Rattle.crush_edits.specs.Fits.{is_reserved}
-use Rattle.crush_edits.specs.Stops.{kind_of_word as bucket_number}
+use Rattle.crush_edits.specs.Stops.{number_of}
 use Rattle.crush_map.specs.Built.{Draft, Pending, nothing, begun as is_begun, filling as is_filling, with_class_id, with_next_item, pending_with_id, pending_with_class_id}
 use Rattle.crush_map.specs.Building.{IsPending, is_bucket_kind, has_name, has_bucket_id, has_class, has_pending_name, has_pending_id, pending_class_ids, closed_item, item_named, is_full_of_buckets, is_full_of_class_ids}
 use Rattle.crush_bytes.specs.Words.{is_brace_word}
@@ -93,7 +93,7 @@ weight_fits d (Device n) b w p there m = le-leb w HEAVIEST_DEVICE (light_device 
 weight_fits d (Bucket x) b w p there m = refl
 
 -- a name of a bucket is one of an item
-bucket_found : (o : Option ItemId) (b : ℕ) → option_and_then bucket_number o ≡ Some b → is_some o ≡ true
+bucket_found : (o : Option ItemId) (b : ℕ) → option_and_then number_of o ≡ Some b → is_some o ≡ true
 bucket_found None b e = absurd (let no : (let x : Option ℕ = None in x) ≡ Some b = e in cc)
 bucket_found (Some i) b e = refl
 

@@ -18,7 +18,7 @@ use Rattle.crush_table.specs.Items.{ShadowData}
 use Rattle.crush_table.specs.Lawful.{Lawful, IsShadowId, is_too_heavy}
 use Rattle.crush_edits.specs.Setting.{KindData, StepData, take, choose, set, emit, RuleData, SettingData, kind_number, bucket_taken}
 use Rattle.crush_edits.specs.Fits.{Fits, IsKind, IsTunable, IsCount, IsStep, IsRule, IsThere, HasKind}
-use Rattle.crush_edits.specs.Stops.{kind_of_word as bucket_number}
+use Rattle.crush_edits.specs.Stops.{number_of}
 use Rattle.crush_table.specs.Count.{one_if}
 use Rattle.crush_table.specs.Table.{Row, bucket_count, member, used_ids}
 use Rattle.crush_table.proofs.Attached.{Lawful-nil}
@@ -174,7 +174,7 @@ not_none (Some x) h = refl
 pub bucket_there : (d : Draft) (w : List ℕ) → (complete_bucket_named d w ≡ None → ⊥) → IsThere d.table (bucket_of_word d w)
 bucket_there d w h = by_item (item_named d w) refl h
   where
-    by_item : (o : Option ItemId) → item_named d w ≡ o → (option_and_then bucket_number o ≡ None → ⊥) → IsThere d.table (unwrap_or (option_and_then bucket_number o) 0)
+    by_item : (o : Option ItemId) → item_named d w ≡ o → (option_and_then number_of o ≡ None → ⊥) → IsThere d.table (unwrap_or (option_and_then number_of o) 0)
     by_item None e k = absurd (k refl)
     by_item (Some (Device x)) e k = absurd (k refl)
     by_item (Some (Bucket b)) e k = (listable d w (Bucket b) e).there

@@ -7,10 +7,10 @@ use Rattle.std.specs.Str.Parse.{digits_value}
 use Rattle.crush_units.specs.declared.id.ItemId.{ItemId}
 use Rattle.crush_table.specs.Table.{id_named}
 use Rattle.crush_edits.specs.Setting.{RuleData, take, choose}
-use Rattle.crush_edits.specs.Stops.{complete_bucket_named, number_of}
+use Rattle.crush_edits.specs.Stops.{bucket_named, number_of}
 use Rattle.crush_map.specs.Built.{Draft, Pending, nothing}
 use Rattle.crush_map.specs.Building.{closed_item}
-use Rattle.crush_map.specs.Rules.{complete_bucket_named as bucket_of_name}
+use Rattle.crush_map.specs.Rules.{complete_bucket_named}
 use Rattle.crush_text.specs.declared.fault.TextFaultKind.TheVariants.{BadNumber}
 use Rattle.crush_text.specs.Forms.{signed_value}
 use Rattle.crush_text.specs.Role.{key, any_word, step_word, step_order, taken_bucket, value, bucket_of_word, takes as word_takes, chooses as word_chooses, sets as word_sets, emits as word_emits}
@@ -38,16 +38,16 @@ closed None = refl
 closed (Some i) = refl
 
 module _ (d : Draft) (r : RuleData) (idle : d.pending ≡ nothing) where
-  named : (x : List ℕ) → bucket_of_name d x ≡ complete_bucket_named d.table x
+  named : (x : List ℕ) → complete_bucket_named d x ≡ bucket_named d.table x
   named x = ap (option_and_then number_of) (ap (λ (p : Pending). option_and_then (closed_item p) (id_named d.table x)) idle ∙ closed (id_named d.table x))
 
   read_take : (words us v : List (List ℕ)) (q : Progress) → words ≡ codes "step" ∷ codes "take" ∷ us → Line d (step_behind d r word_takes) us v q → StepRead d r words v q
   read_take words us v q e h = by_class h.4
     where
-      is : bucket_of_word d h.0 ≡ unwrap_or (complete_bucket_named d.table h.0) 0
+      is : bucket_of_word d h.0 ≡ unwrap_or (bucket_named d.table h.0) 0
       is = ap (λ (o : Option ℕ). unwrap_or o 0) (named h.0)
 
-      known : complete_bucket_named d.table h.0 ≡ Some (unwrap_or (complete_bucket_named d.table h.0) 0)
+      known : bucket_named d.table h.0 ≡ Some (unwrap_or (bucket_named d.table h.0) 0)
       known = sym (named h.0) ∙ is_for d taken_bucket h.0 h.3 ∙ ap (λ (b : ℕ). Some b) is
 
       head : words ≡ codes "step" ∷ codes "take" ∷ h.0 ∷ h.1

@@ -6,10 +6,10 @@ use Rattle.crush_units.specs.declared.id.ItemId.{ItemId}
 use Rattle.crush_units.specs.declared.limits.TheConstants.{LARGEST_RULE_NUMBER}
 use Rattle.crush_table.specs.Table.{Row, id_named}
 use Rattle.crush_edits.specs.Setting.{KindData, TunableData, StepData, take, choose, set, RuleData}
-use Rattle.crush_edits.specs.Stops.{number_of, complete_bucket_named}
+use Rattle.crush_edits.specs.Stops.{number_of, bucket_named}
 use Rattle.crush_map.specs.Built.{Draft, nothing, add_rule}
 use Rattle.crush_map.specs.Building.{closed_item}
-use Rattle.crush_map.specs.Rules.{complete_bucket_named as bucket_of_name}
+use Rattle.crush_map.specs.Rules.{complete_bucket_named}
 use Rattle.crush_bytes.specs.Words.{begins_with_key}
 use Rattle.crush_text.specs.Form.{second, ruled, at, Form, word, optional}
 use Rattle.crush_text.specs.Role.{key, any_word, step_word, bucket_of_word}
@@ -37,10 +37,10 @@ module _ (ks : List KindData) (ts : List TunableData) (rs : List RuleData) (t : 
   abbrev inside : RuleData → State
   inside r = between (at (ruled r) here)
 
-  named : (x : List ℕ) → bucket_of_name here x ≡ complete_bucket_named t x
+  named : (x : List ℕ) → complete_bucket_named here x ≡ bucket_named t x
   named x = ap (option_and_then number_of) (closed (id_named t x))
 
-  taken : (x : List ℕ) → bucket_of_word here x ≡ unwrap_or (complete_bucket_named t x) 0
+  taken : (x : List ℕ) → bucket_of_word here x ≡ unwrap_or (bucket_named t x) 0
   taken x = ap (λ o. unwrap_or o 0) (named x)
 
   -- the class of a step, or none
@@ -69,7 +69,7 @@ module _ (ks : List KindData) (ts : List TunableData) (rs : List RuleData) (t : 
   step_leads : (x : StepLine) (r : RuleData) (ws rest : List (List ℕ)) → SpellsStep x ws rest → TakesBucket t x → begins_with_key (codes "class") (plain rest) ≡ false → LeadTo (inside (with_step r (step_in t x))) (plain rest) e
       → LeadTo (inside r) (plain ws) e
   step_leads (takes x class) r ws rest h takes_one other k =
-      let b : ℕ = unwrap_or (complete_bucket_named t x) 0 in
+      let b : ℕ = unwrap_or (bucket_named t x) 0 in
       subst (λ (v : List (List ℕ)). LeadTo (inside r) (plain v) e) (sym h.1)
       (words_lead (inside r) (codes "step" ∷ codes "take" ∷ x ∷ []) h.0 e (inl refl, (inl refl, (named x ∙ takes_one ∙ ap (λ (v : ℕ). Some v) (sym (taken x)), tt)))
       (subst (λ (v : ℕ). LeadTo (arrive here (plain h.0) (take_form r v)) (plain h.0) e) (sym (taken x)) (class_leads r b class h.0 rest h.2 other k)))
