@@ -5,7 +5,8 @@
 The numbers are kB, as `ulimit -v` and `ulimit -s` take them. The jobs are the example map with an edit, a nest of
 4,096 buckets with an edit of the device in the innermost, and the maps of two operators, each at once and with
 --in-turn. A line for each run of limits under which a job ends alike: with status 0 and the whole output, with
-another status and its line, by a signal, or in the loader (127) before the program begins.
+another status and its line, by a signal, or in the loader (127) before the program begins. Then, by stack alone, each
+kind of edit at the foot of such a nest, whose innermost bucket holds two.
 """
 
 import argparse
@@ -14,7 +15,7 @@ import resource
 import subprocess
 import tempfile
 
-from hostile import OPERATOR, nest
+from hostile import MOST_BUCKETS, OPERATOR, TYPES, bucket, nest
 from make_job import map_text, script
 
 JOBS = {
@@ -22,6 +23,23 @@ JOBS = {
     "nest of 4,096": "\n".join(nest() + [OPERATOR, "reweight osd.0 2.0"]) + "\n",
     "two operators": map_text(40) + script(40, 20, 2),
 }
+EDITS = [
+    "reweight osd.0 2.0", "reweight-subtree left 3.0", "move osd.0 rack=right", "move left rack=right",
+    "add osd.2 1.0 rack=left", "set osd.2 1.0 rack=left", "create-or-move osd.2 1.0 rack=left", "rm osd.0",
+    "rename-bucket left x", "swap-bucket left right", "begin\nswap-bucket left right\nrm osd.0\ncommit",
+]
+
+
+def fork():
+    """Buckets in one another, as many as there may be, the innermost of which holds two with a device each."""
+    lines = ["device 0 osd.0", "device 1 osd.1", *TYPES]
+    lines += bucket("rack", "left", MOST_BUCKETS, [("osd.0", 1)])
+    lines += bucket("rack", "right", MOST_BUCKETS - 1, [("osd.1", 1)])
+    items = [("left", 1), ("right", 1)]
+    for number in range(MOST_BUCKETS - 2, 0, -1):
+        lines += bucket("rack", f"b{number}", number, items)
+        items = [(f"b{number}", 2)]
+    return lines
 
 
 def ending(words, job, kind, limit):
@@ -61,20 +79,24 @@ def main():
     parser.add_argument("--space", type=int, nargs=3, default=[2800, 14000, 10])
     parser.add_argument("--stack", type=int, nargs=3, default=[64, 4096, 32])
     parser.add_argument("--jobs", nargs="+", choices=list(JOBS), default=list(JOBS))
+    parser.add_argument("--edits", action="store_true", help="only the edits at the foot of a nest")
     options = parser.parse_args()
     program = os.path.abspath(options.program)
+    space = "ulimit -v", resource.RLIMIT_AS, options.space
+    stack = "ulimit -s", resource.RLIMIT_STACK, options.stack
+    jobs = [] if options.edits else [(name, JOBS[name], (space, stack)) for name in options.jobs]
+    jobs += [(edit.replace("\n", "; "), "\n".join([*fork(), OPERATOR, edit]) + "\n", (stack,)) for edit in EDITS]
     with tempfile.TemporaryDirectory() as folder:
-        for name in options.jobs:
+        for name, text, kinds in jobs:
             job = os.path.join(folder, "job")
             with open(job, "w") as out:
-                out.write(JOBS[name])
+                out.write(text)
             for flags in ([], ["--in-turn"]):
-                for shown, kind, (first, last, step) in (("ulimit -v", resource.RLIMIT_AS, options.space),
-                                                         ("ulimit -s", resource.RLIMIT_STACK, options.stack)):
+                for shown, kind, (first, last, step) in kinds:
                     limits = range(first, last + 1, step)
                     ways = ((limit, ending([program, *flags], job, kind, limit)) for limit in limits)
                     for begin, end, how in ranges(ways):
-                        print(f"{name:14} {' '.join(flags):10} {shown} {begin:>6} to {end:>6}: {how}", flush=True)
+                        print(f"{name:34} {' '.join(flags):10} {shown} {begin:>6} to {end:>6}: {how}", flush=True)
 
 
 if __name__ == "__main__":
