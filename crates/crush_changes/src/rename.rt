@@ -16,11 +16,11 @@ use std::alloc::Allocator;
 /// Gives one of the items, or of those below them, another name, and hands out the old one.
 pub fn rename_in<A: Allocator, W: Way>(
     items: &mut [Node<A>],
-    way: W,
+    way: &W,
     id: &ItemId,
     name: Name<A>,
 ) -> Name<A>
-    requires way { IsWayTo (W.knows way) id.now (items_of items.old) }
+    requires way { IsWayTo (W.knows way.now) id.now (items_of items.old) }
     requires stored { StoresUpTo HEAVIEST_BUCKET (items_of items.old) }
     ensures old { Some result ≡ name_in id.now (items_of items.old) }
     ensures after { items_of items.new ≡ with_name id.now name (items_of items.old) }

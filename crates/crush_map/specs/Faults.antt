@@ -62,12 +62,12 @@ abbrev pub class_id_fault : Draft → ℕ → List ℕ → Option BuildFault
 class_id_fault d b c = first_fault ((DuplicateId, has_bucket_id d b) ∷ ((DuplicateName, has_class d c) ∷ ((TooMany, is_full_of_class_ids d) ∷ [])))
 
 -- a written weight that no device has
-abbrev pub is_too_heavy_text : Option ℕ → Bool
-is_too_heavy_text None = false
-is_too_heavy_text (Some w) = nat_lt HEAVIEST_DEVICE w
+abbrev pub is_written_too_heavy : Option ℕ → Bool
+is_written_too_heavy None = false
+is_written_too_heavy (Some w) = nat_lt HEAVIEST_DEVICE w
 
 abbrev pub is_heavy_device : ItemId → Option ℕ → Bool
-is_heavy_device i w = is_device_id i && is_too_heavy_text w
+is_heavy_device i w = is_device_id i && is_written_too_heavy w
 
 -- a device, or a bucket that was closed
 abbrev pub is_closed : Draft → ItemId → Bool
