@@ -6,7 +6,7 @@
 #   make install   the program and its manual page below PREFIX, which is /usr/local if nothing is said
 #   make manual    writes the manual page out of the help, which `make check` compares
 #   make recipe    tries the recipe for operators with the program that was built
-#   make trials    tries that program with jobs of chance, memory that is refused, and streams that fail
+#   make trials    tries that program with jobs of chance, little memory and stack, and streams that fail
 #   make clean     removes what the checks kept
 
 PREFIX = /usr/local
@@ -45,6 +45,7 @@ trials: $(PROGRAM)
 	python3 bench/against_reference.py $(PROGRAM) 1000
 	python3 bench/at_once.py $(PROGRAM) 200
 	python3 bench/refused_memory.py $(PROGRAM)
+	python3 bench/limits.py $(PROGRAM) --fits 1024
 	python3 bench/streams.py $(PROGRAM)
 
 clean:

@@ -1,18 +1,21 @@
 """Runs crushedit with little address space and with little stack, and prints how it ends where.
 
     python3 bench/limits.py crates/crushedit/out/crushedit [--space FROM TO STEP] [--stack FROM TO STEP]
+    python3 bench/limits.py crates/crushedit/out/crushedit --fits 1024
 
 The numbers are kB, as `ulimit -v` and `ulimit -s` take them. The jobs are the example map with an edit, a nest of
 4,096 buckets with an edit of the device in the innermost, and the maps of two operators, each at once and with
 --in-turn. A line for each run of limits under which a job ends alike: with status 0 and the whole output, with
 another status and its line, by a signal, or in the loader (127) before the program begins. Then, by stack alone, each
-kind of edit at the foot of such a nest, whose innermost bucket holds two.
+kind of edit at the foot of such a nest, whose innermost bucket holds two. With --fits, as in the gate, only whether each
+of these is made with so much stack: status 1 where one isn't.
 """
 
 import argparse
 import os
 import resource
 import subprocess
+import sys
 import tempfile
 
 from hostile import MOST_BUCKETS, OPERATOR, TYPES, bucket, nest
@@ -73,6 +76,23 @@ def ranges(endings):
         yield begin, last, shown
 
 
+def edits_at_the_foot():
+    """The name of each kind of edit, and the job that makes it at the foot of a nest."""
+    return [(edit.replace("\n", "; "), "\n".join([*fork(), OPERATOR, edit]) + "\n") for edit in EDITS]
+
+
+def misfits(program, folder, stack):
+    """The jobs that don't end well with so much stack, each at once and in turn."""
+    job = os.path.join(folder, "job")
+    for name, text in edits_at_the_foot():
+        with open(job, "w") as out:
+            out.write(text)
+        for flags in ([], ["--in-turn"]):
+            how = ending([program, *flags], job, resource.RLIMIT_STACK, stack)
+            if how != "status 0":
+                yield f"{' '.join([name, *flags])}: {how}"
+
+
 def main():
     parser = argparse.ArgumentParser(description=__doc__.splitlines()[0])
     parser.add_argument("program")
@@ -80,12 +100,18 @@ def main():
     parser.add_argument("--stack", type=int, nargs=3, default=[64, 4096, 32])
     parser.add_argument("--jobs", nargs="+", choices=list(JOBS), default=list(JOBS))
     parser.add_argument("--edits", action="store_true", help="only the edits at the foot of a nest")
+    parser.add_argument("--fits", type=int, metavar="KB", help="only whether each of these edits is made with so much stack")
     options = parser.parse_args()
     program = os.path.abspath(options.program)
+    if options.fits is not None:
+        with tempfile.TemporaryDirectory() as folder:
+            found = list(misfits(program, folder, options.fits))
+        print(*found or [f"{2 * len(EDITS)} edits at the foot of {MOST_BUCKETS} buckets fit {options.fits} kB of stack"], sep="\n")
+        sys.exit(bool(found))
     space = "ulimit -v", resource.RLIMIT_AS, options.space
     stack = "ulimit -s", resource.RLIMIT_STACK, options.stack
     jobs = [] if options.edits else [(name, JOBS[name], (space, stack)) for name in options.jobs]
-    jobs += [(edit.replace("\n", "; "), "\n".join([*fork(), OPERATOR, edit]) + "\n", (stack,)) for edit in EDITS]
+    jobs += [(name, text, (stack,)) for name, text in edits_at_the_foot()]
     with tempfile.TemporaryDirectory() as folder:
         for name, text, kinds in jobs:
             job = os.path.join(folder, "job")
