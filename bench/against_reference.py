@@ -132,7 +132,7 @@ def compare(program, count, seed):
                 print(f"{text}\n--- {wrong}")
                 sys.exit(f"{name} {index} of seed {seed} differs")
             told[due[2].split()[-1] if due[0] else "done"] += 1
-            refusals.update(re.findall(r" = refused (?:at \d+ )?(\w+) \d+\n", due[1]))
+            refusals.update(re.findall(r" = refused (?:at \d+ )?(\w+) \d+(?: changes \d+)?\n", due[1]))
     print(f"{count} jobs of seed {seed}, a mutation and a prefix of each, in turn and at once, end as the model says:",
           ", ".join(f"{name} {number}" for name, number in sorted(told.items())))
     print("refusals:", ", ".join(f"{name} {number}" for name, number in sorted(refusals.items())))

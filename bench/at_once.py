@@ -17,7 +17,7 @@ import subprocess
 import sys
 
 from chance import call_lines, random_call, random_map
-from model import run_call
+from model import is_change, run_call
 
 OPERATORS = [f"op{number}" for number in range(16)]
 MOST_CALLS = 100
@@ -50,11 +50,12 @@ def parts(printed):
 def fault_of(map, scripts, printed):
     """What is wrong with what was printed, or nothing."""
     text, lines = parts(printed)
-    left = {name: list(calls) for name, calls in scripts.items()}
+    left, changes = {name: list(calls) for name, calls in scripts.items()}, 0
     for place, (number, operator, call, reply) in enumerate(lines, 1):
         if number != str(place) or not left.get(operator):
             return f"line {place} is of no call that an operator has left"
-        map, line = run_call(map, left[operator].pop(0))
+        map, line = run_call(map, left[operator].pop(0), changes)
+        changes += is_change(line)
         due, _, answer = line.partition(" = ")
         if call != due:
             return f"line {place} isn't the next call of {operator}: {due}"
@@ -84,9 +85,10 @@ def by_model(dice, map, scripts):
     order = [name for name, calls in scripts.items() for _ in calls]
     dice.shuffle(order)
     left = {name: list(calls) for name, calls in scripts.items()}
-    lines = []
+    lines, changes = [], 0
     for number, name in enumerate(order, 1):
-        map, line = run_call(map, left[name].pop(0))
+        map, line = run_call(map, left[name].pop(0), changes)
+        changes += is_change(line)
         lines.append(f"# {number} {name} {line}\n")
     return map.text() + "".join(lines)
 

@@ -2,7 +2,7 @@
 
 import random
 
-from model import Map, run_call, units_of
+from model import Map, is_change, run_call, units_of
 
 NAMES = ["h1", "h2", "h3", "h4", "r1", "r2", "w1", "default", "other", "x", "osd.4", "disk"]
 KINDS = ["osd", "host", "rack", "row", "root", "pod"]
@@ -52,46 +52,51 @@ def random_command(dice, map):
 
     word = dice.choice(["add", "set", "create-or-move"] * 3 + ["move"] * 6 + [
         "swap-bucket", "reweight", "reweight-subtree", "rm", "remove", "add-bucket",
-        "rename-bucket"] * 2)
+        "rename-bucket", "set-device-class", "rm-device-class"] * 2)
     if word in ("add", "set", "create-or-move"):
         return [word, f"osd.{dice.randint(0, 9)}", dice.choice(WEIGHTS + WEIGHTS[:6] * 2)] + pairs()
     if word == "move":
         return [word, name()] + pairs()
     if word in ("reweight", "reweight-subtree"):
         return [word, name(), dice.choice(WEIGHTS)]
-    if word in ("rm", "remove"):
+    if word in ("rm", "remove", "rm-device-class"):
         return [word, name()]
     if word == "add-bucket":
         return [word, name(), dice.choice(KINDS)]
+    if word == "set-device-class":
+        return [word, dice.choice(["hdd", "ssd"]), name()]
     return [word, name(), name()]
 
 
 def random_call(dice, map):
-    """A call: whether it is a batch, and its commands, each as its words."""
-    is_batch = dice.random() < 0.2
-    count = dice.randint(0, 4) if is_batch else 1
-    return is_batch, [random_command(dice, map) for _ in range(count)]
+    """A call: `one`, `batch`, or the number of changes that a guarded batch names, and its commands, each as its
+    words."""
+    kind = dice.choice(["one"] * 8 + ["batch", dice.randint(0, 4)])
+    count = 1 if kind == "one" else dice.randint(0, 4)
+    return kind, [random_command(dice, map) for _ in range(count)]
 
 
 def call_lines(dice, call):
     """The lines of a script that ask for a call."""
-    is_batch, commands = call
-    if is_batch:
-        return "begin\n" + "".join(" ".join(words) + "\n" for words in commands) + "commit\n"
+    kind, commands = call
+    if kind != "one":
+        begin = "begin" if kind == "batch" else f"begin at {dice.choice(['', '', '000'])}{kind}"
+        return f"{begin}\n" + "".join(" ".join(words) + "\n" for words in commands) + "commit\n"
     return " ".join(commands[0]) + dice.choice(["", "", " # why not", "\r"]) + "\n"
 
 
 def random_job(dice):
     """The bytes of a job, and what is to be printed of it."""
     map = random_map(dice)
-    job, lines, number = map.text(), [], 0
+    job, lines, number, changes = map.text(), [], 0, 0
     for operator in dice.sample(["a", "b", "c.d"], dice.randint(0, 3)):
         job += f"%operator {operator}\n"
         for _ in range(dice.randint(0, 6)):
             number += 1
             call = random_call(dice, map)
             job += call_lines(dice, call)
-            map, line = run_call(map, call)
+            map, line = run_call(map, call, changes)
+            changes += is_change(line)
             lines.append(f"# {number} {operator} {line}\n")
     return job, map.text() + "".join(lines)
 

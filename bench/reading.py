@@ -16,7 +16,7 @@ RESERVED = ("tunable", "device", "type", "rule", "class", "choose_args")
 ALGORITHMS = ("straw", "straw2", "list")
 MOST_OF = {"tunable": 64, "device": 65536, "type": 256, "rule": 256, "bucket": 4096}
 MOST_CLASS_IDS, MOST_STEPS, MOST_PAIRS, MOST_OPERATORS = 16, 64, 16, 16
-MOST_EDITS = MOST_CALLS = 65536
+MOST_EDITS = MOST_CALLS = MOST_ENTRIES = 65536
 LONGEST_NAME, LONGEST_JOB, LARGEST = 255, 16777216, 2**31 - 1
 NUMBER, NEGATIVE, SIGNED = "[0-9]{1,10}", "-[0-9]{1,10}", "-?[0-9]{1,10}"
 WEIGHT = r"[0-9]{1,10}(\.[0-9]{1,18})?"
@@ -27,6 +27,7 @@ COMMANDS = {
     "create-or-move": ("device", "weight", "location"), "move": ("name", "location"),
     "swap-bucket": ("name", "name"), "reweight": ("name", "weight"), "reweight-subtree": ("name", "weight"),
     "rm": ("name",), "remove": ("name",), "add-bucket": ("name", "name"), "rename-bucket": ("name", "name"),
+    "set-device-class": ("name", "name"), "rm-device-class": ("name",),
     "begin": (), "commit": (),
 }
 
@@ -252,9 +253,15 @@ def is_command(words):
     return len(kinds) == len(words) - 1 and all(map(is_of, kinds, words[1:]))
 
 
+def is_guard(words):
+    """Whether the words behind `begin` are none, or `at` and a number of changes that a history can have."""
+    return not words[1:] or (words[1] == "at" and len(words) == 3 and bool(re.fullmatch("0*[0-9]{1,5}", words[2]))
+                             and int(words[2][-5:]) <= MOST_ENTRIES)
+
+
 def read_scripts(lines, before):
     """The scripts of the sections, in order: pairs of an operator and its calls. `before` lines are the map's."""
-    scripts, batch, begun, calls = [], None, 0, 0
+    scripts, batch, begun, kind, calls = [], None, 0, "batch", 0
     for place, line in enumerate(lines, before + 1):
         line = line[:-1] if line.endswith("\r") else line
         words = [word for word in re.split("[ \t]", line.split("#")[0]) if word]
@@ -275,10 +282,10 @@ def read_scripts(lines, before):
             raise Fault(f"line {place}: NoSuchCommand")
         is_misplaced = {"begin": batch is not None, "commit": batch is None}.get(
             words[0], batch is not None and len(batch) == MOST_EDITS)
-        if not is_command(words) or is_misplaced:
+        if not (is_guard(words) if words[0] == "begin" else is_command(words)) or is_misplaced:
             raise Fault(f"line {place}: BadLine")
         if words[0] == "commit":
-            scripts[-1][1].append((True, batch))
+            scripts[-1][1].append((kind, batch))
             batch = None
         elif batch is not None:
             batch.append(words)
@@ -287,9 +294,9 @@ def read_scripts(lines, before):
             if calls > MOST_CALLS:
                 raise Fault(f"line {place}: TooManyCalls")
             if words[0] == "begin":
-                batch, begun = [], place
+                batch, begun, kind = [], place, int(words[2][-5:]) if words[1:] else "batch"
             else:
-                scripts[-1][1].append((False, [words]))
+                scripts[-1][1].append(("one", [words]))
     if batch is not None:
         raise Fault(f"line {begun}: OpenBatch")
     return scripts

@@ -1,6 +1,7 @@
 pub mod Answered
 pub mod Asked
 pub mod Buckets
+pub mod Classed
 pub mod Devices
 pub mod Done
 pub mod Ends

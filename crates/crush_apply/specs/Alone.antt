@@ -1,9 +1,9 @@
--- What edits of single rows need: a new name, an exchange, a row taken out, a bucket more.
-use Rattle.std.specs.Prelude.{◌≡◌, ℕ, ◌<◌, List, Some, false, ◌==◌}
+-- What edits of single rows need: a new name, an exchange, a class, a row taken out, a bucket more.
+use Rattle.std.specs.Prelude.{◌≡◌, ℕ, ◌<◌, List, Option, Some, None, false, ◌==◌}
 use Rattle.crush_units.specs.declared.id.ItemId.{ItemId}
-use Rattle.crush_units.specs.declared.id.ItemId.TheVariants.{Bucket}
+use Rattle.crush_units.specs.declared.id.ItemId.TheVariants.{Device, Bucket}
 use Rattle.crush_units.specs.declared.limits.TheConstants.{MOST_BUCKETS}
-use Rattle.crush_table.specs.Table.{Row, id_named, is_named, are_nested, bucket_count}
+use Rattle.crush_table.specs.Table.{Row, class_of, id_named, is_named, are_nested, bucket_count}
 use Rattle.crush_table.specs.Columns.{swap_buckets}
 use Rattle.crush_table.specs.Lawful.{is_too_heavy}
 use Rattle.crush_edits.specs.Setting.{SettingData, kind_number}
@@ -22,6 +22,16 @@ pub record CanSwap (t : List Row) (m n : List ℕ) (a b : ℕ) : Type 0 where
   pub second : id_named t n ≡ Some (Bucket b)
   pub apart : are_nested t a b ≡ false
   pub fits : is_too_heavy (swap_buckets a b t) ≡ false
+
+-- the name is that of the device d, whose class is k
+pub record HasClass (t : List Row) (n : List ℕ) (k : Option (List ℕ)) (d : ℕ) : Type 0 where
+  pub named : id_named t n ≡ Some (Device d)
+  pub class : class_of t (Device d) ≡ k
+
+-- the name is that of the device d, which has no class, or where no device is told, of one that has the class
+abbrev pub GetsClass : List Row → List ℕ → List ℕ → Option ℕ → Type 0
+GetsClass t n c None = (d : ℕ) × HasClass t n (Some c) d
+GetsClass t n c (Some d) = HasClass t n None d
 
 -- the name is that of the item i, which is a device, or a bucket that holds nothing and that no rule takes
 pub record CanRemove (s : SettingData) (t : List Row) (n : List ℕ) (i : ItemId) : Type 0 where

@@ -13,6 +13,7 @@ ghost use Rattle.crush_edits.specs.Outcome.{IsDone, IsChange};
 ghost use Rattle.crush_apply.specs.Answered.{AnswersAs, KeepsRooms};
 
 use crate::add_bucket::add_bucket;
+use crate::classes::{remove_class, set_class};
 use crate::create_or_move::create_or_move;
 use crate::insert::insert;
 use crate::relocate::relocate;
@@ -31,7 +32,7 @@ use std::alloc::Allocator;
 ///
 /// Where several refusals hold, the one of least number is told. Want of memory is told only of an
 /// edit that takes memory, where nothing speaks against it and the hierarchy would be another after
-/// it: so never of new weights, of an exchange or of a removal. After an Err the hierarchy is as
+/// it: so never of new weights, of an exchange or of a removal, also of a class. After an Err the hierarchy is as
 /// before, also its room, as it is where the edit changes nothing.
 pub fn apply_edit<A: Allocator + Clone>(
     hierarchy: &mut Hierarchy<A>,
@@ -92,6 +93,9 @@ fn recall_forms(asked: &Edit)
         }
         Edit::Rename { to, .. } => {
             let _name = to.as_bytes();
+        }
+        Edit::SetClass { class, .. } => {
+            let _name = class.as_bytes();
         }
         _ => {}
     }
@@ -159,5 +163,7 @@ fn make<A: Allocator + Clone>(
         Edit::Remove { name } => remove(hierarchy, setting, name),
         Edit::AddBucket { name, kind } => add_bucket(hierarchy, setting, name, kind),
         Edit::Rename { from, to } => rename(hierarchy, from, to),
+        Edit::SetClass { name, class } => set_class(hierarchy, name, class),
+        Edit::RemoveClass { name } => remove_class(hierarchy, name),
     }
 }

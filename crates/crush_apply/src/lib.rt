@@ -5,6 +5,7 @@
 mod add_bucket;
 mod apply;
 mod batch;
+mod classes;
 mod create_or_move;
 mod insert;
 mod relocate;

@@ -1,9 +1,9 @@
 -- The lines of a history, one line more.
 use Rattle.std.proofs.Common.{◌≡◌, ℕ, ◌+◌, ◌<◌, List, [], ◌∷◌, ◌++◌, length, take, get_or, refl, sym, ap, subst, ◌∙◌, append_assoc, arith}
-use Rattle.std.specs.Prelude.{slice_index_or, if◌then◌else◌}
+use Rattle.std.specs.Prelude.{slice_index_or}
 use Rattle.std.proofs.lemmas.List.{append-nil, take_more, length-take-le, length-map, get_or-map}
 use Rattle.std.proofs.lemmas.List.Elements.{All-nil, All-push}
-use Rattle.crush_calls.specs.History.{EntryData, changes, is_change}
+use Rattle.crush_calls.specs.History.{EntryData, change_of, changes}
 use Rattle.crush_calls.specs.HistoryText.{line_text, entry_text, entries_text, names_of}
 use Rattle.crush_calls.specs.declared.entry.Entry.{Entry}
 use Rattle.crush_calls.specs.Entries.{AreOf}
@@ -20,7 +20,7 @@ entries_text-push names n (f ∷ h) e =
     ∙ sym (append_assoc (entry_text n (slice_index_or names f.operator []) f) (entries_text names (n + 1) h) _)
 
 -- one entry more may be one change more
-pub changes-push : (h : List EntryData) (e : EntryData) → changes (h ++ e ∷ []) ≡ changes h + (if is_change e.reply then 1 else 0)
+pub changes-push : (h : List EntryData) (e : EntryData) → changes (h ++ e ∷ []) ≡ changes h + change_of e.reply
 unfolding changes
 changes-push [] e = omega arith
 changes-push (f ∷ h) e = omega (arith, changes-push h e)
@@ -34,11 +34,11 @@ operator_name-at scripts i x h is =
     ∙ sym (get_or-map (λ (z : ScriptData). z.name) (scripts_data scripts) i (script_data x) [] long)
 
 -- the changes among one entry more
-pub changes-take : (entries : List Entry) (i : ℕ) (e : Entry) → i < length entries → e ≡ get_or entries i e → changes (take (i + 1) entries) ≡ changes (take i entries) + (if is_change e.reply then 1 else 0)
+pub changes-take : (entries : List Entry) (i : ℕ) (e : Entry) → i < length entries → e ≡ get_or entries i e → changes (take (i + 1) entries) ≡ changes (take i entries) + change_of e.reply
 changes-take entries i e h is =
     ap (λ xs. changes xs) (take_more entries i e h)
     ∙ changes-push (take i entries) (get_or entries i e)
-    ∙ ap (λ (z : Entry). changes (take i entries) + (if is_change z.reply then 1 else 0)) (sym is)
+    ∙ ap (λ (z : Entry). changes (take i entries) + change_of z.reply) (sym is)
 
 -- no entry, no change
 pub no_changes : ◌≡◌ {A = ℕ} 0 (changes [])

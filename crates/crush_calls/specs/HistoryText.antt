@@ -3,13 +3,13 @@ use Rattle.std.specs.Prelude.{ℕ, ◌+◌, List, [], ◌∷◌, ◌++◌, Bool,
 use Rattle.crush_units.specs.Weight.{weight_text}
 use Rattle.crush_edits.specs.declared.location.Pair.{Pair}
 use Rattle.crush_edits.specs.declared.edit.Edit.{Edit}
-use Rattle.crush_edits.specs.declared.edit.Edit.TheVariants.{Insert, CreateOrMove, Update, Move, Swap, Reweight, ReweightSubtree, Remove, AddBucket, Rename}
+use Rattle.crush_edits.specs.declared.edit.Edit.TheVariants.{Insert, CreateOrMove, Update, Move, Swap, Reweight, ReweightSubtree, Remove, AddBucket, Rename, SetClass, RemoveClass}
 use Rattle.crush_edits.specs.declared.refusal.Refusal.{Refusal}
 use Rattle.crush_edits.specs.Refusal.{refusal_name, refusal_error}
 use Rattle.crush_calls.specs.declared.call.Call.{Call}
-use Rattle.crush_calls.specs.declared.call.Call.TheVariants.{One, Batch}
+use Rattle.crush_calls.specs.declared.call.Call.TheVariants.{One, Batch, Guarded}
 use Rattle.crush_calls.specs.declared.call.Reply.{Reply}
-use Rattle.crush_calls.specs.declared.call.Reply.TheVariants.{Done, Dones, Refused, BatchRefused}
+use Rattle.crush_calls.specs.declared.call.Reply.TheVariants.{Done, Dones, Refused, BatchRefused, Stale}
 use Rattle.crush_calls.specs.Script.{ScriptData}
 use Rattle.crush_calls.specs.History.{EntryData}
 
@@ -42,14 +42,23 @@ edit_text (ReweightSubtree name weight) = weighed (codes "reweight-subtree") nam
 edit_text (Remove name) = one_name (codes "rm") name
 edit_text (AddBucket name kind) = two_names (codes "add-bucket") name kind
 edit_text (Rename from to) = two_names (codes "rename-bucket") from to
+edit_text (SetClass name class) = two_names (codes "set-device-class") class name
+edit_text (RemoveClass name) = one_name (codes "rm-device-class") name
 
--- A CALL: a batch is `begin ; `, each edit followed by ` ; `, and `commit`
+-- A CALL: a batch is `begin ; `, each edit followed by ` ; `, and `commit`; a guarded one begins with `begin at N ; `
 abbrev pub edits_text : List Edit → List ℕ
 edits_text es = flat_map (λ e. edit_text e ++ codes " ; ") es
 
+abbrev pub rest_text : List Edit → List ℕ
+rest_text es = edits_text es ++ codes "commit"
+
+abbrev pub guard_text : ℕ → List ℕ
+guard_text seen = codes "begin at " ++ decimal seen ++ codes " ; "
+
 abbrev pub call_text : Call → List ℕ
 call_text (One edit) = edit_text edit
-call_text (Batch es) = codes "begin ; " ++ (edits_text es ++ codes "commit")
+call_text (Batch es) = codes "begin ; " ++ rest_text es
+call_text (Guarded seen es) = guard_text seen ++ rest_text es
 
 abbrev pub digit_of : Bool → List ℕ
 digit_of true = codes "1"
@@ -73,6 +82,7 @@ line_end (Done d) = codes " = done changed " ++ digit_of d.changed ++ codes " ma
 line_end (Dones d) = codes " = dones " ++ decimal d.edits ++ codes " changed " ++ decimal d.changed ++ codes " made " ++ decimal d.made ++ codes "\n"
 line_end (Refused r) = codes " = refused " ++ refusal_text r
 line_end (BatchRefused index r) = refused_at_text index ++ refusal_text r
+line_end (Stale n) = codes " = refused Stale 11 changes " ++ decimal n ++ codes "\n"
 
 -- the line of a call and its reply: `# NUMBER OPERATOR CALL = REPLY`
 abbrev pub line_text : ℕ → List ℕ → Call → Reply → List ℕ

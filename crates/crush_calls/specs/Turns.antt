@@ -8,9 +8,9 @@ use Rattle.crush_calls.specs.declared.call.Reply.{Reply}
 use Rattle.crush_calls.specs.Script.{ScriptData, call_count}
 use Rattle.crush_calls.specs.History.{call_outcome, EntryData, AnsweredData, IsLegal, of_operator, turns}
 
--- MADE: the reply is the table's, and the map stands for the table after, of each table for which it stood
-abbrev pub Makes : MapData → MapData → Call → Reply → Type 0
-Makes old new call reply = (s : SettingData) (t : List Row) → MapStands old s t → (reply ≡ (call_outcome s t call).reply) × MapStands new s (call_outcome s t call).table
+-- MADE: the reply is the table's after n changes, and the map stands for the table after, of each table for which it stood
+abbrev pub Makes : ℕ → MapData → MapData → Call → Reply → Type 0
+Makes n old new call reply = (s : SettingData) (t : List Row) → MapStands old s t → (reply ≡ (call_outcome s t n call).reply) × MapStands new s (call_outcome s t n call).table
 
 -- the calls of the script of a number, or none where there is no such script
 abbrev pub calls_at : List ScriptData → ℕ → List Call

@@ -33,6 +33,13 @@ pub enum Call {
     One(Edit),
     /// Edits of which each is made of the map that the ones before it made, or none of them.
     Batch(Edits),
+    /// A batch that its operator wants only while the history has so many changes.
+    Guarded {
+        /// The number of changes that the operator has seen.
+        seen: u32,
+        /// The edits of the batch.
+        edits: Edits,
+    },
 }
 
 /// What a call is answered.
@@ -47,6 +54,9 @@ pub enum Reply {
     /// The edit of the batch at this index, counted from 0, was refused, and none before it. The
     /// map is as before the batch.
     BatchRefused(u32, Refusal),
+    /// The history has another number of changes than the guarded batch named: this one. No edit of
+    /// it was looked at, and the map is as before.
+    Stale(u32),
 }
 
 impl Edits {
@@ -99,6 +109,10 @@ impl Call {
         match self {
             Call::One(edit) => Ok(Call::One(edit.try_copy(alloc)?)),
             Call::Batch(edits) => Ok(Call::Batch(edits.try_copy(alloc)?)),
+            Call::Guarded { seen, edits } => Ok(Call::Guarded {
+                seen: *seen,
+                edits: edits.try_copy(alloc)?,
+            }),
         }
     }
 }

@@ -27,7 +27,7 @@ pub struct Slip {
 }
 
 /// Whether a reply tells of a change of the map: an edit that changed it, or a batch with at least
-/// one such edit. A refusal never is.
+/// one such edit. A refusal never is, nor is a stale batch.
 pub fn is_change(reply: Reply) -> bool
     ensures { result ≡ is_change reply }
 {
@@ -36,6 +36,7 @@ pub fn is_change(reply: Reply) -> bool
         Reply::Dones(dones) => dones.changed > 0,
         Reply::Refused(_) => false,
         Reply::BatchRefused(_, _) => false,
+        Reply::Stale(_) => false,
     }
 }
 

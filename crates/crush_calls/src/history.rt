@@ -142,6 +142,25 @@ fn write_batch_refused<W: Write>(
     write_refusal(refusal, out)
 }
 
+/// Writes the reply to a guarded batch that is stale, and ends the line.
+#[tactic(auto, unfolding(crate::specs::HistoryText::line_end))]
+fn write_stale<W: Write>(changes: u32, out: &mut W) -> Result<(), WriteFault>
+    ensures writes { Writes result (W.contents out.old) (W.contents out.new)
+        (line_end (Reply.Stale changes)) }
+    ensures fault { IfErr result (λ fault. fault ≡ WriteFault.Write) }
+{
+    let mut buffer = Buffer::new();
+    let changes = buffer.format(changes).as_bytes();
+    put_all(
+        out,
+        &[
+            b" = refused Stale 11 changes ".as_slice(),
+            changes,
+            b"\n".as_slice(),
+        ],
+    )
+}
+
 /// Writes a reply, and ends the line.
 fn write_reply<W: Write>(reply: Reply, out: &mut W) -> Result<(), WriteFault>
     ensures writes { Writes result (W.contents out.old) (W.contents out.new) (line_end reply) }
@@ -152,15 +171,16 @@ fn write_reply<W: Write>(reply: Reply, out: &mut W) -> Result<(), WriteFault>
         Reply::Dones(dones) => write_dones(dones, out),
         Reply::Refused(refusal) => write_refused(refusal, out),
         Reply::BatchRefused(index, refusal) => write_batch_refused(index, refusal, out),
+        Reply::Stale(changes) => write_stale(changes, out),
     }
 }
 
 /// Writes the line of an entry: `# NUMBER OPERATOR CALL = REPLY`.
 ///
 /// Entries count from 1. An edit shows as its command, its weight with five decimals, and a batch
-/// as `begin ; EDIT ; .. ; commit`. The reply is `done changed C made M`, where C is 1 or 0,
-/// `dones N changed C made M`, `refused NAME ERROR` or `refused at INDEX NAME ERROR`;
-/// `docs/FORMATS.md` has the form. The line begins with `#`, and so is a comment by the grammar of
+/// as `begin ; EDIT ; .. ; commit`, a guarded one with `begin at N` in front. The reply is
+/// `done changed C made M`, where C is 1 or 0, `dones N changed C made M`, `refused NAME ERROR`,
+/// `refused at INDEX NAME ERROR` or `refused Stale 11 changes N`; `docs/FORMATS.md` has the form. The line begins with `#`, and so is a comment by the grammar of
 /// a map's text.
 ///
 /// It takes no memory, so the one fault is [`WriteFault::Write`], after which the writer holds a

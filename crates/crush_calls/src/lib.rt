@@ -13,6 +13,6 @@ mod script;
 pub use call::{Call, Edits, Reply};
 pub use entry::{Entry, Slip, count_changes, is_change};
 pub use history::{history_text, write_entry};
-pub use law::{runs_keep_lawful, turns_are_history};
+pub use law::{runs_keep_lawful, same_count_is_same_table, turns_are_history};
 pub use making::make_call;
 pub use script::Script;

@@ -1,6 +1,6 @@
 //! One call, made on a map.
 
-ghost use Rattle.std.specs.Prelude.{◌≡◌, ◌≤◌, length, IfOk, OnErr};
+ghost use Rattle.std.specs.Prelude.{◌≡◌, ◌≤◌, ℕ, length, IfOk, OnErr};
 ghost use Rattle.crush_units.specs.declared.limits.TheConstants.{MOST_EDITS};
 ghost use Rattle.crush_calls.specs.Turns.{Makes};
 
@@ -9,9 +9,10 @@ use crush_edits::{BatchFault, Edit, EditFault};
 use crush_map::CrushMap;
 use std::alloc::{AllocError, Allocator};
 
-/// Makes one edit.
+/// Makes one edit, whatever changes came before.
 fn make_edit<A: Allocator + Clone>(map: &mut CrushMap<A>, asked: &Edit) -> Result<Reply, AllocError>
-    ensures made { IfOk result (Makes map.old map.new (Call.One asked.now)) }
+    ensures made { IfOk result (λ reply. (n : ℕ)
+        → Makes n map.old map.new (Call.One asked.now) reply) }
     ensures unchanged { OnErr result (map.new ≡ map.old) }
 {
     match map.apply(asked) {
@@ -21,13 +22,14 @@ fn make_edit<A: Allocator + Clone>(map: &mut CrushMap<A>, asked: &Edit) -> Resul
     }
 }
 
-/// Makes a batch of at most 65,536 edits, or none of them.
+/// Makes a batch of at most 65,536 edits, or none of them, whatever changes came before.
 fn make_batch<A: Allocator + Clone>(
     map: &mut CrushMap<A>,
     asked: &[Edit],
 ) -> Result<Reply, AllocError>
     requires { length asked.now ≤ MOST_EDITS }
-    ensures made { IfOk result (Makes map.old map.new (Call.Batch asked.now)) }
+    ensures made { IfOk result (λ reply. (n : ℕ)
+        → Makes n map.old map.new (Call.Batch asked.now) reply) }
     ensures unchanged { OnErr result (map.new ≡ map.old) }
 {
     match map.apply_batch(asked) {
@@ -37,20 +39,39 @@ fn make_batch<A: Allocator + Clone>(
     }
 }
 
-/// Makes one call on a map. The reply is the one that the plain table gives, of each table for which
-/// the map stands, and the map then stands for the table after; so a refused edit or batch changes
-/// nothing.
+/// Makes a batch where as many changes came before as its operator has seen. Else it is stale.
+fn make_guarded<A: Allocator + Clone>(
+    map: &mut CrushMap<A>,
+    count: u32,
+    seen: u32,
+    asked: &[Edit],
+) -> Result<Reply, AllocError>
+    requires { length asked.now ≤ MOST_EDITS }
+    ensures made { IfOk result (Makes count map.old map.new (Call.Guarded seen asked.now)) }
+    ensures unchanged { OnErr result (map.new ≡ map.old) }
+{
+    if seen != count {
+        return Ok(Reply::Stale(count));
+    }
+    make_batch(map, asked)
+}
+
+/// Makes one call on a map, before which so many calls changed it. The reply is the one that the
+/// plain table gives, of each table for which the map stands, and the map then stands for the table
+/// after; so a refused edit or batch changes nothing, nor does a stale one.
 ///
 /// An `Err` is want of memory. The map is then as before, also its room.
 pub fn make_call<A: Allocator + Clone>(
     map: &mut CrushMap<A>,
+    count: u32,
     call: &Call,
 ) -> Result<Reply, AllocError>
-    ensures made { IfOk result (Makes map.old map.new call.now) }
+    ensures made { IfOk result (Makes count map.old map.new call.now) }
     ensures unchanged { OnErr result (map.new ≡ map.old) }
 {
     match call {
         Call::One(edit) => make_edit(map, edit),
         Call::Batch(edits) => make_batch(map, edits.as_slice()),
+        Call::Guarded { seen, edits } => make_guarded(map, count, *seen, edits.as_slice()),
     }
 }

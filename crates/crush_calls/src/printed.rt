@@ -2,12 +2,13 @@
 
 ghost use Rattle.std.specs.Prelude.{◌≡◌, ◌++◌, codes, IfErr};
 ghost use Rattle.crush_bytes.specs.Writes.{Writes};
-ghost use Rattle.crush_calls.specs.HistoryText.{pair_text, pairs_text, one_name, two_names, weighed, edit_text, edits_text, call_text};
+ghost use Rattle.crush_calls.specs.HistoryText.{pair_text, pairs_text, one_name, two_names, weighed, edit_text, edits_text, rest_text, guard_text, call_text};
 
 use crate::call::Call;
 use crush_bytes::{WriteFault, put, put_all};
 use crush_edits::{Edit, Location, Pair};
 use crush_units::{Name, Weight};
+use itoa::Buffer;
 use std::alloc::Global;
 use std::io::Write;
 
@@ -160,6 +161,8 @@ fn write_edit<W: Write>(edit: &Edit, out: &mut W) -> Result<(), WriteFault>
         Edit::Remove { name } => write_one_name(b"rm", name, out),
         Edit::AddBucket { name, kind } => write_two_names(b"add-bucket", name, kind, out),
         Edit::Rename { from, to } => write_two_names(b"rename-bucket", from, to, out),
+        Edit::SetClass { name, class } => write_two_names(b"set-device-class", class, name, out),
+        Edit::RemoveClass { name } => write_one_name(b"rm-device-class", name, out),
     }
 }
 
@@ -185,15 +188,44 @@ fn write_edits<W: Write>(edits: &[Edit], out: &mut W) -> Result<(), WriteFault>
     Ok(())
 }
 
+/// Writes the edits of a batch and its end.
+fn write_rest<W: Write>(edits: &[Edit], out: &mut W) -> Result<(), WriteFault>
+    ensures writes { Writes result (W.contents out.old) (W.contents out.new)
+        (rest_text edits.now) }
+    ensures fault { IfErr result (λ fault. fault ≡ WriteFault.Write) }
+{
+    write_edits(edits, out)?;
+    put(out, b"commit")
+}
+
 /// Writes a batch.
 fn write_batch<W: Write>(edits: &[Edit], out: &mut W) -> Result<(), WriteFault>
     ensures writes { Writes result (W.contents out.old) (W.contents out.new)
-        (codes "begin ; " ++ (edits_text edits.now ++ codes "commit")) }
+        (codes "begin ; " ++ rest_text edits.now) }
     ensures fault { IfErr result (λ fault. fault ≡ WriteFault.Write) }
 {
     put(out, b"begin ; ")?;
-    write_edits(edits, out)?;
-    put(out, b"commit")
+    write_rest(edits, out)
+}
+
+/// Writes what stands before the edits of a guarded batch.
+fn write_guard<W: Write>(seen: u32, out: &mut W) -> Result<(), WriteFault>
+    ensures writes { Writes result (W.contents out.old) (W.contents out.new) (guard_text seen) }
+    ensures fault { IfErr result (λ fault. fault ≡ WriteFault.Write) }
+{
+    let mut buffer = Buffer::new();
+    let seen = buffer.format(seen).as_bytes();
+    put_all(out, &[b"begin at ".as_slice(), seen, b" ; ".as_slice()])
+}
+
+/// Writes a guarded batch.
+fn write_guarded<W: Write>(seen: u32, edits: &[Edit], out: &mut W) -> Result<(), WriteFault>
+    ensures writes { Writes result (W.contents out.old) (W.contents out.new)
+        (guard_text seen ++ rest_text edits.now) }
+    ensures fault { IfErr result (λ fault. fault ≡ WriteFault.Write) }
+{
+    write_guard(seen, out)?;
+    write_rest(edits, out)
 }
 
 /// Writes a call.
@@ -204,5 +236,6 @@ pub(crate) fn write_call<W: Write>(call: &Call, out: &mut W) -> Result<(), Write
     match call {
         Call::One(edit) => write_edit(edit, out),
         Call::Batch(edits) => write_batch(edits.as_slice(), out),
+        Call::Guarded { seen, edits } => write_guarded(*seen, edits.as_slice(), out),
     }
 }

@@ -1,5 +1,6 @@
 pub mod ChangeLaws
 pub mod ChangeSteps
+pub mod ClassLaws
 pub mod CrossLaws
 pub mod FitLaws
 pub mod HeavyLaws

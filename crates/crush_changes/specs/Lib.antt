@@ -1,4 +1,5 @@
 pub mod Change
+pub mod Classed
 pub mod Moving
 pub mod Named
 pub mod Putting

@@ -6,6 +6,7 @@
 //! | [`change`] | the walk that changes one item, by an act, and the sums of all buckets above it |
 //! | [`weights`], [`subtree`] | another weight for a device, and for all devices below a bucket |
 //! | [`attach`], [`rename`] | an item put last into a bucket, memory for it, another name |
+//! | [`classes`] | another class for a device, or none |
 //! | [`detach`] | an item taken out with all that is below it |
 //! | [`swap`] | two buckets that exchange their names and items |
 //! | [`item`] | one item, read |
@@ -15,6 +16,7 @@
 
 pub mod attach;
 pub mod change;
+pub mod classes;
 pub mod detach;
 pub mod fit;
 pub mod item;

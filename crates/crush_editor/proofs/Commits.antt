@@ -12,32 +12,16 @@ use Rattle.crush_edits.specs.Setting.{SettingData}
 use Rattle.crush_map.specs.MapData.{MapData, MapStands}
 use Rattle.crush_calls.specs.declared.call.Call.{Call}
 use Rattle.crush_calls.specs.declared.call.Reply.{Reply}
-use Rattle.crush_calls.specs.History.{EntryData, call_outcome, table_after, IsLegal, is_change, changes}
+use Rattle.crush_calls.specs.History.{EntryData, call_outcome, counted_after, table_after, IsLegalBehind, IsLegal, is_change, change_of, changes}
 use Rattle.crush_calls.specs.Turns.{Makes}
-use Rattle.crush_calls.proofs.Histories.{table_after-append, IsLegal-append}
+use Rattle.crush_calls.proofs.Histories.{table_after-push, IsLegal-push}
 use Rattle.crush_calls.proofs.EntryLines.{changes-push}
 use Rattle.crush_gauge.specs.declared.limits.TheConstants.{MOST_CHANGES}
 use Rattle.crush_gauge.specs.declared.view.View.{View}
 use Rattle.crush_gauge.specs.declared.view.View.TheVariants.{Book}
 use Rattle.crush_gauge.specs.Rule.{known, Follows, grown}
-use Rattle.crush_editor.specs.History.{entry, change_of, IsLegalFrom, table_from, weight_from, OpensGauge}
+use Rattle.crush_editor.specs.History.{entry, IsLegalFrom, table_from, weight_from, OpensGauge}
 use Rattle.crush_editor.specs.Book.{IsKept, MakesAll, StandsAfter, StandsAsBefore}
-
--- a history of one entry
-table_after-one : (s : SettingData) (u : List Row) (e : EntryData) → table_after s u (e ∷ []) ≡ (call_outcome s u e.call).table
-unfolding table_after
-table_after-one s u e = refl
-
-IsLegal-one : (s : SettingData) (u : List Row) (e : EntryData) → e.reply ≡ (call_outcome s u e.call).reply → IsLegal s u (e ∷ [])
-unfolding IsLegal
-IsLegal-one s u e is = (is, tt)
-
--- one entry more
-pub table_after-push : (s : SettingData) (t : List Row) (h : List EntryData) (e : EntryData) → table_after s t (h ++ e ∷ []) ≡ (call_outcome s (table_after s t h) e.call).table
-table_after-push s t h e = table_after-append s t h (e ∷ []) ∙ table_after-one s (table_after s t h) e
-
-pub IsLegal-push : (s : SettingData) (t : List Row) (h : List EntryData) (e : EntryData) → IsLegal s t h → e.reply ≡ (call_outcome s (table_after s t h) e.call).reply → IsLegal s t (h ++ e ∷ [])
-IsLegal-push s t h e legal told = IsLegal-append s t h (e ∷ []) legal (IsLegal-one s (table_after s t h) e told)
 
 change-le : (b : Bool) → (if b then 1 else 0) ≤ 1
 change-le true = omega arith
@@ -52,12 +36,16 @@ changes-le (e ∷ h) = let c = change-le (is_change e.reply) in let r = changes-
 pub counts : (o m : MapData) (h : List EntryData) (n : ℕ) (v : View MapData EntryData) (r : Reply) → IsKept o m h n v → n + change_of r ≤ MOST_ENTRIES + 1
 counts o m h n v r kept = let c = change-le (is_change r) in let l = changes-le h in let a = kept.room in let b = kept.counted in omega arith
 
-module _ (o m n : MapData) (h : List EntryData) (c : ℕ) (v : View MapData EntryData) (k : ℕ) (call : Call) (r : Reply) (kept : IsKept o m h c v) (made : Makes m n call r) where
+module _ (o m n : MapData) (h : List EntryData) (c : ℕ) (v : View MapData EntryData) (k : ℕ) (call : Call) (r : Reply) (kept : IsKept o m h c v) (made : Makes c m n call r) where
   abbrev e : EntryData
   e = entry k call r
 
-  abbrev there : (r ≡ (call_outcome o.setting (table_from o h) call).reply) × MapStands n o.setting (call_outcome o.setting (table_from o h) call).table
-  there = made o.setting (table_from o h) kept.stands
+  -- the call was made with the count that the history has
+  pub made_now : Makes (changes h) m n call r
+  made_now = subst (λ (i : ℕ). Makes i m n call r) kept.counted made
+
+  abbrev there : (r ≡ (call_outcome o.setting (table_from o h) (changes h) call).reply) × MapStands n o.setting (call_outcome o.setting (table_from o h) (changes h) call).table
+  there = made_now o.setting (table_from o h) kept.stands
 
   pub legal_push : IsLegalFrom o (h ++ e ∷ [])
   legal_push = IsLegal-push o.setting (rows_of o.forest) h e kept.legal there.0
@@ -68,7 +56,7 @@ module _ (o m n : MapData) (h : List EntryData) (c : ℕ) (v : View MapData Entr
   pub all_push : MakesAll o n (h ++ e ∷ [])
   all_push s t stands =
       let so_far = kept.all s t stands in
-      let now = made s (table_after s t h) so_far.1 in
+      let now = made_now s (table_after s t h) so_far.1 in
       (IsLegal-push s t h e so_far.0 now.0, subst (MapStands n s) (sym (table_after-push s t h e)) now.1)
 
   pub changes_push : changes (h ++ e ∷ []) ≡ c + change_of r
@@ -101,12 +89,12 @@ unfolding changes
 no_changes = refl
 
 no_entry : (o : MapData) → (IsLegalFrom o []) × (table_from o [] ≡ rows_of o.forest)
-unfolding IsLegal table_after
+unfolding IsLegalBehind counted_after
 no_entry o = (tt, refl)
 
 -- an empty history is legal, and the table after it is the table
 nothing_asked : (s : SettingData) (t : List Row) → (IsLegal s t []) × (t ≡ table_after s t [])
-unfolding IsLegal table_after
+unfolding IsLegalBehind counted_after
 nothing_asked s t = (tt, refl)
 
 all_new : (o m : MapData) → m.setting ≡ o.setting → ((t : List Row) → Stands o.forest t → Stands m.forest t) → MakesAll o m []

@@ -3,7 +3,7 @@ use denote.RattleType.{RattleType}
 use denote.Hole.{as_row}
 use denote.Param.Send.{IsSend, view_send, sendable}
 use denote.Param.SendFields.{declared_send, as_row_send}
-use denote.Struct.Field.{u64-field}
+use denote.Struct.Field.{u32-field, u64-field}
 use Rattle.std.proofs.Crossing.{crosses, Vec-send, Box-send}
 use Rattle.std.specs.contracts.alloc.Global as Global
 use Rattle.std.specs.contracts.impls.GlobalAllocator.TheImpl as GlobalImpl
@@ -79,6 +79,9 @@ counts_sent = search (sendable, crosses) depth 10
 number_sent : IsSend (as_row u64-field)
 number_sent = search sendable
 
+changes_sent : IsSend (as_row u32-field)
+changes_sent = search sendable
+
 hierarchy_sent : IsSend (Hierarchy.the_row Global.the_row GlobalImpl.ghosts)
 hierarchy_sent = view_send _ _ _ _ _ (declared_send (HierarchyInside.the_type Global.the_row GlobalImpl.ghosts)
     (machine_sent, (hashing_sent, (as_row_send (Forest.the_field Global.the_row GlobalImpl.ghosts) forest_sent, (index_sent, (counts_sent, (number_sent, tt)))))))
@@ -97,7 +100,7 @@ seat_sent = search (table_seat_send, sendable, crosses) depth 20
 
 pub book_send : IsSend (Book.the_row Global.the_row GlobalImpl.ghosts)
 book_send = view_send _ _ _ _ _ (declared_send (Inside.the_type Global.the_row GlobalImpl.ghosts)
-    (as_row_send (CrushMap.the_field Global.the_row GlobalImpl.ghosts) map_sent, (as_row_send (CrushMap.the_field Global.the_row GlobalImpl.ghosts) map_sent, (history_sent, (number_sent, (as_row_send (BookSeat.the_field (CrushMap.the_row Global.the_row GlobalImpl.ghosts) Entry.the_row) seat_sent, tt))))))
+    (as_row_send (CrushMap.the_field Global.the_row GlobalImpl.ghosts) map_sent, (as_row_send (CrushMap.the_field Global.the_row GlobalImpl.ghosts) map_sent, (history_sent, (changes_sent, (as_row_send (BookSeat.the_field (CrushMap.the_row Global.the_row GlobalImpl.ghosts) Entry.the_row) seat_sent, tt))))))
 
 module _ (N : RattleType) (g : Desk.Ghosts N.Denot) (g' : Ledger.Ghosts N.Denot) where
   count_sent : IsSend (as_row (Count.the_field N g'))

@@ -3,12 +3,12 @@
 ghost use Rattle.std.specs.Prelude.{◌≡◌, ◌<◌, ◌≤◌, ◌++◌, ◌∷◌, [], length, IfOk, OnErr};
 ghost use mathlib.Core.Logic.{◌↔◌};
 ghost use Rattle.crush_units.specs.declared.limits.TheConstants.{MOST_ENTRIES, MOST_OPERATORS};
-ghost use Rattle.crush_calls.specs.History.{EntryData, changes};
+ghost use Rattle.crush_calls.specs.History.{EntryData, change_of, changes};
 ghost use Rattle.crush_calls.specs.Turns.{Makes};
 ghost use Rattle.crush_gauge.specs.declared.view.View.TheVariants.{Book as BookSees};
 ghost use Rattle.crush_gauge.specs.Rule.{known, Follows, grown};
 ghost use Rattle.crush_gauge.specs.Held.{held};
-ghost use Rattle.crush_editor.specs.History.{entry, change_of, IsLegalFrom, weight_from};
+ghost use Rattle.crush_editor.specs.History.{entry, IsLegalFrom, weight_from};
 ghost use Rattle.crush_editor.specs.Book.{IsSameMap, MakesAll, StandsAfter, StandsAsBefore};
 ghost use Rattle.crush_editor.specs.Seat.{seen_of, reads};
 ghost use mathlib.Core.List.{IsPrefix};
@@ -41,7 +41,7 @@ pub struct Book<A: Allocator> {
     opening: CrushMap<A>,
     map: CrushMap<A>,
     history: Vec<Entry>,
-    changes: u64,
+    changes: u32,
     seat: MapBookSeat,
 }
 
@@ -86,7 +86,8 @@ impl<A: Allocator + Clone> Book<A> {
 
     /// Makes a call of operator k, counted from 0 and below 16, records it with its reply behind the
     /// other entries, and publishes the new number of changes and the new weight: once, also where
-    /// the call is refused. The gauge is the book's.
+    /// the call is refused. The gauge is the book's. A guarded batch is judged by the number of
+    /// changes in the history, which the book keeps.
     ///
     /// `Full` is judged first, and exactly where there are 65,536 entries. After either fault the book
     /// is as before, its map also in its room: all memory is taken before anything changes.
@@ -99,7 +100,8 @@ impl<A: Allocator + Clone> Book<A> {
     ) -> Result<Reply, SubmitFault>
         requires operator { k < MOST_OPERATORS }
         requires gauge { self.old.table ≡ gauge.now.table.shared.table_id }
-        ensures made { IfOk result (Makes self.old.map self.new.map call.now) }
+        ensures made { IfOk result
+            (Makes (changes self.old.history) self.old.map self.new.map call.now) }
         ensures history { IfOk result (λ r.
             self.new.history ≡ self.old.history ++ entry k call.now r ∷ []) }
         ensures full { (result ≡ Err SubmitFault.Full) ↔ (length self.old.history ≡ MOST_ENTRIES) }
@@ -117,7 +119,7 @@ impl<A: Allocator + Clone> Book<A> {
         if self.history.reserve(1).is_err() {
             return Err(SubmitFault::OutOfMemory);
         }
-        let Ok(reply) = make_call(&mut self.map, call) else {
+        let Ok(reply) = make_call(&mut self.map, self.changes, call) else {
             return Err(SubmitFault::OutOfMemory);
         };
         let changes = self.changes + change_of(reply);
@@ -127,7 +129,7 @@ impl<A: Allocator + Clone> Book<A> {
             call: copy,
             reply,
         };
-        publish(gauge, &mut self.seat, &entry, changes, weight);
+        publish(gauge, &mut self.seat, &entry, changes as u64, weight);
         self.changes = changes;
         self.history.push_reserved(entry);
         Ok(reply)
@@ -168,7 +170,8 @@ impl<A: Allocator + Clone> Book<A> {
         requires gauge { self.old.table ≡ gauge.now.table.shared.table_id }
         requires reader { (reader.old.table ≡ self.old.table)
             × (reader.old.view ≡ reads self.old.opening (seen_of reader.old.view)) }
-        ensures made { IfOk result (Makes self.old.map self.new.map call.now) }
+        ensures made { IfOk result
+            (Makes (changes self.old.history) self.old.map self.new.map call.now) }
         ensures history { IfOk result (λ r.
             self.new.history ≡ self.old.history ++ entry k call.now r ∷ []) }
         ensures full { (result ≡ Err SubmitFault.Full) ↔ (length self.old.history ≡ MOST_ENTRIES) }
@@ -274,7 +277,7 @@ fn publish(gauge: &MapGauge, seat: &mut MapBookSeat, joining: &Entry, count: u64
 }
 
 /// How many changes a reply tells of: one or none.
-fn change_of(reply: Reply) -> u64
+fn change_of(reply: Reply) -> u32
     ensures { result ≡ change_of reply }
 {
     if is_change(reply) { 1 } else { 0 }

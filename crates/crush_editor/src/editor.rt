@@ -7,11 +7,12 @@ ghost use Rattle.crush_map.specs.MapData.{MapData};
 ghost use Rattle.crush_gauge.specs.declared.view.View.TheVariants.{Book as BookSees};
 ghost use Rattle.crush_gauge.specs.Rule.{known};
 ghost use Rattle.crush_gauge.specs.Held.{held};
+ghost use Rattle.crush_gauge.specs.declared.limits.TheConstants.{MOST_CHANGES};
 ghost use Rattle.std.specs.List.{All};
 ghost use Rattle.crush_calls.specs.History.{changes};
 ghost use Rattle.crush_editor.specs.History.{weight_from, OpensGauge};
 ghost use Rattle.crush_editor.specs.Book.{MakesAll, StandsAsBefore};
-ghost use Rattle.crush_editor.specs.Seat.{Answered, Sees, InOrder, IsHistoryOfSeats, seat_data, reads};
+ghost use Rattle.crush_editor.specs.Seat.{Answered, Guards, Sees, InOrder, IsHistoryOfSeats, seat_data, reads};
 
 use crate::book::{Book, Closed, SubmitFault};
 use crate::law::{MapBookSeat, MapGauge, MapNote, Reader};
@@ -193,6 +194,10 @@ impl<N: Desk> Editor<N> {
     /// fault the slips and the history are as before, and the seat may have seen more of it; after
     /// `Full` it has seen all 65,536 entries. The seat's own memory is taken before the lock.
     ///
+    /// A guarded batch that names as many changes as the seat has seen, as its last reading told
+    /// them, is made of the table that the seat has seen or is stale; a stale one is told the number
+    /// of changes that the seat has then seen.
+    ///
     /// A call that waits for the lock may wait for ever; that it returns is not promised.
     pub fn submit(
         &self,
@@ -202,6 +207,7 @@ impl<N: Desk> Editor<N> {
         call: &Call,
     ) -> Result<Reply, SubmitFault>
         ensures ok { IfOk result (λ r. Answered N.opening seat.old call.now r seat.new) }
+        ensures guarded { IfOk result (λ r. Guards N.opening seat.old call.now r seat.new) }
         ensures err { OnErr result (Sees N.opening seat.old seat.new) }
         ensures full { result ≡ Err SubmitFault.Full → length seat.new.seen ≡ MOST_ENTRIES }
     {
@@ -215,6 +221,7 @@ impl<N: Desk> Editor<N> {
         ensures seat { Sees N.opening seat.old seat.new }
         ensures changes { result.changes ≡ changes seat.new.seen }
         ensures weight { result.weight ≡ weight_from N.opening seat.new.seen }
+        ensures few { result.changes ≤ MOST_CHANGES }
     {
         self.gauge.read(&mut seat.reader)
     }

@@ -2,7 +2,7 @@
 
 ghost use Rattle.std.specs.Prelude.{◌≡◌, length, IfOk, OnErr};
 ghost use Rattle.crush_units.specs.declared.limits.TheConstants.{MOST_ENTRIES};
-ghost use Rattle.crush_editor.specs.Seat.{Answered, Sees};
+ghost use Rattle.crush_editor.specs.Seat.{Answered, Guards, Sees};
 
 use crate::book::{Book, SubmitFault};
 use crate::law::{MapGauge, Reader};
@@ -93,6 +93,7 @@ impl<N: Desk> Locked<N> {
     ) -> Result<Reply, SubmitFault>
         requires { gauge.now.table.shared.table_id ≡ N.gauge }
         ensures ok { IfOk result (λ r. Answered N.opening seat.old call.now r seat.new) }
+        ensures guarded { IfOk result (λ r. Guards N.opening seat.old call.now r seat.new) }
         ensures err { OnErr result (Sees N.opening seat.old seat.new) }
         ensures full { result ≡ Err SubmitFault.Full → length seat.new.seen ≡ MOST_ENTRIES }
     {

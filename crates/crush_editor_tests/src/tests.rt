@@ -21,6 +21,7 @@ use std::sync::Wait;
 
 mod closing;
 mod full;
+mod guarded;
 
 const PLAIN_EXAMPLE_MAP: &[u8] = b"\
     # begin crush map\n\

@@ -1,6 +1,6 @@
 -- Where an edit makes another table.
 use Rattle.std.proofs.Common.{◌≡◌, ℕ, suc, ◌+◌, ◌<◌, ◌≤◌, Bool, true, false, List, [], ◌∷◌, ◌++◌, length, refl, ap, sym, ◌∙◌, arith, eq-eqb, ⊎_elim, nat_eq}
-use Rattle.std.specs.Prelude.{◌==◌, ◌&&◌, ◌||◌, not, if◌then◌else◌, Option, Some, None, All, is_some, unwrap_or, bytes_eq}
+use Rattle.std.specs.Prelude.{◌==◌, ◌&&◌, ◌||◌, not, if◌then◌else◌, Option, Some, None, All, is_some, option_and_then, unwrap_or, bytes_eq}
 use Rattle.std.specs.List.{count_by, list_all}
 use Rattle.std.specs.Option.{option_map, option_eq}
 use Rattle.std.proofs.lemmas.Bool.{and_parts, eqb-true}
@@ -17,9 +17,9 @@ use Rattle.crush_units.specs.Id.{same_id}
 use Rattle.crush_units.specs.Name.{IsName}
 use Rattle.crush_units.proofs.Ids.{same_id_refl, same_id_tells, same_id_comm, same_id_equal}
 use Rattle.crush_table.specs.Items.{ShadowData}
-use Rattle.crush_table.specs.Table.{Row, row_of, row_named, is_there, is_named, name_of, own_weight_of}
+use Rattle.crush_table.specs.Table.{Row, row_of, row_named, is_there, is_named, name_of, own_weight_of, class_of}
 use Rattle.crush_table.specs.Lawful.{IsRow, Lawful}
-use Rattle.crush_table.specs.Columns.{set_weights, set_weight, set_name, exchange_id, exchange_names, swap_buckets, without_row}
+use Rattle.crush_table.specs.Columns.{set_weights, set_weight, set_name, set_class, exchange_id, exchange_names, swap_buckets, without_row}
 use Rattle.crush_table.specs.Count.{one_if}
 use Rattle.crush_table.proofs.Found.{times, times-cons, is_there-times}
 use Rattle.crush_table.proofs.Appended.{unnamed}
@@ -93,6 +93,39 @@ same_weight i w v (r ∷ t) h e = ⊎_elim
     let rest = same_weight i w v t (omega (arith, h, times-cons i r t)) own in
     (λ k. same_row r (if p.0 k then record r { weight = w } else r) && rest k) ∙ (λ k. row_refl r k && (v == w)))
     (same_id_tells r.id i)
+
+-- ANOTHER CLASS
+and_true5 : (b : Bool) → (true && true && true && true && true && b && true && true) ≡ b
+and_true5 true = refl
+and_true5 false = refl
+
+row_class : (r : Row) (c : Option (List ℕ)) → same_row r (record r { class = c }) ≡ option_eq bytes_eq r.class c
+row_class r c = (λ i. same_id_refl r.id i && eqb_refl r.kind i && bytes_refl r.name i && option_refl nat_eq eqb_refl r.parent i && eqb_refl r.weight i && option_eq bytes_eq r.class c && option_refl same_alg alg_refl r.alg i && pointwise_refl same_class class_refl r.class_ids i)
+    ∙ and_true5 (option_eq bytes_eq r.class c)
+
+absent_class : (i : ItemId) (c : Option (List ℕ)) (t : List Row) → times i t ≡ 0 → same_table t (set_class i c t) ≡ true
+absent_class i c [] h = refl
+absent_class i c (r ∷ t) h = ⊎_elim
+    (λ p. absurd (let one : one_if (same_id r.id i) ≡ 1 = ap one_if p.0 in omega (arith, one, h, times-cons i r t)))
+    (λ p. let rest = absent_class i c t (omega (arith, h, times-cons i r t)) in
+    (λ k. same_row r (if p.0 k then record r { class = c } else r) && rest k) ∙ (λ k. row_refl r k && true))
+    (same_id_tells r.id i)
+
+same_classes : (i : ItemId) (c : Option (List ℕ)) (t : List Row) → times i t ≤ 1 → is_there t i ≡ true → same_table t (set_class i c t) ≡ option_eq bytes_eq (class_of t i) c
+same_classes i c [] h e = absurd cc
+same_classes i c (r ∷ t) h e = ⊎_elim
+    (λ p. let one : one_if (same_id r.id i) ≡ 1 = ap one_if p.0 in
+    let rest = absent_class i c t (omega (arith, one, h, times-cons i r t)) in
+    (λ k. same_row r (if p.0 k then record r { class = c } else r) && rest k) ∙ (λ k. row_class r c k && true) ∙ and_true (option_eq bytes_eq r.class c)
+    ∙ (λ k. option_eq bytes_eq (option_and_then (λ (x : Row). x.class) (if sym p.0 k then Some r else row_of t i)) c))
+    (λ p. let there : is_there t i ≡ true = (λ k. is_some (if sym p.0 k then Some r else row_of t i)) ∙ e in
+    let rest = same_classes i c t (omega (arith, h, times-cons i r t)) there in
+    (λ k. same_row r (if p.0 k then record r { class = c } else r) && rest k) ∙ (λ k. row_refl r k && option_eq bytes_eq (class_of t i) c)
+    ∙ (λ k. option_eq bytes_eq (option_and_then (λ (x : Row). x.class) (if sym p.0 k then Some r else row_of t i)) c))
+    (same_id_tells r.id i)
+
+pub class_changes : (t : List Row) (i : ItemId) (c : Option (List ℕ)) → Lawful t → is_there t i ≡ true → same_table t (set_class i c t) ≡ option_eq bytes_eq (class_of t i) c
+class_changes t i c l there = same_classes i c t (l.ids i) there
 
 -- NEW WEIGHTS of the rows that a test names
 row_or : (r : Row) (w : ℕ) (b : Bool) → same_row r (if b then record r { weight = w } else r) ≡ (not b || (r.weight == w))

@@ -14,8 +14,9 @@ use Rattle.crush_units.proofs.Ids.{same_id_equal}
 use Rattle.crush_table.specs.ItemRows.{device_row}
 use Rattle.crush_table.specs.Table.{Row, is_device_id, row_of, id_named, is_named, is_there, is_placed, parent_of, class_of, own_weight_of, name_of}
 use Rattle.crush_table.specs.Lawful.{IsRow, IsRowOf, Lawful, is_too_heavy, has_too_many}
-use Rattle.crush_table.specs.Columns.{set_weight, set_subtree, set_name, swap_buckets, is_part, without_row}
+use Rattle.crush_table.specs.Columns.{set_weight, set_subtree, set_name, set_class, swap_buckets, is_part, without_row}
 use Rattle.crush_table.specs.Table.{are_nested}
+use Rattle.crush_table.proofs.Classes.{Lawful-set_class}
 use Rattle.crush_table.proofs.Columns.{Lawful-set_weight, Lawful-set_subtree}
 use Rattle.crush_table.proofs.Moved.{row_id}
 use Rattle.crush_table.proofs.Renamed.{Lawful-set_name, All-row}
@@ -25,7 +26,7 @@ use Rattle.crush_edits.specs.declared.refusal.Refusal.{Refusal}
 use Rattle.crush_edits.specs.declared.refusal.Refusal.TheVariants.{BadName, BadLocation, NoSuchType, NoPlace, WeightTooLarge, NameTaken, NotPlaced, NotADevice, NotABucket, WrongType, Loop, Nested, NotEmpty, InUse, NoRoom, SumTooLarge}
 use Rattle.crush_edits.specs.declared.refusal.Dones.{Dones}
 use Rattle.crush_edits.specs.declared.edit.Edit.{Edit}
-use Rattle.crush_edits.specs.declared.edit.Edit.TheVariants.{Insert, CreateOrMove, Update, Move, Swap, Reweight, ReweightSubtree, Remove, AddBucket, Rename}
+use Rattle.crush_edits.specs.declared.edit.Edit.TheVariants.{Insert, CreateOrMove, Update, Move, Swap, Reweight, ReweightSubtree, Remove, AddBucket, Rename, SetClass, RemoveClass}
 use Rattle.crush_edits.specs.declared.location.Pair.{Pair}
 use Rattle.crush_edits.specs.Stops.{StopData, stops, end_id, number_of, bucket_named, receiver}
 use Rattle.crush_edits.specs.Put.{put, is_id, held}
@@ -42,7 +43,7 @@ use Rattle.crush_edits.specs.Making.{holds_items, is_taken_by_rule, after_add_bu
 use Rattle.crush_edits.specs.Pushed.{IsLocation}
 use Rattle.crush_edits.specs.LawEdit.{IsEdit, EditKeeps, BatchKeeps, IsPlacing, Keeps}
 use Rattle.crush_edits.proofs.Order.{edit_passed}
-use Rattle.crush_edits.proofs.Others.{weights_fit, name_fits, swap_fits, remove_lawful, remove_fits, added_lawful, added_fits}
+use Rattle.crush_edits.proofs.Others.{weights_fit, name_fits, class_fits, swap_fits, remove_lawful, remove_fits, added_lawful, added_fits}
 use Rattle.crush_edits.proofs.PutLaws.{lawful_put, lawful_new, put_fits}
 use Rattle.crush_edits.proofs.Routes.{named_there}
 use Rattle.crush_edits.proofs.Stops.{location_route, no_stop_named}
@@ -220,6 +221,12 @@ module _ (s : SettingData) (t : List Row) (k : Keeps s t) where
       let one = some_row t i there in
       record { lawful = Lawful-set_name i to t one.0 k.lawful one.1 form free; fits = name_fits s t i to k.fits }
 
+  -- CLASSES
+  classed : (c : Option (List ℕ)) → IfSome c IsName → (o : Option ItemId) → is_a_bucket o ≡ false → Keeps s (on_some t o (λ i. kept (set_class i c t))).table
+  classed c form None device = k
+  classed c form (Some (Device d)) device = record { lawful = Lawful-set_class d c t k.lawful form; fits = class_fits s t (Device d) c k.fits }
+  classed c form (Some (Bucket b)) device = absurd cc
+
   -- ROWS
   remove : (o : Option ItemId) → meets (holds_items t) (option_and_then number_of o) ≡ false → meets (is_taken_by_rule s) (option_and_then number_of o) ≡ false → Keeps s (on_some t o (λ i. kept (without_row i t))).table
   remove None empty unused = k
@@ -261,6 +268,12 @@ edit_keeps s t (AddBucket n kind) k form told =
 edit_keeps s t (Rename from to) k form told =
     let h = edit_passed s t (Rename from to) told in
     rename s t k to form (id_named t from) (named_there t from) (h NameTaken)
+edit_keeps s t (SetClass n c) k form told =
+    let h = edit_passed s t (SetClass n c) told in
+    classed s t k (Some c) form (id_named t n) (h NotADevice)
+edit_keeps s t (RemoveClass n) k form told =
+    let h = edit_passed s t (RemoveClass n) told in
+    classed s t k None tt (id_named t n) (h NotADevice)
 
 -- and of batches
 batch_from_keeps : (s : SettingData) (es : List Edit) (d : Dones) (t u : List Row) (e : Dones) → Keeps s t → All IsEdit es → batch_from s es d t ≡ batch_done e u → Keeps s u

@@ -6,12 +6,13 @@ use Rattle.crush_units.specs.declared.id.ItemId.{ItemId}
 use Rattle.crush_units.specs.declared.id.ItemId.TheVariants.{Device, Bucket}
 use Rattle.crush_units.specs.Id.{same_id}
 use Rattle.crush_table.specs.Table.{Row, is_device_id, is_bucket, row_of, id_named, is_there, bucket_count}
-use Rattle.crush_table.specs.Columns.{set_weights, set_weight, set_subtree, set_name, exchange_id, exchange_names, swap_buckets}
+use Rattle.crush_table.specs.Columns.{set_weights, set_weight, set_subtree, set_name, set_class, exchange_id, exchange_names, swap_buckets}
 use Rattle.crush_table.proofs.Changes.{with_name-id}
+use Rattle.crush_table.proofs.Classes.{with_class, with_class-id}
 use Rattle.crush_table.proofs.Columns.{count-map}
 use Rattle.crush_table.proofs.Moved.{row_id}
 use Rattle.crush_table.proofs.Weighs.{true_or_false}
-use Rattle.crush_edits.specs.declared.edit.Edit.TheVariants.{Insert, CreateOrMove, Update, Move, Swap, Reweight, ReweightSubtree, Remove, AddBucket, Rename}
+use Rattle.crush_edits.specs.declared.edit.Edit.TheVariants.{Insert, CreateOrMove, Update, Move, Swap, Reweight, ReweightSubtree, Remove, AddBucket, Rename, SetClass, RemoveClass}
 use Rattle.crush_edits.specs.declared.location.Pair.{Pair}
 use Rattle.crush_edits.specs.declared.refusal.Refusal.TheVariants.{BadName, BadLocation, NoSuchType, NoPlace, NameTaken, NotABucket}
 use Rattle.crush_edits.specs.Stops.{stops, end_id, bucket_named}
@@ -34,6 +35,9 @@ weights_count which w t = count-map (λ (r : Row). if which r then record r { we
 
 name_count : (i : ItemId) (n : List ℕ) (t : List Row) → bucket_count (set_name i n t) ≡ bucket_count t
 name_count i n t = count-map (λ (r : Row). if same_id r.id i then record r { name = n } else r) is_bucket (λ r. ap (λ j. not (is_device_id j)) (with_name-id i n r)) t
+
+class_count : (i : ItemId) (c : Option (List ℕ)) (t : List Row) → bucket_count (set_class i c t) ≡ bucket_count t
+class_count i c t = count-map (with_class i c) is_bucket (λ r. ap (λ j. not (is_device_id j)) (with_class-id i c r)) t
 
 swap_count : (a b : ℕ) (t : List Row) → bucket_count (swap_buckets a b t) ≡ bucket_count t
 swap_count a b t = count-map (λ (r : Row). record r { parent = option_map (exchange_id a b) r.parent }) is_bucket (λ r. refl) (exchange_names a b t) ∙ name_count (Bucket a) _ (set_name (Bucket b) _ t) ∙ name_count (Bucket b) _ t
@@ -100,3 +104,7 @@ made_are_buckets s t (Remove n) k form told other = absurd cc
 made_are_buckets s t (AddBucket n kind) k form told other = (added_counts s t n kind).1
 made_are_buckets s t (Rename from to) k form told other =
     some_makes t (id_named t from) (λ i. kept (set_name i to t)) (λ i. no_more (bucket_count (set_name i to t)) (bucket_count t) (name_count i to t))
+made_are_buckets s t (SetClass n c) k form told other =
+    some_makes t (id_named t n) (λ i. kept (set_class i (Some c) t)) (λ i. no_more (bucket_count (set_class i (Some c) t)) (bucket_count t) (class_count i (Some c) t))
+made_are_buckets s t (RemoveClass n) k form told other =
+    some_makes t (id_named t n) (λ i. kept (set_class i None t)) (λ i. no_more (bucket_count (set_class i None t)) (bucket_count t) (class_count i None t))

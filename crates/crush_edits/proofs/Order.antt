@@ -6,9 +6,9 @@ use Rattle.std.proofs.lemmas.Bool.{and_parts, ltb-true}
 use Rattle.std.proofs.lemmas.List.Elements.{All-nil, All-cons, All-weaker, All-head, All-tail}
 use Rattle.crush_table.specs.Table.{Row}
 use Rattle.crush_edits.specs.declared.refusal.Refusal.{Refusal}
-use Rattle.crush_edits.specs.declared.refusal.Refusal.TheVariants.{BadName, BadLocation, NoSuchType, NoPlace, WeightTooLarge, NoSuchItem, NameTaken, AlreadyPlaced, NotPlaced, NotADevice, NotABucket, WrongType, Loop, Nested, NotEmpty, InUse, NotDirectory, AlreadyRenamed, NoRoom, SumTooLarge}
+use Rattle.crush_edits.specs.declared.refusal.Refusal.TheVariants.{BadName, BadLocation, NoSuchType, NoPlace, WeightTooLarge, NoSuchItem, NameTaken, AlreadyPlaced, NotPlaced, NotADevice, NotABucket, WrongType, Loop, Nested, NotEmpty, InUse, NotDirectory, AlreadyRenamed, NoRoom, SumTooLarge, ClassBound}
 use Rattle.crush_edits.specs.declared.edit.Edit.{Edit}
-use Rattle.crush_edits.specs.declared.edit.Edit.TheVariants.{Insert, CreateOrMove, Update, Move, Swap, Reweight, ReweightSubtree, Remove, AddBucket, Rename}
+use Rattle.crush_edits.specs.declared.edit.Edit.TheVariants.{Insert, CreateOrMove, Update, Move, Swap, Reweight, ReweightSubtree, Remove, AddBucket, Rename, SetClass, RemoveClass}
 use Rattle.crush_edits.specs.Setting.{SettingData}
 use Rattle.crush_edits.specs.Refusal.{refusal_number}
 use Rattle.crush_edits.specs.Answer.{After, first_refusal}
@@ -36,6 +36,7 @@ rows_are NotDirectory = refl
 rows_are AlreadyRenamed = refl
 rows_are NoRoom = refl
 rows_are SumTooLarge = refl
+rows_are ClassBound = refl
 
 -- RISING NUMBERS, as a test that computes
 abbrev rises_from : ℕ → List ℕ → Bool
@@ -72,6 +73,8 @@ tests_rise s t (ReweightSubtree n w) a = refl
 tests_rise s t (Remove n) a = refl
 tests_rise s t (AddBucket n kind) a = refl
 tests_rise s t (Rename from to) a = refl
+tests_rise s t (SetClass n c) a = refl
+tests_rise s t (RemoveClass n) a = refl
 
 pub rising : TestsRise
 rising s t e a = increasing (numbers (tests s t e a)) (tests_rise s t e a)

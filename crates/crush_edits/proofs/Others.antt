@@ -19,6 +19,7 @@ use Rattle.crush_table.specs.Columns.{exchange_id, exchange_names, without_row}
 use Rattle.crush_table.proofs.Appended.{Lawful-push_bucket}
 use Rattle.crush_table.proofs.Attached.{is_there-append}
 use Rattle.crush_table.proofs.Changes.{with_name-id}
+use Rattle.crush_table.proofs.Classes.{with_class, with_class-id, class-keeps}
 use Rattle.crush_table.proofs.Kept.{is_there-map}
 use Rattle.crush_table.specs.Count.{one_if}
 use Rattle.crush_table.proofs.Removed.{row_of-only, Lawful-without}
@@ -34,7 +35,7 @@ use Rattle.crush_edits.specs.Edit.{refusal}
 use Rattle.crush_edits.specs.Setting.{KindData, SettingData, kind_number, taken_buckets}
 use Rattle.crush_edits.specs.Fits.{HasKind, Fits, IsThere}
 use Rattle.crush_edits.specs.Making.{added_stop, holds_items, is_taken_by_rule, after_add_bucket}
-use Rattle.crush_edits.specs.LawOthers.{WeightChanges, WeightsFit, NameFits, SwapFits, RemoveKeepsLawful, RemoveFits, AddedIsRow, AddedChanges, AddedKeepsLawful, AddedCounts, AddedFits, FullHasNoRoom}
+use Rattle.crush_edits.specs.LawOthers.{WeightChanges, WeightsFit, NameFits, ClassFits, SwapFits, RemoveKeepsLawful, RemoveFits, AddedIsRow, AddedChanges, AddedKeepsLawful, AddedCounts, AddedFits, FullHasNoRoom}
 use Rattle.crush_edits.proofs.Changes.{same_weight, other_with}
 use Rattle.crush_table.proofs.Emptied.{table_without-empty, table_without-device}
 use Rattle.crush_table.proofs.FreeIds.{free_ids-length, free_ids-lawful}
@@ -75,6 +76,9 @@ name_kind false n r = refl
 
 pub name_fits : NameFits
 name_fits s t i n fits = Fits-map s (λ (r : Row). if same_id r.id i then record r { name = n } else r) (λ r. with_name-id i n r) (λ r. name_kind (same_id r.id i) n r) t fits
+
+pub class_fits : ClassFits
+class_fits s t i c fits = Fits-map s (with_class i c) (with_class-id i c) (class-keeps (λ (r : Row). r.kind) (λ k r. refl) i c) t fits
 
 pub swap_fits : SwapFits
 swap_fits s t a b fits =

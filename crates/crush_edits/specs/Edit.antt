@@ -3,12 +3,13 @@ use Rattle.std.specs.Prelude.{List, Option, Bool, true, false}
 use Rattle.crush_table.specs.Table.{Row}
 use Rattle.crush_edits.specs.declared.refusal.Refusal.{Refusal}
 use Rattle.crush_edits.specs.declared.edit.Edit.{Edit}
-use Rattle.crush_edits.specs.declared.edit.Edit.TheVariants.{Insert, CreateOrMove, Update, Move, Swap, Reweight, ReweightSubtree, Remove, AddBucket, Rename}
+use Rattle.crush_edits.specs.declared.edit.Edit.TheVariants.{Insert, CreateOrMove, Update, Move, Swap, Reweight, ReweightSubtree, Remove, AddBucket, Rename, SetClass, RemoveClass}
 use Rattle.crush_edits.specs.Setting.{SettingData}
 use Rattle.crush_edits.specs.Answer.{After, first_refusal, Answer, answer}
 use Rattle.crush_edits.specs.Placing.{after_insert, insert_tests, after_create_or_move, after_update, device_put_tests, after_move, move_tests}
 use Rattle.crush_edits.specs.Weighing.{after_reweight, reweight_tests, after_subtree, subtree_tests}
 use Rattle.crush_edits.specs.Naming.{after_swap, swap_tests, after_rename, rename_tests}
+use Rattle.crush_edits.specs.Classing.{after_set_class, set_class_tests, after_remove_class, remove_class_tests}
 use Rattle.crush_edits.specs.Making.{after_remove, remove_tests, after_add_bucket, add_bucket_tests}
 
 -- THE TABLE AFTER, where nothing refuses the edit
@@ -23,6 +24,8 @@ after s t (ReweightSubtree n w) = after_subtree t n w
 after s t (Remove n) = after_remove t n
 after s t (AddBucket n kind) = after_add_bucket s t n kind
 after s t (Rename from to) = after_rename t from to
+after s t (SetClass n c) = after_set_class t n c
+after s t (RemoveClass n) = after_remove_class t n
 
 -- THE REFUSALS, each with its test, in the order in which they are told; the last speak of the table after
 abbrev pub tests : SettingData → List Row → Edit → After → List (Refusal × Bool)
@@ -36,6 +39,8 @@ tests s t (ReweightSubtree n w) a = subtree_tests t n w a
 tests s t (Remove n) a = remove_tests s t n
 tests s t (AddBucket n kind) a = add_bucket_tests s t n kind a
 tests s t (Rename from to) a = rename_tests t from to
+tests s t (SetClass n c) a = set_class_tests t n c
+tests s t (RemoveClass n) a = remove_class_tests t n
 
 -- the refusal of an edit, if there is one
 abbrev pub refusal : SettingData → List Row → Edit → Option Refusal
@@ -45,7 +50,7 @@ refusal s t e = first_refusal (tests s t e (after s t e))
 abbrev pub edit : SettingData → List Row → Edit → Answer
 edit s t e = answer (refusal s t e) t (after s t e)
 
--- whether the edit is made with memory that is taken for it: weights are set in their places, buckets exchange what they have, and an item that goes needs none
+-- whether the edit is made with memory that is taken for it: weights are set in their places, buckets exchange what they have, and an item or a class that goes needs none
 abbrev pub takes_memory : Edit → Bool
 takes_memory (Reweight n w) = false
 takes_memory (ReweightSubtree n w) = false
@@ -57,6 +62,8 @@ takes_memory (Update d n w l) = true
 takes_memory (Move n l) = true
 takes_memory (AddBucket n kind) = true
 takes_memory (Rename from to) = true
+takes_memory (SetClass n c) = true
+takes_memory (RemoveClass n) = false
 
 -- whether the edit sets weights alone, of devices that stay where they are
 abbrev pub sets_weights : Edit → Bool
@@ -70,3 +77,5 @@ sets_weights (Update d n w l) = false
 sets_weights (Move n l) = false
 sets_weights (AddBucket n kind) = false
 sets_weights (Rename from to) = false
+sets_weights (SetClass n c) = false
+sets_weights (RemoveClass n) = false

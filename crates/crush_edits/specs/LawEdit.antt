@@ -5,7 +5,7 @@ use Rattle.crush_table.specs.Table.{Row, bucket_count}
 use Rattle.crush_table.specs.Lawful.{Lawful}
 use Rattle.crush_edits.specs.declared.location.Pair.{Pair}
 use Rattle.crush_edits.specs.declared.edit.Edit.{Edit}
-use Rattle.crush_edits.specs.declared.edit.Edit.TheVariants.{Insert, CreateOrMove, Update, Move, Swap, Reweight, ReweightSubtree, Remove, AddBucket, Rename}
+use Rattle.crush_edits.specs.declared.edit.Edit.TheVariants.{Insert, CreateOrMove, Update, Move, Swap, Reweight, ReweightSubtree, Remove, AddBucket, Rename, SetClass, RemoveClass}
 use Rattle.crush_edits.specs.declared.refusal.Dones.{Dones}
 use Rattle.crush_edits.specs.Setting.{SettingData}
 use Rattle.crush_edits.specs.Fits.{Fits}
@@ -31,6 +31,8 @@ IsEdit (ReweightSubtree n w) = Unit {0}
 IsEdit (Remove n) = Unit {0}
 IsEdit (AddBucket n kind) = IsName n
 IsEdit (Rename from to) = IsName to
+IsEdit (SetClass n c) = IsName c
+IsEdit (RemoveClass n) = Unit {0}
 
 -- a lawful table that the setting fits
 pub record Keeps (s : SettingData) (t : List Row) : Type 0 where

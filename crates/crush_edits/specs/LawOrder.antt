@@ -19,13 +19,13 @@ pub record RefusalRow : Type 0 where
 abbrev pub no : ℕ → List ℕ → ℕ → RefusalRow
 no number name error = record { number = number; name = name; error = error }
 
--- THE TABLE of the twenty refusals
+-- THE TABLE of the refusals
 abbrev pub refusal_rows : List RefusalRow
 refusal_rows =
     no 1 (codes "BadName") 22 ∷ (no 2 (codes "BadLocation") 22 ∷ (no 3 (codes "NoSuchType") 22 ∷ (no 4 (codes "NoPlace") 22 ∷ (no 5 (codes "WeightTooLarge") 75
     ∷ (no 6 (codes "NoSuchItem") 2 ∷ (no 7 (codes "NameTaken") 17 ∷ (no 8 (codes "AlreadyPlaced") 17 ∷ (no 9 (codes "NotPlaced") 2 ∷ (no 10 (codes "NotADevice") 22
     ∷ (no 11 (codes "NotABucket") 22 ∷ (no 12 (codes "WrongType") 22 ∷ (no 13 (codes "Loop") 40 ∷ (no 14 (codes "Nested") 22 ∷ (no 15 (codes "NotEmpty") 39
-    ∷ (no 16 (codes "InUse") 16 ∷ (no 17 (codes "NotDirectory") 20 ∷ (no 18 (codes "AlreadyRenamed") 114 ∷ (no 19 (codes "NoRoom") 28 ∷ (no 20 (codes "SumTooLarge") 34 ∷ [])))))))))))))))))))
+    ∷ (no 16 (codes "InUse") 16 ∷ (no 17 (codes "NotDirectory") 20 ∷ (no 18 (codes "AlreadyRenamed") 114 ∷ (no 19 (codes "NoRoom") 28 ∷ (no 20 (codes "SumTooLarge") 34 ∷ (no 21 (codes "ClassBound") 16 ∷ []))))))))))))))))))))
 
 abbrev pub row_of_refusal : Refusal → RefusalRow
 row_of_refusal r = no (refusal_number r) (refusal_name r) (refusal_error r)

@@ -1,13 +1,14 @@
 -- Laws of the edits without a location: when the table after is another, that it is lawful, and that the setting fits it.
-use Rattle.std.specs.Prelude.{◌≡◌, ℕ, ◌+◌, ◌≤◌, List, [], ◌∷◌, ◌++◌, Some, None, Bool, true, false, not, ◌==◌, ◌||◌}
+use Rattle.std.specs.Prelude.{◌≡◌, ℕ, ◌+◌, ◌≤◌, List, [], ◌∷◌, ◌++◌, Option, Some, None, Bool, true, false, not, ◌==◌, ◌||◌, bytes_eq}
 use Rattle.std.specs.List.{list_all}
+use Rattle.std.specs.Option.{option_eq}
 use Rattle.crush_units.specs.declared.id.ItemId.{ItemId}
 use Rattle.crush_units.specs.declared.id.ItemId.TheVariants.{Bucket}
 use Rattle.crush_units.specs.Name.{IsName}
 use Rattle.crush_table.specs.ItemRows.{bucket_row}
-use Rattle.crush_table.specs.Table.{Row, own_weight_of, is_there, is_named, free_ids, device_count, bucket_count}
+use Rattle.crush_table.specs.Table.{Row, own_weight_of, class_of, is_there, is_named, free_ids, device_count, bucket_count}
 use Rattle.crush_table.specs.Lawful.{Lawful, has_too_many}
-use Rattle.crush_table.specs.Columns.{set_weights, set_weight, set_name, swap_buckets, without_row}
+use Rattle.crush_table.specs.Columns.{set_weights, set_weight, set_name, set_class, swap_buckets, without_row}
 use Rattle.crush_edits.specs.declared.refusal.Refusal.TheVariants.{NoRoom}
 use Rattle.crush_edits.specs.declared.edit.Edit.TheVariants.{AddBucket}
 use Rattle.crush_edits.specs.Setting.{SettingData, kind_number}
@@ -36,6 +37,13 @@ NameChanges = (t : List Row) (i : ItemId) (n : List ℕ) → Lawful t → is_the
 
 abbrev pub NameFits : Type 0
 NameFits = (s : SettingData) (t : List Row) (i : ItemId) (n : List ℕ) → Fits s t → Fits s (set_name i n t)
+
+-- ANOTHER CLASS makes another table
+abbrev pub ClassChanges : Type 0
+ClassChanges = (t : List Row) (i : ItemId) (c : Option (List ℕ)) → Lawful t → is_there t i ≡ true → same_table t (set_class i c t) ≡ option_eq bytes_eq (class_of t i) c
+
+abbrev pub ClassFits : Type 0
+ClassFits = (s : SettingData) (t : List Row) (i : ItemId) (c : Option (List ℕ)) → Fits s t → Fits s (set_class i c t)
 
 -- TWO BUCKETS that exchange names and items make another table
 abbrev pub SwapChanges : Type 0

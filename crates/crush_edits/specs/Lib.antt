@@ -2,6 +2,7 @@ pub mod Answer
 pub mod Batch
 pub mod Boxes
 pub mod Changed
+pub mod Classing
 pub mod Codes
 pub mod Edit
 pub mod Fits

@@ -1,7 +1,7 @@
 -- The refusals' names, numbers and errors.
 use Rattle.std.specs.Prelude.{ℕ, List, codes}
 use Rattle.crush_edits.specs.declared.refusal.Refusal.{Refusal}
-use Rattle.crush_edits.specs.declared.refusal.Refusal.TheVariants.{BadName, BadLocation, NoSuchType, NoPlace, WeightTooLarge, NoSuchItem, NameTaken, AlreadyPlaced, NotPlaced, NotADevice, NotABucket, WrongType, Loop, Nested, NotEmpty, InUse, NotDirectory, AlreadyRenamed, NoRoom, SumTooLarge}
+use Rattle.crush_edits.specs.declared.refusal.Refusal.TheVariants.{BadName, BadLocation, NoSuchType, NoPlace, WeightTooLarge, NoSuchItem, NameTaken, AlreadyPlaced, NotPlaced, NotADevice, NotABucket, WrongType, Loop, Nested, NotEmpty, InUse, NotDirectory, AlreadyRenamed, NoRoom, SumTooLarge, ClassBound}
 
 -- the name, as it is printed
 abbrev pub refusal_name : Refusal → List ℕ
@@ -25,6 +25,7 @@ refusal_name NotDirectory = codes "NotDirectory"
 refusal_name AlreadyRenamed = codes "AlreadyRenamed"
 refusal_name NoRoom = codes "NoRoom"
 refusal_name SumTooLarge = codes "SumTooLarge"
+refusal_name ClassBound = codes "ClassBound"
 
 -- the place in the order in which refusals are told
 abbrev pub refusal_number : Refusal → ℕ
@@ -48,6 +49,7 @@ refusal_number NotDirectory = 17
 refusal_number AlreadyRenamed = 18
 refusal_number NoRoom = 19
 refusal_number SumTooLarge = 20
+refusal_number ClassBound = 21
 
 -- the number of the Linux error
 abbrev pub refusal_error : Refusal → ℕ
@@ -71,3 +73,4 @@ refusal_error NotDirectory = 20
 refusal_error AlreadyRenamed = 114
 refusal_error NoRoom = 28
 refusal_error SumTooLarge = 34
+refusal_error ClassBound = 16

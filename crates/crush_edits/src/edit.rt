@@ -103,6 +103,19 @@ pub enum Edit {
         /// Its new name.
         to: Name<Global>,
     },
+    /// Gives a device that has no class one, in a bucket or not (`ceph osd crush
+    /// set-device-class`).
+    SetClass {
+        /// The device's name.
+        name: Name<Global>,
+        /// Its class.
+        class: Name<Global>,
+    },
+    /// Takes the class of a device away (`ceph osd crush rm-device-class`).
+    RemoveClass {
+        /// The device's name.
+        name: Name<Global>,
+    },
 }
 
 /// A name, and where its item comes.
@@ -203,6 +216,16 @@ impl Edit {
                     to: second,
                 })
             }
+            Edit::SetClass { name, class } => {
+                let Names { first, second } = copy_names(name, class, alloc)?;
+                Ok(Edit::SetClass {
+                    name: first,
+                    class: second,
+                })
+            }
+            Edit::RemoveClass { name } => Ok(Edit::RemoveClass {
+                name: name.try_copy(alloc)?,
+            }),
         }
     }
 }

@@ -53,6 +53,8 @@ pub enum Refusal {
     /// A bucket's weight would be above 4294967295 units, or the weight of all placed devices above
     /// 8796093022207.
     SumTooLarge,
+    /// The device has another class.
+    ClassBound,
 }
 
 impl Refusal {
@@ -81,10 +83,11 @@ impl Refusal {
             Refusal::AlreadyRenamed => "AlreadyRenamed",
             Refusal::NoRoom => "NoRoom",
             Refusal::SumTooLarge => "SumTooLarge",
+            Refusal::ClassBound => "ClassBound",
         }
     }
 
-    /// The refusal's number, from 1 to 20.
+    /// The refusal's number, from 1 to 21.
     pub fn number(self) -> u8
         ensures { result ≡ refusal_number self }
     {
@@ -109,6 +112,7 @@ impl Refusal {
             Refusal::AlreadyRenamed => 18,
             Refusal::NoRoom => 19,
             Refusal::SumTooLarge => 20,
+            Refusal::ClassBound => 21,
         }
     }
 
@@ -130,7 +134,7 @@ impl Refusal {
             Refusal::NameTaken | Refusal::AlreadyPlaced => 17,
             Refusal::Loop => 40,
             Refusal::NotEmpty => 39,
-            Refusal::InUse => 16,
+            Refusal::InUse | Refusal::ClassBound => 16,
             Refusal::NotDirectory => 20,
             Refusal::AlreadyRenamed => 114,
             Refusal::NoRoom => 28,

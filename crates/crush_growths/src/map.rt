@@ -1,7 +1,7 @@
 //! The calls of a job, made on a map whose memory refuses requests.
 
 use anyhow::ensure;
-use crush_calls::{Call, Reply, Script, make_call, write_entry};
+use crush_calls::{Call, Reply, Script, is_change, make_call, write_entry};
 use crush_map::{CrushMap, Hashing};
 use crush_print::write_map;
 use crush_text::{TextFaultKind, read_map_in};
@@ -58,31 +58,37 @@ fn make_calls<A: Allocator + Clone>(
 ) -> anyhow::Result<Vec<u8>> {
     let mut lines = Vec::new(alloc);
     let mut number = 0u32;
+    let mut changes = 0u32;
     for script in scripts {
         for call in script.calls.as_slice() {
-            let reply = make_again(alloc, map, call)?;
+            let reply = make_again(alloc, map, changes, call)?;
             number = number.saturating_add(1);
+            if is_change(reply) {
+                changes = changes.saturating_add(1);
+            }
             write_entry(number, script.name.as_bytes(), call, reply, &mut lines)?;
         }
     }
     Ok(lines)
 }
 
-/// The reply to a call, which is made once more where memory lacked. The map is then as before.
+/// The reply to a call, before which so many changed the map. It is made once more where memory
+/// lacked; the map is then as before.
 fn make_again<A: Allocator + Clone>(
     alloc: Global,
     map: &mut CrushMap<A>,
+    changes: u32,
     call: &Call,
 ) -> anyhow::Result<Reply> {
     let before = text_of(alloc, map)?;
-    if let Ok(reply) = make_call(map, call) {
+    if let Ok(reply) = make_call(map, changes, call) {
         return Ok(reply);
     }
     ensure!(
         is_written(alloc, map, &[], before.as_slice())?,
         "another map after want of memory"
     );
-    Ok(make_call(map, call)?)
+    Ok(make_call(map, changes, call)?)
 }
 
 /// The text of a map.

@@ -1,3 +1,4 @@
+pub mod ClassLemmas
 pub mod FrontLemmas
 pub mod GuideLemmas
 pub mod IndexLemmas

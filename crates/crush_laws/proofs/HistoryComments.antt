@@ -12,20 +12,20 @@ use Rattle.crush_edits.specs.Pushed.{IsLocation}
 use Rattle.crush_edits.specs.Refusal.{refusal_name, refusal_error}
 use Rattle.crush_edits.specs.declared.location.Pair.{Pair}
 use Rattle.crush_edits.specs.declared.edit.Edit.{Edit}
-use Rattle.crush_edits.specs.declared.edit.Edit.TheVariants.{Insert, CreateOrMove, Update, Move, Swap, Reweight, ReweightSubtree, Remove, AddBucket, Rename}
+use Rattle.crush_edits.specs.declared.edit.Edit.TheVariants.{Insert, CreateOrMove, Update, Move, Swap, Reweight, ReweightSubtree, Remove, AddBucket, Rename, SetClass, RemoveClass}
 use Rattle.crush_edits.specs.declared.refusal.Refusal.{Refusal}
-use Rattle.crush_edits.specs.declared.refusal.Refusal.TheVariants.{BadName, BadLocation, NoSuchType, NoPlace, WeightTooLarge, NoSuchItem, NameTaken, AlreadyPlaced, NotPlaced, NotADevice, NotABucket, WrongType, Loop, Nested, NotEmpty, InUse, NotDirectory, AlreadyRenamed, NoRoom, SumTooLarge}
+use Rattle.crush_edits.specs.declared.refusal.Refusal.TheVariants.{BadName, BadLocation, NoSuchType, NoPlace, WeightTooLarge, NoSuchItem, NameTaken, AlreadyPlaced, NotPlaced, NotADevice, NotABucket, WrongType, Loop, Nested, NotEmpty, InUse, NotDirectory, AlreadyRenamed, NoRoom, SumTooLarge, ClassBound}
 use Rattle.crush_print.proofs.PrintedWords.{in_line}
 use Rattle.crush_laws.specs.ReadingBack.{are_comments}
 use Rattle.crush_laws.proofs.BuiltBuckets.{buckets_are_built}
 use Rattle.crush_laws.proofs.BuiltMaps.{comments_behind}
 use Rattle.crush_laws.proofs.Comments.{within}
 use Rattle.crush_calls.specs.declared.call.Call.{Call}
-use Rattle.crush_calls.specs.declared.call.Call.TheVariants.{One, Batch}
+use Rattle.crush_calls.specs.declared.call.Call.TheVariants.{One, Batch, Guarded}
 use Rattle.crush_calls.specs.declared.call.Reply.{Reply}
-use Rattle.crush_calls.specs.declared.call.Reply.TheVariants.{Done, Dones, Refused, BatchRefused}
+use Rattle.crush_calls.specs.declared.call.Reply.TheVariants.{Done, Dones, Refused, BatchRefused, Stale}
 use Rattle.crush_calls.specs.History.{EntryData}
-use Rattle.crush_calls.specs.HistoryText.{pair_text, pairs_text, one_name, two_names, weighed, edit_text, edits_text, call_text, digit_of, line_front, refusal_text, refused_at_text, line_end, line_text, entries_text}
+use Rattle.crush_calls.specs.HistoryText.{pair_text, pairs_text, one_name, two_names, weighed, edit_text, edits_text, rest_text, guard_text, call_text, digit_of, line_front, refusal_text, refused_at_text, line_end, line_text, entries_text}
 use Rattle.crush_laws.specs.Written.{IsNamed, IsNamedCall, HistoryLinesAreComments, WhatIsWrittenIsReadBack}
 
 -- no byte ends the line
@@ -118,6 +118,8 @@ edit_in_line (ReweightSubtree n w) is = weighed_in_line (codes "reweight-subtree
 edit_in_line (Remove n) is = one_in_line (codes "rm") n refl is
 edit_in_line (AddBucket n kind) is = names_in_line (codes "add-bucket") n kind refl is.0 is.1
 edit_in_line (Rename from to) is = names_in_line (codes "rename-bucket") from to refl is.0 is.1
+edit_in_line (SetClass n c) is = names_in_line (codes "set-device-class") c n refl is.1 is.0
+edit_in_line (RemoveClass n) is = one_in_line (codes "rm-device-class") n refl is
 
 -- CALLS
 edits_in_line : (es : List Edit) → All IsNamed es → IsInLine (edits_text es)
@@ -127,7 +129,9 @@ edits_in_line (e ∷ es) h =
 
 call_in_line : (c : Call) → IsNamedCall c → IsInLine (call_text c)
 call_in_line (One e) is = edit_in_line e is
-call_in_line (Batch es) is = both_in_line (codes "begin ; ") (edits_text es ++ codes "commit") refl (both_in_line (edits_text es) (codes "commit") (edits_in_line es is) refl)
+call_in_line (Batch es) is = both_in_line (codes "begin ; ") (rest_text es) refl (both_in_line (edits_text es) (codes "commit") (edits_in_line es is) refl)
+call_in_line (Guarded seen es) is =
+    both_in_line (guard_text seen) (rest_text es) (three_in_line (codes "begin at ") (decimal seen) (codes " ; ") refl (number_in_line seen) refl) (both_in_line (edits_text es) (codes "commit") (edits_in_line es is) refl)
 
 -- REPLIES: the line ends behind them
 abbrev EndsLine : List ℕ → Type 0
@@ -160,6 +164,7 @@ refusal_in_line NotDirectory = refl
 refusal_in_line AlreadyRenamed = refl
 refusal_in_line NoRoom = refl
 refusal_in_line SumTooLarge = refl
+refusal_in_line ClassBound = refl
 
 refusal_ends : (r : Refusal) → EndsLine (refusal_text r)
 refusal_ends r = ends (refusal_name r ++ codes " " ++ decimal (refusal_error r)) (codes "\n") (three_in_line (refusal_name r) (codes " ") (decimal (refusal_error r)) (refusal_in_line r) refl (number_in_line (refusal_error r))) line_feed
@@ -180,6 +185,7 @@ reply_ends (Dones d) =
     (five_in_line (codes " = dones ") (decimal d.edits) (codes " changed ") (decimal d.changed) (codes " made ") refl (number_in_line d.edits) refl (number_in_line d.changed) refl) (number_in_line d.made))
     line_feed
 reply_ends (Refused r) = ends (codes " = refused ") (refusal_text r) refl (refusal_ends r)
+reply_ends (Stale n) = ends (codes " = refused Stale 11 changes " ++ decimal n) (codes "\n") (both_in_line (codes " = refused Stale 11 changes ") (decimal n) refl (number_in_line n)) line_feed
 reply_ends (BatchRefused i r) = ends (refused_at_text i) (refusal_text r) (three_in_line (codes " = refused at ") (decimal i) (codes " ") refl (number_in_line i) refl) (refusal_ends r)
 
 -- LINES

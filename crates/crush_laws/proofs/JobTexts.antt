@@ -8,16 +8,16 @@ use Rattle.crush_units.specs.Name.{IsName}
 use Rattle.crush_units.specs.Id.{device_from}
 use Rattle.crush_units.specs.declared.limits.TheConstants.{DEVICE_IDS, LAST_DEVICE_ID}
 use Rattle.crush_edits.specs.declared.edit.Edit.{Edit}
-use Rattle.crush_edits.specs.declared.edit.Edit.TheVariants.{Insert, CreateOrMove, Update, Move, Swap, Reweight, ReweightSubtree, Remove, AddBucket, Rename}
+use Rattle.crush_edits.specs.declared.edit.Edit.TheVariants.{Insert, CreateOrMove, Update, Move, Swap, Reweight, ReweightSubtree, Remove, AddBucket, Rename, SetClass, RemoveClass}
 use Rattle.crush_edits.specs.declared.location.Pair.{Pair}
 use Rattle.crush_edits.specs.LawEdit as table
 use Rattle.crush_laws.proofs.BuiltBuckets.{buckets_are_built}
 use Rattle.crush_laws.proofs.BuiltMaps.{printed_texts_read_back}
 use Rattle.crush_laws.proofs.Keeps.{each_map_is_lawful}
 use Rattle.crush_calls.specs.declared.call.Call.{Call}
-use Rattle.crush_calls.specs.declared.call.Call.TheVariants.{One, Batch}
+use Rattle.crush_calls.specs.declared.call.Call.TheVariants.{One, Batch, Guarded}
 use Rattle.crush_calls.specs.Script.{ScriptData}
-use Rattle.crush_calls.specs.History.{table_after, turns}
+use Rattle.crush_calls.specs.History.{untouched, table_after, turns}
 use Rattle.crush_calls.specs.HistoryText.{names_of}
 use Rattle.crush_calls.specs.LawRun.{IsCall}
 use Rattle.crush_calls.proofs.RunLaws.{history_keeps, turns_calls, turns_keep}
@@ -56,10 +56,13 @@ edit_form (ReweightSubtree n w) is = tt
 edit_form (Remove n) is = tt
 edit_form (AddBucket n kind) is = is.0
 edit_form (Rename from to) is = is.1
+edit_form (SetClass n c) is = is.1
+edit_form (RemoveClass n) is = tt
 
 call_form : (c : Call) → IsSaidCall c → IsCall c
 call_form (One e) is = edit_form e is
 call_form (Batch es) is = All-weaker IsSaid table.IsEdit edit_form es is.0
+call_form (Guarded seen es) is = All-weaker IsSaid table.IsEdit edit_form es is.0
 
 edit_named : (e : Edit) → IsSaid e → IsNamed e
 edit_named (Insert d n w l) is = (is.name, is.at)
@@ -72,10 +75,13 @@ edit_named (ReweightSubtree n w) is = is.0
 edit_named (Remove n) is = is
 edit_named (AddBucket n kind) is = is
 edit_named (Rename from to) is = is
+edit_named (SetClass n c) is = is
+edit_named (RemoveClass n) is = is
 
 call_named : (c : Call) → IsSaidCall c → IsNamedCall c
 call_named (One e) is = edit_named e is
 call_named (Batch es) is = All-weaker IsSaid IsNamed edit_named es is.0
+call_named (Guarded seen es) is = All-weaker IsSaid IsNamed edit_named es is.0
 
 -- a fact of the calls of scripts, from what was read
 of_calls_said : (P : Call → Type 0) → ((c : Call) → IsSaidCall c → P c) → (scripts : List ScriptData) → All IsSaidScript scripts → All (λ (x : ScriptData). All P x.calls) scripts
@@ -93,7 +99,7 @@ job_texts_are_read_back bytes job is =
     let said = job_said bytes job is in
     let keeps = jobs_stay_lawful bytes job is in
     let names = All-map IsName (λ (x : ScriptData). x.name) job.scripts (All-weaker IsSaidScript (λ (x : ScriptData). IsName x.name) (λ x own. own.name) job.scripts said) in
-    let named = turns_calls IsNamedCall s job.table 0 job.scripts (of_calls_said IsNamedCall call_named job.scripts said) in
+    let named = turns_calls IsNamedCall s (untouched job.table) 0 job.scripts (of_calls_said IsNamedCall call_named job.scripts said) in
     written_is_read_back s (table_after s job.table h) (names_of job.scripts) 1 h keeps.lawful keeps.fits names named
 
 pub job_maps_are_read_back : JobMapsAreReadBack

@@ -8,11 +8,11 @@ use Rattle.crush_edits.specs.Fits.{Fits}
 use Rattle.crush_edits.specs.LawEdit.{Keeps}
 use Rattle.crush_edits.specs.Pushed.{IsLocation}
 use Rattle.crush_edits.specs.declared.edit.Edit.{Edit}
-use Rattle.crush_edits.specs.declared.edit.Edit.TheVariants.{Insert, CreateOrMove, Update, Move, Swap, Reweight, ReweightSubtree, Remove, AddBucket, Rename}
+use Rattle.crush_edits.specs.declared.edit.Edit.TheVariants.{Insert, CreateOrMove, Update, Move, Swap, Reweight, ReweightSubtree, Remove, AddBucket, Rename, SetClass, RemoveClass}
 use Rattle.crush_print.specs.MapText.{map_text}
 use Rattle.crush_laws.specs.ReadingBack.{in_order, IsReadAs, AreCommentLines}
 use Rattle.crush_calls.specs.declared.call.Call.{Call}
-use Rattle.crush_calls.specs.declared.call.Call.TheVariants.{One, Batch}
+use Rattle.crush_calls.specs.declared.call.Call.TheVariants.{One, Batch, Guarded}
 use Rattle.crush_calls.specs.History.{EntryData, table_after, turns}
 use Rattle.crush_calls.specs.LawRun.{IsCall}
 use Rattle.crush_calls.specs.HistoryText.{entries_text, names_of}
@@ -30,11 +30,14 @@ IsNamed (ReweightSubtree n w) = IsName n
 IsNamed (Remove n) = IsName n
 IsNamed (AddBucket n kind) = IsName n × IsName kind
 IsNamed (Rename from to) = IsName from × IsName to
+IsNamed (SetClass n c) = IsName n × IsName c
+IsNamed (RemoveClass n) = IsName n
 
 -- so are those of a call
 abbrev pub IsNamedCall : Call → Type 0
 IsNamedCall (One e) = IsNamed e
 IsNamedCall (Batch es) = All IsNamed es
+IsNamedCall (Guarded seen es) = All IsNamed es
 
 -- and those of a history
 abbrev pub IsNamedHistory : List EntryData → Type 0

@@ -7,6 +7,7 @@
 
 mod asking;
 mod building;
+mod classes;
 mod faults;
 mod lacking;
 mod looked_up;

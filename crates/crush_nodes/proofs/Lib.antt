@@ -1,5 +1,6 @@
 pub mod ApartLaws
 pub mod ApartSteps
+pub mod ClassedLaws
 pub mod CopyLaws
 pub mod CountLaws
 pub mod Ends

@@ -1,5 +1,6 @@
 pub mod Apart
 pub mod Attachable
+pub mod Classed
 pub mod Copies
 pub mod Falls
 pub mod Guides

@@ -53,7 +53,7 @@ fn is_formed_leaf<A: Allocator>(leaf: &Leaf<A>) -> bool
 }
 
 /// A law of a class: it is a name.
-fn recall_class<A: Allocator>(class: &Option<Name<A>>)
+pub fn recall_class<A: Allocator>(class: &Option<Name<A>>)
     ensures { IfSome class.now IsName }
 {
     match class {

@@ -12,6 +12,7 @@
 //! | [`guide`], [`path`] | where items stand, told from outside, and the way down by it |
 //! | [`hold`] | an item that is put into a bucket before both stand in a forest |
 //! | [`sums`], [`stored`] | sums of weights, and whether buckets store them |
+//! | [`classed`] | what the devices of a class weigh |
 //! | [`form`], [`apart`], [`attachable`] | whether an item can come to a forest |
 //! | [`copy`], [`same`] | copies of items, and whether items are the same |
 #![tactic(auto)]
@@ -19,6 +20,7 @@
 pub mod apart;
 pub mod attachable;
 pub mod child;
+pub mod classed;
 pub mod copy;
 pub mod form;
 pub mod guide;

@@ -44,7 +44,10 @@ Commands, those of `ceph osd crush`:
     rm NAME, remove NAME                 removes a device, or an empty bucket
     add-bucket NAME TYPE                 makes an empty bucket that is a root
     rename-bucket NAME NAME              gives a bucket another name
+    set-device-class CLASS NAME          gives a device without a class one
+    rm-device-class NAME                 takes the class of a device away
     begin, commit                        those between are made all or none
+    begin at N                           the same, if N calls changed the map
 
 N is the device's id, and WEIGHT is in Ceph's decimals, 0 to 32767.99998. A PAIR
 is TYPE=BUCKET, and up to 16 of them are a location: from the lowest type

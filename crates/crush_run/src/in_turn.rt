@@ -6,7 +6,7 @@ ghost use Rattle.crush_table.specs.Table.{Row};
 ghost use Rattle.crush_edits.specs.Setting.{SettingData};
 ghost use Rattle.crush_map.specs.MapData.{MapStands};
 ghost use Rattle.crush_calls.specs.Script.{scripts_data};
-ghost use Rattle.crush_calls.specs.History.{table_after, turn, turns};
+ghost use Rattle.crush_calls.specs.History.{behind, counted_after, table_after, turn, turns};
 ghost use Rattle.crush_calls.specs.Entries.{AreOf};
 
 use crate::fault::RunFault;
@@ -34,8 +34,9 @@ fn run_script<G: Gate, R: Wait>(
     ensures operators { OnOk result ((n : ℕ) → operator < n → AreOf n book.old.history
         → AreOf n book.new.history) }
     ensures entries { OnOk result ((s : SettingData) (t : List Row) → MapStands book.old.map s t
-        → (book.new.history ≡ book.old.history ++ turn s t operator calls.now)
-        × MapStands book.new.map s (table_after s t (turn s t operator calls.now))) }
+        → let h = turn s (behind t book.old.history) operator calls.now in
+        (book.new.history ≡ book.old.history ++ h)
+        × MapStands book.new.map s (counted_after s (behind t book.old.history) h).table) }
     ensures fault { IfErr result (λ fault. fault ≡ RunFault.Memory) }
 {
     for (number, call) in calls.iter().enumerate() {

@@ -5,7 +5,7 @@ use Rattle.std.proofs.lemmas.List.Sums.{sum_by-append, sum_by-cons}
 use Rattle.crush_units.specs.declared.limits.TheConstants.{MOST_CALLS, MOST_EDITS, MOST_OPERATORS}
 use Rattle.crush_edits.specs.declared.edit.Edit.{Edit}
 use Rattle.crush_calls.specs.declared.call.Call.{Call}
-use Rattle.crush_calls.specs.declared.call.Call.TheVariants.{One, Batch}
+use Rattle.crush_calls.specs.declared.call.Call.TheVariants.{One}
 use Rattle.crush_script.proofs.Oks.{bind-if_ok_at, bind-if_ok, if_ok-either, if_ok-else, if_ok-at}
 use Rattle.crush_script.specs.declared.command.Command.{Command}
 use Rattle.crush_script.specs.declared.command.Command.TheVariants as says
@@ -14,7 +14,7 @@ use Rattle.crush_text.specs.Flow.{◌>>=◌}
 use Rattle.crush_script.specs.Command.{command, operator}
 use Rattle.crush_script.specs.Lines.{line_words, begins_section}
 use Rattle.crush_calls.specs.Script.{ScriptData, call_count}
-use Rattle.crush_script.specs.Sections.{SectionsData, no_sections, call_in_last, in_line, without_batch, closed, has_operator, with_section, counted, with_call, with_edit, with_begin, with_commit, with_command, with_line, with_lines}
+use Rattle.crush_script.specs.Sections.{SectionsData, no_sections, call_in_last, in_line, without_batch, closed, has_operator, with_section, counted, with_call, batch_call, with_edit, with_begin, with_commit, with_command, with_line, with_lines}
 
 -- a batch that is open is one call
 abbrev open_calls : Option BegunBatch → ℕ
@@ -84,19 +84,19 @@ edit_few : (number : ℕ) (s : SectionsData) (o : Option BegunBatch) (e : Edit) 
 edit_few number s None e is few = bind-if_ok_at (counted number s) (λ more. Ok (with_call (One e) more)) IsFew IsFewer (counted_fewer number s few) (λ more fewer. call_few more (One e) fewer)
 edit_few number s (Some b) e is few = if_ok-else _ _ (nat_le MOST_EDITS (length b.edits)) IsFew (record { counted = omega (arith, few.counted, ap open_calls is); few = few.few; scripts = few.scripts })
 
-begin_few : (number : ℕ) (s : SectionsData) (o : Option BegunBatch) → IsFew s → IfOk (with_begin number s o) IsFew
-begin_few number s None few =
-    bind-if_ok_at (counted number s) (λ more. Ok (record more { begun = Some (record { line = number; edits = [] }) })) IsFew IsFewer (counted_fewer number s few) (λ more fewer. record { counted = omega (arith, fewer.counted); few = fewer.few; scripts = fewer.scripts })
-begin_few number s (Some b) few = tt
+begin_few : (number : ℕ) (s : SectionsData) (o : Option BegunBatch) (seen : Option ℕ) → IsFew s → IfOk (with_begin number s o seen) IsFew
+begin_few number s None seen few =
+    bind-if_ok_at (counted number s) (λ more. Ok (record more { begun = Some (record { line = number; seen = seen; edits = [] }) })) IsFew IsFewer (counted_fewer number s few) (λ more fewer. record { counted = omega (arith, fewer.counted); few = fewer.few; scripts = fewer.scripts })
+begin_few number s (Some b) seen few = tt
 
 commit_few : (number : ℕ) (s : SectionsData) (o : Option BegunBatch) → o ≡ s.begun → IsFew s → IfOk (with_commit number s o) IsFew
 commit_few number s None is few = tt
-commit_few number s (Some b) is few = record { counted = omega (arith, few.counted, ap open_calls is, call_count-call_in_last (Batch b.edits) s.scripts); few = few.few; scripts = omega (arith, few.scripts, length-call_in_last (Batch b.edits) s.scripts) }
+commit_few number s (Some b) is few = record { counted = omega (arith, few.counted, ap open_calls is, call_count-call_in_last (batch_call b.seen b.edits) s.scripts); few = few.few; scripts = omega (arith, few.scripts, length-call_in_last (batch_call b.seen b.edits) s.scripts) }
 
 command_few : (number : ℕ) (s : SectionsData) (c : Command) → IsFew s → IfOk (with_command number s c) IsFew
 command_few number s says.Nothing few = few
 command_few number s (says.Edit e) few = edit_few number s s.begun e refl few
-command_few number s says.Begin few = begin_few number s s.begun few
+command_few number s (says.Begin seen) few = begin_few number s s.begun seen few
 command_few number s says.Commit few = commit_few number s s.begun refl few
 
 line_few : (number : ℕ) (s : SectionsData) (text : List ℕ) → IsFew s → IfOk (with_line number s text) IsFew

@@ -1,4 +1,5 @@
 pub mod Calls
+pub mod Counts
 pub mod Cuts
 pub mod Examples
 pub mod Few

@@ -13,15 +13,15 @@ use Rattle.crush_units.specs.Name.{IsName, is_name_byte}
 use Rattle.crush_units.specs.Weight.{weight_of_text, weight_text, parts_of, digit}
 use Rattle.crush_units.proofs.Names.{is_name_true}
 use Rattle.crush_units.proofs.ReadBack.{read_again}
-use Rattle.crush_units.specs.declared.limits.TheConstants.{MOST_PAIRS}
+use Rattle.crush_units.specs.declared.limits.TheConstants.{MOST_ENTRIES, MOST_PAIRS}
 use Rattle.crush_edits.specs.declared.location.Pair.{Pair}
 use Rattle.crush_edits.specs.declared.edit.Edit.{Edit}
-use Rattle.crush_edits.specs.declared.edit.Edit.TheVariants.{Insert, CreateOrMove, Update, Move, Swap, Reweight, ReweightSubtree, Remove, AddBucket, Rename}
+use Rattle.crush_edits.specs.declared.edit.Edit.TheVariants.{Insert, CreateOrMove, Update, Move, Swap, Reweight, ReweightSubtree, Remove, AddBucket, Rename, SetClass, RemoveClass}
 use Rattle.crush_edits.specs.Pushed.{IsLocation}
 use Rattle.crush_script.specs.declared.command.Command.TheVariants as says
 use Rattle.crush_script.specs.Lines.{line_words}
 use Rattle.crush_script.specs.Words.{equals_at, pair_of, device_named}
-use Rattle.crush_script.specs.Command.{name_at, weight_at, end_at, with_pair, with_pairs, location_at, placing_at, located_at, one_name_at, two_names_at, weighed_at, keyword_of, moving_keyword, naming_keyword, edit_at, command}
+use Rattle.crush_script.specs.Command.{name_at, weight_at, end_at, with_pair, with_pairs, location_at, placing_at, located_at, one_name_at, two_names_at, weighed_at, keyword_of, moving_keyword, naming_keyword, classing_keyword, edit_at, command}
 use Rattle.crush_calls.specs.HistoryText.{edit_text, pairs_text, one_name}
 use Rattle.crush_script.specs.Printed.{IsSaid, PrintedIsRead}
 use Rattle.crush_script.proofs.Pairs.{pair_added}
@@ -48,6 +48,12 @@ digits_bytes (d ∷ ds) h =
     let r = digit_from_value d h.0 in
     let first = digit_byte d r.0 r.1 in
     rw (first, digits_bytes ds h.1) refl
+
+-- a number of changes is a word
+pub count_word : (n : ℕ) → n ≤ MOST_ENTRIES → IsWord (decimal n)
+count_word n few =
+    let is = decimal_is_IsNumeral n (omega arith) in
+    record { some = is.0.0; bytes = digits_bytes (decimal n) is.0.1 }
 
 last_digit : (n : ℕ) → is_word_byte (digit n) ≡ true
 last_digit n = digit_byte (digit n) (omega arith) (omega arith)
@@ -180,7 +186,7 @@ said : (first : List ℕ) (words : List (List ℕ)) (e : Edit) → edit_text e �
 said first words e is some bytes are reads = record { first = first; words = words; text = is; is = record { some = some; bytes = bytes }; are = are; says = reads }
 
 pub printed : (e : Edit) → IsSaid e → IsPrinted e
-unfolding command keyword_of moving_keyword naming_keyword edit_at
+unfolding command keyword_of moving_keyword naming_keyword classing_keyword edit_at
 printed (Insert d n w l) is =
     let are = of_location l is.at in
     let reads = placing_read d n (weight_text w) w l is.name is.device (read_again w is.weight) are is.at.few in
@@ -215,6 +221,12 @@ printed (AddBucket n kind) is =
 printed (Rename from to) is =
     let reads = two_names_read from to is.0 is.1 in
     said (codes "rename-bucket") (from ∷ (to ∷ [])) (Rename from to) (two-joined (codes "rename-bucket") from to) (omega arith) refl (name_word from is.0, (name_word to is.1, tt)) (rw reads refl)
+printed (SetClass n c) is =
+    let reads = two_names_read c n is.1 is.0 in
+    said (codes "set-device-class") (c ∷ (n ∷ [])) (SetClass n c) (two-joined (codes "set-device-class") c n) (omega arith) refl (name_word c is.1, (name_word n is.0, tt)) (rw reads refl)
+printed (RemoveClass n) is =
+    let reads = one_name_read n is in
+    said (codes "rm-device-class") (n ∷ []) (RemoveClass n) (one-joined (codes "rm-device-class") n) (omega arith) refl (name_word n is, tt) (rw reads refl)
 
 -- a line of words says what the words say
 pub printed_is_read : PrintedIsRead

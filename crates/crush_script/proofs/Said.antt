@@ -1,13 +1,16 @@
 -- The edits that lines say are of the forms that are printed and read.
-use Rattle.std.proofs.Common.{◌≡◌, ℕ, ◌<◌, ◌^◌, ◌&&◌, true, List, [], ◌∷◌, ◌++◌, Option, Some, None, Result, Ok, Err, length, nat_lt, nat_le, refl, arith, length-append}
+use Rattle.std.proofs.Common.{◌≡◌, ℕ, ◌<◌, ◌≤◌, ◌^◌, ◌&&◌, Bool, true, false, cond, List, [], ◌∷◌, ◌++◌, Option, Some, None, Result, Ok, Err, length, nat_lt, nat_le, refl, arith, length-append}
 use Rattle.std.proofs.lemmas.Bool.Decides.{nat_tests}
 use Rattle.std.proofs.lemmas.List.Elements.{All-nil, All-push}
-use Rattle.std.specs.Prelude.{IfOk, bytes_eq, codes}
+use Rattle.std.specs.Prelude.{IfOk, IfSome, not, ◌==◌, bytes_eq, codes}
+use Rattle.std.specs.List.{list_all}
+use Rattle.std.specs.Char.{is_ascii_digit}
+use Rattle.std.specs.Str.Parse.{digits_value}
 use Rattle.crush_units.specs.Name.{IsName, is_name}
 use Rattle.crush_units.specs.Weight.{weight_of_text, is_weight_text, units_of, number_in, fraction_of}
 use Rattle.crush_units.specs.declared.weight.WeightFault.{WeightFault}
 use Rattle.crush_units.proofs.Names.{is_name_holds, both_true}
-use Rattle.crush_units.specs.declared.limits.TheConstants.{HEAVIEST_BUCKET, MOST_PAIRS}
+use Rattle.crush_units.specs.declared.limits.TheConstants.{HEAVIEST_BUCKET, MOST_ENTRIES, MOST_PAIRS}
 use Rattle.crush_edits.specs.declared.location.Pair.{Pair}
 use Rattle.crush_edits.specs.Pushed.{IsLocation}
 use Rattle.crush_script.specs.declared.command.Command.{Command}
@@ -17,8 +20,8 @@ use Rattle.crush_script.specs.declared.command.Keyword.TheVariants as word
 use Rattle.crush_script.specs.declared.command.Placement.{Placement}
 use Rattle.crush_script.specs.declared.command.Placement.TheVariants as place
 use Rattle.crush_script.specs.declared.command.Placing.{Placing}
-use Rattle.crush_script.specs.Words.{pair_of, can_add, device_named}
-use Rattle.crush_script.specs.Command.{name_at, read_weight, weight_at, end_at, with_pair, with_pairs, location_at, the_device, placing_at, located_at, one_name_at, two_names_at, weighed_at, keyword_of, edit_to_place, edit_of, edit_by, edit_at, command, operator}
+use Rattle.crush_script.specs.Words.{pair_of, can_add, is_count, count_of, device_named}
+use Rattle.crush_script.specs.Command.{name_at, read_weight, weight_at, end_at, with_pair, with_pairs, location_at, the_device, placing_at, located_at, one_name_at, two_names_at, weighed_at, keyword_of, edit_to_place, edit_of, edit_by, edit_at, read_count, count_at, begin_at, command, operator}
 use Rattle.crush_script.specs.Printed.{IsSaidPlacing, IsSaid, ReadIsSaid}
 use Rattle.crush_script.proofs.Oks.{bind-if_ok_at, if_ok-either, if_ok-then, if_ok-passed, if_ok-at}
 
@@ -129,6 +132,8 @@ edit_of_said word.ReweightSubtree rest = bind-if_ok_at (weighed_at rest) _ IsSai
 edit_of_said word.Rm rest = bind-if_ok_at (one_name_at rest) _ IsSaid _ (one_name_said rest) (λ name is. is)
 edit_of_said word.AddBucket rest = bind-if_ok_at (two_names_at rest) _ IsSaid _ (two_names_said rest) (λ p is. is)
 edit_of_said word.RenameBucket rest = bind-if_ok_at (two_names_at rest) _ IsSaid _ (two_names_said rest) (λ p is. is)
+edit_of_said word.SetDeviceClass rest = bind-if_ok_at (two_names_at rest) _ IsSaid _ (two_names_said rest) (λ p is. (is.1, is.0))
+edit_of_said word.RmDeviceClass rest = bind-if_ok_at (one_name_at rest) _ IsSaid _ (one_name_said rest) (λ name is. is)
 
 edit_said : (first : List ℕ) (rest : List (List ℕ)) → IfOk (edit_at first rest) IsSaid
 unfolding edit_at
@@ -142,14 +147,40 @@ edit_said first rest = at (keyword_of first)
 abbrev pub HasSaid : Command → Type 0
 HasSaid says.Nothing = Unit {0}
 HasSaid (says.Edit e) = IsSaid e
-HasSaid says.Begin = Unit {0}
+HasSaid (says.Begin seen) = IfSome seen (λ n. n ≤ MOST_ENTRIES)
 HasSaid says.Commit = Unit {0}
+
+-- a number of changes
+count_said : (word : List ℕ) → IfSome (count_of word) (λ n. n ≤ MOST_ENTRIES)
+count_said word = at (is_count word) refl
+  where
+    at : (b : Bool) → is_count word ≡ b → IfSome (cond b (Some (digits_value 10 word)) None) (λ n. n ≤ MOST_ENTRIES)
+    at true is =
+        let few = both_true (not (length word == 0) && list_all is_ascii_digit word) (nat_le (digits_value 10 word) MOST_ENTRIES) is in
+        grind (arith, nat_tests, few.1)
+    at false is = tt
+
+read_count_said : (o : Option ℕ) (rest : List (List ℕ)) → IfSome o (λ n. n ≤ MOST_ENTRIES) → IfOk (read_count o rest) (λ r. r.value ≤ MOST_ENTRIES)
+read_count_said (Some n) rest few = few
+read_count_said None rest few = tt
+
+count_at_said : (words : List (List ℕ)) → IfOk (count_at words) (λ r. r.value ≤ MOST_ENTRIES)
+unfolding count_at
+count_at_said [] = tt
+count_at_said (word ∷ rest) = read_count_said (count_of word) rest (count_said word)
+
+begin_said : (words : List (List ℕ)) → IfOk (begin_at words) HasSaid
+unfolding begin_at
+begin_said [] = tt
+begin_said (word ∷ rest) =
+    if_ok-then _ _ (bytes_eq word (codes "at")) HasSaid
+    (bind-if_ok_at (count_at rest) (λ seen. end_at (says.Begin (Some seen.value)) seen.rest) HasSaid (λ r. r.value ≤ MOST_ENTRIES) (count_at_said rest) (λ seen few. end_said (says.Begin (Some seen.value)) seen.rest HasSaid few))
 
 pub command_said : (words : List (List ℕ)) → IfOk (command words) HasSaid
 unfolding command
 command_said [] = tt
 command_said (first ∷ rest) =
-    if_ok-either _ _ (bytes_eq first (codes "begin")) HasSaid (end_said says.Begin rest HasSaid tt)
+    if_ok-either _ _ (bytes_eq first (codes "begin")) HasSaid (begin_said rest)
     (if_ok-either _ _ (bytes_eq first (codes "commit")) HasSaid (end_said says.Commit rest HasSaid tt)
     (bind-if_ok_at (edit_at first rest) (λ edit. Ok (says.Edit edit)) HasSaid IsSaid (edit_said first rest) (λ e is. is)))
 

@@ -7,10 +7,10 @@ use Rattle.std.proofs.lemmas.Bool.{false≢true}
 use Rattle.std.proofs.lemmas.List.Quantifiers.{all_pairs_push}
 use Rattle.std.specs.Prelude.{All, AllPairs, IfOk, IfSome, bytes_eq}
 use Rattle.crush_units.specs.Name.{IsName}
-use Rattle.crush_units.specs.declared.limits.TheConstants.{MOST_CALLS, MOST_EDITS, MOST_OPERATORS}
+use Rattle.crush_units.specs.declared.limits.TheConstants.{MOST_CALLS, MOST_EDITS, MOST_ENTRIES, MOST_OPERATORS}
 use Rattle.crush_edits.specs.declared.edit.Edit.{Edit}
 use Rattle.crush_calls.specs.declared.call.Call.{Call}
-use Rattle.crush_calls.specs.declared.call.Call.TheVariants.{One, Batch}
+use Rattle.crush_calls.specs.declared.call.Call.TheVariants.{One}
 use Rattle.crush_calls.specs.Script.{ScriptData}
 use Rattle.crush_calls.specs.HistoryText.{names_of}
 use Rattle.crush_script.specs.declared.command.Command.{Command}
@@ -20,7 +20,7 @@ use Rattle.crush_script.specs.declared.sections.BegunBatch.{BegunBatch}
 use Rattle.crush_text.specs.Flow.{◌>>=◌}
 use Rattle.crush_script.specs.Command.{command, operator}
 use Rattle.crush_script.specs.Lines.{lines, section_part, section_line, line_words, begins_section}
-use Rattle.crush_script.specs.Sections.{SectionsData, no_sections, call_in_last, in_line, without_batch, closed, has_operator, with_section, counted, with_call, with_edit, with_begin, with_commit, with_command, with_line, with_lines, sections_of}
+use Rattle.crush_script.specs.Sections.{SectionsData, no_sections, call_in_last, in_line, without_batch, closed, has_operator, with_section, counted, with_call, batch_call, with_edit, with_begin, with_commit, with_command, with_line, with_lines, sections_of}
 use Rattle.crush_script.specs.Job.{JobData, IsJob}
 use Rattle.crush_script.specs.Printed.{IsSaid}
 use Rattle.crush_script.specs.ScriptsText.{IsSaidCall, IsSaidScript, AreScripts, ReadScriptsAreSuch}
@@ -35,7 +35,7 @@ AreApart scripts = AllPairs (λ (a b : List ℕ). bytes_eq a b ≡ false) (names
 -- what the lines so far say
 record AreSaid (s : SectionsData) : Type 0 where
   scripts : All IsSaidScript s.scripts
-  begun : IfSome s.begun (λ b. All IsSaid b.edits × (length b.edits ≤ MOST_EDITS))
+  begun : IfSome s.begun (λ b. IsSaidCall (batch_call b.seen b.edits))
   names : AreApart s.scripts
 
 -- where no element passes a test, each one fails it
@@ -88,26 +88,35 @@ in_last_said c (x ∷ []) is all =
     All-cons IsSaidScript _ [] (record { name = own.name; calls = All-push IsSaidCall x.calls c own.calls is }) (All-nil IsSaidScript)
 in_last_said c (x ∷ y ∷ rest) is all = All-cons IsSaidScript x _ (All-head IsSaidScript x (y ∷ rest) all) (in_last_said c (y ∷ rest) is (All-tail IsSaidScript x (y ∷ rest) all))
 
-edit_said : (number : ℕ) (s : SectionsData) (o : Option BegunBatch) (e : Edit) → IfSome o (λ b. All IsSaid b.edits × (length b.edits ≤ MOST_EDITS)) → AreSaid s → IsSaid e → IfOk (with_edit number s o e) AreSaid
+-- a batch that begins, and one that has one edit more
+batch_begun : (seen : Option ℕ) → IfSome seen (λ n. n ≤ MOST_ENTRIES) → IsSaidCall (batch_call seen [])
+batch_begun None few = (All-nil IsSaid, omega arith)
+batch_begun (Some n) few = (All-nil IsSaid, omega arith, few)
+
+batch_more : (seen : Option ℕ) (es : List Edit) (e : Edit) → IsSaidCall (batch_call seen es) → IsSaid e → length es < MOST_EDITS → IsSaidCall (batch_call seen (es ++ e ∷ []))
+batch_more None es e said is less = (All-push IsSaid es e said.0 is, omega (arith, less, length-append es (e ∷ [])))
+batch_more (Some n) es e said is less = (All-push IsSaid es e said.0 is, omega (arith, less, length-append es (e ∷ [])), said.2)
+
+edit_said : (number : ℕ) (s : SectionsData) (o : Option BegunBatch) (e : Edit) → IfSome o (λ b. IsSaidCall (batch_call b.seen b.edits)) → AreSaid s → IsSaid e → IfOk (with_edit number s o e) AreSaid
 edit_said number s None e begun said is =
     bind-if_ok_at (counted number s) (λ more. Ok (with_call (One e) more)) AreSaid AreSaid (counted_said number s said) (λ more h. record { scripts = in_last_said (One e) more.scripts is h.scripts; begun = h.begun; names = in_last_apart (One e) more.scripts h.names })
 edit_said number s (Some b) e begun said is =
     if_ok-not _ _ (nat_le MOST_EDITS (length b.edits)) AreSaid (λ room. let less : length b.edits < MOST_EDITS = search (rules, tests) in
-    record { scripts = said.scripts; begun = (All-push IsSaid b.edits e begun.0 is, omega (arith, less, length-append b.edits (e ∷ []))); names = said.names })
+    record { scripts = said.scripts; begun = batch_more b.seen b.edits e begun is less; names = said.names })
 
-begin_said : (number : ℕ) (s : SectionsData) (o : Option BegunBatch) → AreSaid s → IfOk (with_begin number s o) AreSaid
-begin_said number s None said =
-    bind-if_ok_at (counted number s) (λ more. Ok (record more { begun = Some (record { line = number; edits = [] }) })) AreSaid AreSaid (counted_said number s said) (λ more h. record { scripts = h.scripts; begun = (All-nil IsSaid, omega arith); names = h.names })
-begin_said number s (Some b) said = tt
+begin_said : (number : ℕ) (s : SectionsData) (o : Option BegunBatch) (seen : Option ℕ) → AreSaid s → IfSome seen (λ n. n ≤ MOST_ENTRIES) → IfOk (with_begin number s o seen) AreSaid
+begin_said number s None seen said few =
+    bind-if_ok_at (counted number s) (λ more. Ok (record more { begun = Some (record { line = number; seen = seen; edits = [] }) })) AreSaid AreSaid (counted_said number s said) (λ more h. record { scripts = h.scripts; begun = batch_begun seen few; names = h.names })
+begin_said number s (Some b) seen said few = tt
 
-commit_said : (number : ℕ) (s : SectionsData) (o : Option BegunBatch) → IfSome o (λ b. All IsSaid b.edits × (length b.edits ≤ MOST_EDITS)) → AreSaid s → IfOk (with_commit number s o) AreSaid
+commit_said : (number : ℕ) (s : SectionsData) (o : Option BegunBatch) → IfSome o (λ b. IsSaidCall (batch_call b.seen b.edits)) → AreSaid s → IfOk (with_commit number s o) AreSaid
 commit_said number s None begun said = tt
-commit_said number s (Some b) begun said = record { scripts = in_last_said (Batch b.edits) s.scripts begun said.scripts; begun = tt; names = in_last_apart (Batch b.edits) s.scripts said.names }
+commit_said number s (Some b) begun said = record { scripts = in_last_said (batch_call b.seen b.edits) s.scripts begun said.scripts; begun = tt; names = in_last_apart (batch_call b.seen b.edits) s.scripts said.names }
 
 obeyed_said : (number : ℕ) (s : SectionsData) (c : Command) → AreSaid s → HasSaid c → IfOk (with_command number s c) AreSaid
 obeyed_said number s says.Nothing said is = said
 obeyed_said number s (says.Edit e) said is = edit_said number s s.begun e said.begun said is
-obeyed_said number s says.Begin said is = begin_said number s s.begun said
+obeyed_said number s (says.Begin seen) said is = begin_said number s s.begun seen said is
 obeyed_said number s says.Commit said is = commit_said number s s.begun said.begun said
 
 -- told with the number of its line, a result is the same

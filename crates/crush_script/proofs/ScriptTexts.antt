@@ -1,6 +1,6 @@
 -- What is printed of scripts is read as those scripts.
 use Rattle.std.proofs.Common.{◌≡◌, ℕ, ◌+◌, ◌<◌, ◌≤◌, ◌&&◌, ◌==◌, Bool, true, false, not, cond, List, [], ◌∷◌, ◌++◌, Option, Some, None, Ok, length, map, take, drop, nat_le, refl, sym, ap, ◌∙◌, subst, arith, rules, tests, append_assoc, length-append}
-use Rattle.std.specs.Prelude.{All, AllPairs, bytes_eq, codes, flat_map}
+use Rattle.std.specs.Prelude.{All, AllPairs, bytes_eq, codes, decimal, flat_map}
 use Rattle.std.specs.List.{list_all}
 use Rattle.std.proofs.lemmas.Bool.{false≢true}
 use Rattle.std.proofs.lemmas.List.{append-nil, length-map, map-append, get_or_append_left, get_or-map}
@@ -10,21 +10,22 @@ use Rattle.std.proofs.lemmas.List.Sums.{sum_by-cons}
 use Rattle.std.proofs.Math.Seq.{take-append_seam, drop-append_seam, get_or-append_seam}
 use Rattle.crush_units.specs.Name.{IsName}
 use Rattle.crush_units.proofs.Names.{is_name_true}
-use Rattle.crush_units.specs.declared.limits.TheConstants.{MOST_CALLS, MOST_EDITS, MOST_OPERATORS}
+use Rattle.crush_units.specs.declared.limits.TheConstants.{MOST_CALLS, MOST_EDITS, MOST_ENTRIES, MOST_OPERATORS}
 use Rattle.crush_edits.specs.declared.edit.Edit.{Edit}
-use Rattle.crush_edits.specs.declared.edit.Edit.TheVariants.{Insert, CreateOrMove, Update, Move, Swap, Reweight, ReweightSubtree, Remove, AddBucket, Rename}
+use Rattle.crush_edits.specs.declared.edit.Edit.TheVariants.{Insert, CreateOrMove, Update, Move, Swap, Reweight, ReweightSubtree, Remove, AddBucket, Rename, SetClass, RemoveClass}
 use Rattle.crush_text.specs.Document.{IsMapText}
 use Rattle.crush_calls.specs.declared.call.Call.{Call}
-use Rattle.crush_calls.specs.declared.call.Call.TheVariants.{One, Batch}
+use Rattle.crush_calls.specs.declared.call.Call.TheVariants.{One, Batch, Guarded}
 use Rattle.crush_calls.specs.Script.{ScriptData, call_count}
 use Rattle.crush_calls.specs.HistoryText.{edit_text, names_of}
 use Rattle.crush_script.specs.declared.sections.BegunBatch.{BegunBatch}
-use Rattle.crush_script.specs.Command.{name_at, end_at, command, operator}
+use Rattle.crush_script.specs.Command.{name_at, end_at, begin_at, command, operator}
 use Rattle.crush_script.specs.Lines.{lines, words_between_blanks, begins_section, length_to_section, map_part, section_part, section_line}
-use Rattle.crush_script.specs.Sections.{SectionsData, no_sections, call_in_last, has_operator, without_batch, with_line, with_lines}
+use Rattle.crush_script.specs.Sections.{SectionsData, no_sections, call_in_last, has_operator, without_batch, batch_call, with_line, with_lines}
 use Rattle.crush_script.specs.Printed.{IsSaid}
 use Rattle.crush_script.specs.ScriptsText.{call_lines, script_lines, scripts_text, IsSaidCall, IsSaidScript, ends_line, JobsAreReadBack}
-use Rattle.crush_script.proofs.PrintedLaws.{name_word, printed, printed_is_read}
+use Rattle.crush_script.proofs.PrintedLaws.{count_word, name_word, printed, printed_is_read}
+use Rattle.crush_script.proofs.Counts.{count_read}
 use Rattle.crush_script.proofs.PrintedWords.{joined, is_line_byte, IsWord, both, never, bytes-joined, line_words-joined}
 
 -- LINES: none has a line feed
@@ -81,8 +82,18 @@ edit_lines : (es : List Edit) → All IsSaid es → AreLines (map edit_text es)
 edit_lines [] all = tt
 edit_lines (e ∷ es) all = (edit_line e (All-head IsSaid e es all), edit_lines es (All-tail IsSaid e es all))
 
+begin_word : IsWord (codes "begin")
+begin_word = record { some = omega arith; bytes = refl }
+
+at_word : IsWord (codes "at")
+at_word = record { some = omega arith; bytes = refl }
+
+guard_line : (n : ℕ) → n ≤ MOST_ENTRIES → IsLine (codes "begin at " ++ decimal n)
+guard_line n few = line_bytes (codes "begin at " ++ decimal n) (bytes-joined (codes "begin") (codes "at" ∷ (decimal n ∷ [])) begin_word (at_word, (count_word n few, tt)))
+
 call_is_lines : (c : Call) → IsSaidCall c → AreLines (call_lines c)
 call_is_lines (One e) is = (edit_line e is, tt)
+call_is_lines (Guarded seen es) is = (guard_line seen is.2, are_lines-append (map edit_text es) (codes "commit" ∷ []) (edit_lines es is.0) (refl, tt))
 call_is_lines (Batch es) is = (refl, are_lines-append (map edit_text es) (codes "commit" ∷ []) (edit_lines es is.0) (refl, tt))
 
 calls_are_lines : (cs : List Call) → All IsSaidCall cs → AreLines (flat_map call_lines cs)
@@ -135,23 +146,25 @@ begins_none (ReweightSubtree n w) = refl
 begins_none (Remove n) = refl
 begins_none (AddBucket n kind) = refl
 begins_none (Rename from to) = refl
+begins_none (SetClass n c) = refl
+begins_none (RemoveClass n) = refl
 
 few : (k m : ℕ) → k < m → nat_le m k ≡ false
 few k m less = search (rules, tests)
 
 -- the edits of a batch
-batch_goes : (es : List Edit) (n : ℕ) (xs : List ScriptData) (k at : ℕ) (done : List Edit) → All IsSaid es → length done + length es ≤ MOST_EDITS
-    → Goes n (state xs k (Some (record { line = at; edits = done }))) (map edit_text es) (state xs k (Some (record { line = at; edits = done ++ es })))
+batch_goes : (es : List Edit) (n : ℕ) (xs : List ScriptData) (k at : ℕ) (seen : Option ℕ) (done : List Edit) → All IsSaid es → length done + length es ≤ MOST_EDITS
+    → Goes n (state xs k (Some (record { line = at; seen = seen; edits = done }))) (map edit_text es) (state xs k (Some (record { line = at; seen = seen; edits = done ++ es })))
 unfolding with_line
-batch_goes [] n xs k at done all room = goes_to n _ _ _ [] (ap (λ (es : List Edit). state xs k (Some (record { line = at; edits = es }))) (sym (append-nil done))) (no_line n _)
-batch_goes (e ∷ es) n xs k at done all room =
+batch_goes [] n xs k at seen done all room = goes_to n _ _ _ [] (ap (λ (es : List Edit). state xs k (Some (record { line = at; seen = seen; edits = es }))) (sym (append-nil done))) (no_line n _)
+batch_goes (e ∷ es) n xs k at seen done all room =
     let is = All-head IsSaid e es all in
     let starts = begins_none e in
     let reads = printed_is_read e is in
     let less = few (length done) MOST_EDITS (omega arith) in
-    let one = one_line n (state xs k (Some (record { line = at; edits = done }))) (edit_text e) (state xs k (Some (record { line = at; edits = done ++ e ∷ [] }))) (rw (starts, reads, less) refl) in
-    goes_to n _ _ _ _ (ap (λ (fs : List Edit). state xs k (Some (record { line = at; edits = fs }))) (append_assoc done (e ∷ []) es))
-    (goes_on n _ _ _ (edit_text e ∷ []) (map edit_text es) one (λ m. batch_goes es m xs k at (done ++ e ∷ []) (All-tail IsSaid e es all) (omega (arith, room, length-append done (e ∷ [])))))
+    let one = one_line n (state xs k (Some (record { line = at; seen = seen; edits = done }))) (edit_text e) (state xs k (Some (record { line = at; seen = seen; edits = done ++ e ∷ [] }))) (rw (starts, reads, less) refl) in
+    goes_to n _ _ _ _ (ap (λ (fs : List Edit). state xs k (Some (record { line = at; seen = seen; edits = fs }))) (append_assoc done (e ∷ []) es))
+    (goes_on n _ _ _ (edit_text e ∷ []) (map edit_text es) one (λ m. batch_goes es m xs k at seen (done ++ e ∷ []) (All-tail IsSaid e es all) (omega (arith, room, length-append done (e ∷ [])))))
 
 -- the last script of some
 last_call : (c : Call) (before : List ScriptData) (x : ScriptData) → call_in_last c (before ++ x ∷ []) ≡ before ++ (record { name = x.name; calls = x.calls ++ c ∷ [] }) ∷ []
@@ -163,14 +176,24 @@ last_call c (y ∷ z ∷ before) x = ap (λ (r : List ScriptData). y ∷ r) (las
 abbrev in_last : List ScriptData → ScriptData → List Call → List ScriptData
 in_last before x cs = before ++ (record { name = x.name; calls = x.calls ++ cs }) ∷ []
 
-begin_goes : (n : ℕ) (xs : List ScriptData) (k : ℕ) → k < MOST_CALLS → Goes n (state xs k None) (codes "begin" ∷ []) (state xs (k + 1) (Some (record { line = n; edits = [] })))
-unfolding with_line command words_between_blanks end_at
+begin_goes : (n : ℕ) (xs : List ScriptData) (k : ℕ) → k < MOST_CALLS → Goes n (state xs k None) (codes "begin" ∷ []) (state xs (k + 1) (Some (record { line = n; seen = None; edits = [] })))
+unfolding with_line command words_between_blanks begin_at
 begin_goes n xs k room = let less = few k MOST_CALLS room in one_line n (state xs k None) (codes "begin") _ (rw less refl)
 
-commit_goes : (n : ℕ) (before : List ScriptData) (x : ScriptData) (k at : ℕ) (es : List Edit)
-    → Goes n (state (before ++ x ∷ []) k (Some (record { line = at; edits = es }))) (codes "commit" ∷ []) (state (in_last before x (Batch es ∷ [])) k None)
+-- `begin at N`
+guard_goes : (n : ℕ) (xs : List ScriptData) (k seen : ℕ) → seen ≤ MOST_ENTRIES → k < MOST_CALLS
+    → Goes n (state xs k None) ((codes "begin at " ++ decimal seen) ∷ []) (state xs (k + 1) (Some (record { line = n; seen = Some seen; edits = [] })))
+unfolding with_line command begin_at end_at
+guard_goes n xs k seen small room =
+    let less = few k MOST_CALLS room in
+    let words = line_words-joined (codes "begin") (codes "at" ∷ (decimal seen ∷ [])) begin_word (at_word, (count_word seen small, tt)) in
+    let number = count_read seen small in
+    one_line n (state xs k None) (codes "begin at " ++ decimal seen) _ (rw (words, number, less) refl)
+
+commit_goes : (n : ℕ) (before : List ScriptData) (x : ScriptData) (k at : ℕ) (seen : Option ℕ) (es : List Edit)
+    → Goes n (state (before ++ x ∷ []) k (Some (record { line = at; seen = seen; edits = es }))) (codes "commit" ∷ []) (state (in_last before x (batch_call seen es ∷ [])) k None)
 unfolding with_line command words_between_blanks end_at
-commit_goes n before x k at es = one_line n _ (codes "commit") _ (ap (λ (xs : List ScriptData). Ok (state xs k None)) (last_call (Batch es) before x))
+commit_goes n before x k at seen es = one_line n _ (codes "commit") _ (ap (λ (xs : List ScriptData). Ok (state xs k None)) (last_call (batch_call seen es) before x))
 
 call_goes : (c : Call) (n : ℕ) (before : List ScriptData) (x : ScriptData) (k : ℕ) → IsSaidCall c → k < MOST_CALLS
     → Goes n (state (before ++ x ∷ []) k None) (call_lines c) (state (in_last before x (c ∷ [])) (k + 1) None)
@@ -182,7 +205,10 @@ call_goes (One e) n before x k is room =
     one_line n (state (before ++ x ∷ []) k None) (edit_text e) _ (rw (starts, reads, less) (ap (λ (xs : List ScriptData). Ok (state xs (k + 1) None)) (last_call (One e) before x)))
 call_goes (Batch es) n before x k is room =
     goes_on n _ _ _ (codes "begin" ∷ []) (map edit_text es ++ codes "commit" ∷ []) (begin_goes n (before ++ x ∷ []) k room)
-    (λ m. goes_on m _ _ _ (map edit_text es) (codes "commit" ∷ []) (batch_goes es m (before ++ x ∷ []) (k + 1) n [] is.0 (omega (arith, is.1))) (λ o. commit_goes o before x (k + 1) n es))
+    (λ m. goes_on m _ _ _ (map edit_text es) (codes "commit" ∷ []) (batch_goes es m (before ++ x ∷ []) (k + 1) n None [] is.0 (omega (arith, is.1))) (λ o. commit_goes o before x (k + 1) n None es))
+call_goes (Guarded seen es) n before x k is room =
+    goes_on n _ _ _ ((codes "begin at " ++ decimal seen) ∷ []) (map edit_text es ++ codes "commit" ∷ []) (guard_goes n (before ++ x ∷ []) k seen is.2 room)
+    (λ m. goes_on m _ _ _ (map edit_text es) (codes "commit" ∷ []) (batch_goes es m (before ++ x ∷ []) (k + 1) n (Some seen) [] is.0 (omega (arith, is.1))) (λ o. commit_goes o before x (k + 1) n (Some seen) es))
 
 calls_go : (cs : List Call) (n : ℕ) (before : List ScriptData) (x : ScriptData) (k : ℕ) → All IsSaidCall cs → k + length cs ≤ MOST_CALLS
     → Goes n (state (before ++ x ∷ []) k None) (flat_map call_lines cs) (state (in_last before x cs) (k + length cs) None)

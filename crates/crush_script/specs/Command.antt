@@ -5,7 +5,7 @@ use Rattle.crush_units.specs.Weight.{weight_of_text}
 use Rattle.crush_units.specs.declared.weight.WeightFault.{WeightFault}
 use Rattle.crush_edits.specs.declared.location.Pair.{Pair}
 use Rattle.crush_edits.specs.declared.edit.Edit.{Edit}
-use Rattle.crush_edits.specs.declared.edit.Edit.TheVariants.{Insert, CreateOrMove, Update, Move, Swap, Reweight, ReweightSubtree, Remove, AddBucket, Rename}
+use Rattle.crush_edits.specs.declared.edit.Edit.TheVariants.{Insert, CreateOrMove, Update, Move, Swap, Reweight, ReweightSubtree, Remove, AddBucket, Rename, SetClass, RemoveClass}
 use Rattle.crush_script.specs.declared.command.Command.{Command}
 use Rattle.crush_script.specs.declared.command.Command.TheVariants as says
 use Rattle.crush_script.specs.declared.command.Keyword.{Keyword}
@@ -16,7 +16,7 @@ use Rattle.crush_script.specs.declared.command.Placing.{Placing}
 use Rattle.crush_script.specs.declared.command.LineFault.{LineFault}
 use Rattle.crush_script.specs.declared.command.LineFault.TheVariants.{BadLine, NoSuchCommand}
 use Rattle.crush_text.specs.Flow.{◌>>=◌}
-use Rattle.crush_script.specs.Words.{pair_of, can_add, device_named}
+use Rattle.crush_script.specs.Words.{pair_of, can_add, count_of, device_named}
 
 -- what was read, and the words behind it
 pub record Read (X : Type 0) : Type 0 where
@@ -83,7 +83,7 @@ one_name_at words = do
   name ← name_at words
   end_at name.value name.rest
 
--- `NAME NAME`, `NAME TYPENAME`, `FROM TO`
+-- `NAME NAME`, `NAME TYPENAME`, `FROM TO`, `CLASS NAME`
 unfoldable pub two_names_at : List (List ℕ) → Result (List ℕ × List ℕ) LineFault
 two_names_at words = do
   first ← name_at words
@@ -97,13 +97,20 @@ weighed_at words = do
   weight ← weight_at name.rest
   end_at (name.value, weight.value) weight.rest
 
--- the command that a first word names: those that only name what comes, goes or is renamed
+-- the command that a first word names: those of a device's class
+unfoldable pub classing_keyword : List ℕ → Option Keyword
+classing_keyword first =
+    if bytes_eq first (codes "set-device-class") then Some word.SetDeviceClass
+    else if bytes_eq first (codes "rm-device-class") then Some word.RmDeviceClass
+    else None
+
+-- before these, those that only name what comes, goes or is renamed
 unfoldable pub naming_keyword : List ℕ → Option Keyword
 naming_keyword first =
     if bytes_eq first (codes "rm") || bytes_eq first (codes "remove") then Some word.Rm
     else if bytes_eq first (codes "add-bucket") then Some word.AddBucket
     else if bytes_eq first (codes "rename-bucket") then Some word.RenameBucket
-    else None
+    else classing_keyword first
 
 -- before these, those that move or weigh items
 unfoldable pub moving_keyword : List ℕ → Option Keyword
@@ -138,6 +145,8 @@ edit_of word.ReweightSubtree rest = weighed_at rest >>= λ p. Ok (ReweightSubtre
 edit_of word.Rm rest = one_name_at rest >>= λ name. Ok (Remove name)
 edit_of word.AddBucket rest = two_names_at rest >>= λ p. Ok (AddBucket p.0 p.1)
 edit_of word.RenameBucket rest = two_names_at rest >>= λ p. Ok (Rename p.0 p.1)
+edit_of word.SetDeviceClass rest = two_names_at rest >>= λ p. Ok (SetClass p.1 p.0)
+edit_of word.RmDeviceClass rest = one_name_at rest >>= λ name. Ok (RemoveClass name)
 
 -- the same, where the first word may be no command
 abbrev pub edit_by : Option Keyword → List (List ℕ) → Result Edit LineFault
@@ -148,11 +157,25 @@ edit_by (Some keyword) rest = edit_of keyword rest
 unfoldable pub edit_at : List ℕ → List (List ℕ) → Result Edit LineFault
 edit_at first rest = edit_by (keyword_of first) rest
 
+-- the next word as a number of changes
+abbrev pub read_count : Option ℕ → List (List ℕ) → Result (Read ℕ) LineFault
+read_count (Some n) rest = Ok (record { value = n; rest = rest })
+read_count None rest = Err BadLine
+
+unfoldable pub count_at : List (List ℕ) → Result (Read ℕ) LineFault
+count_at [] = Err BadLine
+count_at (word ∷ rest) = read_count (count_of word) rest
+
+-- behind `begin`: nothing, or `at N`
+unfoldable pub begin_at : List (List ℕ) → Result Command LineFault
+begin_at [] = Ok (says.Begin None)
+begin_at (word ∷ rest) = if bytes_eq word (codes "at") then (count_at rest >>= λ seen. end_at (says.Begin (Some seen.value)) seen.rest) else Err BadLine
+
 -- what a line says that begins no section
 unfoldable pub command : List (List ℕ) → Result Command LineFault
 command [] = Ok says.Nothing
 command (first ∷ rest) =
-    if bytes_eq first (codes "begin") then end_at says.Begin rest
+    if bytes_eq first (codes "begin") then begin_at rest
     else if bytes_eq first (codes "commit") then end_at says.Commit rest
     else edit_at first rest >>= λ edit. Ok (says.Edit edit)
 

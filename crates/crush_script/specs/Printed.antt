@@ -3,7 +3,7 @@ use Rattle.std.specs.Prelude.{◌≡◌, ℕ, ◌<◌, ◌^◌, List, Some, Ok}
 use Rattle.crush_units.specs.Name.{IsName}
 use Rattle.crush_edits.specs.declared.location.Pair.{Pair}
 use Rattle.crush_edits.specs.declared.edit.Edit.{Edit}
-use Rattle.crush_edits.specs.declared.edit.Edit.TheVariants.{Insert, CreateOrMove, Update, Move, Swap, Reweight, ReweightSubtree, Remove, AddBucket, Rename}
+use Rattle.crush_edits.specs.declared.edit.Edit.TheVariants.{Insert, CreateOrMove, Update, Move, Swap, Reweight, ReweightSubtree, Remove, AddBucket, Rename, SetClass, RemoveClass}
 use Rattle.crush_edits.specs.Pushed.{IsLocation}
 use Rattle.crush_script.specs.declared.command.Command.TheVariants as says
 use Rattle.crush_script.specs.Lines.{line_words}
@@ -30,6 +30,8 @@ IsSaid (ReweightSubtree n w) = IsName n × (w < 2 ^ 32)
 IsSaid (Remove n) = IsName n
 IsSaid (AddBucket n kind) = IsName n × IsName kind
 IsSaid (Rename from to) = IsName from × IsName to
+IsSaid (SetClass n c) = IsName n × IsName c
+IsSaid (RemoveClass n) = IsName n
 
 -- PRINTED IS READ: the command that is printed of an edit is a line that says the same edit
 abbrev pub PrintedIsRead : Type 0

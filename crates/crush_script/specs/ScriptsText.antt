@@ -1,12 +1,12 @@
 -- Scripts as the sections of a job, and that they are read back.
-use Rattle.std.specs.Prelude.{◌≡◌, ℕ, ◌≤◌, List, [], ◌∷◌, ◌++◌, Bool, true, false, ◌==◌, All, AllPairs, bytes_eq, codes, length, map, flat_map}
+use Rattle.std.specs.Prelude.{◌≡◌, ℕ, ◌≤◌, List, [], ◌∷◌, ◌++◌, Bool, true, false, ◌==◌, All, AllPairs, bytes_eq, codes, decimal, length, map, flat_map}
 use Rattle.crush_units.specs.Name.{IsName}
-use Rattle.crush_units.specs.declared.limits.TheConstants.{MOST_CALLS, MOST_EDITS, MOST_OPERATORS, LONGEST_JOB}
+use Rattle.crush_units.specs.declared.limits.TheConstants.{MOST_CALLS, MOST_EDITS, MOST_ENTRIES, MOST_OPERATORS, LONGEST_JOB}
 use Rattle.crush_table.specs.Table.{Row}
 use Rattle.crush_edits.specs.Setting.{SettingData}
 use Rattle.crush_text.specs.Document.{IsMapText}
 use Rattle.crush_calls.specs.declared.call.Call.{Call}
-use Rattle.crush_calls.specs.declared.call.Call.TheVariants.{One, Batch}
+use Rattle.crush_calls.specs.declared.call.Call.TheVariants.{One, Batch, Guarded}
 use Rattle.crush_calls.specs.Script.{ScriptData, call_count}
 use Rattle.crush_calls.specs.HistoryText.{edit_text, names_of}
 use Rattle.crush_script.specs.Lines.{length_to_section}
@@ -17,6 +17,7 @@ use Rattle.crush_script.specs.Job.{IsJob, JobData}
 abbrev pub call_lines : Call → List (List ℕ)
 call_lines (One e) = edit_text e ∷ []
 call_lines (Batch es) = codes "begin" ∷ (map edit_text es ++ codes "commit" ∷ [])
+call_lines (Guarded seen es) = (codes "begin at " ++ decimal seen) ∷ (map edit_text es ++ codes "commit" ∷ [])
 
 -- the section of an operator
 abbrev pub script_lines : ScriptData → List (List ℕ)
@@ -26,10 +27,11 @@ script_lines s = (codes "%operator " ++ s.name) ∷ flat_map call_lines s.calls
 abbrev pub scripts_text : List ScriptData → List ℕ
 scripts_text scripts = flat_map (λ (line : List ℕ). line ++ codes "\n") (flat_map script_lines scripts)
 
--- the edits of a call can be said, and those of a batch are not too many
+-- the edits of a call can be said, those of a batch are not too many, and a history can have the number of changes that it names
 abbrev pub IsSaidCall : Call → Type 0
 IsSaidCall (One e) = IsSaid e
 IsSaidCall (Batch es) = All IsSaid es × (length es ≤ MOST_EDITS)
+IsSaidCall (Guarded seen es) = All IsSaid es × (length es ≤ MOST_EDITS) × (seen ≤ MOST_ENTRIES)
 
 pub record IsSaidScript (x : ScriptData) : Type 0 where
   pub name : IsName x.name

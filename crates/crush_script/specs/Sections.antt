@@ -3,7 +3,7 @@ use Rattle.std.specs.Prelude.{ℕ, ◌+◌, List, [], ◌∷◌, ◌++◌, Bool,
 use Rattle.std.specs.List.{list_any}
 use Rattle.crush_edits.specs.declared.edit.Edit.{Edit}
 use Rattle.crush_calls.specs.declared.call.Call.{Call}
-use Rattle.crush_calls.specs.declared.call.Call.TheVariants.{One, Batch}
+use Rattle.crush_calls.specs.declared.call.Call.TheVariants.{One, Batch, Guarded}
 use Rattle.crush_script.specs.declared.command.Command.{Command}
 use Rattle.crush_script.specs.declared.command.Command.TheVariants as says
 use Rattle.crush_script.specs.declared.command.LineFault.{LineFault}
@@ -18,7 +18,7 @@ use Rattle.crush_script.specs.Command.{command, operator}
 use Rattle.crush_script.specs.Lines.{lines, section_part, section_line, line_words, begins_section}
 use Rattle.crush_units.specs.declared.limits.TheConstants.{MOST_CALLS, MOST_EDITS, MOST_OPERATORS}
 
--- what the lines so far say: the scripts, how many calls were begun in all, and the batch that is open, with the line of its `begin` and its edits
+-- what the lines so far say: the scripts, how many calls were begun in all, and the batch that is open, with the line of its `begin`, the number of changes that it names, and its edits
 pub record SectionsData : Type 0 where
   pub scripts : List ScriptData
   pub calls : ℕ
@@ -78,26 +78,31 @@ with_call c s = record s { scripts = call_in_last c s.scripts }
 abbrev pub in_batch : ℕ → SectionsData → BegunBatch → Edit → Result SectionsData JobFault
 in_batch number s b e =
     if nat_le MOST_EDITS (length b.edits) then Err (job.BadLine number)
-    else Ok (record s { begun = Some (record { line = b.line; edits = b.edits ++ e ∷ [] }) })
+    else Ok (record s { begun = Some (record { line = b.line; seen = b.seen; edits = b.edits ++ e ∷ [] }) })
 
 abbrev pub with_edit : ℕ → SectionsData → Option BegunBatch → Edit → Result SectionsData JobFault
 with_edit number s None e = counted number s >>= λ more. Ok (with_call (One e) more)
 with_edit number s (Some b) e = in_batch number s b e
 
--- `begin`, where no batch is open, is the first line of one more call
-abbrev pub with_begin : ℕ → SectionsData → Option BegunBatch → Result SectionsData JobFault
-with_begin number s None = counted number s >>= λ more. Ok (record more { begun = Some (record { line = number; edits = [] }) })
-with_begin number s (Some b) = Err (job.BadLine number)
+-- `begin` or `begin at N`, where no batch is open, is the first line of one more call
+abbrev pub with_begin : ℕ → SectionsData → Option BegunBatch → Option ℕ → Result SectionsData JobFault
+with_begin number s None seen = counted number s >>= λ more. Ok (record more { begun = Some (record { line = number; seen = seen; edits = [] }) })
+with_begin number s (Some b) seen = Err (job.BadLine number)
+
+-- the call of a batch, guarded where it names a number of changes
+abbrev pub batch_call : Option ℕ → List Edit → Call
+batch_call None es = Batch es
+batch_call (Some seen) es = Guarded seen es
 
 -- `commit`, where a batch is open
 abbrev pub with_commit : ℕ → SectionsData → Option BegunBatch → Result SectionsData JobFault
 with_commit number s None = Err (job.BadLine number)
-with_commit number s (Some b) = Ok (with_call (Batch b.edits) (record s { begun = None }))
+with_commit number s (Some b) = Ok (with_call (batch_call b.seen b.edits) (record s { begun = None }))
 
 abbrev pub with_command : ℕ → SectionsData → Command → Result SectionsData JobFault
 with_command number s says.Nothing = Ok s
 with_command number s (says.Edit edit) = with_edit number s s.begun edit
-with_command number s says.Begin = with_begin number s s.begun
+with_command number s (says.Begin seen) = with_begin number s s.begun seen
 with_command number s says.Commit = with_commit number s s.begun
 
 -- one line

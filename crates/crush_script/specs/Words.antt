@@ -1,11 +1,12 @@
--- What one word of a command says: a pair, or a device's name.
-use Rattle.std.specs.Prelude.{ℕ, ◌+◌, ◌==◌, Bool, not, ◌&&◌, ◌||◌, List, length, take, drop, slice_index, codes, bytes_eq, nat_lt, Option, None, if◌then◌else◌}
-use Rattle.std.specs.List.{position_or_len}
+-- What one word of a command says: a pair, a device's name, or a number of changes.
+use Rattle.std.specs.Prelude.{ℕ, ◌+◌, ◌==◌, Bool, not, ◌&&◌, ◌||◌, List, length, take, drop, slice_index, codes, bytes_eq, nat_le, nat_lt, Option, Some, None, if◌then◌else◌}
+use Rattle.std.specs.List.{list_all, position_or_len}
+use Rattle.std.specs.Char.{is_ascii_digit}
 use Rattle.std.specs.Str.Parse.{digits_value}
 use Rattle.crush_units.specs.Name.{is_name}
 use Rattle.crush_units.specs.Weight.{are_digits}
 use Rattle.crush_units.specs.Id.{device_from}
-use Rattle.crush_units.specs.declared.limits.TheConstants.{MOST_PAIRS}
+use Rattle.crush_units.specs.declared.limits.TheConstants.{MOST_ENTRIES, MOST_PAIRS}
 use Rattle.crush_edits.specs.declared.location.Pair.{Pair}
 
 -- the two parts of a word `TYPE=NAME`: what stands before its first `=` and what stands behind it
@@ -28,3 +29,10 @@ abbrev pub device_named : List ℕ → Option ℕ
 device_named name =
     if bytes_eq (take 4 name) (codes "osd.") && is_plain (drop 4 name) then device_from (digits_value 10 (drop 4 name))
     else None
+
+-- a number of changes: digits, however many, of a value that a history can have
+abbrev pub is_count : List ℕ → Bool
+is_count word = not (length word == 0) && list_all is_ascii_digit word && nat_le (digits_value 10 word) MOST_ENTRIES
+
+abbrev pub count_of : List ℕ → Option ℕ
+count_of word = if is_count word then Some (digits_value 10 word) else None

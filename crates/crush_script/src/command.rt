@@ -2,10 +2,10 @@
 
 ghost use Rattle.std.specs.Prelude.{◌≡◌};
 ghost use Rattle.crush_script.specs.ReadsAs.{ReadsAs, ReadsAndLeaves};
-ghost use Rattle.crush_script.specs.Command.{command, operator, name_at, weight_at, end_at, with_pair, location_at, placing_at, located_at, one_name_at, two_names_at, weighed_at, keyword_of, moving_keyword, naming_keyword, edit_to_place, edit_of, edit_at};
+ghost use Rattle.crush_script.specs.Command.{command, operator, name_at, weight_at, end_at, with_pair, location_at, placing_at, located_at, one_name_at, two_names_at, weighed_at, keyword_of, moving_keyword, naming_keyword, classing_keyword, edit_to_place, edit_of, edit_at, begin_at, count_at};
 
 use crate::line::{LineWords, place_of};
-use crate::word::device_named;
+use crate::word::{count_of, device_named};
 use crush_edits::{Edit, Location, LocationFault};
 use crush_units::{DeviceId, Name, NameFault, Weight};
 use std::alloc::Global;
@@ -28,8 +28,8 @@ pub(crate) enum Command {
     Nothing,
     /// An edit.
     Edit(Edit),
-    /// A batch begins.
-    Begin,
+    /// A batch begins, which may name the number of changes that its operator has seen.
+    Begin(Option<u32>),
     /// A batch ends.
     Commit,
 }
@@ -53,6 +53,8 @@ pub(crate) enum Keyword {
     Rm,
     AddBucket,
     RenameBucket,
+    SetDeviceClass,
+    RmDeviceClass,
 }
 
 /// A device, and where it is to be put with which weight.
@@ -127,6 +129,20 @@ fn naming_keyword(first: &[u8]) -> Option<Keyword>
         Some(Keyword::AddBucket)
     } else if first == b"rename-bucket".as_slice() {
         Some(Keyword::RenameBucket)
+    } else {
+        classing_keyword(first)
+    }
+}
+
+/// The command of a first word that is about a device's class.
+#[tactic(auto, unfolding(crate::specs::Command::classing_keyword))]
+fn classing_keyword(first: &[u8]) -> Option<Keyword>
+    ensures { result ≡ classing_keyword first.now }
+{
+    if first == b"set-device-class".as_slice() {
+        Some(Keyword::SetDeviceClass)
+    } else if first == b"rm-device-class".as_slice() {
+        Some(Keyword::RmDeviceClass)
     } else {
         None
     }
@@ -312,6 +328,14 @@ impl LineWords<'_> {
                 let (from, to) = self.two_names(alloc)?;
                 Ok(Edit::Rename { from, to })
             }
+            Keyword::SetDeviceClass => {
+                let (class, name) = self.two_names(alloc)?;
+                Ok(Edit::SetClass { name, class })
+            }
+            Keyword::RmDeviceClass => {
+                let name = self.one_name(alloc)?;
+                Ok(Edit::RemoveClass { name })
+            }
         }
     }
 
@@ -326,6 +350,35 @@ impl LineWords<'_> {
         }
     }
 
+    /// Takes the next word as a number of changes.
+    #[tactic(auto, unfolding(crate::specs::Command::count_at))]
+    fn count(&mut self) -> Result<u32, LineFault>
+        ensures { ReadsAndLeaves result self.new (count_at self.old) }
+    {
+        let Some(word) = self.next() else {
+            return Err(LineFault::BadLine);
+        };
+        match count_of(word) {
+            Some(count) => Ok(count),
+            None => Err(LineFault::BadLine),
+        }
+    }
+
+    /// What a line says that begins a batch, by the words behind `begin`.
+    #[tactic(auto, unfolding(crate::specs::Command::begin_at))]
+    fn begin(&mut self) -> Result<Command, LineFault>
+        ensures { ReadsAs result (begin_at self.old) }
+    {
+        let Some(word) = self.next() else {
+            return Ok(Command::Begin(None));
+        };
+        if word != b"at".as_slice() {
+            return Err(LineFault::BadLine);
+        }
+        let seen = self.count()?;
+        self.end(Command::Begin(Some(seen)))
+    }
+
     /// What the words of a line say that begins no section.
     #[tactic(auto, unfolding(crate::specs::Command::command))]
     pub(crate) fn command(&mut self, alloc: Global) -> Result<Command, LineFault>
@@ -335,7 +388,7 @@ impl LineWords<'_> {
             return Ok(Command::Nothing);
         };
         if first == b"begin".as_slice() {
-            return self.end(Command::Begin);
+            return self.begin();
         }
         if first == b"commit".as_slice() {
             return self.end(Command::Commit);

@@ -3,7 +3,7 @@
 ghost use Rattle.std.specs.Prelude.{◌≡◌, ◌+◌, ◌<◌, ◌^◌, false, true, length};
 ghost use Rattle.crush_script.specs.Lines.{lines, begins_section};
 ghost use Rattle.crush_calls.specs.Script.{scripts_data};
-ghost use Rattle.crush_script.specs.Sections.{with_lines, no_sections, has_operator};
+ghost use Rattle.crush_script.specs.Sections.{with_lines, no_sections, has_operator, batch_call};
 ghost use Rattle.crush_script.specs.Steps.{GivesSections};
 
 use crate::command::Command;
@@ -20,6 +20,8 @@ use std::alloc::Global;
 pub(crate) struct BegunBatch {
     /// The number of the line of its `begin`.
     pub(crate) line: usize,
+    /// The number of changes that its `begin` names.
+    pub(crate) seen: Option<u32>,
     /// Its edits so far.
     pub(crate) edits: Edits,
 }
@@ -45,6 +47,16 @@ fn has_operator(scripts: &[Script], name: &Name<Global>) -> bool
         }
     }
     false
+}
+
+/// The call of a batch, guarded where it names a number of changes.
+fn batch_call(seen: Option<u32>, edits: Edits) -> Call
+    ensures { result ≡ batch_call seen edits }
+{
+    match seen {
+        Some(seen) => Call::Guarded { seen, edits },
+        None => Call::Batch(edits),
+    }
 }
 
 impl Sections {
@@ -133,10 +145,15 @@ impl Sections {
     }
 
     /// Begins a batch.
-    fn begin_batch(&mut self, alloc: Global, number: usize) -> Result<(), JobFault>
+    fn begin_batch(
+        &mut self,
+        alloc: Global,
+        number: usize,
+        seen: Option<u32>,
+    ) -> Result<(), JobFault>
         requires begun { 0 < length self.old.scripts.items }
         ensures steps { Steps result (sections_data self.new)
-            (with_begin number (sections_data self.old) self.old.begun) }
+            (with_begin number (sections_data self.old) self.old.begun seen) }
         ensures begun { OnOk result (0 < length self.new.scripts.items) }
     {
         if self.begun.is_some() {
@@ -145,6 +162,7 @@ impl Sections {
         self.count_call(number)?;
         self.begun = Some(BegunBatch {
             line: number,
+            seen,
             edits: Edits::new(Vec::new(alloc)),
         });
         Ok(())
@@ -160,7 +178,7 @@ impl Sections {
         let Some(batch) = self.begun.take() else {
             return Err(JobFault::BadLine(number));
         };
-        self.add_call(Call::Batch(batch.edits))
+        self.add_call(batch_call(batch.seen, batch.edits))
     }
 
     /// Does what a line says that begins no section.
@@ -173,7 +191,7 @@ impl Sections {
         match command {
             Command::Nothing => Ok(()),
             Command::Edit(edit) => self.add_edit(number, edit),
-            Command::Begin => self.begin_batch(alloc, number),
+            Command::Begin(seen) => self.begin_batch(alloc, number, seen),
             Command::Commit => self.commit_batch(number),
         }
     }

@@ -1,11 +1,11 @@
-//! What one word of a command says: a pair, or a device's name.
+//! What one word of a command says: a pair, a device's name, or a number of changes.
 
 ghost use Rattle.std.specs.Prelude.{◌≡◌, ◌==◌, ◌||◌, not, length, slice_index};
-ghost use Rattle.crush_script.specs.Words.{device_named};
+ghost use Rattle.crush_script.specs.Words.{count_of, device_named};
 
 use crush_bytes::number::number_up_to;
 use crush_units::DeviceId;
-use crush_units::limits::LAST_DEVICE_ID;
+use crush_units::limits::{LAST_DEVICE_ID, MOST_ENTRIES};
 
 /// Whether no digit could be left out at the front of a number.
 fn begins_plain(digits: &[u8]) -> bool
@@ -27,4 +27,24 @@ pub(crate) fn device_named(name: &[u8]) -> Option<DeviceId>
     }
     let number = number_up_to(LAST_DEVICE_ID, digits)?;
     DeviceId::from_number(number)
+}
+
+/// The number of changes that digits write, however many they are, where a history can have so many.
+pub(crate) fn count_of(digits: &[u8]) -> Option<u32>
+    ensures { result ≡ count_of digits.now }
+{
+    if digits.is_empty() {
+        return None;
+    }
+    let mut value: usize = 0;
+    for digit in digits {
+        if !digit.is_ascii_digit() {
+            return None;
+        }
+        value = value * 10 + (*digit - 48) as usize;
+        if value > MOST_ENTRIES {
+            return None;
+        }
+    }
+    Some(value as u32)
 }

@@ -1,6 +1,7 @@
 pub mod Appended
 pub mod Attached
 pub mod Changes
+pub mod Classes
 pub mod Climbs
 pub mod Columns
 pub mod Counted

@@ -8,7 +8,7 @@ use Rattle.crush_units.specs.Name.{IsName}
 use Rattle.crush_table.specs.Items.{Items}
 use Rattle.crush_table.specs.Table.{Row, row_of, is_there, is_named, is_placed, member, used_ids, are_nested}
 use Rattle.crush_table.specs.Lawful.{IsRow, Lawful, is_too_heavy, has_too_many}
-use Rattle.crush_table.specs.Columns.{set_weight, set_subtree, set_name, swap_buckets, is_part, part, without_row}
+use Rattle.crush_table.specs.Columns.{set_weight, set_subtree, set_name, set_class, swap_buckets, is_part, part, without_row}
 use Rattle.crush_table.specs.ItemRows.{rows}
 use Rattle.crush_units.specs.declared.limits.TheConstants.{HEAVIEST_DEVICE}
 
@@ -31,6 +31,11 @@ SubtreeKeepsLawful = (t : List Row) (b w : ℕ) → Lawful t → w ≤ HEAVIEST_
 abbrev pub NameKeepsLawful : Type 0
 NameKeepsLawful = (i : ItemId) (n : List ℕ) (t : List Row) (r : Row) → Lawful t
     → row_of t i ≡ Some r → IsName n → is_named t n ≡ false → Lawful (set_name i n t)
+
+-- a class in the form of names, or none, of a device
+abbrev pub ClassKeepsLawful : Type 0
+ClassKeepsLawful = (d : ℕ) (c : Option (List ℕ)) (t : List Row) → Lawful t → IfSome c IsName
+    → Lawful (set_class (Device d) c t)
 
 -- a row that is taken out and put last with a bucket as parent that is there and neither the item
 -- nor below it, where the sums stay in range

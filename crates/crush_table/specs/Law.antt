@@ -4,6 +4,7 @@ use Rattle.std.specs.List.{sum_by, count_by}
 use Rattle.crush_units.specs.declared.id.ItemId.{ItemId}
 use Rattle.crush_units.specs.Id.{same_id}
 use Rattle.crush_table.specs.Table.{Row, row_of, row_named, climb, above, kids, sum_below, total, weight_of, member, used_ids, free_ids, device_count, bucket_count}
+use Rattle.crush_table.specs.Classes.{class_sum}
 use Rattle.crush_table.specs.Same.{Same}
 use Rattle.crush_table.specs.Lawful.{Lawful, is_too_heavy, has_too_many}
 use Rattle.crush_table.specs.Forest.{ForestData, IsSound, rows_of}
@@ -21,7 +22,7 @@ abbrev pub ClimbEnds : List Row → Type 0
 ClimbEnds t = (n : ℕ) (i : ItemId) → length t ≤ n → climb t n i ≡ above t i
 
 -- what is read off both tables is equal: the row of each id and each name, and so all columns; the
--- items of a bucket in order; what is above an item; weights, counts and ids in use
+-- items of a bucket in order; what is above an item; weights, also of a class, counts and ids in use
 pub record AreReadAlike (t u : List Row) : Type 0 where
   pub row : (i : ItemId) → row_of t i ≡ row_of u i
   pub named : (n : List ℕ) → row_named t n ≡ row_named u n
@@ -29,6 +30,7 @@ pub record AreReadAlike (t u : List Row) : Type 0 where
   pub above : (i : ItemId) → above t i ≡ above u i
   pub sum : (b : ℕ) → sum_below t b ≡ sum_below u b
   pub weight : (i : ItemId) → weight_of t i ≡ weight_of u i
+  pub class : (i : ItemId) (c : List ℕ) → class_sum t i c ≡ class_sum u i c
   pub total : total t ≡ total u
   pub devices : device_count t ≡ device_count u
   pub buckets : bucket_count t ≡ bucket_count u

@@ -1,3 +1,4 @@
+pub mod Classes
 pub mod Codes
 pub mod Columns
 pub mod Count

@@ -1,9 +1,9 @@
 //! Laws of the table, as contracts of functions that do nothing.
 
-ghost use Rattle.std.specs.Prelude.{◌≡◌, ◌↔◌, ℕ, List, ◌++◌, true};
+ghost use Rattle.std.specs.Prelude.{◌≡◌, ◌↔◌, ℕ, List, Option, ◌++◌, true};
 ghost use Rattle.crush_units.specs.declared.id.ItemId.{ItemId};
-ghost use Rattle.crush_table.specs.Columns.{set_weight, set_subtree, set_name, table_without, part, without_row, exchange_parents, swap_buckets};
-ghost use Rattle.crush_table.specs.KeepsLaw.{KeepsLawful, WeightKeepsLawful, SubtreeKeepsLawful, NameKeepsLawful, MoveKeepsLawful, SwapKeepsLawful, DeviceKeepsLawful, BucketKeepsLawful, RowsKeepLawful, PartKeepsLawful, PlacedRowKeepsForm, PlacedDeviceKeepsForm};
+ghost use Rattle.crush_table.specs.Columns.{set_weight, set_subtree, set_name, set_class, table_without, part, without_row, exchange_parents, swap_buckets};
+ghost use Rattle.crush_table.specs.KeepsLaw.{KeepsLawful, WeightKeepsLawful, SubtreeKeepsLawful, NameKeepsLawful, ClassKeepsLawful, MoveKeepsLawful, SwapKeepsLawful, DeviceKeepsLawful, BucketKeepsLawful, RowsKeepLawful, PartKeepsLawful, PlacedRowKeepsForm, PlacedDeviceKeepsForm};
 ghost use Rattle.crush_table.specs.Law.{SumsItems, ClimbEnds, SameIsAlike, KeepsSame, StandsForOne, FreeIdsAreFree, FewIdsAreUsed, HeavyIsAlike, RoomIsAlike, AddsRows};
 ghost use Rattle.crush_table.specs.MoveLaw.{Relocates, RelocatesDevice, EmptyIsRow, DeviceIsRow, EmptyPartIsRow, DevicePartIsRow, EmptyKeepsSums};
 ghost use Rattle.crush_table.specs.Lawful.{Lawful};
@@ -29,6 +29,7 @@ pub fn changes_keep_same()
     ensures weight { (i : ItemId) (w : ℕ) → KeepsSame (set_weight i w) }
     ensures subtree { (b w : ℕ) → KeepsSame (set_subtree b w) }
     ensures name { (i : ItemId) (n : List ℕ) → KeepsSame (set_name i n) }
+    ensures class { (i : ItemId) (c : Option (List ℕ)) → KeepsSame (set_class i c) }
     ensures rows { (rows : List Row) → KeepsSame (λ t. t ++ rows) }
     ensures without { (i : ItemId) → KeepsSame (table_without i) }
     ensures row { (i : ItemId) → KeepsSame (without_row i) }
@@ -44,7 +45,7 @@ pub fn stands_for_one_table()
 
 /// What leaves a table lawful.
 ///
-/// That an item goes, with what is below it. Where the sums stay in range: new weights of placed
+/// That an item goes, with what is below it, and a device's class. Where the sums stay in range: new weights of placed
 /// devices, a bucket that isn't below it as the parent of an item, the items and names of two
 /// buckets exchanged. Where ids and names are fresh and there is room: new rows.
 pub fn changes_keep_lawful()
@@ -52,6 +53,7 @@ pub fn changes_keep_lawful()
     ensures weight { WeightKeepsLawful }
     ensures subtree { SubtreeKeepsLawful }
     ensures name { NameKeepsLawful }
+    ensures class { ClassKeepsLawful }
     ensures parent { MoveKeepsLawful }
     ensures swap { SwapKeepsLawful }
     ensures device { DeviceKeepsLawful }

@@ -2,8 +2,8 @@
 use Rattle.std.proofs.Common.{◌≡◌, ◌+◌, [], ◌∷◌, refl}
 use Rattle.std.specs.Prelude.{codes, None}
 use Rattle.crush_units.specs.declared.limits.TheConstants.{HEAVIEST_DEVICE}
-use Rattle.crush_edits.specs.declared.edit.Edit.TheVariants.{Insert, CreateOrMove, Update, Move, Swap, Reweight, ReweightSubtree, Remove, AddBucket, Rename}
-use Rattle.crush_edits.proofs.Worked.Examples.{a_bucket, table_with_spare, heavy_table, example_setting, plain_setting, at, host, rack, root, holding}
+use Rattle.crush_edits.specs.declared.edit.Edit.TheVariants.{Insert, CreateOrMove, Update, Move, Swap, Reweight, ReweightSubtree, Remove, AddBucket, Rename, SetClass, RemoveClass}
+use Rattle.crush_edits.proofs.Worked.Examples.{a_bucket, table_with_spare, table_with_classes, heavy_table, example_setting, plain_setting, at, host, rack, root, holding}
 
 -- 1: a bucket of the location has the device's name, also above the end of the route
 bad_name : holding example_setting table_with_spare (Insert 3 (codes "osd.3") 65536 (host (codes "osd.3") ∷ [])) ≡ 1 ∷ []
@@ -68,6 +68,12 @@ nothing_goes = refl
 nothing_is_renamed : holding example_setting table_with_spare (Rename (codes "x") (codes "y")) ≡ 6 ∷ []
 nothing_is_renamed = refl
 
+nothing_gets_a_class : holding example_setting table_with_classes (SetClass (codes "x") (codes "ssd")) ≡ 6 ∷ []
+nothing_gets_a_class = refl
+
+nothing_loses_its_class : holding example_setting table_with_classes (RemoveClass (codes "x")) ≡ 6 ∷ []
+nothing_loses_its_class = refl
+
 -- 7: a bucket's name, another name of the device that is there, a name for a bucket
 name_of_bucket : holding example_setting table_with_spare (Insert 3 (codes "h1") 65536 (rack (codes "r1") ∷ [])) ≡ 7 ∷ []
 name_of_bucket = refl
@@ -98,6 +104,12 @@ bucket_reweighs = refl
 
 root_reweighs : holding example_setting table_with_spare (Reweight (codes "default") 65536) ≡ 10 ∷ []
 root_reweighs = refl
+
+bucket_gets_a_class : holding example_setting table_with_classes (SetClass (codes "h1") (codes "ssd")) ≡ 10 ∷ []
+bucket_gets_a_class = refl
+
+bucket_loses_its_class : holding example_setting table_with_classes (RemoveClass (codes "h1")) ≡ 10 ∷ []
+bucket_loses_its_class = refl
 
 -- 11: of a location always with 12, for a device has type 0
 device_reweighs_below : holding example_setting table_with_spare (ReweightSubtree (codes "osd.0") 65536) ≡ 11 ∷ []
@@ -161,3 +173,16 @@ sum_of_moved = refl
 
 sum_of_swapped : holding plain_setting heavy_table (Swap (codes "a") (codes "q")) ≡ 20 ∷ []
 sum_of_swapped = refl
+
+-- 21: not of the same class, of none, or of a class that goes
+class_bound : holding example_setting table_with_classes (SetClass (codes "osd.0") (codes "hdd")) ≡ 21 ∷ []
+class_bound = refl
+
+class_same : holding example_setting table_with_classes (SetClass (codes "osd.0") (codes "ssd")) ≡ []
+class_same = refl
+
+class_none : holding example_setting table_with_classes (SetClass (codes "osd.1") (codes "hdd")) ≡ []
+class_none = refl
+
+class_goes : holding example_setting table_with_classes (RemoveClass (codes "osd.0")) ≡ []
+class_goes = refl

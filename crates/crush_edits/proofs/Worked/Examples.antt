@@ -37,6 +37,15 @@ table_with_class =
     a_device 0 (codes "osd.0") (Some 2) 65536 ∷ (a_device 1 (codes "osd.1") (Some 2) 65536 ∷ (a_device 2 (codes "osd.2") (Some 3) 32768 ∷ (a_bucket 1 11 (codes "default") None
     ∷ (record (a_bucket 2 1 (codes "h1") (Some 1)) { class_ids = record { id = 4; class = codes "ssd" } ∷ [] } ∷ (a_bucket 3 1 (codes "h2") (Some 1) ∷ [])))))
 
+-- with the class ssd for osd.0 and osd.2
+abbrev pub a_classed : ℕ → List ℕ → ℕ → ℕ → List ℕ → Row
+a_classed id name parent weight class = record (a_device id name (Some parent) weight) { class = Some class }
+
+abbrev pub table_with_classes : List Row
+table_with_classes =
+    a_classed 0 (codes "osd.0") 2 65536 (codes "ssd") ∷ (a_device 1 (codes "osd.1") (Some 2) 65536 ∷ (a_classed 2 (codes "osd.2") 3 32768 (codes "ssd")
+    ∷ (a_bucket 1 11 (codes "default") None ∷ (a_bucket 2 1 (codes "h1") (Some 1) ∷ (a_bucket 3 1 (codes "h2") (Some 1) ∷ [])))))
+
 -- root p with host a and d1, a with d0, root q with d2 and d3, each device of the heaviest weight
 abbrev pub heavy_table : List Row
 heavy_table =

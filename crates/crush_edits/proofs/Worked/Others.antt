@@ -1,13 +1,15 @@
 -- Worked lines of the other edits.
 use Rattle.std.proofs.Common.{◌≡◌, true, false, [], ◌∷◌, refl}
-use Rattle.std.specs.Prelude.{codes}
+use Rattle.std.specs.Prelude.{codes, None, Some}
 use Rattle.crush_units.specs.declared.id.ItemId.TheVariants.{Device, Bucket}
-use Rattle.crush_edits.specs.declared.refusal.Refusal.TheVariants.{NoSuchItem, NameTaken, NotEmpty, InUse, NotDirectory, AlreadyRenamed, SumTooLarge}
-use Rattle.crush_edits.specs.declared.edit.Edit.TheVariants.{Swap, Reweight, ReweightSubtree, Remove, Rename}
+use Rattle.crush_edits.specs.declared.refusal.Refusal.TheVariants.{NoSuchItem, NameTaken, NotEmpty, InUse, NotDirectory, AlreadyRenamed, SumTooLarge, ClassBound}
+use Rattle.crush_edits.specs.declared.edit.Edit.TheVariants.{Swap, Reweight, ReweightSubtree, Remove, Rename, SetClass, RemoveClass}
+use Rattle.crush_table.specs.Classes.{class_weight_of}
+use Rattle.crush_table.specs.Columns.{set_class}
 use Rattle.crush_edits.specs.Answer.{done}
 use Rattle.crush_edits.specs.Edit.{edit}
 use Rattle.crush_edits.specs.Batch.{batch}
-use Rattle.crush_edits.proofs.Worked.Examples.{example_table, heavy_table, example_setting, plain_setting, line, no, yes, no_at, all, shown, shown_batch}
+use Rattle.crush_edits.proofs.Worked.Examples.{example_table, table_with_classes, heavy_table, example_setting, plain_setting, line, no, yes, no_at, all, shown, shown_batch}
 
 -- `reweight osd.2 1.0`
 reweight_device : shown (edit example_setting example_table (Reweight (codes "osd.2") 65536)) ≡ yes true 0 (line 1 (codes "default") (Bucket 2 ∷ (Bucket 3 ∷ [])) 196608 ∷ (line 2 (codes "h1") (Device 0 ∷ (Device 1 ∷ [])) 131072 ∷ (line 3 (codes "h2") (Device 2 ∷ []) 65536 ∷ [])))
@@ -64,3 +66,35 @@ rename_to_itself = refl
 
 rename_host : shown (edit example_setting example_table (Rename (codes "h1") (codes "hq"))) ≡ yes true 0 (line 1 (codes "default") (Bucket 2 ∷ (Bucket 3 ∷ [])) 163840 ∷ (line 2 (codes "hq") (Device 0 ∷ (Device 1 ∷ [])) 131072 ∷ (line 3 (codes "h2") (Device 2 ∷ []) 32768 ∷ [])))
 rename_host = refl
+
+-- `set-device-class ssd osd.0`, the same again, `set-device-class hdd osd.0`, `rm-device-class osd.0`, the same again
+class_set : edit example_setting example_table (SetClass (codes "osd.0") (codes "ssd")) ≡ done true 0 (set_class (Device 0) (Some (codes "ssd")) example_table)
+class_set = refl
+
+class_set_again : edit example_setting table_with_classes (SetClass (codes "osd.0") (codes "ssd")) ≡ done false 0 table_with_classes
+class_set_again = refl
+
+class_replaced : shown (edit example_setting table_with_classes (SetClass (codes "osd.0") (codes "hdd"))) ≡ no ClassBound
+class_replaced = refl
+
+class_removed : edit example_setting table_with_classes (RemoveClass (codes "osd.0")) ≡ done true 0 (set_class (Device 0) None table_with_classes)
+class_removed = refl
+
+class_removed_again : edit example_setting example_table (RemoveClass (codes "osd.0")) ≡ done false 0 example_table
+class_removed_again = refl
+
+-- what the class ssd weighs
+ssd_in_all : class_weight_of table_with_classes (Bucket 1) (codes "ssd") ≡ Some 98304
+ssd_in_all = refl
+
+ssd_in_host : class_weight_of table_with_classes (Bucket 2) (codes "ssd") ≡ Some 65536
+ssd_in_host = refl
+
+ssd_of_other : class_weight_of table_with_classes (Device 1) (codes "ssd") ≡ Some 0
+ssd_of_other = refl
+
+hdd_in_host : class_weight_of table_with_classes (Bucket 2) (codes "hdd") ≡ Some 0
+hdd_in_host = refl
+
+ssd_nowhere : class_weight_of table_with_classes (Bucket 9) (codes "ssd") ≡ None
+ssd_nowhere = refl

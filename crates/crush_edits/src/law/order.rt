@@ -2,7 +2,7 @@
 
 ghost use Rattle.crush_edits.specs.LawOrder.{RowsAreRefusals, TestsRise, LeastIsTold, NoneIsTold, NothingIsTold, GroupPasses, GroupRefuses};
 
-/// Number, name and error of the twenty refusals are one table, and each refusal has a row of its
+/// Number, name and error of the twenty-one refusals are one table, and each refusal has a row of its
 /// own.
 pub fn refusals_are_a_table()
     ensures { RowsAreRefusals }

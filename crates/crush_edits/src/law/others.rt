@@ -1,6 +1,6 @@
 //! Laws of the edits without a location.
 
-ghost use Rattle.crush_edits.specs.LawOthers.{WeightsChange, WeightChanges, WeightsFit, NameChanges, NameFits, SwapChanges, SwapFits, RemoveChanges, RemoveKeepsLawful, RemoveFits, AddedIsRow, AddedChanges, AddedKeepsLawful, AddedCounts, AddedFits, FullHasNoRoom};
+ghost use Rattle.crush_edits.specs.LawOthers.{WeightsChange, WeightChanges, WeightsFit, NameChanges, NameFits, ClassChanges, ClassFits, SwapChanges, SwapFits, RemoveChanges, RemoveKeepsLawful, RemoveFits, AddedIsRow, AddedChanges, AddedKeepsLawful, AddedCounts, AddedFits, FullHasNoRoom};
 
 /// New weights make another table unless each row that gets one has it, and the setting still fits.
 pub fn weights_are_set()
@@ -16,6 +16,13 @@ pub fn names_are_set()
     ensures fits { NameFits }
     ensures swap_changes { SwapChanges }
     ensures swap_fits { SwapFits }
+{}
+
+/// A class that a device hasn't, or none where it has one, makes another table, and the setting still
+/// fits.
+pub fn classes_are_set()
+    ensures changes { ClassChanges }
+    ensures fits { ClassFits }
 {}
 
 /// What is left where a device, or a bucket without items that no rule takes, is taken out.

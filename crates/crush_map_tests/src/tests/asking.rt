@@ -23,6 +23,8 @@ pub(super) enum Asked {
     Remove(&'static str),
     AddBucket(&'static str, &'static str),
     Rename(&'static str, &'static str),
+    SetClass(&'static str, &'static str),
+    RemoveClass(&'static str),
 }
 
 /// What may be true of a map, with weights in units.
@@ -117,6 +119,13 @@ pub(super) fn edit(rt: &impl Abort, alloc: Global, asked: Asked) -> Edit {
         Asked::Rename(from, to) => Edit::Rename {
             from: name(rt, alloc, from),
             to: name(rt, alloc, to),
+        },
+        Asked::SetClass(item, class) => Edit::SetClass {
+            name: name(rt, alloc, item),
+            class: name(rt, alloc, class),
+        },
+        Asked::RemoveClass(item) => Edit::RemoveClass {
+            name: name(rt, alloc, item),
         },
     }
 }

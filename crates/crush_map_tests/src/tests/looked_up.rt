@@ -14,6 +14,8 @@ const NAMES: &[&str] = &[
 
 /// Edits of each kind, made one after the other.
 const EDITS: &[Asked] = &[
+    Asked::SetClass("osd.1", "ssd"),
+    Asked::RemoveClass("osd.1"),
     Asked::Add(
         3,
         21823,

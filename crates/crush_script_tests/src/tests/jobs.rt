@@ -62,7 +62,7 @@ fn lines_of(
     let mut lines = Vec::new(rt.alloc());
     let mut number = 0u32;
     for call in script.calls.as_slice() {
-        let reply = make_call(map, call).expect(rt, "no memory");
+        let reply = make_call(map, 0, call).expect(rt, "no memory");
         number = number.saturating_add(1);
         let name = script.name.as_bytes();
         write_entry(number, name, call, reply, &mut lines).expect(rt, "no line");

@@ -44,3 +44,12 @@ returns-in-Remove-clause-made g c = when_same _ _ _ _ _ (λ t st. ap (edit c.arg
 
 pub returns-in-Remove-clause-memory : goal.returns-in-Remove-clause-memory
 returns-in-Remove-clause-memory g c = λ is. absurd (c.remove.ensures.memory is)
+
+pub returns-in-SetClass-clause-made : goal.returns-in-SetClass-clause-made
+returns-in-SetClass-clause-made g c = when_same _ _ _ _ _ (λ t st. ap (edit c.args.setting.now t) c.in-SetClass.is) (c.set_class.ensures c.args.setting.now)
+
+pub returns-in-RemoveClass-clause-made : goal.returns-in-RemoveClass-clause-made
+returns-in-RemoveClass-clause-made g c = when_same _ _ _ _ _ (λ t st. ap (edit c.args.setting.now t) c.in-RemoveClass.is) (c.remove_class.ensures.answers c.args.setting.now)
+
+pub returns-in-RemoveClass-clause-memory : goal.returns-in-RemoveClass-clause-memory
+returns-in-RemoveClass-clause-memory g c = λ is. absurd (c.remove_class.ensures.memory is)

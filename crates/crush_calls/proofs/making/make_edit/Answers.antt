@@ -7,7 +7,7 @@ use Rattle.crush_calls.specs.History.{edit_outcome}
 use Rattle.crush_calls.proofs.making.make_edit.Goals as goal
 
 pub returns-in-Err-Refused-clause-made : goal.returns-in-Err-Refused-clause-made
-returns-in-Err-Refused-clause-made g c s t st =
+returns-in-Err-Refused-clause-made g c n s t st =
     let arm = c.in-Err-Refused in
     let e = c.args.asked.now in
     let told = arm.ensures.refused arm.refusal (ap Err arm.field-0-is) t st.forest in

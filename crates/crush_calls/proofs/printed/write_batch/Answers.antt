@@ -1,5 +1,5 @@
 use Rattle.std.proofs.lemmas.Result.{err_from_is_err_and}
-use Rattle.crush_bytes.proofs.Appending.{less_of_both, then_less}
+use Rattle.crush_bytes.proofs.Appending.{less_of_both}
 use Rattle.crush_calls.proofs.Writing.{then_writes}
 use Rattle.crush_calls.proofs.printed.write_batch.Goals as goal
 
@@ -8,11 +8,5 @@ returns-in_err-put-clause-writes g c =
     let p = err_from_is_err_and c.from_residual.result c.from_residual.ensures.1 in
     rw p.1 (less_of_both _ _ _ _ c.in_err-put.ensures.writes)
 
-pub returns-in_err-write_edits-clause-writes : goal.returns-in_err-write_edits-clause-writes
-returns-in_err-write_edits-clause-writes g c =
-    let p = err_from_is_err_and c.from_residual-in_err-write_edits.result c.from_residual-in_err-write_edits.ensures.1 in
-    rw p.1 (then_less _ _ _ _ _ c.in_ok-put.ensures.writes (less_of_both _ _ _ _ c.in_err-write_edits.ensures.writes))
-
 pub returns-clause-writes : goal.returns-clause-writes
-returns-clause-writes g c =
-    then_writes _ _ _ _ _ _ c.in_ok-put.ensures.writes (then_writes _ _ _ _ _ _ c.in_ok-write_edits.ensures.writes c.put-2.ensures.writes)
+returns-clause-writes g c = then_writes _ _ _ _ _ _ c.in_ok-put.ensures.writes c.write_rest.ensures.writes

@@ -14,3 +14,9 @@ returns-in-AddBucket-clause-writes g c = rw c.in-AddBucket.is c.write_two_names-
 
 pub returns-in-Rename-clause-writes : goal.returns-in-Rename-clause-writes
 returns-in-Rename-clause-writes g c = rw c.in-Rename.is c.write_two_names-in-Rename.ensures.writes
+
+pub returns-in-SetClass-clause-writes : goal.returns-in-SetClass-clause-writes
+returns-in-SetClass-clause-writes g c = rw c.in-SetClass.is c.write_two_names-in-SetClass.ensures.writes
+
+pub returns-in-RemoveClass-clause-writes : goal.returns-in-RemoveClass-clause-writes
+returns-in-RemoveClass-clause-writes g c = rw c.in-RemoveClass.is c.write_one_name-in-RemoveClass.ensures.writes

@@ -3,7 +3,7 @@ use Rattle.std.proofs.lemmas.List.{take_all}
 use Rattle.std.proofs.lemmas.Result.{err_from_is_err_and}
 use Rattle.crush_map.specs.MapData.{MapStands}
 use Rattle.crush_calls.specs.Script.{scripts_data}
-use Rattle.crush_calls.specs.History.{table_after, turn, turns}
+use Rattle.crush_calls.specs.History.{behind, counted_after, table_after, turn, turns}
 use Rattle.crush_calls.proofs.InTurn.{script_run, table_run, no_script, no_script_table}
 use Rattle.crush_calls.proofs.EntryLines.{none_yet}
 use Rattle.crush_run.proofs.in_turn.run_in_turn.Goals as goal
@@ -29,9 +29,11 @@ loop-operator-preserved g c =
           let so_far = c.loop-operator.invariant.entries s t stands in
           let u = table_after s t (turns s t (scripts_data (take i c.args.scripts.now))) in
           let ran = c.in_ok-run_script.ensures.entries s u so_far.1 in
-          let own = ap (λ cs. turn s u i cs) c.as_slice-calls.ensures.value in (
-            script_run s t c.args.scripts.now i x c.loop-operator.book.history c.run_script.new.book.history c.loop-operator-test.true c.index-scripts-operator.is so_far.0 (ran.0 ∙ ap (λ z. c.loop-operator.book.history ++ z) own),
-            subst (MapStands c.run_script.new.book.map s) (ap (table_after s u) own ∙ table_run s t c.args.scripts.now i x c.loop-operator-test.true c.index-scripts-operator.is) ran.1,
+          let now = c.loop-operator.book.history in
+          let q = behind u now in
+          let own = ap (λ cs. turn s q i cs) c.as_slice-calls.ensures.value in (
+            script_run s t c.args.scripts.now i x now c.run_script.new.book.history c.loop-operator-test.true c.index-scripts-operator.is so_far.0 (ran.0 ∙ ap (λ z. now ++ z) own),
+            subst (MapStands c.run_script.new.book.map s) (ap (λ h. (counted_after s q h).table) own ∙ table_run s t c.args.scripts.now i x now c.loop-operator-test.true c.index-scripts-operator.is so_far.0) ran.1,
           );
     }
 

@@ -1,5 +1,6 @@
 use Rattle.crush_table.proofs.Appended.{Lawful-push_device, Lawful-push_bucket}
 use Rattle.crush_table.proofs.Attached.{Lawful-attach}
+use Rattle.crush_table.proofs.Classes.{Lawful-set_class}
 use Rattle.crush_table.proofs.Columns.{Lawful-set_weight, Lawful-set_subtree}
 use Rattle.crush_table.proofs.Moved.{Lawful-moved}
 use Rattle.crush_table.proofs.Parted.{Lawful-part_placed}
@@ -14,6 +15,7 @@ returns c = record {
   weight = Lawful-set_weight;
   subtree = Lawful-set_subtree;
   name = Lawful-set_name;
+  class = Lawful-set_class;
   parent = Lawful-moved;
   swap = Lawful-swap;
   device = Lawful-push_device;

@@ -1,3 +1,4 @@
+use Rattle.crush_table.proofs.Classes.{class_sum-same}
 use Rattle.crush_table.proofs.Found.{row_of-same, row_named-same}
 use Rattle.crush_table.proofs.Same.{above-same, sum_below-same, weight_of-same, total-same, device_count-same, bucket_count-same, used-same, free_ids-same, Lawful-same}
 use Rattle.crush_table.proofs.law.same_tables_are_read_alike.Goals as goal
@@ -11,6 +12,7 @@ returns c t u l s = (
     above = above-same t u s.rows l.ids;
     sum = sum_below-same t u s.rows l.ids;
     weight = weight_of-same t u s.rows l.ids;
+    class = class_sum-same t u s.rows l.ids;
     total = total-same t u s.rows;
     devices = device_count-same t u s.rows;
     buckets = bucket_count-same t u s.rows;

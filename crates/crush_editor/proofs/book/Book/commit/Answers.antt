@@ -1,5 +1,5 @@
 use Rattle.std.proofs.Common.{ap, refl, arith, rules}
-use Rattle.crush_editor.proofs.Commits.{counts, follows, kept_push}
+use Rattle.crush_editor.proofs.Commits.{counts, follows, kept_push, made_now}
 use Rattle.crush_editor.proofs.book.Book.commit.Goals as goal
 
 pub overflow_add-changes : goal.overflow_add-changes
@@ -42,7 +42,9 @@ pub returns-clause-full : goal.returns-clause-full
 returns-clause-full g c = search rules
 
 pub returns-clause-made : goal.returns-clause-made
-returns-clause-made g c = rw (← c.self.view_is) c.in-Ok-make_call.ensures.made
+returns-clause-made g c =
+    let i = c.self.inside in
+    rw (← c.self.view_is) (made_now i.opening i.map c.make_call.new.map i.history.items i.changes i.seat.view c.args.k c.args.call.now c.in-Ok-make_call.reply c.self.invariant c.in-Ok-make_call.ensures.made)
 
 pub returns-clause-history : goal.returns-clause-history
 returns-clause-history g c = search rules

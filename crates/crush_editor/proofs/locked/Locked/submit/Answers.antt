@@ -1,6 +1,6 @@
 use Rattle.std.proofs.Common.{◌∙◌, [], ◌∷◌, length, ap, arith, rules, length-append}
 use Rattle.crush_editor.specs.History.{slip}
-use Rattle.crush_editor.proofs.Seats.{missed_all, answered_all}
+use Rattle.crush_editor.proofs.Seats.{missed_all, answered_all, guards_all}
 use Rattle.crush_editor.proofs.locked.Locked.submit.Goals as goal
 
 pub invariant_of-seat-in-Err : goal.invariant_of-seat-in-Err
@@ -29,6 +29,13 @@ returns-clause-ok g c =
     let x = c.in-Ok-outcome.answer in
     let a = answered_all g.N.Desk.gauge g.N.Desk.opening s.operator s.slips.items _ c.args.call.now x c.self.inside.book c.serve-outcome.new.self c.serve-outcome.new.reader c.self.invariant.0 c.self.invariant.1 c.in-Ok-outcome.ensures.history c.serve-outcome.ensures.seen c.serve-outcome.ensures.begins c.serve-outcome.ensures.legal c.seat.invariant.4 in
     rw (← c.seat.view_is, c.push_reserved.ensures.items, c.reserve.ensures.items, c.in-Ok.ensures) a.3
+
+pub returns-clause-guarded : goal.returns-clause-guarded
+returns-clause-guarded g c =
+    let s = c.seat.inside in
+    let x = c.in-Ok-outcome.answer in
+    let a = guards_all g.N.Desk.gauge g.N.Desk.opening s.operator s.slips.items _ c.args.call.now x c.self.inside.book c.serve-outcome.new.self c.serve-outcome.new.reader c.self.invariant.0 c.self.invariant.1 c.in-Ok-outcome.ensures.history c.serve-outcome.ensures.seen c.serve-outcome.ensures.begins c.serve-outcome.ensures.legal in
+    rw (← c.seat.view_is, c.push_reserved.ensures.items, c.reserve.ensures.items, c.in-Ok.ensures) a
 
 pub returns-in-Err-clause-full : goal.returns-in-Err-clause-full
 returns-in-Err-clause-full g c = search rules

@@ -1,0 +1,111 @@
+//! A class that a device gets, and one that it loses.
+
+ghost use Rattle.std.specs.Prelude.{◌≡◌, ◌≢◌, List, Some, IfOk, IfErr, Err};
+ghost use Rattle.crush_units.specs.declared.id.ItemId.TheVariants.{Device as DeviceItem};
+ghost use Rattle.crush_table.specs.Table.{Row, id_named};
+ghost use Rattle.crush_table.specs.Stands.{Stands};
+ghost use Rattle.crush_edits.specs.Setting.{SettingData};
+ghost use Rattle.crush_edits.specs.declared.edit.Edit.TheVariants.{SetClass, RemoveClass};
+ghost use Rattle.crush_edits.specs.Edit.{edit, refusal};
+ghost use Rattle.crush_apply.specs.Alone.{GetsClass};
+ghost use Rattle.crush_apply.specs.Answered.{AnswersAs};
+
+use crush_edits::{Done, EditFault, Refusal};
+use crush_hierarchy::Hierarchy;
+use crush_units::{DeviceId, ItemId, Name};
+use std::alloc::{Allocator, Global};
+
+/// The device of this name, or why it loses no class.
+fn check_remove_class<A: Allocator>(
+    hierarchy: &Hierarchy<A>,
+    name: &Name<Global>,
+) -> Result<DeviceId, Refusal>
+    ensures can { IfOk result (λ d. (t : List Row) → Stands hierarchy.now t
+        → id_named t name.now ≡ Some (DeviceItem d)) }
+    ensures refused { IfErr result (λ r. (s : SettingData) (t : List Row) → Stands hierarchy.now t
+        → refusal s t (RemoveClass name.now) ≡ Some r) }
+{
+    let Some(id) = hierarchy.id_of(name.as_str()) else {
+        return Err(Refusal::NoSuchItem);
+    };
+    let ItemId::Device(device) = id else {
+        return Err(Refusal::NotADevice);
+    };
+    Ok(device)
+}
+
+/// The device of this name, which has no class, or nothing where it has the class already, or why
+/// it doesn't get it.
+fn check_set_class<A: Allocator>(
+    hierarchy: &Hierarchy<A>,
+    name: &Name<Global>,
+    class: &Name<Global>,
+) -> Result<Option<DeviceId>, Refusal>
+    ensures can { IfOk result (λ d. (t : List Row) → Stands hierarchy.now t
+        → GetsClass t name.now class.now d) }
+    ensures refused { IfErr result (λ r. (s : SettingData) (t : List Row) → Stands hierarchy.now t
+        → refusal s t (SetClass name.now class.now) ≡ Some r) }
+{
+    let Some(id) = hierarchy.id_of(name.as_str()) else {
+        return Err(Refusal::NoSuchItem);
+    };
+    let ItemId::Device(device) = id else {
+        return Err(Refusal::NotADevice);
+    };
+    let Some(own) = hierarchy.class(id) else {
+        return Ok(Some(device));
+    };
+    if class.is(own.as_bytes()) {
+        Ok(None)
+    } else {
+        Err(Refusal::ClassBound)
+    }
+}
+
+/// Gives the device of this name the class, or tells why it doesn't get it.
+pub(crate) fn set_class<A: Allocator + Clone>(
+    hierarchy: &mut Hierarchy<A>,
+    name: &Name<Global>,
+    class: &Name<Global>,
+) -> Result<Done, EditFault>
+    ensures { (s : SettingData) → AnswersAs (λ t. edit s t (SetClass name.now class.now))
+        hierarchy.old hierarchy.new result }
+{
+    hierarchy.recall_invariant();
+    let Some(device) = check_set_class(hierarchy, name, class)? else {
+        return Ok(Done {
+            changed: false,
+            made: 0,
+        });
+    };
+    let copy = class.try_copy(hierarchy.allocator().clone()?)?;
+    let _old = hierarchy.set_class(device, Some(copy));
+    Ok(Done {
+        changed: true,
+        made: 0,
+    })
+}
+
+/// Takes the class of the device of this name away, or tells why it doesn't.
+pub(crate) fn remove_class<A: Allocator>(
+    hierarchy: &mut Hierarchy<A>,
+    name: &Name<Global>,
+) -> Result<Done, EditFault>
+    ensures answers { (s : SettingData) → AnswersAs (λ t. edit s t (RemoveClass name.now))
+        hierarchy.old hierarchy.new result }
+    ensures memory { result ≢ Err EditFault.OutOfMemory }
+{
+    hierarchy.recall_invariant();
+    let device = check_remove_class(hierarchy, name)?;
+    let Some(_) = hierarchy.class(ItemId::Device(device)) else {
+        return Ok(Done {
+            changed: false,
+            made: 0,
+        });
+    };
+    let _old = hierarchy.set_class(device, None);
+    Ok(Done {
+        changed: true,
+        made: 0,
+    })
+}

@@ -1,0 +1,62 @@
+//! Guarded batches of one seat, beside the calls of another.
+
+use super::{opened, reads, started, weigh_two};
+use crush_calls::{Call, Edits, Reply};
+use crush_editor::{Desk, Editor, Seat, Started};
+use crush_edits::{Dones, Edit};
+use crush_units::{Name, Weight};
+use std::marker::Brand;
+use std::process::Abort;
+use std::sync::Wait;
+
+/// Submits a batch that sets the weight of the device of this name to 2 where there were so many
+/// changes, and looks whether it is answered like this.
+fn is_answered<N: Desk>(
+    rt: &(impl Abort + AllocGlobal + Wait),
+    editor: &Editor<N>,
+    seat: &mut Seat<N>,
+    seen: u32,
+    device: &[u8],
+    reply: Reply,
+) -> bool {
+    let name = Name::read(rt.alloc(), device).expect(rt, "no name");
+    let weight = Weight::from_units(131072);
+    let mut edits = Vec::new(rt.alloc());
+    edits
+        .push(Edit::Reweight { name, weight })
+        .expect(rt, "no memory");
+    let call = Call::Guarded {
+        seen,
+        edits: Edits::new(edits),
+    };
+    let answer = editor.submit(rt, rt.alloc(), seat, &call);
+    drop(call);
+    answer == Ok(reply)
+}
+
+#[test]
+fn a_batch_is_stale_that_names_fewer_changes_than_there_are(rt: HostRuntime) {
+    two_operators::<Brand>(&rt, started(&rt, 2));
+}
+
+fn two_operators<N: Desk>(rt: &(impl Abort + AllocGlobal + Wait), started: Started)
+    requires gauge { started.table ≡ N.gauge }
+    requires opening { started.opening ≡ N.opening }
+    requires name { started.name ≡ N.name }
+    requires parts { started.parts ≡ N.parts }
+{
+    let (editor, mut seats) = opened::<N>(rt, started);
+    let mut other = seats.pop().expect(rt, "no seat");
+    let mut seat = seats.pop().expect(rt, "no seat");
+    assert!(rt; reads(editor.reading(&mut seat), 0, 163840));
+    weigh_two(rt, &editor, &mut other, b"osd.0");
+    assert!(rt; is_answered(rt, &editor, &mut seat, 0, b"osd.1", Reply::Stale(1)));
+    assert!(rt; reads(editor.reading(&mut seat), 1, 229376));
+    let made = Reply::Dones(Dones {
+        edits: 1,
+        changed: 1,
+        made: 0,
+    });
+    assert!(rt; is_answered(rt, &editor, &mut seat, 1, b"osd.1", made));
+    assert!(rt; reads(editor.reading(&mut seat), 2, 294912));
+}

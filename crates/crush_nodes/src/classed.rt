@@ -1,0 +1,46 @@
+//! What the devices of a class weigh.
+
+ghost use Rattle.std.specs.Prelude.{◌≡◌, ◌≤◌, ◌∷◌, []};
+ghost use Rattle.crush_units.specs.declared.limits.TheConstants.{HEAVIEST_BUCKET};
+ghost use Rattle.crush_nodes.specs.Classed.{class_sum_in, leaf_class_weight};
+ghost use Rattle.crush_nodes.specs.Seen.{items_of, leaf_data};
+
+use crate::node::{Bucket, Leaf, Node};
+use crate::sums::with_more;
+use crush_units::Weight;
+use std::alloc::Allocator;
+
+/// What the devices of the class weigh together that are the item or stand below it.
+pub fn class_weight_in<A: Allocator>(node: &Node<A>, class: &[u8]) -> Weight
+    requires { class_sum_in class.now (items_of (node.now ∷ [])) ≤ HEAVIEST_BUCKET }
+    ensures { result ≡ class_sum_in class.now (items_of (node.now ∷ [])) }
+{
+    match node {
+        Node::Device(leaf) => leaf_class_weight(leaf, class),
+        Node::Bucket(bucket) => {
+            let bucket: &Bucket<A> = bucket;
+            let items = bucket.items.as_slice();
+            let mut sum = Weight::from_units(0);
+            for item in items {
+                sum = with_more(sum, class_weight_in(item, class));
+            }
+            sum
+        }
+    }
+}
+
+/// What one device adds to the weight of a class.
+fn leaf_class_weight<A: Allocator>(leaf: &Leaf<A>, class: &[u8]) -> Weight
+    ensures { result ≡ leaf_class_weight class.now (leaf_data leaf.now) }
+{
+    match &leaf.class {
+        Some(own) => {
+            if own.is(class) {
+                leaf.weight
+            } else {
+                Weight::from_units(0)
+            }
+        }
+        None => Weight::from_units(0),
+    }
+}
