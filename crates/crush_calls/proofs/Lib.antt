@@ -3,6 +3,7 @@ pub mod Histories
 pub mod RunLaws
 pub mod InTurn
 pub mod EntryLines
+pub mod RefusedLines
 pub mod Made
 pub mod Unchanged
 pub mod Examples

@@ -202,7 +202,7 @@ pub fn write_entry<W: Write>(
 }
 
 /// The name of an operator, by its number.
-fn operator_name(scripts: &[Script], operator: usize) -> &[u8]
+pub(crate) fn operator_name(scripts: &[Script], operator: usize) -> &[u8]
     requires { operator < length scripts.now }
     ensures { result.now ≡ slice_index_or (names_of (scripts_data scripts.now)) operator [] }
 {

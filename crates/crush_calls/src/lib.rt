@@ -8,6 +8,7 @@ mod history;
 mod law;
 mod making;
 mod printed;
+mod refused;
 mod script;
 
 pub use call::{Call, Edits, Reply};
@@ -15,4 +16,5 @@ pub use entry::{Entry, Slip, count_changes, is_change};
 pub use history::{history_text, write_entry};
 pub use law::{runs_keep_lawful, same_count_is_same_table, turns_are_history};
 pub use making::make_call;
+pub use refused::{count_refused, is_refused, refused_text};
 pub use script::Script;

@@ -49,7 +49,7 @@ answered o k slips seen h c r seat p legal = record {
   operator = refl;
   slips = refl;
   begins = prefix_trans seen h (h ++ entry k c r ∷ []) p (entry k c r ∷ [], refl);
-  ends = (h, refl);
+  ends = (h, p, refl);
   seat = seat_answered o k slips seen h c r seat p legal;
 }
 

@@ -16,6 +16,8 @@ use Rattle.crush_editor.specs.contracts.law.OfMap as OfMap
 use Rattle.crush_editor.specs.contracts.law.OfMapLawCrushMapGlobalEntry.TheImpl as OfMapImpl
 use Rattle.crush_editor.specs.contracts.locked.Locked as Locked
 use Rattle.crush_editor.specs.contracts.editor.Editor as Editor
+use Rattle.crush_editor.specs.contracts.dial.Dial as Dial
+use Rattle.crush_editor.specs.contracts.door.Door as Door
 use Rattle.crush_editor.specs.declared.locked.Desk as Desk
 use Rattle.crush_editor.proofs.Crossing.{locked_send}
 
@@ -26,5 +28,17 @@ module _ (N : RattleType) (g : Desk.Ghosts N.Denot) (g' : Ledger.Ghosts N.Denot)
   desk_sync : IsSync (as_row (Mutex.the_field (Locked.the_row N g g')))
   desk_sync = search (locked_send, sendable, crosses) depth 20
 
+  dial_sync : IsSync (Dial.the_row N g g')
+  dial_sync = declared_sync (Dial.the_type N g g') (gauge_sync, (search (sendable, crosses) depth 10, tt))
+
+  door_sync : IsSync (Door.the_row N g g')
+  door_sync = declared_sync (Door.the_type N g g') (desk_sync, tt)
+
+  dial_field : IsSync (as_row (Dial.the_field N g g'))
+  dial_field = search (dial_sync, sendable, crosses) depth 20
+
+  door_field : IsSync (as_row (Door.the_field N g g'))
+  door_field = search (door_sync, sendable, crosses) depth 20
+
   pub editor_sync : IsSync (Editor.the_row N g g')
-  editor_sync = declared_sync (Editor.the_type N g g') (gauge_sync, (desk_sync, tt))
+  editor_sync = declared_sync (Editor.the_type N g g') (dial_field, (door_field, tt))

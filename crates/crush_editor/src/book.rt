@@ -1,6 +1,7 @@
 //! The book of a map: its opening, the map now, and the history between them.
 
-ghost use Rattle.std.specs.Prelude.{◌≡◌, ◌<◌, ◌≤◌, ◌++◌, ◌∷◌, [], length, IfOk, OnErr};
+ghost use Rattle.std.specs.List.{All};
+ghost use Rattle.std.specs.Prelude.{◌≡◌, ◌<◌, ◌≤◌, ◌++◌, ◌∷◌, [], length, IfOk, IfErr, OnOk, OnErr};
 ghost use mathlib.Core.Logic.{◌↔◌};
 ghost use Rattle.crush_units.specs.declared.limits.TheConstants.{MOST_ENTRIES, MOST_OPERATORS};
 ghost use Rattle.crush_calls.specs.History.{EntryData, change_of, changes};
@@ -109,24 +110,55 @@ impl<A: Allocator + Clone> Book<A> {
         ensures opening { self.new.opening ≡ self.old.opening }
         ensures table { self.new.table ≡ self.old.table }
     {
-        let entries = self.history.len();
-        if entries == MOST_ENTRIES {
+        if self.history.len() == MOST_ENTRIES {
             return Err(SubmitFault::Full);
         }
         let Ok(copy) = call.try_copy(alloc) else {
             return Err(SubmitFault::OutOfMemory);
         };
-        if self.history.reserve(1).is_err() {
-            return Err(SubmitFault::OutOfMemory);
+        match self.commit_copied(gauge, k, copy) {
+            Ok(reply) => Ok(reply),
+            Err((fault, _copy)) => Err(fault),
         }
-        let Ok(reply) = make_call(&mut self.map, self.changes, call) else {
-            return Err(SubmitFault::OutOfMemory);
+    }
+
+    /// [`Book::commit`] of a call that is moved into its entry, so that nothing is copied. After a
+    /// fault the call comes back.
+    pub fn commit_copied(
+        &mut self,
+        gauge: &MapGauge,
+        k: usize,
+        call: Call,
+    ) -> Result<Reply, (SubmitFault, Call)>
+        requires operator { k < MOST_OPERATORS }
+        requires gauge { self.old.table ≡ gauge.now.table.shared.table_id }
+        ensures made { IfOk result
+            (Makes (changes self.old.history) self.old.map self.new.map call) }
+        ensures history { IfOk result (λ r.
+            self.new.history ≡ self.old.history ++ entry k call r ∷ []) }
+        ensures room { OnOk result (length self.old.history < MOST_ENTRIES) }
+        ensures full { IfErr result (λ e.
+            (e.0 ≡ SubmitFault.Full) ↔ (length self.old.history ≡ MOST_ENTRIES)) }
+        ensures back { IfErr result (λ e. e.1 ≡ call) }
+        ensures unchanged { OnErr result (self.new ≡ self.old) }
+        ensures opening { self.new.opening ≡ self.old.opening }
+        ensures table { self.new.table ≡ self.old.table }
+    {
+        let entries = self.history.len();
+        if entries == MOST_ENTRIES {
+            return Err((SubmitFault::Full, call));
+        }
+        if self.history.reserve(1).is_err() {
+            return Err((SubmitFault::OutOfMemory, call));
+        }
+        let Ok(reply) = make_call(&mut self.map, self.changes, &call) else {
+            return Err((SubmitFault::OutOfMemory, call));
         };
         let changes = self.changes + change_of(reply);
         let weight = self.map.total();
         let entry = Entry {
             operator: k,
-            call: copy,
+            call,
             reply,
         };
         publish(gauge, &mut self.seat, &entry, changes as u64, weight);
@@ -160,21 +192,23 @@ impl<A: Allocator + Clone> Book<A> {
     /// whole, with the entry of the call where that was answered.
     pub(crate) fn serve(
         &mut self,
-        alloc: Global,
         gauge: &MapGauge,
         reader: &mut Reader,
         k: usize,
-        call: &Call,
-    ) -> Result<Reply, SubmitFault>
+        call: Call,
+    ) -> Result<Reply, (SubmitFault, Call)>
         requires operator { k < MOST_OPERATORS }
         requires gauge { self.old.table ≡ gauge.now.table.shared.table_id }
         requires reader { (reader.old.table ≡ self.old.table)
             × (reader.old.view ≡ reads self.old.opening (seen_of reader.old.view)) }
         ensures made { IfOk result
-            (Makes (changes self.old.history) self.old.map self.new.map call.now) }
+            (Makes (changes self.old.history) self.old.map self.new.map call) }
         ensures history { IfOk result (λ r.
-            self.new.history ≡ self.old.history ++ entry k call.now r ∷ []) }
-        ensures full { (result ≡ Err SubmitFault.Full) ↔ (length self.old.history ≡ MOST_ENTRIES) }
+            self.new.history ≡ self.old.history ++ entry k call r ∷ []) }
+        ensures room { OnOk result (length self.old.history < MOST_ENTRIES) }
+        ensures full { IfErr result (λ e.
+            (e.0 ≡ SubmitFault.Full) ↔ (length self.old.history ≡ MOST_ENTRIES)) }
+        ensures back { IfErr result (λ e. e.1 ≡ call) }
         ensures unchanged { OnErr result (self.new ≡ self.old) }
         ensures opening { self.new.opening ≡ self.old.opening }
         ensures table { self.new.table ≡ self.old.table }
@@ -184,10 +218,39 @@ impl<A: Allocator + Clone> Book<A> {
     {
         let note = gauge.note(reader);
         self.meet(gauge, note);
-        let outcome = self.commit(alloc, gauge, k, call);
+        let outcome = self.commit_copied(gauge, k, call);
         let shown = self.shown(gauge);
         gauge.learn(reader, shown);
         outcome
+    }
+
+    /// What a call is answered of which memory for a copy lacked. The reader, which has seen a beginning of the
+    /// history, has then seen the whole.
+    pub(crate) fn refuse(&mut self, gauge: &MapGauge, reader: &mut Reader) -> SubmitFault
+        requires gauge { self.old.table ≡ gauge.now.table.shared.table_id }
+        requires reader { (reader.old.table ≡ self.old.table)
+            × (reader.old.view ≡ reads self.old.opening (seen_of reader.old.view)) }
+        ensures full { (result ≡ SubmitFault.Full) ↔ (length self.old.history ≡ MOST_ENTRIES) }
+        ensures book { self.new ≡ self.old }
+        ensures begins { IsPrefix (seen_of reader.old.view) self.old.history }
+        ensures legal { IsLegalFrom self.old.opening self.new.history }
+        ensures seen { reader.new ≡ held self.old.table (reads self.old.opening self.new.history) }
+    {
+        let note = gauge.note(reader);
+        self.meet(gauge, note);
+        let shown = self.shown(gauge);
+        gauge.learn(reader, shown);
+        self.lacking()
+    }
+
+    /// What a call is answered where memory lacks: still `Full`, exactly where there are 65,536 entries.
+    fn lacking(&self) -> SubmitFault
+        ensures { (result ≡ SubmitFault.Full) ↔ (length self.now.history ≡ MOST_ENTRIES) }
+    {
+        if self.history.len() == MOST_ENTRIES {
+            return SubmitFault::Full;
+        }
+        SubmitFault::OutOfMemory
     }
 }
 
@@ -213,6 +276,17 @@ impl<A: Allocator> Book<A> {
         self.history.as_slice()
     }
 
+    /// What the type keeps, for a caller who knows the book by its type alone.
+    pub fn recall_invariant(&self)
+        ensures legal { IsLegalFrom self.now.opening self.now.history }
+        ensures stands { StandsAfter self.now.opening self.now.map self.now.history }
+        ensures all { MakesAll self.now.opening self.now.map self.now.history }
+        ensures operators { All (λ e. e.operator < MOST_OPERATORS) self.now.history }
+        ensures few { length self.now.history ≤ MOST_ENTRIES }
+    {
+        let _changes = &self.changes;
+    }
+
     /// The map that the book was made of, in place of the book.
     pub(crate) fn into_opening(self) -> CrushMap<A>
         ensures { result ≡ self.opening }
@@ -235,6 +309,7 @@ impl<A: Allocator> Book<A> {
         ensures legal { IsLegalFrom self.opening self.history }
         ensures stands { StandsAfter self.opening self.map self.history }
         ensures all { MakesAll self.opening self.map self.history }
+        ensures operators { All (λ e. e.operator < MOST_OPERATORS) self.history }
         ensures few { length result.history.items ≤ MOST_ENTRIES }
     {
         let Book {

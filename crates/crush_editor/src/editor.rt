@@ -1,6 +1,7 @@
 //! An editor: what it is made of, its seats' calls, and its close.
 
-ghost use Rattle.std.specs.Prelude.{◌≡◌, ℕ, ◌<◌, ◌≤◌, [], length, IfOk, OnErr, vec_len, slice_index_or};
+ghost use Rattle.std.specs.Prelude.{◌≡◌, ℕ, ◌<◌, ◌≤◌, [], length, IfOk, IfErr, IfSome, OnOk, OnErr, vec_len, vec_capacity, slice_index_or};
+ghost use mathlib.Core.Logic.{◌↔◌};
 ghost use mathlib.Core.List.{IsPrefix};
 ghost use Rattle.crush_units.specs.declared.limits.TheConstants.{MOST_ENTRIES, MOST_OPERATORS};
 ghost use Rattle.crush_map.specs.MapData.{MapData};
@@ -11,19 +12,21 @@ ghost use Rattle.crush_gauge.specs.declared.limits.TheConstants.{MOST_CHANGES};
 ghost use Rattle.std.specs.List.{All};
 ghost use Rattle.crush_calls.specs.History.{changes};
 ghost use Rattle.crush_editor.specs.History.{weight_from, OpensGauge};
-ghost use Rattle.crush_editor.specs.Book.{MakesAll, StandsAsBefore};
+ghost use Rattle.crush_editor.specs.Book.{IsSameMap, MakesAll, StandsAsBefore};
 ghost use Rattle.crush_editor.specs.Seat.{Answered, Guards, Sees, InOrder, IsHistoryOfSeats, seat_data, reads};
 
 use crate::book::{Book, Closed, SubmitFault};
-use crate::law::{MapBookSeat, MapGauge, MapNote, Reader};
+use crate::dial::{Dial, Note};
+use crate::door::Door;
+use crate::law::{MapBookSeat, MapGauge, Reader};
 use crate::locked::{Desk, Locked, Seat};
-use crush_calls::{Call, Reply};
+use crush_calls::{Call, Reply, Slip};
 use crush_gauge::Reading;
 use crush_map::CrushMap;
 use std::alloc::{AllocError, Allocator, Global};
-use std::marker::{Brand, Model, PhantomData};
+use std::marker::{Brand, Model};
+use std::sync::Wait;
 use std::sync::ledger::Blank;
-use std::sync::{Mutex, Wait};
 
 /// What is made before an editor has its name: the gauge, the book, and the readers of the seats.
 ///
@@ -47,7 +50,7 @@ impl<A: Allocator> Model for Started<A> {
     ghost use Rattle.crush_units.specs.declared.limits.TheConstants.{MOST_OPERATORS};
     ghost use Rattle.crush_map.specs.Codes.{coded_map};
     ghost use Rattle.crush_gauge.specs.Held.{held};
-    ghost use Rattle.crush_editor.specs.Book.{StandsAsBefore};
+    ghost use Rattle.crush_editor.specs.Book.{IsSameMap, StandsAsBefore};
     ghost use Rattle.crush_editor.specs.Seat.{StartedData, reads};
 
     ghost Value = { StartedData };
@@ -63,6 +66,7 @@ impl<A: Allocator> Model for Started<A> {
 
     ghost invariant = { λ s. (s.book.table ≡ s.gauge.table.shared.table_id)
         × (s.book.history ≡ []) × StandsAsBefore s.book.opening s.book.map
+        × IsSameMap s.book.map s.book.opening
         × (vec_len s.readers ≡ s.blank.parts)
         × (vec_len s.readers ≤ MOST_OPERATORS)
         × All (λ r. r ≡ held s.gauge.table.shared.table_id (reads s.book.opening []))
@@ -97,7 +101,8 @@ impl<A: Allocator> Started<A> {
     pub fn into_book(self) -> (MapGauge, Book<A>)
         ensures table { result.1.table ≡ result.0.table.shared.table_id }
         ensures opening { result.1.opening ≡ self.opening }
-        ensures map { StandsAsBefore self.opening result.1.map }
+        ensures map { IsSameMap result.1.map self.opening }
+        ensures stands { StandsAsBefore self.opening result.1.map }
         ensures history { result.1.history ≡ [] }
     {
         let Started {
@@ -156,34 +161,30 @@ fn new_gauge<M: Opening>(
     MapGauge::new(alloc, weight, operators)
 }
 
-/// What a seat has seen, to be handed to another seat of the same editor. It can cross threads.
-#[derive(Drop)]
-pub struct Note<N: Desk> {
-    note: MapNote,
-    of: PhantomData<N>,
-}
-
-impl<N: Desk> Model for Note<N> {
-    ghost use Rattle.std.specs.Prelude.{◌≡◌, List};
-    ghost use Rattle.crush_calls.specs.History.{EntryData};
-    ghost use Rattle.crush_editor.specs.History.{IsLegalFrom};
-    ghost use Rattle.crush_editor.specs.Seat.{seen_of, reads};
-
-    ghost Value = { List EntryData };
-
-    ghost view = { λ n. seen_of n.note.view };
-
-    ghost invariant = { λ n. (n.note.table ≡ N.gauge)
-        × (n.note.view ≡ reads N.opening (seen_of n.note.view))
-        × IsLegalFrom N.opening (seen_of n.note.view) };
+/// All memory that a seat takes for a call: a copy for its entry, one for its slip, and room for the
+/// slip.
+fn ready(alloc: Global, slips: &mut Vec<Slip>, call: &Call) -> Option<(Call, Call)>
+    ensures slips { slips.new.items ≡ slips.old.items }
+    ensures copies { IfSome result (λ c. (c.0 ≡ call.now) × (c.1 ≡ call.now)) }
+    ensures room { IfSome result (λ _. vec_len slips.new < vec_capacity slips.new) }
+{
+    let Ok(()) = slips.reserve(1) else {
+        return None;
+    };
+    let Ok(first) = call.try_copy(alloc) else {
+        return None;
+    };
+    let Ok(second) = call.try_copy(alloc) else {
+        return None;
+    };
+    Some((first, second))
 }
 
 /// The editor of a name: a book under one lock, and a gauge that is read without it.
 #[derive(Drop)]
 pub struct Editor<N: Desk> {
-    gauge: MapGauge,
-    desk: Mutex<Locked<N>>,
-    ghost tied: { gauge.table.shared.table_id ≡ N.gauge },
+    dial: Dial<N>,
+    door: Door<N>,
 }
 
 impl<N: Desk> Editor<N> {
@@ -191,8 +192,10 @@ impl<N: Desk> Editor<N> {
     ///
     /// Where it is answered, the seat's slips have the call with its reply behind the others, and the
     /// seat has seen a legal history that ends with it and begins with what it saw before. After a
-    /// fault the slips and the history are as before, and the seat may have seen more of it; after
-    /// `Full` it has seen all 65,536 entries. The seat's own memory is taken before the lock.
+    /// fault the slips and the history are as before, and the seat has seen the history that the lock
+    /// held: of 65,536 entries exactly where it is told `Full`. So a seat that was told `Full` is told
+    /// so ever after. Two copies of the call, one for its entry and one for its slip, and the slip's
+    /// room are taken before the lock. Under it nothing is copied.
     ///
     /// A guarded batch that names as many changes as the seat has seen, as its last reading told
     /// them, is made of the table that the seat has seen or is stale; a stale one is told the number
@@ -209,43 +212,64 @@ impl<N: Desk> Editor<N> {
         ensures ok { IfOk result (λ r. Answered N.opening seat.old call.now r seat.new) }
         ensures guarded { IfOk result (λ r. Guards N.opening seat.old call.now r seat.new) }
         ensures err { OnErr result (Sees N.opening seat.old seat.new) }
-        ensures full { result ≡ Err SubmitFault.Full → length seat.new.seen ≡ MOST_ENTRIES }
+        ensures full { IfErr result (λ fault.
+            (fault ≡ SubmitFault.Full) ↔ (length seat.new.seen ≡ MOST_ENTRIES)) }
+        ensures few { length seat.new.seen ≤ MOST_ENTRIES }
+        ensures more { OnOk result (length seat.old.seen < MOST_ENTRIES) }
     {
-        self.desk.lock(rt).submit(alloc, &self.gauge, seat, call)
+        let operator = seat.operator;
+        let gauge = self.dial.gauge();
+        let Some(copies) = ready(alloc, &mut seat.slips, call) else {
+            return Err(self.door.lock(rt).refuse(gauge, &mut seat.reader));
+        };
+        let (for_entry, for_slip) = copies;
+        let outcome = self.door.lock(rt).submit(
+            gauge,
+            &mut seat.reader,
+            &mut seat.share,
+            operator,
+            for_entry,
+        );
+        let reply = match outcome {
+            Ok(answer) => answer,
+            Err((fault, _call)) => return Err(fault),
+        };
+        seat.slips.push_reserved(Slip {
+            call: for_slip,
+            reply,
+        });
+        Ok(reply)
     }
 
-    /// The number of changes so far and the weight of all placed devices, in units, by one load: it
-    /// takes no lock and no memory. They are those of a legal history that begins with what the seat
-    /// saw before, its own calls among it, and that the seat has then seen.
+    /// The part of the editor that readings need. It holds no lock.
+    pub fn dial(&self) -> &Dial<N> {
+        &self.dial
+    }
+
+    /// [`Dial::reading`] of this editor's dial.
     pub fn reading(&self, seat: &mut Seat<N>) -> Reading
         ensures seat { Sees N.opening seat.old seat.new }
         ensures changes { result.changes ≡ changes seat.new.seen }
         ensures weight { result.weight ≡ weight_from N.opening seat.new.seen }
         ensures few { result.changes ≤ MOST_CHANGES }
     {
-        self.gauge.read(&mut seat.reader)
+        self.dial.reading(seat)
     }
 
-    /// What the seat has seen, for another seat of this editor. It takes no memory.
+    /// [`Dial::note`] of this editor's dial.
     pub fn note(&self, seat: &mut Seat<N>) -> Note<N>
         ensures seat { seat.new ≡ seat.old }
         ensures note { result ≡ seat.old.seen }
     {
-        let note = self.gauge.note(&mut seat.reader);
-        Note {
-            note,
-            of: PhantomData,
-        }
+        self.dial.note(seat)
     }
 
-    /// The seat has then also seen what the note's seat had seen when the note was made: its next
-    /// reading is not before either. It takes no memory.
+    /// [`Dial::learn`] of this editor's dial.
     pub fn learn(&self, seat: &mut Seat<N>, note: Note<N>)
         ensures seat { Sees N.opening seat.old seat.new }
         ensures note { IsPrefix note seat.new.seen }
     {
-        let Note { note, of: _ } = note;
-        self.gauge.learn(&mut seat.reader, note);
+        self.dial.learn(seat, note);
     }
 }
 
@@ -293,8 +317,8 @@ impl<N: Desk> Editor<N> {
         };
         Ok((
             Editor {
-                gauge,
-                desk: Mutex::new(locked),
+                dial: Dial::new(gauge),
+                door: Door::new(locked),
             },
             seats,
         ))
@@ -314,12 +338,12 @@ impl<N: Desk> Editor<N> {
         ensures all { MakesAll N.opening result.map result.history.items }
         ensures few { length result.history.items ≤ MOST_ENTRIES }
     {
-        let Editor { gauge, desk } = self;
+        let Editor { dial, door } = self;
         let Locked {
             mut book,
             mut count,
             spare,
-        } = desk.into_inner();
+        } = door.into_inner();
         let mut all = spare;
         for seat in seats {
             let Seat {
@@ -328,7 +352,7 @@ impl<N: Desk> Editor<N> {
                 reader,
                 share,
             } = seat;
-            book.meet(&gauge, reader.into_note());
+            book.meet(dial.gauge(), reader.into_note());
             all.merge(share);
         }
         count.audit(&mut all);

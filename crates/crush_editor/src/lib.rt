@@ -10,11 +10,15 @@
 #![tactic(auto)]
 
 pub mod book;
+pub mod dial;
+pub mod door;
 pub mod editor;
 pub mod law;
 pub mod locked;
 
 pub use book::{Book, Closed, SubmitFault};
-pub use editor::{Editor, Note, Started};
+pub use dial::{Dial, Note};
+pub use door::Door;
+pub use editor::{Editor, Started};
 pub use law::{MapBookSeat, MapGauge, MapNote, OfMap, Reader};
 pub use locked::{Desk, Locked, Seat};

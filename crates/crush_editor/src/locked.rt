@@ -1,8 +1,12 @@
 //! What lies under the lock of an editor, and the seats of its operators.
 
-ghost use Rattle.std.specs.Prelude.{◌≡◌, length, IfOk, OnErr};
-ghost use Rattle.crush_units.specs.declared.limits.TheConstants.{MOST_ENTRIES};
-ghost use Rattle.crush_editor.specs.Seat.{Answered, Guards, Sees};
+ghost use Rattle.std.specs.Prelude.{◌≡◌, ◌<◌, ◌≤◌, ◌+◌, ◌++◌, ◌∷◌, [], length, IfOk, IfErr, OnOk, OnErr};
+ghost use mathlib.Core.Logic.{◌↔◌};
+ghost use mathlib.Core.List.{IsPrefix};
+ghost use Rattle.crush_units.specs.declared.limits.TheConstants.{MOST_ENTRIES, MOST_OPERATORS};
+ghost use Rattle.crush_gauge.specs.Held.{held};
+ghost use Rattle.crush_editor.specs.History.{entry, IsLegalFrom};
+ghost use Rattle.crush_editor.specs.Seat.{reads, seen_of};
 
 use crate::book::{Book, SubmitFault};
 use crate::law::{MapGauge, Reader};
@@ -83,37 +87,63 @@ impl<N: Desk> Model for Locked<N> {
 }
 
 impl<N: Desk> Locked<N> {
-    /// Makes a call of the seat's operator. The seat has then seen the history with it.
+    /// Makes a call of operator k, whose reader and share these are. The reader has then seen the
+    /// history with it.
     pub(crate) fn submit(
         &mut self,
-        alloc: Global,
         gauge: &MapGauge,
-        seat: &mut Seat<N>,
-        call: &Call,
-    ) -> Result<Reply, SubmitFault>
-        requires { gauge.now.table.shared.table_id ≡ N.gauge }
-        ensures ok { IfOk result (λ r. Answered N.opening seat.old call.now r seat.new) }
-        ensures guarded { IfOk result (λ r. Guards N.opening seat.old call.now r seat.new) }
-        ensures err { OnErr result (Sees N.opening seat.old seat.new) }
-        ensures full { result ≡ Err SubmitFault.Full → length seat.new.seen ≡ MOST_ENTRIES }
+        reader: &mut Reader,
+        share: &mut Share<N>,
+        k: usize,
+        call: Call,
+    ) -> Result<Reply, (SubmitFault, Call)>
+        requires operator { k < MOST_OPERATORS }
+        requires gauge { gauge.now.table.shared.table_id ≡ N.gauge }
+        requires reader { (reader.old.table ≡ N.gauge)
+            × (reader.old.view ≡ reads N.opening (seen_of reader.old.view)) }
+        requires share { share.old.parts ≡ 1 }
+        ensures history { IfOk result (λ r.
+            self.new.history ≡ self.old.history ++ entry k call r ∷ []) }
+        ensures counted { IfOk result (λ r. share.new.amount ≡ share.old.amount + 1) }
+        ensures parts { share.new.parts ≡ share.old.parts }
+        ensures unchanged { OnErr result ((self.new ≡ self.old) × (share.new ≡ share.old)) }
+        ensures room { OnOk result (length self.old.history < MOST_ENTRIES) }
+        ensures full { IfErr result (λ e.
+            (e.0 ≡ SubmitFault.Full) ↔ (length self.old.history ≡ MOST_ENTRIES)) }
+        ensures back { IfErr result (λ e. e.1 ≡ call) }
+        ensures table { self.old.table ≡ N.gauge }
+        ensures opening { self.old.opening ≡ N.opening }
+        ensures few { length self.new.history ≤ MOST_ENTRIES }
+        ensures begins { IsPrefix (seen_of reader.old.view) self.old.history }
+        ensures legal { IsLegalFrom self.old.opening self.new.history }
+        ensures seen { reader.new ≡ held self.old.table (reads self.old.opening self.new.history) }
     {
-        let operator = seat.operator;
-        let Ok(copy) = call.try_copy(alloc) else {
-            return Err(SubmitFault::OutOfMemory);
-        };
-        if seat.slips.reserve(1).is_err() {
-            return Err(SubmitFault::OutOfMemory);
-        }
-        let outcome = self
-            .book
-            .serve(alloc, gauge, &mut seat.reader, operator, call);
-        let reply = match outcome {
+        self.book.recall_invariant();
+        let reply = match self.book.serve(gauge, reader, k, call) {
             Ok(answer) => answer,
             Err(fault) => return Err(fault),
         };
-        self.count.add(&mut seat.share, 1);
-        seat.slips.push_reserved(Slip { call: copy, reply });
+        self.count.add(share, 1);
         Ok(reply)
+    }
+
+    /// What a call is answered of which memory for a copy lacked. The reader has then seen the
+    /// history.
+    pub(crate) fn refuse(&mut self, gauge: &MapGauge, reader: &mut Reader) -> SubmitFault
+        requires gauge { gauge.now.table.shared.table_id ≡ N.gauge }
+        requires reader { (reader.old.table ≡ N.gauge)
+            × (reader.old.view ≡ reads N.opening (seen_of reader.old.view)) }
+        ensures full { (result ≡ SubmitFault.Full) ↔ (length self.old.history ≡ MOST_ENTRIES) }
+        ensures book { self.new ≡ self.old }
+        ensures table { self.old.table ≡ N.gauge }
+        ensures opening { self.old.opening ≡ N.opening }
+        ensures few { length self.new.history ≤ MOST_ENTRIES }
+        ensures begins { IsPrefix (seen_of reader.old.view) self.old.history }
+        ensures legal { IsLegalFrom self.old.opening self.new.history }
+        ensures seen { reader.new ≡ held self.old.table (reads self.old.opening self.new.history) }
+    {
+        self.book.recall_invariant();
+        self.book.refuse(gauge, reader)
     }
 }
 

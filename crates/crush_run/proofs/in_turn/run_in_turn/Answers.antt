@@ -14,7 +14,7 @@ loop-operator-init g c = record {
   operators = none_yet (length c.args.scripts.now) _ c.into_book-gauge.ensures.history;
   entries = λ s t stands. (
     c.into_book-gauge.ensures.history ∙ no_script s t,
-    subst (MapStands c.into_book-gauge.result.1.map s) (no_script_table s t) (c.into_book-gauge.ensures.map s t (subst (λ m. MapStands m s t) (sym c.in-Ok.ensures.opening) stands)),
+    subst (MapStands c.into_book-gauge.result.1.map s) (no_script_table s t) (c.into_book-gauge.ensures.stands s t (subst (λ m. MapStands m s t) (sym c.in-Ok.ensures.opening) stands)),
   );
 }
 

@@ -1,4 +1,7 @@
 use Rattle.crush_editor.proofs.editor.Started.into_book.Goals as goal
 
 pub returns-clause-map : goal.returns-clause-map
-returns-clause-map g c = rw (← c.self.view_is) c.self.invariant.2
+returns-clause-map g c = rw (← c.self.view_is) c.self.invariant.3
+
+pub returns-clause-stands : goal.returns-clause-stands
+returns-clause-stands g c = rw (← c.self.view_is) c.self.invariant.2

@@ -1,0 +1,30 @@
+//! The lock of an editor. Only this file names it, so that nothing in the crate comes to the lock
+//! without the leave to wait.
+
+use crate::locked::{Desk, Locked};
+use std::sync::{Mutex, MutexGuard, Wait};
+
+/// What lies under the lock, behind it.
+#[derive(Drop)]
+pub struct Door<N: Desk> {
+    desk: Mutex<Locked<N>>,
+}
+
+impl<N: Desk> Door<N> {
+    pub(crate) fn new(locked: Locked<N>) -> Door<N> {
+        Door {
+            desk: Mutex::new(locked),
+        }
+    }
+
+    /// Takes the lock. It may wait for ever.
+    pub(crate) fn lock(&self, rt: &impl Wait) -> MutexGuard<'_, Locked<N>> {
+        self.desk.lock(rt)
+    }
+
+    /// What lies under the lock, in place of it.
+    pub(crate) fn into_inner(self) -> Locked<N> {
+        let Door { desk } = self;
+        desk.into_inner()
+    }
+}

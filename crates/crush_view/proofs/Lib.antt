@@ -1,0 +1,4 @@
+pub mod Examples
+pub mod SameTree
+pub mod SinceExamples
+pub mod WalkLaws

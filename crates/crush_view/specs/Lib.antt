@@ -1,0 +1,4 @@
+pub mod SeenStep
+pub mod Since
+pub mod Tree
+pub mod TreeText
