@@ -1,45 +1,57 @@
 # The usual targets on top of the commands of the Rattle toolchain, `rt`.
 #
 #   make           proves the program with all it stands on, and builds it
-#   make try       runs an example without proving anything, and leaves nothing
+#   make try       runs JOB, by default an example, without proving anything, and leaves nothing;
+#                  `make try JOB=my.job ARGS=--in-turn` runs a job of your own
 #   make check     the merge gate: everything from nothing, the edits that must fail, the tests
-#   make install   the program and its manual page below PREFIX, which is /usr/local if nothing is said
+#   make install   the program, the recipe and their manual pages below PREFIX, which is /usr/local if nothing is said
+#   make dist      the same as an archive and, where dpkg-deb is there, a package of Debian, below out/
 #   make manual    writes the manual page out of the help, which `make check` compares
-#   make recipe    tries the recipe for operators with the program that was built
+#   make recipe    installs below out/, and tries the recipe for operators there
 #   make trials    tries that program with jobs of chance, little memory and stack, and streams that fail
-#   make clean     removes what the checks kept
+#   make clean     removes what the checks kept, and out/
 
 PREFIX = /usr/local
 DESTDIR =
+JOB = examples/maps/class-3.job
+ARGS =
 PROGRAM = crates/crushedit/out/crushedit
+# What the program is proved and built of.
+SOURCES = crates.txt $(shell find crates \( -name out -o -name '*_tests' \) -prune -o \( -name '*.rt' -o -name '*.antt' \) -print)
 
-.PHONY: all try check install uninstall manual recipe trials clean
+.PHONY: all try check install uninstall dist manual recipe trials clean
 
-all:
+all: $(PROGRAM)
+
+$(PROGRAM): $(SOURCES)
 	cd crates/crushedit && rt run < stdin | cmp - stdout
+	touch -c $@
 
 try:
-	cd crates/crushedit && rt try < ../../examples/maps/class-3.job
+	@cd crates/crushedit && rt try $(if $(ARGS),-- $(ARGS)) < $(abspath $(JOB))
 
 check:
 	.ci/run
 
-$(PROGRAM):
-	$(MAKE) all
-
 install: $(PROGRAM)
 	install -d $(DESTDIR)$(PREFIX)/bin $(DESTDIR)$(PREFIX)/share/man/man1
 	install -m 755 $(PROGRAM) $(DESTDIR)$(PREFIX)/bin/crushedit
-	install -m 644 docs/crushedit.1 $(DESTDIR)$(PREFIX)/share/man/man1/crushedit.1
+	install -m 755 examples/recipe.sh $(DESTDIR)$(PREFIX)/bin/crushedit-recipe
+	install -m 644 docs/crushedit.1 docs/crushedit-recipe.1 $(DESTDIR)$(PREFIX)/share/man/man1
 
 uninstall:
-	rm -f $(DESTDIR)$(PREFIX)/bin/crushedit $(DESTDIR)$(PREFIX)/share/man/man1/crushedit.1
+	rm -f $(addprefix $(DESTDIR)$(PREFIX)/bin/, crushedit crushedit-recipe)
+	rm -f $(addprefix $(DESTDIR)$(PREFIX)/share/man/man1/, crushedit.1 crushedit-recipe.1)
+
+dist: $(PROGRAM)
+	examples/dist.sh $(PROGRAM)
 
 manual:
 	python3 docs/manual.py
 
 recipe: $(PROGRAM)
-	examples/recipe_test.sh $(PROGRAM)
+	$(MAKE) install DESTDIR=$(CURDIR)/out/tried PREFIX=/usr
+	examples/recipe_test.sh out/tried/usr/bin/crushedit out/tried/usr/bin/crushedit-recipe
 
 trials: $(PROGRAM)
 	python3 bench/against_reference.py $(PROGRAM) 1000
@@ -49,4 +61,4 @@ trials: $(PROGRAM)
 	python3 bench/streams.py $(PROGRAM)
 
 clean:
-	rm -rf crates/*/out
+	rm -rf crates/*/out out

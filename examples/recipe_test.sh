@@ -1,25 +1,29 @@
 #!/bin/sh
 # Tries examples/recipe.sh with stand-ins for `ceph` and `crushtool`, whose binary maps are the texts themselves.
 #
-#     examples/recipe_test.sh crates/crushedit/out/crushedit
+#     examples/recipe_test.sh crates/crushedit/out/crushedit [RECIPE]
 #
-# Prints a line for each case, and ends with status 1 where one isn't as it has to be.
+# RECIPE is another copy of it, as the one that was installed. The script of README.md is tried too, where that is
+# there. Prints a line for each case, and ends with status 1 where one isn't as it has to be.
 set -u
 
-[ $# -eq 1 ] || { echo "usage: recipe_test.sh CRUSHEDIT" >&2; exit 2; }
+[ $# -eq 1 ] || [ $# -eq 2 ] || { echo "usage: recipe_test.sh CRUSHEDIT [RECIPE]" >&2; exit 2; }
 here=$(cd "$(dirname "$0")" && pwd)
-program=$(cd "$(dirname "$1")" && pwd)/$(basename "$1")
+whole() {
+    echo "$(cd "$(dirname "$1")" && pwd)/$(basename "$1")"
+}
+program=$(whole "$1") recipe=$(whole "${2:-$here/recipe.sh}")
 work=$(mktemp -d)
 trap 'rm -rf "$work"' EXIT
 failed=0
 
-# ceph: hands out $work/cluster as the cluster's map, and its version, as Ceph does, on standard error. It
-# notes whether it was asked for anything else.
+# ceph: hands out $work/cluster as the cluster's map, and on standard error its version, as Ceph does, or what
+# $work/version has. It notes whether it was asked for anything else.
 cat >"$work/ceph" <<'END'
 #!/bin/sh
 folder=$(dirname "$0")
 case "$1 $2 $3" in
-"osd getcrushmap -o") cat "$folder/cluster" >"$4" && echo 42 >&2 ;;
+"osd getcrushmap -o") cat "$folder/cluster" >"$4" && cat "$folder/version" >&2 ;;
 *) echo "$*" >>"$folder/asked" ;;
 esac
 END
@@ -35,13 +39,19 @@ case "$1" in
 esac
 END
 chmod +x "$work/ceph" "$work/crushtool"
+echo 42 >"$work/version"
+cat >"$work/sudo" <<'END'
+#!/bin/sh
+exec "$@"
+END
+chmod +x "$work/sudo"
 
 # try NAME STATUS WORDS COMMANDS: the recipe's status, and words that what it tells has to have.
 try() {
     rm -rf "$work/folder"
     printf '%b' "$4" >"$work/commands"
-    CEPH=$work/ceph CRUSHTOOL=$work/crushtool CRUSHEDIT=${tried:-$program} \
-        "$here/recipe.sh" "$work/commands" "$work/folder" >"$work/told" 2>&1
+    CEPH=${ceph:-$work/ceph} CRUSHTOOL=$work/crushtool CRUSHEDIT=${tried:-$program} \
+        "$recipe" "$work/commands" "$work/folder" >"$work/told" 2>&1
     status=$?
     if [ $status -eq "$2" ] && grep -q -e "$3" "$work/told" && [ ! -e "$work/asked" ]; then
         echo "passed: $1"
@@ -59,10 +69,20 @@ try "the old map is kept" 0 "setcrushmap -i $work/folder/map.bin$" "reweight osd
 cmp -s "$map" "$work/folder/map.bin" || { echo "FAILED: the kept map is another"; failed=1; }
 try "only the edit shows" 0 "^> 	item osd.2 weight 1.00000" "reweight osd.2 1.0\n"
 [ "$(grep -c '^[<>]' "$work/folder/changes")" -eq 9 ] || { echo "FAILED: more than the edit shows"; failed=1; }
+cp "$work/folder/plain.txt" "$work/today" && patch -sR "$work/today" "$work/folder/edit.diff" && cmp -s "$map" "$work/today" ||
+    { echo "FAILED: the kept edit isn't taken back"; failed=1; }
 try "new buckets are told of" 0 "Are all their names" "add osd.3 1 host=h3 root=default\n"
 try "a section of the operator's own" 0 " alice reweight " "%operator alice\nreweight osd.2 1.0\n"
 try "a refused command" 1 "NotADevice" "reweight osd.2 1.0\nreweight h1 1.0\n"
 try "a job with a faulty line" 1 "NoSuchCommand" "fly h1\n"
+try "its line is that of the commands" 1 "commands, line 2: NoSuchCommand: fly h1" "reweight osd.2 1.0\nfly h1\n"
+try "also below a section's line" 1 "commands, line 4: BadLine: rm" "# today\n\n%operator alice\nrm\n"
+try "a batch that stays open" 1 "commands, line 2: OpenBatch: begin" "rm osd.2\nbegin\nrm osd.1\n"
+try "commands before a section's line" 0 " recipe rm osd.1" "rm osd.1\n%operator alice\nrm osd.2\n"
+try "a device of a class in one batch" 0 "^> device 3 osd.3 class hdd" \
+    "begin\nadd osd.3 1 host=h1\nset-device-class hdd osd.3\ncommit\n"
+try "every device is removed" 0 "No device is left" "rm osd.0\nrm osd.1\nrm osd.2\n"
+if grep -q "nothing was printed" "$work/told"; then echo "FAILED: what was printed is called nothing"; failed=1; fi
 try "commands that say nothing" 1 "no command was run" "# later\n"
 try "no commands" 1 "is empty" ""
 tried=$work/missing
@@ -76,15 +96,67 @@ try "a map that isn't compiled" 1 "crushtool -c failed" "reweight osd.2 1.0\n"
 rm "$work/broken-c"
 : >"$work/cluster"
 try "an empty map" 1 "wrote no map" "add-bucket h9 host\n"
-echo "# begin crush map" >"$work/cluster"
+head -n 20 "$map" >"$work/cluster"
+try "a map of which a part is missing" 1 "isn't a whole map" "reweight osd.2 1.0\n"
+printf '# begin crush map\n# end crush map\n' >"$work/cluster"
 try "a map without a device" 1 "has no device" "reweight osd.2 1.0\n"
 rm "$work/cluster"
 try "a map that isn't there" 1 "getcrushmap failed" "reweight osd.2 1.0\n"
+cat "$map" >"$work/cluster"
+# Ceph may tell more than the version: the guard stays, or there is no command to copy.
+printf '42\n2026-11-26 WARNING: a monitor is slow\n' >"$work/version"
+try "a warning behind the version" 0 "setcrushmap -i $work/folder/new.bin 42$" "reweight osd.2 1.0\n"
+printf 'a warning\n42\n' >"$work/version"
+try "a warning before the version" 0 "setcrushmap -i $work/folder/new.bin 42$" "reweight osd.2 1.0\n"
+echo "a warning" >"$work/version"
+try "no version" 1 "told no version" "reweight osd.2 1.0\n"
+printf '42\n43\n' >"$work/version"
+try "two versions" 1 "told no version" "reweight osd.2 1.0\n"
+echo 42 >"$work/version"
+ceph="$work/sudo $work/ceph"
+try "ceph by sudo" 0 "^    $work/sudo $work/ceph osd setcrushmap -i $work/folder/map.bin$" "reweight osd.2 1.0\n"
+ceph=
+# A folder whose name a shell would take apart: what is printed is run.
+mkdir "$work/of" && echo "reweight osd.2 1.0" >"$work/of/my commands"
+if (cd "$work/of" && CEPH=$work/ceph CRUSHTOOL=$work/crushtool CRUSHEDIT=$program \
+    "$recipe" "my commands" "it's \$1 today" >"$work/told" 2>&1 && eval "$(grep ' setcrushmap .* 42$' "$work/told")") &&
+    [ "$(cat "$work/asked")" = "osd setcrushmap -i it's \$1 today/new.bin 42" ]; then
+    echo "passed: names with blanks and quotes"
+else
+    echo "FAILED: names with blanks and quotes"
+    cat "$work/told"
+    failed=1
+fi
+rm -f "$work/asked"
+# The script of README.md, by itself; a second one in the same folder stops, and the kept map stays.
+readme=$here/../README.md
+if [ -f "$readme" ]; then
+    sed -n '/^```sh$/,/^```$/p' "$readme" | sed '/^```/d' >"$work/script"
+    mkdir "$work/bin" "$work/there"
+    ln -s "$work/ceph" "$work/crushtool" "$work/bin"
+    ln -s "$program" "$work/bin/crushedit"
+    cp "$work/version" "$map" "$work/bin" && cp "$map" "$work/bin/cluster"
+    if (cd "$work/there" && PATH=$work/bin:$PATH bash "$work/script" >"$work/told" 2>&1) &&
+        grep -q "setcrushmap -i new.bin 42" "$work/told" && cmp -s "$map" "$work/there"/*/map.bin; then
+        echo "passed: the script of README.md"
+    else
+        echo "FAILED: the script of README.md"
+        cat "$work/told"
+        failed=1
+    fi
+    echo "# end crush map" >"$work/bin/cluster"
+    if (cd "$work/there" && PATH=$work/bin:$PATH bash "$work/script" >"$work/told" 2>&1) ||
+        ! cmp -s "$map" "$work/there"/*/map.bin; then
+        echo "FAILED: the script of README.md writes over a kept map"
+        failed=1
+    else
+        echo "passed: it doesn't write over a kept map"
+    fi
+fi
 # A folder that is there is never written to.
 mkdir "$work/kept" && echo kept >"$work/kept/map.bin" && echo "reweight osd.2 1.0" >"$work/commands"
-cat "$map" >"$work/cluster"
 if CEPH=$work/ceph CRUSHTOOL=$work/crushtool CRUSHEDIT=$program \
-    "$here/recipe.sh" "$work/commands" "$work/kept" >"$work/told" 2>&1 || [ "$(cat "$work/kept/map.bin")" != kept ]; then
+    "$recipe" "$work/commands" "$work/kept" >"$work/told" 2>&1 || [ "$(cat "$work/kept/map.bin")" != kept ]; then
     echo "FAILED: a kept map is written over"
     failed=1
 else
