@@ -4,6 +4,7 @@ ghost use Rattle.std.specs.Prelude.{◌≡◌};
 ghost use Rattle.crush_edits.specs.Refusal.{refusal_name, refusal_number, refusal_error};
 
 use std::alloc::AllocError;
+use std::fmt::{self, Display, Formatter};
 use thiserror::Error;
 
 /// Why an edit is refused. Where several hold, the one of least number is told.
@@ -87,7 +88,7 @@ impl Refusal {
         }
     }
 
-    /// The refusal's number, from 1 to 21.
+    /// The refusal's number, from 1 to 21, which is its place among those above.
     pub fn number(self) -> u8
         ensures { result ≡ refusal_number self }
     {
@@ -143,6 +144,19 @@ impl Refusal {
     }
 }
 
+impl Display for Refusal {
+    ghost use Rattle.std.specs.Prelude.{Some};
+    ghost use Rattle.crush_edits.specs.Refusal.{refusal_name};
+
+    ghost output = { λ refusal. Some (refusal_name refusal) };
+
+    fn fmt<W: fmt::Write>(&self, f: &mut Formatter<W>) -> fmt::Result {
+        f.write_str(self.name())
+    }
+}
+
+impl std::error::Error for Refusal {}
+
 /// What an edit that was made did.
 #[derive(Clone, Copy, Debug, PartialEq, Eq)]
 pub struct Done {
@@ -167,7 +181,7 @@ pub struct Dones {
 #[derive(Clone, Copy, Debug, PartialEq, Eq, Error)]
 pub enum EditFault {
     /// The edit is refused.
-    #[error("the edit is refused")]
+    #[error("the edit is refused: {0}")]
     Refused(Refusal),
     /// Nothing speaks against the edit, and there is no memory for it.
     #[error("out of memory")]
@@ -200,7 +214,7 @@ impl From<AllocError> for EditFault {
 #[derive(Clone, Copy, Debug, PartialEq, Eq, Error)]
 pub enum BatchFault {
     /// The edit at this index, counted from 0, is refused, and none before it.
-    #[error("edit {0} is refused")]
+    #[error("edit {0} is refused: {1}")]
     Refused(u32, Refusal),
     /// There is no memory for the batch.
     #[error("out of memory")]

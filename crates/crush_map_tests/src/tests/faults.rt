@@ -18,7 +18,7 @@ fn what_is_told_of_a_fault(rt: HostRuntime) {
     let refused = EditFault::from(Refusal::NoSuchItem);
     let heavy = "a bucket or the whole map is too heavy with this item";
     assert!(rt;
-        is_written(&rt, rt.alloc(), refused, "the edit is refused")
+        is_written(&rt, rt.alloc(), refused, "the edit is refused: NoSuchItem")
             && is_written(&rt, rt.alloc(), EditFault::OutOfMemory, "out of memory")
             && is_written(&rt, rt.alloc(), BuildFault::SumTooLarge, heavy)
             && is_written(&rt, rt.alloc(), BuildFault::OutOfMemory, "out of memory")
