@@ -5,8 +5,8 @@ Each name in backticks has to stand in the crates: a function, a type, a definit
 an edit that must fail; but of the pages of WORDS_OF_TEXTS, which name words of jobs and of Ceph beside them.
 In a table whose head has a column of must-fail edits, each name of that column has to be the file of one; and
 each such file has to be named by a page. Each link leads to a file, and to a heading of it. ADDING.md lists
-the files that an addition touches: each has to be there, and each file of src/ and specs/ that names all
-variants of an enum of ADDED has to stand in its section. RULES.md has a row for each variant of the enums of
+the files that an addition touches: each has to be there, and each file of src/, specs/ and proofs/ that names all
+variants of an enum of ADDED, or all words of a row of NAMED, has to stand in its section. RULES.md has a row for each variant of the enums of
 ROWS, and for each limit. Each public function is named by a page, but for those of INSIDE; and PROVED.md has a
 row for each that may answer one of several faults, or fails and is lent what it changes, with clauses that its
 contract has. The index of examples/ names each job. The version of the command line stands in VERSIONS, the
@@ -33,6 +33,11 @@ ADDED = {
     "A refusal": ("crush_edits/src/refusal.rt", "Refusal"),
     "A fault of a text": ("crush_text/src/fault.rt", "TextFaultKind"),
     "A fault of a job": ("crush_script/src/fault.rt", "JobFault"),
+}
+# Sections that name the files of what has been added most lately, by the words that such a file has.
+NAMED = {
+    "A column": [["set_name", "set_class"]],
+    "A call or a reply": [["BatchRefused", "Stale"], ["Batch", "Guarded"]],
 }
 # The sections of RULES.md that have a row for each variant of an enum.
 ROWS = {
@@ -104,10 +109,10 @@ def variants(name, enum):
 
 
 def naming_all(names):
-    """The files of src/ and specs/, but for those of tests, that name all of these, from the crate down."""
+    """The files of src/, specs/ and proofs/, but for those of tests, that name all of these, from the crate down."""
     for path in crate_files():
         crate, folder = path.relative_to(TOP / "crates").parts[:2]
-        if folder in {"src", "specs"} and not crate.endswith("_tests"):
+        if folder in {"src", "specs", "proofs"} and not crate.endswith("_tests"):
             if set(names) <= set(re.findall(r"\w+", path.read_text())):
                 yield str(path.relative_to(TOP / "crates"))
 
@@ -250,8 +255,9 @@ def call_faults():
 def adding_faults():
     """What is wrong with the lists of files of ADDING.md."""
     sections = {title: quoted(section) for title, section in sections_of("ADDING.md").items()}
-    for title, (name, enum) in ADDED.items():
-        for file in naming_all(variants(name, enum)):
+    wanted = {title: [variants(name, enum)] for title, (name, enum) in ADDED.items()}
+    for title, names in {**wanted, **NAMED}.items():
+        for file in sorted({file for words in names for file in naming_all(words)}):
             if file not in sections.get(title, []):
                 yield f"{title} doesn't name {file}"
 
