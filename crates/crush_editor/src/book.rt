@@ -20,13 +20,16 @@ use crush_map::CrushMap;
 use crush_units::limits::MOST_ENTRIES;
 use std::alloc::{Allocator, Global};
 use std::marker::Model;
+use thiserror::Error;
 
 /// Why a call was not answered. It is then in no history, and nothing has changed.
-#[derive(Clone, Copy, Debug, PartialEq, Eq)]
+#[derive(Clone, Copy, Debug, PartialEq, Eq, Error)]
 pub enum SubmitFault {
     /// The history has as many entries as it may have: 65,536.
+    #[error("the history is full")]
     Full,
     /// A growth was refused.
+    #[error("out of memory")]
     OutOfMemory,
 }
 
@@ -224,8 +227,8 @@ impl<A: Allocator + Clone> Book<A> {
         outcome
     }
 
-    /// What a call is answered of which memory for a copy lacked. The reader, which has seen a beginning of the
-    /// history, has then seen the whole.
+    /// The fault of a call for whose copies there was no memory. Its reader, which has seen a beginning
+    /// of the history, has then seen the whole.
     pub(crate) fn refuse(&mut self, gauge: &MapGauge, reader: &mut Reader) -> SubmitFault
         requires gauge { self.old.table ≡ gauge.now.table.shared.table_id }
         requires reader { (reader.old.table ≡ self.old.table)
@@ -243,7 +246,7 @@ impl<A: Allocator + Clone> Book<A> {
         self.lacking()
     }
 
-    /// What a call is answered where memory lacks: still `Full`, exactly where there are 65,536 entries.
+    /// The fault of a call where memory lacks: still `Full`, exactly where there are 65,536 entries.
     fn lacking(&self) -> SubmitFault
         ensures { (result ≡ SubmitFault.Full) ↔ (length self.now.history ≡ MOST_ENTRIES) }
     {

@@ -6,7 +6,7 @@ use std::sync::{Mutex, MutexGuard, Wait};
 
 /// What lies under the lock, behind it.
 #[derive(Drop)]
-pub struct Door<N: Desk> {
+pub(crate) struct Door<N: Desk> {
     desk: Mutex<Locked<N>>,
 }
 

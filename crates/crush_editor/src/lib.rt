@@ -11,14 +11,13 @@
 
 pub mod book;
 pub mod dial;
-pub mod door;
+mod door;
 pub mod editor;
 pub mod law;
 pub mod locked;
 
 pub use book::{Book, Closed, SubmitFault};
 pub use dial::{Dial, Note};
-pub use door::Door;
 pub use editor::{Editor, Started};
 pub use law::{MapBookSeat, MapGauge, MapNote, OfMap, Reader};
-pub use locked::{Desk, Locked, Seat};
+pub use locked::{Desk, Seat};

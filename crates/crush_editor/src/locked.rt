@@ -63,7 +63,7 @@ impl<N: Desk> Model for Seat<N> {
 
 /// What lies under the lock: the book, and the count of all slips, which is the length of its history.
 #[derive(Drop)]
-pub struct Locked<N: Desk> {
+pub(crate) struct Locked<N: Desk> {
     pub(crate) book: Book<Global>,
     pub(crate) count: ledger::Book<N>,
     pub(crate) spare: Share<N>,
@@ -121,14 +121,13 @@ impl<N: Desk> Locked<N> {
         self.book.recall_invariant();
         let reply = match self.book.serve(gauge, reader, k, call) {
             Ok(answer) => answer,
-            Err(fault) => return Err(fault),
+            Err(unanswered) => return Err(unanswered),
         };
         self.count.add(share, 1);
         Ok(reply)
     }
 
-    /// What a call is answered of which memory for a copy lacked. The reader has then seen the
-    /// history.
+    /// The fault of a call for whose copies there was no memory. Its reader has then seen the history.
     pub(crate) fn refuse(&mut self, gauge: &MapGauge, reader: &mut Reader) -> SubmitFault
         requires gauge { gauge.now.table.shared.table_id ≡ N.gauge }
         requires reader { (reader.old.table ≡ N.gauge)

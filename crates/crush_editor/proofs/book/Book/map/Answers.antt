@@ -1,0 +1,5 @@
+use Rattle.std.proofs.Common.{rules}
+use Rattle.crush_editor.proofs.book.Book.map.Goals as goal
+
+pub returns : goal.returns
+returns g c = search rules
