@@ -14,11 +14,14 @@
 //! [`TypeId`] and [`Name`] are keys of maps: each is hashed by what is compared of it, and a map
 //! whose keys are names is asked by a name or by its bytes.
 //!
+//! `{}` writes each as a map's text has it.
+//!
 //! No call allocates but [`Name::read`] and [`Name::try_copy`]. What a text says, and what a value
 //! prints as, is defined in `specs/`, one file for each module here.
 #![tactic(auto)]
 
 mod alg;
+mod display;
 mod id;
 pub mod limits;
 mod name;

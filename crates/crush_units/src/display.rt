@@ -1,0 +1,67 @@
+//! What `{}` writes of each value: the text that a map, a script and a history have for it.
+
+ghost use Rattle.std.specs.Prelude.{Some};
+ghost use Rattle.crush_units.specs.Display.{bucket_text, device_text, item_text};
+ghost use Rattle.crush_units.specs.Weight.{weight_text};
+
+use crate::id::{BucketId, DeviceId, ItemId};
+use crate::name::Name;
+use crate::weight::Weight;
+use std::alloc::Allocator;
+use std::{fmt, str};
+
+/// The name's bytes.
+impl<A: Allocator> fmt::Display for Name<A> {
+    ghost output = { λ name. Some name };
+
+    fn fmt<W: fmt::Write>(&self, f: &mut fmt::Formatter<W>) -> fmt::Result {
+        f.write_str(self.as_str())
+    }
+}
+
+/// The number, from 0 upward.
+impl fmt::Display for DeviceId {
+    ghost output = { λ id. Some (device_text id) };
+
+    fn fmt<W: fmt::Write>(&self, f: &mut fmt::Formatter<W>) -> fmt::Result {
+        let number = self.number();
+        write!(f, "{number}")
+    }
+}
+
+/// The signed number, from -1 downward.
+impl fmt::Display for BucketId {
+    ghost output = { λ id. Some (bucket_text id) };
+
+    fn fmt<W: fmt::Write>(&self, f: &mut fmt::Formatter<W>) -> fmt::Result {
+        let below = self.distance();
+        write!(f, "-{below}")
+    }
+}
+
+/// The number of the device or of the bucket.
+impl fmt::Display for ItemId {
+    ghost output = { λ id. Some (item_text id) };
+
+    fn fmt<W: fmt::Write>(&self, f: &mut fmt::Formatter<W>) -> fmt::Result {
+        match self {
+            ItemId::Device(device) => write!(f, "{device}"),
+            ItemId::Bucket(bucket) => write!(f, "{bucket}"),
+        }
+    }
+}
+
+/// A whole number, a point and five digits, as [`Weight::text`] writes it.
+impl fmt::Display for Weight {
+    ghost output = { λ weight. Some (weight_text weight) };
+
+    fn fmt<W: fmt::Write>(&self, f: &mut fmt::Formatter<W>) -> fmt::Result {
+        let _units = self.units();
+        let mut digits = [0; 16];
+        let len = self.text(&mut digits);
+        match str::from_utf8(&digits[..len]) {
+            Ok(text) => f.write_str(text),
+            Err(_) => unreachable!(),
+        }
+    }
+}
