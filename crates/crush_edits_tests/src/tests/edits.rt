@@ -86,7 +86,7 @@ fn placing_edits(rt: &impl Abort, alloc: Global) -> [Edit; 3] {
 }
 
 /// An edit of each other kind.
-fn other_edits(rt: &impl Abort, alloc: Global) -> [Edit; 7] {
+fn other_edits(rt: &impl Abort, alloc: Global) -> [Edit; 9] {
     let weight = Weight::from_units(65536);
     [
         Edit::Move {
@@ -116,6 +116,13 @@ fn other_edits(rt: &impl Abort, alloc: Global) -> [Edit; 7] {
             from: name(rt, alloc, "h1"),
             to: name(rt, alloc, "hq"),
         },
+        Edit::SetClass {
+            name: name(rt, alloc, "osd.3"),
+            class: name(rt, alloc, "ssd"),
+        },
+        Edit::RemoveClass {
+            name: name(rt, alloc, "osd.3"),
+        },
     ]
 }
 
@@ -137,15 +144,29 @@ fn copies(rt: HostRuntime) {
     drop(others);
 }
 
+/// Whether a refusal has the name, the number and the error.
+fn is_told(refusal: Refusal, name: &str, number: u8, error: u8) -> bool {
+    refusal.name() == name && refusal.number() == number && refusal.error() == error
+}
+
 #[test]
 fn refusals(rt: HostRuntime) {
     assert!(rt;
-        Refusal::Loop.name() == "Loop"
-            && Refusal::Loop.number() == 13
-            && Refusal::Loop.error() == 40
+        is_told(Refusal::Loop, "Loop", 13, 40)
+            && is_told(Refusal::ClassBound, "ClassBound", 21, 16)
             && EditFault::from(Refusal::Loop) == EditFault::Refused(Refusal::Loop)
             && LocationFault::OutOfMemory.number() == 3
     );
+}
+
+#[test]
+fn faults_name_the_refusal(rt: HostRuntime) {
+    let edit = EditFault::Refused(Refusal::ClassBound);
+    let batch = BatchFault::Refused(1, Refusal::Loop);
+    let told = format!(in rt.alloc(); "{edit}; {batch}").expect(&rt, "memory");
+    let is_right = told.as_str() == "the edit is refused: ClassBound; edit 1 is refused: Loop";
+    drop(told);
+    assert!(rt; is_right);
 }
 
 #[test]
