@@ -21,6 +21,8 @@ import tempfile
 MOST_DEVICES, MOST_BUCKETS, MOST_CALLS = 65536, 4096, 65536
 TYPES = ["type 0 osd", "type 1 host", "type 2 chassis", "type 3 rack", "type 11 root"]
 OPERATOR = "%operator a"
+# From here on, away from 0, ids are found by a hash and not in a table.
+FAR = 131072
 
 
 def bytes_of(lines):
@@ -55,13 +57,26 @@ def flat(devices, hosts=1, weight=0.5):
     return lines + bucket("root", "default", 1, names)
 
 
-def nest(depth=MOST_BUCKETS):
-    """A map of buckets in one another, the innermost of which holds a device."""
+def nest(depth=MOST_BUCKETS, first_id=1):
+    """A map of buckets in one another, the innermost of which holds a device. Their ids begin at that."""
     lines = ["device 0 osd.0"] + TYPES
     below = "osd.0"
     for number in range(depth, 0, -1):
-        lines += bucket("rack", f"b{number}", number, [(below, 1)])
+        lines += bucket("rack", f"b{number}", first_id + number - 1, [(below, 1)])
         below = f"b{number}"
+    return lines
+
+
+def fork_at_the_foot(first_id):
+    """A nest whose innermost two buckets stand side by side, and the device in the one."""
+    depth = MOST_BUCKETS - 2
+    lines = ["device 0 osd.0"] + TYPES
+    lines += bucket("host", "left", first_id + depth, [("osd.0", 1)])
+    lines += bucket("host", "right", first_id + depth + 1, [])
+    items = [("left", 1), ("right", 0)]
+    for number in range(depth, 0, -1):
+        lines += bucket("rack", f"b{number}", first_id + number - 1, items)
+        items = [(f"b{number}", 1)]
     return lines
 
 
@@ -119,6 +134,83 @@ def deep_swaps(size):
             lines += bucket("rack", f"b{side}_{number}", side * half + number + 1, [(below, 1)])
             below = f"b{side}_{number}"
     return filled(lines + [OPERATOR], size, lambda n: f"swap-bucket b0_{n % 2000} b1_{n % 2000}")
+
+
+def moves_at_the_foot(size, first_id=1):
+    """One batch in which the device goes from one bucket at the foot of a nest to the one beside it, and back."""
+    lines = filled(fork_at_the_foot(first_id) + [OPERATOR, "begin"], size - 7,
+                   lambda n: f"move osd.0 host={['right', 'left'][n % 2]}", 65536)
+    return lines + ["commit"]
+
+
+def moves_at_the_foot_of_far_ids(size):
+    """The same, with ids that no table has, so that each level of a climb is hashed."""
+    return moves_at_the_foot(size, FAR)
+
+
+def weights_at_the_foot(size):
+    lines = filled(nest() + [OPERATOR, "begin"], size - 7, lambda n: f"reweight osd.0 {n % 7}.5", 65536)
+    return lines + ["commit"]
+
+
+def batches_of_a_far_device(size):
+    """Batches of two on 10,000 devices, of which one has the last id that a table of places would have."""
+    lines = flat(10000, 100)
+    lines = [f"device {FAR - 1} far"] + lines
+    return filled(lines + [OPERATOR], size, lambda n: f"begin\nreweight osd.{n % 10000} {n % 7}\nreweight osd.0 9\ncommit")
+
+
+def full_swaps(size):
+    """Two hosts of as many devices as there may be exchange their items; 2 MB of map, whatever the size."""
+    lines = [f"device {n} {n}" for n in range(MOST_DEVICES)] + TYPES
+    for host, name in enumerate("ab"):
+        lines += [f"host {name} {{", f"id -{host + 1}", "alg straw2"]
+        lines += [f"item {n}" for n in range(host, MOST_DEVICES - 2, 2)] + ["}"]
+    return filled(lines + [OPERATOR], bytes_of(lines) + size, lambda n: "swap-bucket a b")
+
+
+def swaps_of_far_ids(size):
+    """One batch of exchanges of two hosts whose devices have far ids."""
+    count = min(MOST_DEVICES, size // 2 // 60)
+    lines = [f"device {FAR + n} osd.{FAR + n}" for n in range(count)] + TYPES
+    for host in range(2):
+        lines += bucket("host", f"h{host}", host + 2, [(f"osd.{FAR + n}", 0.25) for n in range(host, count, 2)])
+    lines = filled(lines + [OPERATOR, "begin"], size - 7, lambda n: "swap-bucket h0 h1", 65536)
+    return lines + ["commit"]
+
+
+def the_end_of_a_bucket(size):
+    """A device at the end of one bucket is set again and again, after the first has left it."""
+    count = devices_for(size)
+    lines = flat(count, 1, 0.25) + [OPERATOR, "rm osd.0"]
+    return filled(lines, size, lambda n: f"set osd.{count - 1} {n % 2} host=h0")
+
+
+def batches_of_long_names(size):
+    """Batches of two on a map whose names are as long as a name may be."""
+    lines = filled([], size // 2, lambda n: f"device {n} {long_name(n)}", MOST_DEVICES)
+    last = len(lines)
+    lines += TYPES + bucket("host", "h", 1, [(long_name(n), 0.25) for n in range(0, last, 8)])
+    return filled(lines + [OPERATOR], max(size, bytes_of(lines) + size // 4), lambda n: "begin\nadd-bucket x host\nrm x\ncommit")
+
+
+def a_wide_level_over_a_nest(size):
+    """A root of many devices, behind which a nest hangs at whose foot a device is weighed."""
+    count = devices_for(size) // 2
+    lines = ["device 0 osd.0"] + [f"device {n} osd.{n}" for n in range(1, count)] + TYPES
+    below = "osd.0"
+    for number in range(MOST_BUCKETS - 1, 0, -1):
+        lines += bucket("rack", f"b{number}", number + 1, [(below, 1)])
+        below = f"b{number}"
+    lines += bucket("root", "default", 1, [(f"osd.{n}", 0.25) for n in range(1, count)] + [(below, 1)])
+    return filled(lines + [OPERATOR], size, lambda n: f"reweight osd.0 {n % 7}.5")
+
+
+def batches_of_sixteen_operators(size):
+    """Each of sixteen operators makes ten batches on a map of as many devices as fit, each on a copy of its own."""
+    sections = [line for o in range(16) for line in [f"%operator o{o}"] + ["begin", "reweight osd.0 1", "reweight osd.1 2", "commit"] * 10]
+    count = min(MOST_DEVICES - 1, (size - bytes_of(sections)) // 55)
+    return flat(count, 100, 0.25) + sections
 
 
 def devices_alone(size):
@@ -302,7 +394,9 @@ INPUTS = {function.__name__: function for function in (
     new_devices, flat_batches, batches_of_two, refused_batches, one_batch, removals_at_the_front,
     moves_from_the_front, moves_there_and_back, subtrees, large_swaps, take_steps, pairs_over_types,
     routes_without_room, class_ids, new_buckets_of_class_ids, sixteen_operators, a_comment, a_word, blank_lines,
-    comments_in_a_section, blanks_in_a_line, spaces_of_operators)}
+    comments_in_a_section, blanks_in_a_line, spaces_of_operators, moves_at_the_foot, moves_at_the_foot_of_far_ids,
+    weights_at_the_foot, batches_of_a_far_device, full_swaps, swaps_of_far_ids, the_end_of_a_bucket,
+    batches_of_long_names, a_wide_level_over_a_nest, batches_of_sixteen_operators)}
 
 
 def timed(program, job, limit):
