@@ -6,7 +6,8 @@ status, standard error and what is printed with what a plain model says.
 The model (`model.py`, and `reading.py`, which reads jobs) is written from docs/ alone. Jobs are of random maps and
 scripts, of sixteen operators, and those of examples/, the refused ones too, as crush_examples has them: these have
 tunables, rules and classes. In turn all bytes are compared. At once the history may be another each time: the model
-makes the calls in its order (`at_once.py`). The seed may be any word; without one it is drawn. It is printed, and the
+makes the calls in its order (`at_once.py`). Where the program has the words `--tree`, `--since MAP`, `--as-ceph` and
+`--strict`, half of the runs have some of them (`looking.py` says what comes then); else that is told. The seed may be any word; without one it is drawn. It is printed, and the
 same seed makes the same jobs.
 """
 
@@ -16,10 +17,12 @@ import random
 import re
 import subprocess
 import sys
+import tempfile
 
 from at_once import fault_of, job_text, random_scripts
-from chance import Dice, random_job
-from reading import outcome, read_job
+from chance import Dice, random_job, random_map
+from model import Map, run_call
+from reading import outcome, read_job, read_since
 
 DATA = pathlib.Path(__file__).resolve().parent.parent / "crates/crush_examples/data"
 # What a mutation puts into a job: words and bytes that are due somewhere, or nowhere, and numbers out of range.
@@ -103,21 +106,63 @@ def run(program, flags, text):
     return ran.returncode, ran.stdout.decode("latin-1"), ran.stderr.decode("latin-1")
 
 
-def difference(program, text, due):
+def has_words(program):
+    """Whether the program has the words that print something else than a map."""
+    return all(run(program, [word], "")[0] == 0 for word in ("--tree", "--as-ceph", "--strict"))
+
+
+def any_words(dice):
+    """Words of the command line; of those that print something else than a map at most one."""
+    shown = dice.choice([[], ["--tree"], ["--tree"], ["--since"], ["--since"], ["--as-ceph"]])
+    return [word for word in ["--no-history", "--strict"] if dice.randint(0, 2) == 0] + shown
+
+
+def any_map_text(dice, text):
+    """A map to compare with: that of the job, perhaps changed, or another."""
+    own = text.partition("\n%")[0] + "\n"
+    return dice.choice([own, own, mutated(dice, own), random_map(dice).text(), random_map(dice).text()])
+
+
+def refusals_fault(printed, told, scripts):
+    """What is wrong with the end of a strict run at once, of whose history only the refused lines are told."""
+    head, *lines = told.splitlines()
+    if printed or head != f"crushedit: refused {len(lines)}" or not lines:
+        return f"at once: printed {printed!r}, told {told}"
+    calls = {f"{name} {run_call(Map({}), call, 0)[1].partition(' = ')[0]}" for name, made in scripts for call in made}
+    numbers = [int(line.split(" ", 2)[1]) for line in lines]
+    if numbers != sorted(set(numbers)) or not all(
+            line.split(" ", 2)[2].partition(" = refused ")[0] in calls and " = refused " in line for line in lines):
+        return f"at once: told {told}"
+    return None
+
+
+def difference(program, text, due, words, since):
     """What the program does otherwise than the model, which says what is due in turn, or nothing."""
-    got = run(program, ["--in-turn"], text)
-    if got != due:
-        return f"in turn: {got}\n--- and not {due}"
-    status, printed, told = run(program, [], text)
-    if (status, told) != (due[0], due[2]):
+    with tempfile.NamedTemporaryFile() as file:
+        file.write(since.encode("latin-1"))
+        file.flush()
+        flags = [part for word in words for part in ([word, file.name] if word == "--since" else [word])]
+        got = run(program, ["--in-turn", *flags], text)
+        if got != due:
+            return f"in turn: {got}\n--- and not {due}"
+        flags = [flag for flag in flags if flag != "--no-history"]
+        status, printed, told = run(program, flags, text)
+    if due[0] == 1:
+        return f"at once: status {status}, {told}, {printed}" if (status, printed, told) != due else None
+    read, adjusted, scripts = read_job(text)
+    if "--strict" in words and status == 5:
+        return refusals_fault(printed, told, scripts)
+    if status != 0 or told != (f"crushedit: adjusted {adjusted}\n" if adjusted else ""):
         return f"at once: status {status}, {told}"
-    if status != 0:
-        return f"at once: printed {printed}" if printed else None
-    read, _, scripts = read_job(text)
-    return fault_of(read, dict(scripts), printed)
+    if "--strict" in words and " = refused " in printed:
+        return f"at once: a strict run printed {printed}"
+    return fault_of(read, dict(scripts), printed, words, read_since(since) if "--since" in words else None)
 
 
 def compare(program, count, seed):
+    is_looking = has_words(program)
+    if not is_looking:
+        print("this program has no --tree, --since, --as-ceph and --strict: without them")
     examples = [path.read_bytes().decode("latin-1") for path in sorted(DATA.glob("*.job"))]
     refused = (DATA / "records").read_bytes().decode("latin-1").split("\x1e")
     told, refusals = collections.Counter(), collections.Counter()
@@ -125,13 +170,16 @@ def compare(program, count, seed):
         dice = Dice(f"{seed} {index}")
         job = any_job(dice, examples, refused)
         for name, text in (("job", job), ("mutation", mutated(dice, job)), ("prefix", prefix(dice, job))):
-            due = outcome(text)
-            wrong = difference(program, text, due)
+            words = any_words(dice) if is_looking and dice.randint(0, 1) else []
+            since = any_map_text(dice, text)
+            due = outcome(text, words, since)
+            wrong = difference(program, text, due, words, since)
             if wrong:
                 sys.stdout.reconfigure(errors="backslashreplace")
-                print(f"{text}\n--- {wrong}")
+                print(f"{text}\n--- {' '.join(words)}, since\n{since}\n--- {wrong}")
                 sys.exit(f"{name} {index} of seed {seed} differs")
             told[due[2].split()[-1] if due[0] else "done"] += 1
+            told.update(words)
             refusals.update(re.findall(r" = refused (?:at \d+ )?(\w+) \d+(?: changes \d+)?\n", due[1]))
     print(f"{count} jobs of seed {seed}, a mutation and a prefix of each, in turn and at once, end as the model says:",
           ", ".join(f"{name} {number}" for name, number in sorted(told.items())))

@@ -6,7 +6,8 @@ word the fault of least number among those that the word has.
 
 import re
 
-from model import MOST, Map, number_of, run_in_turn, units_of
+from looking import ending
+from model import MOST, Map, number_of, units_of
 
 # What a text has in place of a word: nothing more, or a byte or a word that no text may have.
 END, BAD = "", "?"
@@ -313,10 +314,22 @@ def read_job(text):
     return read, adjusted, read_scripts(lines[before:], before)
 
 
-def outcome(text):
-    """The status of a job that is run in turn, what is printed, and what standard error is told."""
+def outcome(text, words=(), since=None):
+    """The status of a job that is run in turn, what is printed, and what standard error is told, with these words of
+    the command line and the bytes of the file of `--since`."""
     try:
         read, adjusted, scripts = read_job(text)
     except Fault as fault:
         return 1, "", f"crushedit: {fault}\n"
-    return 0, run_in_turn(read, scripts), f"crushedit: adjusted {adjusted}\n" if adjusted else ""
+    try:
+        old = read_since(since) if "--since" in words else None
+    except Fault as fault:
+        return 1, "", f"crushedit: since: {fault}\n"
+    return ending(words, old, read, adjusted, scripts)
+
+
+def read_since(text):
+    """The map of a text without scripts."""
+    if len(text) > LONGEST_JOB:
+        raise Fault("TooLong")
+    return read_map(text)[0]

@@ -7,7 +7,7 @@ such run has to end with status 4, nothing on standard output and its one line o
 the run without a refusal. Each job runs at once and with --in-turn. Where several operators run at once the
 history may be another in each run: there the same calls of each operator, in order, count as the same ending.
 A worker that lacks memory lets the others finish: the run waits for them all, so it has to end by itself, and
-at its end the library looks whether a thread is left. With words only jobs whose names have one of them are
+at its end the library looks whether a thread is left: in `_exit`, since the program ends by that. With words only jobs whose names have one of them are
 run. As many jobs are run side by side as there are processors. Needs a C compiler, `cc`, `gcc` or what CC names,
 and the /proc of Linux. Prints how many requests were refused, and ends with status 1 where a run ends otherwise
 or a job asks for no memory.
@@ -31,6 +31,7 @@ LIBRARY = r"""
 #include <fcntl.h>
 #include <stdatomic.h>
 #include <stdlib.h>
+#include <sys/syscall.h>
 #include <unistd.h>
 
 extern void *__libc_malloc(size_t size);
@@ -52,6 +53,9 @@ __attribute__((constructor)) static void begin(void) {
 
 static void tell(const char *name) { close(open(name, O_CREAT | O_WRONLY, 0600)); }
 
+/* Where the program ends otherwise, this is told: else nothing would be looked at. */
+__attribute__((destructor)) static void end(void) { tell(left); }
+
 static int threads(void) {
     int count = 0;
     DIR *tasks = opendir("/proc/self/task");
@@ -63,15 +67,16 @@ static int threads(void) {
     return count;
 }
 
-/* Tells where a thread is left at the end. One that was joined may be there for a moment more. */
-__attribute__((destructor)) static void end(void) {
+/* The program's end, where it is told if a thread is left. One that was joined may be there for a moment more. */
+void _exit(int status) {
     refused = 0;
-    for (int wait = 0; wait < 1000; wait++) {
-        if (threads() == 1)
-            return;
+    int wait = 0;
+    while (threads() != 1 && wait++ < 1000)
         usleep(1000);
-    }
-    tell(left);
+    if (threads() != 1)
+        tell(left);
+    syscall(SYS_exit_group, status);
+    __builtin_unreachable();
 }
 
 /* Whether this request is the one to be refused; then the file is made by which that is told. */

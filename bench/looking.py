@@ -1,0 +1,171 @@
+"""What is printed in the place of a map, by the plain model: trees, what has changed since a map, Ceph's commands;
+and how a strict run ends."""
+
+import re
+
+from model import is_change, run_call, shown, text_of
+
+
+def by_id(map):
+    """Names by ids, the buckets from -1 downward and then the devices upward."""
+    names = {item["id"]: name for name, item in map.items.items()}
+    return {number: names[number] for number in in_order(names)}
+
+
+def in_order(numbers):
+    return sorted(numbers, key=lambda number: (number >= 0, abs(number)))
+
+
+def tree_rows(map):
+    """Depths and names: of each root all below it, and then the devices that stand in no bucket."""
+
+    def of(name, depth):
+        yield depth, name
+        for kid in map.items[name]["kids"]:
+            yield from of(kid, depth + 1)
+
+    alone = [name for name in by_id(map).values() if not map.parent(name)]
+    for name in alone:
+        yield from of(name, 0)
+
+
+def type_name(map, name):
+    kind = 0 if map.is_device(name) else map.items[name]["kind"]
+    return map.types.get(kind, "osd")
+
+
+def tree_text(map):
+    rows = []
+    for depth, name in tree_rows(map):
+        item = map.items[name]
+        what = name if map.is_device(name) else f"{type_name(map, name)} {name}"
+        rows.append([str(item["id"]), item.get("class") or "", text_of(map.weight(name)),
+                     " " * min(4 * depth, 64) + what])
+    heads = ["ID", "CLASS", "WEIGHT"]
+    widths = [max(len(row[column]) for row in [heads, *rows]) for column in range(3)]
+    lines = ["  ".join([*(head.ljust(width) for head, width in zip(heads, widths)), "TYPE NAME"])]
+    lines += ["  ".join([*(word.rjust(width) for word, width in zip(row, widths)), row[3]]) for row in rows]
+    return "".join(line + "\n" for line in lines)
+
+
+def place_of(map, name):
+    parent = map.parent(name)
+    if parent:
+        return f"{parent} ({map.items[parent]['id']})"
+    return "(unplaced)" if map.is_device(name) else "(root)"
+
+
+def parent_id(map, name):
+    parent = map.parent(name)
+    return map.items[parent]["id"] if parent else None
+
+
+def whole(map, name):
+    """What is told of an item that only one of two maps has."""
+    kind = map.items[name].get("class")
+    return (f"{type_name(map, name)} in {place_of(map, name)}, weight {text_of(map.weight(name))}"
+            + (f", class {kind}" if kind else ""))
+
+
+def differences(old, was, new, name):
+    """The parts of the line of an item that both maps have, each with its heading in the last line, if it has one."""
+    one, other = old.items[was], new.items[name]
+    if was != name:
+        yield "renamed", f"was {was}"
+    if one.get("kind") != other.get("kind"):
+        yield None, f"type {type_name(old, was)} to {type_name(new, name)}"
+    if parent_id(old, was) != parent_id(new, name):
+        yield "moved", f"from {place_of(old, was)} to {place_of(new, name)}"
+    if old.weight(was) != new.weight(name):
+        yield "of other weight", f"weight {text_of(old.weight(was))} to {text_of(new.weight(name))}"
+    if one.get("class") != other.get("class"):
+        yield "of other class", f"class {one.get('class') or '(none)'} to {other.get('class') or '(none)'}"
+    if one.get("alg") != other.get("alg"):
+        yield None, f"alg {one['alg']} to {other['alg']}"
+    if list(one.get("ids", ())) != list(other.get("ids", ())):
+        yield None, "class ids"
+
+
+def total(map):
+    return sum(item["weight"] for name, item in map.items.items() if map.is_device(name) and map.parent(name))
+
+
+def since_text(old, new):
+    before, after = by_id(old), by_id(new)
+    counts = dict.fromkeys(["made", "removed", "renamed", "moved", "of other weight", "of other class"], 0)
+    lines = []
+    for number in in_order({*before, *after}):
+        was, name = before.get(number), after.get(number)
+        if was is None:
+            counts["made"] += 1
+            parts = [f"made as {whole(new, name)}"]
+        elif name is None:
+            counts["removed"] += 1
+            parts = [f"removed, was {whole(old, was)}"]
+        else:
+            told = list(differences(old, was, new, name))
+            parts = [part for _, part in told]
+            for heading, _ in told:
+                if heading:
+                    counts[heading] += 1
+        if parts:
+            lines.append(f"{was if name is None else name} ({number}): {'; '.join(parts)}")
+    if list(old.tunables) != list(new.tunables):
+        lines.append("tunables differ")
+    if old.types != new.types:
+        lines.append("types differ")
+    if [rule["lines"] for rule in old.rules] != [rule["lines"] for rule in new.rules]:
+        lines.append("rules differ")
+    lines.append(f"total {text_of(total(old))} to {text_of(total(new))}")
+    lines.append(", ".join(f"{count} {heading}" for heading, count in counts.items()))
+    return "".join(line + "\n" for line in lines)
+
+
+def ceph_text(made):
+    """Of calls that were made, each with its history line: the commands of those that changed the map."""
+    commands = [command for (_, edits), line in made if is_change(line) for command in edits]
+    lines = [f"# {len(commands)} commands"]
+    for words in commands:
+        sure = " --yes-i-really-mean-it" if words[0] == "swap-bucket" else ""
+        lines.append(f"ceph osd crush {shown(words)}{sure}")
+    return "".join(line + "\n" for line in lines)
+
+
+def body(words, since, map, made):
+    """What is printed before the history, by the words of the command line; `since` is the map of `--since`."""
+    if "--tree" in words:
+        return tree_text(map)
+    if "--since" in words:
+        return since_text(since, map)
+    return ceph_text(made) if "--as-ceph" in words else map.text()
+
+
+def run_in_turn(map, scripts):
+    """The map after the calls of each operator, behind those of the one before, and each call with its line."""
+    made, changes = [], 0
+    for operator, calls in scripts:
+        for call in calls:
+            map, line = run_call(map, call, changes)
+            changes += is_change(line)
+            made.append((call, f"# {len(made) + 1} {operator} {line}\n"))
+    return map, made
+
+
+def is_refusal(line):
+    return " = refused " in line
+
+
+def ending(words, since, read, adjusted, scripts):
+    """Status, standard output and standard error of a run in turn."""
+    map, made = run_in_turn(read, scripts)
+    refused = [line for _, line in made if is_refusal(line)]
+    if "--strict" in words and refused:
+        return 5, "", f"crushedit: refused {len(refused)}\n" + "".join(refused)
+    history = "" if "--no-history" in words else "".join(line for _, line in made)
+    return 0, body(words, since, map, made) + history, f"crushedit: adjusted {adjusted}\n" if adjusted else ""
+
+
+def history_of(printed, count):
+    """What is printed, taken apart before its last lines, one for each call."""
+    lines = printed.splitlines(keepends=True)
+    return "".join(lines[: len(lines) - count]), [re.sub(r"\n$", "", line) for line in lines[len(lines) - count :]]
