@@ -9,7 +9,8 @@ the files that an addition touches: each has to be there, and each file of src/,
 variants of an enum of ADDED, or all words of a row of NAMED, has to stand in its section. RULES.md has a row for each variant of the enums of
 ROWS, and for each limit. Each public function is named by a page, but for those of INSIDE; and PROVED.md has a
 row for each that may answer one of several faults, or fails and is lent what it changes, with clauses that its
-contract has. The index of examples/ names each job. The version of the command line stands in VERSIONS, the
+contract has. The index of examples/ names each job. In the drawing of crates/README.md each crate has
+a place, and code calls downward. The version of the command line stands in VERSIONS, the
 manual page is that of the help (docs/manual.py), and `--version` and PROVED.md name the toolchain, where `rt` is
 there to tell its line. Prints what is missing, and ends with status 1 where anything is.
 """
@@ -262,6 +263,32 @@ def adding_faults():
                 yield f"{title} doesn't name {file}"
 
 
+def calls_of(crate):
+    """The crates of this repository whose items the code of a crate names."""
+    named = set()
+    for path in (TOP / "crates" / crate / "src").rglob("*.rt"):
+        code = "\n".join(line for line in path.read_text().splitlines() if not line.strip().startswith(("ghost", "//", "ensures", "requires")))
+        named.update(re.findall(r"\b(crush_\w+)::", code))
+    return named & {path.name for path in (TOP / "crates").iterdir()} - {crate}
+
+
+def room_faults():
+    """What is wrong with the drawing of the rooms: a crate without a place, or a call that goes upward in it."""
+    text = (TOP / "crates/README.md").read_text()
+    drawing = text.split("```")[1].split("\n the model")[0]
+    crates = [line.split(":")[0] for line in (TOP / "crates.txt").read_text().splitlines() if line[:1] not in {"", "#"}]
+    rooms = {crate: number for number, line in enumerate(drawing.splitlines()) for crate in re.findall(r"crush\w+", line)}
+    model = {"crush_table", "crush_edits"}
+    for crate in crates:
+        if crate.endswith("_tests") or crate in PROGRAMS - {"crushedit"}:
+            continue
+        if f"`{crate}`" not in text:
+            yield f"no room has {crate}"
+        for called in sorted(calls_of(crate) - model):
+            if crate in rooms and rooms.get(called, -1) < rooms[crate]:
+                yield f"{crate} calls {called}, which isn't drawn below it"
+
+
 def main():
     words = known_words()
     edits = {path.stem for path in crate_files() if path.suffix == ".edit"}
@@ -289,7 +316,8 @@ def main():
                     if part not in words:
                         faults.append(f"{page.name}: nothing is named {name}")
                         break
-    for page in [*PAGES, TOP / "examples/README.md", TOP / "bench/README.md"]:
+    faults += [f"crates/README.md: {fault}" for fault in room_faults()]
+    for page in [*PAGES, TOP / "examples/README.md", TOP / "bench/README.md", TOP / "crates/README.md"]:
         faults += link_faults(page)
     faults += [f"RULES.md: {fault}" for fault in rule_faults()]
     faults += [f"ADDING.md: {fault}" for fault in adding_faults()]

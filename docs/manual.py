@@ -21,6 +21,17 @@ crushedit job.txt > new.txt
 grep ' = refused ' new.txt
 diff <(crushedit map.txt) new.txt
 .fi
+.PP
+.BR crushedit\-recipe (1)
+does these steps and those behind them.
+.SH WEIGHTS
+They are in TiB by Ceph's custom, and rounded to 65536ths, where Ceph cuts.
+.BR 4T ", " .5 " and " \-1
+are no weights.
+.B adjusted
+is told of maps of Ceph 18 with buckets above 256 that others hold, since
+.BR crushtool (8)
+prints them by a float of 32 bits.
 .SH CAVEATS
 It touches no cluster: the map that was taken before is the way back.
 .PP
@@ -35,9 +46,13 @@ A name of a bucket that isn't in the map is no error in a location: the bucket i
 .B made
 tells.
 .PP
-A new device has no class, so that no rule of a class finds it, until the map's line of the device or Ceph
+A new device has no class, so that no rule of a class finds it, until
+.B set\-device\-class
 gives it one.
+.PP
+A text that was cut is a smaller map, and a job that was cut a job: compare the last lines.
 .SH "SEE ALSO"
+.BR crushedit\-recipe (1),
 .BR crushtool (8),
 .BR ceph (8)
 """

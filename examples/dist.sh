@@ -44,7 +44,7 @@ Package: crushedit
 Version: $version
 Architecture: amd64
 Maintainer: the maintainers of crushedit <root@localhost>
-Depends: libc6
+Depends: libc6 (>= 2.34)
 Suggests: ceph-base
 Section: admin
 Priority: optional
