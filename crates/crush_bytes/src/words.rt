@@ -151,14 +151,6 @@ impl<'a> Reader<'a> {
         self.lexer.next()
     }
 
-    /// Whether the next word is the key.
-    pub fn is_next(&self, key: &[u8]) -> bool
-        ensures { result ≡ begins key.now self.now }
-    {
-        let mut ahead = self.lexer;
-        matches!(ahead.next(), Token::Word { text, .. } if text == key)
-    }
-
     /// Takes the next word where it is the key, and says whether it was.
     pub fn take_key(&mut self, key: &[u8]) -> bool
         ensures answer { result ≡ begins key.now self.old }

@@ -29,7 +29,7 @@ const BEHIND_KEY: &[(usize, &[u8])] = &[(16, b"-2"), (18, b"}")];
 
 /// Takes the key `id`, and tests that it is no other.
 fn takes_the_key(reader: &mut Reader<'_>) -> bool {
-    reader.is_next(b"id") && !reader.take_key(b"alg") && reader.take_key(b"id")
+    !reader.take_key(b"alg") && reader.take_key(b"id")
 }
 
 #[test]

@@ -5,7 +5,7 @@ ghost use Rattle.std.specs.List.{starts_with};
 ghost use Rattle.crush_edits.specs.Setting.{RuleData};
 ghost use Rattle.crush_map.specs.Built.{Draft};
 ghost use Rattle.crush_map.specs.Rules.{IsStepForm, word_fault};
-ghost use Rattle.crush_text.specs.Forms.{is_signed, signed_value};
+ghost use Rattle.crush_bytes.specs.Numbers.{is_signed, signed_value};
 ghost use Rattle.crush_text.specs.Role.{step_word, taken_bucket, step_order, step_count, step_type};
 ghost use Rattle.crush_text.specs.Form.{word};
 ghost use Rattle.crush_text.specs.Grammar.{step_behind, take_step, choose_step, set_step};
