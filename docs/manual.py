@@ -72,7 +72,7 @@ def plain(text):
 
 def marked(text):
     """What is typed is bold, what stands for something else is italic."""
-    return re.sub(r"\b(?:[A-Z]{4,}|N)\b", r"\\fI\g<0>\\fB", f"\\fB{plain(text)}\\fR").replace("\\fB\\fR", "\\fR")
+    return re.sub(r"\b(?:[A-Z]{3,}|N)\b", r"\\fI\g<0>\\fB", f"\\fB{plain(text)}\\fR").replace("\\fB\\fR", "\\fR")
 
 
 def prose(text):
@@ -103,10 +103,13 @@ def page():
     source = SOURCE.read_text()
     version, about = constant(source, "VERSION"), constant(source, "ABOUT")
     texts = dict(re.findall(r'let (\w+) = "([^"]+)";', source))
-    flags = [(name, texts[text]) for name, text in re.findall(r'flag\(alloc, "([a-z-]+)", (\w+)\)', source)]
-    file = re.search(r'Arg::new\(alloc, "(\w+)"\).*?\.help\("([^"]+)"\)', source, re.S)
-    synopsis = "".join(f'.RB [ "{plain("--" + name)}" ]\n' for name, _ in flags)
-    options = [(f"--{name}", text) for name, text in flags]
+    words = r'(?:flag|option)\(alloc, "([a-z-]+)",(?: "([A-Z]+)",)? (\w+)\)'
+    flags = [(f"--{name} {value}".rstrip(), texts[text]) for name, value, text in re.findall(words, source)]
+    file = re.search(r'Arg::new\(alloc, "([A-Z]+)"\).*?\.help\("([^"]+)"\)', source, re.S)
+    script = re.search(r'Arg::new\(alloc, "([a-z]+)"\).*?\.value_name\("(\w+)"\).*?\.help\("([^"]+)"\)', source, re.S)
+    synopsis = "".join(f'.RB [ "{marked(word)}" ]\n' for word, _ in flags)
+    synopsis += f'.RB [ "{marked(f"-s {script.group(2)}")}" ].. \n'.replace(" \n", "\n")
+    options = [*flags, (f"-s, --{script.group(1)} {script.group(2)}", script.group(3))]
     options += [("-h, --help", "Print help, and run nothing"), ("-V, --version", "Print version, and run nothing")]
     first, *rest = constant(source, "MORE").strip("\n").split("\n\nCommands")
     return (

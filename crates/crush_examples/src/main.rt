@@ -48,6 +48,7 @@ fn run_record(
     let mode = Mode {
         in_turn: true,
         history: true,
+        strict: false,
     };
     let mut reader = job;
     run_job(workers, &NoGate, mode, &mut reader, &mut rt.stdout())

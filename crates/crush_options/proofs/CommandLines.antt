@@ -1,9 +1,9 @@
 -- Command lines, and what their words ask for.
 use Rattle.std.proofs.Common.{◌≡◌, [], ◌∷◌, Some, None, codes, refl}
-use Rattle.clap.specs.declared.error.kind.ErrorKind.TheVariants.{DisplayHelp, DisplayVersion, ArgumentConflict, UnknownArgument, TooManyValues}
+use Rattle.clap.specs.declared.error.kind.ErrorKind.TheVariants.{DisplayHelp, DisplayVersion, ArgumentConflict, InvalidValue, UnknownArgument, TooManyValues}
 use Rattle.clap.specs.Words.{fault_of, first_of, matches_of, one_of}
 use Rattle.clap.proofs.OnLiterals.{clap_on_literals}
-use Rattle.crush_options.specs.Options.{program}
+use Rattle.crush_options.specs.Options.{all_named, program}
 
 no_words : (fault_of program [] ≡ []) × (one_of (codes "in-turn") (matches_of program []) ≡ Some (codes "false")) × (one_of (codes "no-history") (matches_of program []) ≡ Some (codes "false")) × (first_of (codes "FILE") (matches_of program []) ≡ None)
 unfolding clap_on_literals
@@ -40,3 +40,28 @@ help = refl
 version : fault_of program (codes "-V" ∷ []) ≡ DisplayVersion ∷ []
 unfolding clap_on_literals
 version = refl
+
+since : (fault_of program (codes "--since" ∷ codes "m.txt" ∷ codes "j.txt" ∷ []) ≡ []) × (first_of (codes "since") (matches_of program (codes "--since" ∷ codes "m.txt" ∷ codes "j.txt" ∷ [])) ≡ Some (codes "m.txt")) × (first_of (codes "FILE") (matches_of program (codes "--since" ∷ codes "m.txt" ∷ codes "j.txt" ∷ [])) ≡ Some (codes "j.txt"))
+unfolding clap_on_literals
+since = (refl, refl, refl)
+
+since_joined : first_of (codes "since") (matches_of program (codes "--since=m.txt" ∷ [])) ≡ Some (codes "m.txt")
+unfolding clap_on_literals
+since_joined = refl
+
+since_without_a_map : fault_of program (codes "--since" ∷ []) ≡ InvalidValue ∷ []
+unfolding clap_on_literals
+since_without_a_map = refl
+
+since_twice : fault_of program (codes "--since" ∷ codes "a" ∷ codes "--since" ∷ codes "b" ∷ []) ≡ ArgumentConflict ∷ []
+unfolding clap_on_literals
+since_twice = refl
+
+scripts_in_order : (fault_of program (codes "-s" ∷ codes "a" ∷ codes "j.txt" ∷ codes "--script" ∷ codes "b" ∷ []) ≡ []) × (all_named (codes "script") (matches_of program (codes "-s" ∷ codes "a" ∷ codes "j.txt" ∷ codes "--script" ∷ codes "b" ∷ [])) ≡ codes "a" ∷ codes "b" ∷ [])
+unfolding clap_on_literals
+scripts_in_order = (refl, refl)
+
+-- two words that are too many together are each right for the library: the program judges that itself
+two_printed : (fault_of program (codes "--tree" ∷ codes "--since" ∷ codes "m" ∷ []) ≡ []) × (one_of (codes "tree") (matches_of program (codes "--tree" ∷ codes "--since" ∷ codes "m" ∷ [])) ≡ Some (codes "true"))
+unfolding clap_on_literals
+two_printed = (refl, refl)

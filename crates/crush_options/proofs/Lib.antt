@@ -1,2 +1,2 @@
-pub mod Beyond
 pub mod CommandLines
+pub mod Reading

@@ -1,16 +1,27 @@
 -- What the words of a command line ask for.
-use Rattle.std.specs.Prelude.{◌≡◌, ◌≢◌, ◌⊎◌, ℕ, Bool, true, false, not, List, [], Option, Some, None, codes, option_map}
-use Rattle.clap.specs.declared.builder.action.ArgAction.TheVariants.{Set, SetTrue}
+use Rattle.std.specs.Prelude.{◌≡◌, ◌≢◌, ◌⊎◌, ◌+◌, ◌<◌, ◌≤◌, ℕ, Bool, true, false, not, List, [], length, map, Option, Some, None, codes, if◌then◌else◌, is_some, option_map, unwrap_or, String}
+use Rattle.clap.specs.declared.builder.action.ArgAction.TheVariants.{Set, SetTrue, Append}
 use Rattle.clap.specs.declared.error.kind.ErrorKind.{ErrorKind}
 use Rattle.clap.specs.declared.error.kind.ErrorKind.TheVariants.{DisplayHelp, DisplayVersion, OutOfMemory}
-use Rattle.clap.specs.Words.{App, IsAmong, Kinds, Rule, Text, fault_of, first_of, matches_of, new_app, new_rule, one_of, with_rule}
+use Rattle.clap.specs.Words.{App, IsAmong, Kinds, Row, Rule, Text, all_of, fault_of, first_of, matches_of, new_app, new_rule, one_of, with_rule}
 use Rattle.crush_options.specs.declared.asked.Options.{Options}
 use Rattle.crush_options.specs.declared.asked.OptionsFault.{OptionsFault}
 use Rattle.crush_options.specs.declared.asked.OptionsFault.TheVariants.{Help, Refused, Memory}
+use Rattle.crush_options.specs.declared.asked.Printed.{Printed}
+use Rattle.crush_options.specs.declared.asked.Printed.TheVariants.{Map, Tree, Since, AsCeph}
+use Rattle.crush_options.specs.declared.command_line.TheConstants.{MOST_SCRIPTS}
 
 -- a flag `--NAME`
 abbrev pub flag : Text → Rule
 flag name = record (new_rule name) { long = Some name; action = Some SetTrue }
+
+-- an option `--NAME VALUE`
+abbrev pub option : Text → Rule
+option name = record (new_rule name) { long = Some name; action = Some Set; value_names = 1 }
+
+-- `-s SCRIPT`, also `--script SCRIPT`, each time one more
+abbrev pub scripts : Rule
+scripts = record (new_rule (codes "script")) { long = Some (codes "script"); short = Some 115; action = Some Append; value_names = 1 }
 
 -- `FILE`
 abbrev pub file : Rule
@@ -20,9 +31,16 @@ file = record (new_rule (codes "FILE")) { action = Some Set }
 abbrev pub named : App
 named = record (new_app (codes "crushedit")) { top = record (new_app (codes "crushedit")).top { no_binary_name = true; has_version = true } }
 
--- THE COMMAND LINE: `[--in-turn] [--no-history] [FILE]`
+-- it with the words that say how a job is run, and then with those that say what is printed
+abbrev pub with_modes : App
+with_modes = with_rule (with_rule (with_rule named (flag (codes "in-turn"))) (flag (codes "no-history"))) (flag (codes "strict"))
+
+abbrev pub with_printed : App
+with_printed = with_rule (with_rule (with_rule with_modes (flag (codes "tree"))) (option (codes "since"))) (flag (codes "as-ceph"))
+
+-- THE COMMAND LINE: `[--in-turn] [--no-history] [--strict] [--tree] [--since MAP] [--as-ceph] [--explain] [-s SCRIPT].. [FILE]`
 abbrev pub program : App
-program = with_rule (with_rule (with_rule named (flag (codes "in-turn"))) (flag (codes "no-history"))) file
+program = with_rule (with_rule (with_rule with_printed (flag (codes "explain"))) scripts) file
 
 -- a flag is set where the words have it, and else not, also where nothing tells of it
 pub record IsFlag (text : Option Text) (flag : Bool) : Type 0 where
@@ -30,12 +48,73 @@ pub record IsFlag (text : Option Text) (flag : Bool) : Type 0 where
   pub absent : text ≡ Some (codes "false") → flag ≡ false
   pub none : text ≡ None → flag ≡ false
 
+-- the texts of names
+abbrev pub names_text : {Z : Type 0} → List (String Z) → List Text
+names_text names = map (λ name. name.bytes.items) names
+
+-- all values of an argument, none where it isn't there
+abbrev pub all_named : Text → List Row → List Text
+all_named id rows = unwrap_or (all_of id rows) []
+
+-- the words that say what is printed: whether `--tree` and `--as-ceph` are there, and the value of `--since`
+pub record AreSaid (rows : List Row) (is_tree : Bool) (old_map : Option Text) (is_ceph : Bool) : Type 0 where
+  pub tree : IsFlag (one_of (codes "tree") rows) is_tree
+  pub since : first_of (codes "since") rows ≡ old_map
+  pub as_ceph : IsFlag (one_of (codes "as-ceph") rows) is_ceph
+
+-- WHAT IS PRINTED: the map, unless one of the words is there; then none of the others is
+abbrev pub IsPrinted : List Row → Printed → Type 0
+IsPrinted rows Map = AreSaid rows false None false
+IsPrinted rows Tree = AreSaid rows true None false
+IsPrinted rows (Since name) = AreSaid rows false (Some name.bytes.items) false
+IsPrinted rows AsCeph = AreSaid rows false None true
+
+-- how many of the three words there are
+abbrev pub one_where : Bool → ℕ
+one_where there = if there then 1 else 0
+
+abbrev pub count_said : Bool → Option Text → Bool → ℕ
+count_said tree since as_ceph = one_where tree + one_where (is_some since) + one_where as_ceph
+
+-- two of the three words are there
+pub record SaysTwo (rows : List Row) : Type 0 where
+  pub tree : Bool
+  pub since : Option Text
+  pub as_ceph : Bool
+  pub said : AreSaid rows tree since as_ceph
+  pub two : 1 < count_said tree since as_ceph
+
+-- each word is one of the program's, but there are too many together: two of the three, or more than 16 scripts
+abbrev pub IsTooMuch : List Row → Type 0
+IsTooMuch rows = SaysTwo rows ⊎ (MOST_SCRIPTS < length (all_named (codes "script") rows))
+
+-- the options are those of the words as they were read
+pub record AreRead (rows : List Row) (options : Options) : Type 0 where
+  pub in_turn : IsFlag (one_of (codes "in-turn") rows) options.mode.in_turn
+  pub history : IsFlag (one_of (codes "no-history") rows) (not options.mode.history)
+  pub strict : IsFlag (one_of (codes "strict") rows) options.mode.strict
+  pub printed : IsPrinted rows options.printed
+  pub explain : IsFlag (one_of (codes "explain") rows) options.explain
+  pub scripts : names_text options.scripts.items ≡ all_named (codes "script") rows
+  pub few : length options.scripts.items ≤ MOST_SCRIPTS
+  pub file : option_map (λ name. name.bytes.items) options.file ≡ first_of (codes "FILE") rows
+
 -- the options are those that the words ask for, and nothing is wrong with the words
 pub record IsAsked (words : List Text) (options : Options) : Type 0 where
   pub right : fault_of program words ≡ []
-  pub in_turn : IsFlag (one_of (codes "in-turn") (matches_of program words)) options.mode.in_turn
-  pub history : IsFlag (one_of (codes "no-history") (matches_of program words)) (not options.mode.history)
-  pub file : option_map (λ name. name.bytes.items) options.file ≡ first_of (codes "FILE") (matches_of program words)
+  pub read : AreRead (matches_of program words) options
+
+-- a refusal of words that are too many together; memory may lack for its text
+abbrev pub AsksTooMuch : List Row → OptionsFault → Type 0
+AsksTooMuch rows (Help text) = ⊥
+AsksTooMuch rows (Refused text) = IsTooMuch rows
+AsksTooMuch rows Memory = Unit {0}
+
+-- a refusal with a text, or memory lacks for it
+abbrev pub IsRefusedFor : Text → OptionsFault → Type 0
+IsRefusedFor why (Help text) = ⊥
+IsRefusedFor why (Refused text) = text.bytes.items ≡ why
+IsRefusedFor why Memory = Unit {0}
 
 -- which fault an error of a kind is; memory may lack for its text
 abbrev pub IsFaultOf : ErrorKind → OptionsFault → Type 0
@@ -49,8 +128,13 @@ pub record HasFault (kinds : Kinds) (fault : OptionsFault) : Type 0 where
   pub among : IsAmong kind kinds
   pub told : IsFaultOf kind fault
 
+-- the words are each right, and too many together
+pub record AreTooMany (words : List Text) : Type 0 where
+  pub right : fault_of program words ≡ []
+  pub much : IsTooMuch (matches_of program words)
+
 -- the fault is out of memory, or one that the words have
-abbrev pub IsFaultIn : Kinds → OptionsFault → Type 0
-IsFaultIn kinds (Help text) = HasFault kinds (Help text)
-IsFaultIn kinds (Refused text) = HasFault kinds (Refused text)
-IsFaultIn kinds Memory = Unit {0}
+abbrev pub IsFaultIn : List Text → OptionsFault → Type 0
+IsFaultIn words (Help text) = HasFault (fault_of program words) (Help text)
+IsFaultIn words (Refused text) = HasFault (fault_of program words) (Refused text) ⊎ AreTooMany words
+IsFaultIn words Memory = Unit {0}

@@ -11,6 +11,21 @@ pub struct Mode {
     pub in_turn: bool,
     /// Whether the history is written behind the map.
     pub history: bool,
+    /// Whether a run in which anything is refused writes nothing.
+    pub strict: bool,
+}
+
+/// What is printed of the map after the scripts.
+#[derive(Debug, Drop)]
+pub enum Printed {
+    /// Its text.
+    Map,
+    /// Its tree, a line for each item.
+    Tree,
+    /// What has changed in it since the map that the file of this name has.
+    Since(String),
+    /// The commands that changed it, as Ceph's own.
+    AsCeph,
 }
 
 /// What the program is asked to do.
@@ -18,6 +33,12 @@ pub struct Mode {
 pub struct Options {
     /// How the job is to be run.
     pub mode: Mode,
+    /// What is printed of the map after the scripts.
+    pub printed: Printed,
+    /// Whether reasons are told behind the one line on standard error.
+    pub explain: bool,
+    /// The files, at most 16, of which each has a script; they follow the job in this order.
+    pub scripts: Vec<String>,
     /// The file that the job is read from; without one it is read from standard input.
     pub file: Option<String>,
 }

@@ -1,10 +1,10 @@
 //! The command line.
 
-ghost use Rattle.std.specs.Prelude.{◌≡◌, IfErr, IfOk, codes, false, map, not, option_map};
-ghost use Rattle.clap.specs.Words.{app_of, fault_of, first_value, found_of, kind_of, one_text, rule_of};
-ghost use Rattle.crush_options.specs.Options.{IsAsked, IsFaultIn, IsFaultOf, IsFlag, file, flag, program};
+ghost use Rattle.std.specs.Prelude.{◌≡◌, ◌≤◌, IfErr, IfOk, codes, false, length, map, option_map};
+ghost use Rattle.clap.specs.Words.{all_of, app_of, fault_of, first_of, found_of, kind_of, one_of, rows_of, rule_of, with_rule};
+ghost use Rattle.crush_options.specs.Options.{AreRead, AsksTooMuch, IsAsked, IsFaultIn, IsFaultOf, IsFlag, IsPrinted, IsRefusedFor, all_named, file, flag, names_text, option, program, scripts, with_modes, with_printed};
 
-use crate::asked::{Mode, Options, OptionsFault};
+use crate::asked::{Mode, Options, OptionsFault, Printed};
 use clap::error::ErrorKind;
 use clap::{Arg, ArgAction, ArgMatches, Command, Error};
 use std::alloc::{AllocError, Global};
@@ -32,6 +32,10 @@ comment.
 The scripts of several operators run at once; with `--in-turn` they run one
 after the other, in the order of the job, so that the output is the same each
 time. A FILE `-` is a file of that name.
+
+A script can stand in a file of its own, which `-s` names: it follows the job as
+if it stood there. Where it doesn't begin with `%operator NAME`, its operator is
+called as the file up to its first point.
 
 Commands, those of `ceph osd crush`:
     add osd.N WEIGHT PAIR ..             puts a new or unplaced device there
@@ -66,16 +70,33 @@ made:
 that were made. ` = refused ` marks a command that changed nothing, with a name
 and an error number of Linux; the next one is tried all the same.
 
+In the place of the map `--tree` prints its tree, `--since MAP` what has changed
+since the map of a file, and `--as-ceph` the commands that changed it, as lines
+for a shell; at most one of the three.
+
 Standard error gets `crushedit: adjusted N` where N buckets were written with
-another weight than the sum of their devices, and got the sum.
+another weight than the sum of their devices, and got the sum. With `--strict`
+it gets `crushedit: refused N` where N commands or batches were refused, and
+their lines. With `--explain` it tells more below: where a fault stands, and
+what was wanted.
 
 Exit status:
-    0    the run was done, also where commands were refused
+    0    the run was done, also where commands were refused, without --strict
     1    the input is no job, and nothing was written
     2    the command line is refused
     3    FILE can't be opened, or reading or writing failed
     4    out of memory, or no thread could be started; nothing was written
+    5    with --strict: a command was refused, and nothing was written
 ";
+
+/// What is told where words ask for two things to be printed.
+const TWO_PRINTED: &str = "error: at most one of --tree, --since and --as-ceph\n";
+
+/// How many files of scripts there can be: a job has as many operators.
+const MOST_SCRIPTS: usize = 16;
+
+/// What is told where there are more files of scripts.
+const MANY_SCRIPTS: &str = "error: at most 16 times --script\n";
 
 /// A flag `--NAME`.
 fn flag<'a>(alloc: Global, name: &'a str, help: &'a str) -> Arg<'a>
@@ -88,6 +109,31 @@ fn flag<'a>(alloc: Global, name: &'a str, help: &'a str) -> Arg<'a>
         .help(help)
 }
 
+/// An option `--NAME VALUE`, which can stand once.
+fn option<'a>(alloc: Global, name: &'a str, value: &'a str, help: &'a str) -> Arg<'a>
+    ensures rule { rule_of result ≡ option name.entry.now }
+    ensures own { result.global ≡ false }
+{
+    Arg::new(alloc, name)
+        .long(name)
+        .action(ArgAction::Set)
+        .value_name(value)
+        .help(help)
+}
+
+/// The files of scripts, one for each `-s` or `--script`.
+fn scripts<'a>(alloc: Global) -> Arg<'a>
+    ensures rule { rule_of result ≡ scripts }
+    ensures own { result.global ≡ false }
+{
+    Arg::new(alloc, "script")
+        .short('s')
+        .long("script")
+        .action(ArgAction::Append)
+        .value_name("SCRIPT")
+        .help("Put the script of this file behind the job, up to 16 times")
+}
+
 /// The file that a job is read from.
 fn file<'a>(alloc: Global) -> Arg<'a>
     ensures rule { rule_of result ≡ file }
@@ -98,12 +144,13 @@ fn file<'a>(alloc: Global) -> Arg<'a>
         .help("The job; without FILE it is read from standard input")
 }
 
-/// The flags and the file that the program takes.
-fn command<'a>(alloc: Global) -> Result<Command<'a>, AllocError>
-    ensures { IfOk result (λ command. app_of command ≡ program) }
+/// The command with the words that say how a job is run.
+fn with_modes<'a>(alloc: Global) -> Result<Command<'a>, AllocError>
+    ensures { IfOk result (λ command. app_of command ≡ with_modes) }
 {
     let in_turn = "Run the scripts one after the other, in the job's order";
     let no_history = "Write no line for each command behind the map";
+    let strict = "Write nothing where a command is refused, and end with status 5";
     Command::new(alloc, "crushedit")
         .no_binary_name(true)
         .version(VERSION)
@@ -111,27 +158,126 @@ fn command<'a>(alloc: Global) -> Result<Command<'a>, AllocError>
         .after_help(MORE)
         .arg(flag(alloc, "in-turn", in_turn))?
         .arg(flag(alloc, "no-history", no_history))?
+        .arg(flag(alloc, "strict", strict))
+}
+
+/// The command with the words that say what is printed in the place of the map, too.
+fn with_printed<'a>(alloc: Global) -> Result<Command<'a>, AllocError>
+    ensures { IfOk result (λ command. app_of command ≡ with_printed) }
+{
+    let tree = "Print the map's tree in its place";
+    let since = "Print what has changed since the map of this file";
+    let as_ceph = "Print the commands that changed the map, as Ceph's own";
+    with_modes(alloc)?
+        .arg(flag(alloc, "tree", tree))?
+        .arg(option(alloc, "since", "MAP", since))?
+        .arg(flag(alloc, "as-ceph", as_ceph))
+}
+
+/// All words that the program takes.
+fn command<'a>(alloc: Global) -> Result<Command<'a>, AllocError>
+    ensures { IfOk result (λ command. app_of command ≡ program) }
+{
+    let explain = "Tell where and why, below the one line on standard error";
+    with_printed(alloc)?
+        .arg(flag(alloc, "explain", explain))?
+        .arg(scripts(alloc))?
         .arg(file(alloc))
 }
 
+/// Whether the words have a flag.
+fn is_set(matches: &ArgMatches<'_>, name: &str) -> bool
+    ensures { IsFlag (one_of name.now (rows_of (found_of matches.now))) result }
+{
+    matches.get_flag(name)
+}
+
+/// A refusal with this text.
+fn refused(alloc: Global, text: &str) -> OptionsFault
+    ensures { IsRefusedFor text.now result }
+{
+    match String::from_str(alloc, text) {
+        Ok(text) => OptionsFault::Refused(text),
+        Err(error) => error.into(),
+    }
+}
+
+/// What the words ask to be printed, of which there is at most one.
+fn printed_of(alloc: Global, matches: &ArgMatches<'_>) -> Result<Printed, OptionsFault>
+    ensures asked { IfOk result (IsPrinted (rows_of (found_of matches.now))) }
+    ensures fault { IfErr result (AsksTooMuch (rows_of (found_of matches.now))) }
+{
+    let tree = is_set(matches, "tree");
+    let as_ceph = is_set(matches, "as-ceph");
+    match matches.get_str("since") {
+        None if tree && as_ceph => Err(refused(alloc, TWO_PRINTED)),
+        None if tree => Ok(Printed::Tree),
+        None if as_ceph => Ok(Printed::AsCeph),
+        None => Ok(Printed::Map),
+        Some(_) if tree => Err(refused(alloc, TWO_PRINTED)),
+        Some(_) if as_ceph => Err(refused(alloc, TWO_PRINTED)),
+        Some(name) => Ok(Printed::Since(String::from_str(alloc, name)?)),
+    }
+}
+
+/// Copies of names, in their order. An Err is want of memory.
+fn copies(alloc: Global, names: &[&str]) -> Result<Vec<String>, AllocError>
+    ensures { IfOk result (λ copies. names_text copies.items ≡ map (λ name. name.now) names.now) }
+{
+    let mut copies = Vec::new(alloc);
+    for name in names {
+        let copy = String::from_str(alloc, name)?;
+        copies.push(copy)?;
+    }
+    Ok(copies)
+}
+
+/// The files of scripts that the words name, of which there are at most 16.
+fn scripts_of(alloc: Global, matches: &ArgMatches<'_>) -> Result<Vec<String>, OptionsFault>
+    ensures asked { IfOk result (λ scripts. names_text scripts.items
+        ≡ all_named (codes "script") (rows_of (found_of matches.now))) }
+    ensures few { IfOk result (λ scripts. length scripts.items ≤ MOST_SCRIPTS) }
+    ensures fault { IfErr result (AsksTooMuch (rows_of (found_of matches.now))) }
+{
+    match matches.get_strs("script") {
+        None => Ok(Vec::new(alloc)),
+        Some(names) if names.len() > MOST_SCRIPTS => Err(refused(alloc, MANY_SCRIPTS)),
+        Some(names) => Ok(copies(alloc, names)?),
+    }
+}
+
+/// The file that the words name.
+fn file_of(alloc: Global, matches: &ArgMatches<'_>) -> Result<Option<String>, AllocError>
+    ensures { IfOk result (λ file. option_map (λ name. name.bytes.items) file
+        ≡ first_of (codes "FILE") (rows_of (found_of matches.now))) }
+{
+    match matches.get_str("FILE") {
+        Some(name) => Ok(Some(String::from_str(alloc, name)?)),
+        None => Ok(None),
+    }
+}
+
 /// The options that a parsed command line has.
-fn options_of(alloc: Global, matches: &ArgMatches<'_>) -> Result<Options, AllocError>
-    ensures in_turn { IfOk result (λ options.
-        IsFlag (one_text (found_of matches.now) (codes "in-turn")) options.mode.in_turn) }
-    ensures history { IfOk result (λ options.
-        IsFlag (one_text (found_of matches.now) (codes "no-history")) (not options.mode.history)) }
-    ensures file { IfOk result (λ options. option_map (λ name. name.bytes.items) options.file
-        ≡ first_value (found_of matches.now) (codes "FILE")) }
+fn options_of(alloc: Global, matches: &ArgMatches<'_>) -> Result<Options, OptionsFault>
+    ensures read { IfOk result (AreRead (rows_of (found_of matches.now))) }
+    ensures fault { IfErr result (AsksTooMuch (rows_of (found_of matches.now))) }
 {
     let mode = Mode {
-        in_turn: matches.get_flag("in-turn"),
-        history: !matches.get_flag("no-history"),
+        in_turn: is_set(matches, "in-turn"),
+        history: !is_set(matches, "no-history"),
+        strict: is_set(matches, "strict"),
     };
-    let file = match matches.get_str("FILE") {
-        Some(name) => Some(String::from_str(alloc, name)?),
-        None => None,
-    };
-    Ok(Options { mode, file })
+    let explain = is_set(matches, "explain");
+    let printed = printed_of(alloc, matches)?;
+    let scripts = scripts_of(alloc, matches)?;
+    let file = file_of(alloc, matches)?;
+    Ok(Options {
+        mode,
+        printed,
+        explain,
+        scripts,
+        file,
+    })
 }
 
 /// An error of the command line's crate, with its text.
@@ -149,14 +295,15 @@ fn fault_of(alloc: Global, error: &Error) -> OptionsFault
 }
 
 /// Reads the words of a command line behind the program's name: `[--in-turn] [--no-history]
-/// [FILE]`, in any order. Each word is one of these or refused: none is ignored.
+/// [--strict] [--tree | --since MAP | --as-ceph] [--explain] [-s SCRIPT].. [FILE]`, in any order,
+/// with up to 16 scripts. Each word is one of these or refused: none is ignored.
 pub fn options<S: AsStr>(alloc: Global, words: &[S]) -> Result<Options, OptionsFault>
     ensures asked { IfOk result (IsAsked (map S.text words.now)) }
-    ensures fault { IfErr result (IsFaultIn (fault_of program (map S.text words.now))) }
+    ensures fault { IfErr result (IsFaultIn (map S.text words.now)) }
 {
     let command = command(alloc)?;
     match command.try_get_matches_from(words) {
-        Ok(matches) => Ok(options_of(alloc, &matches)?),
+        Ok(matches) => options_of(alloc, &matches),
         Err(error) => Err(fault_of(alloc, &error)),
     }
 }

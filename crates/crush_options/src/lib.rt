@@ -4,5 +4,5 @@
 mod asked;
 mod command_line;
 
-pub use asked::{Mode, Options, OptionsFault};
+pub use asked::{Mode, Options, OptionsFault, Printed};
 pub use command_line::options;

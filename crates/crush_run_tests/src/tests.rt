@@ -26,12 +26,14 @@ const REWEIGHED: &[u8] =
 const MODE: Mode = Mode {
     in_turn: true,
     history: true,
+    strict: false,
 };
 
 /// The same where operators are at work at once.
 const AT_ONCE: Mode = Mode {
     in_turn: false,
     history: true,
+    strict: false,
 };
 
 /// The bytes of both, one behind the other.

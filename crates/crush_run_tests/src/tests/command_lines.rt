@@ -1,6 +1,6 @@
 //! Command lines: their words, and what they ask for.
 
-use crush_options::{Options, OptionsFault, options};
+use crush_options::{Options, OptionsFault, Printed, options};
 use std::process::Abort;
 
 /// Whether the options are these.
@@ -52,6 +52,45 @@ fn flags_and_a_file_are_read(rt: HostRuntime) {
     );
 }
 
+/// Whether the words ask for the changes since the map of a file, strictly and with reasons, and for
+/// two scripts.
+fn asks_for_all(rt: &impl AllocGlobal, words: &[&str]) -> bool {
+    let read = options(rt.alloc(), words);
+    let asked = match &read {
+        Ok(options) => asks_since(options, "m.txt") && has_two(options, "a", "b.txt"),
+        Err(_) => false,
+    };
+    drop(read);
+    asked
+}
+
+/// Whether the changes since the map of this file are asked for, strictly and with reasons.
+fn asks_since(options: &Options, map: &str) -> bool {
+    let since = match &options.printed {
+        Printed::Since(name) => name.as_str() == map,
+        _ => false,
+    };
+    since && options.mode.strict && options.explain
+}
+
+/// Whether these are the scripts.
+fn has_two(options: &Options, first: &str, second: &str) -> bool {
+    match options.scripts.as_slice() {
+        [a, b] => a.as_str() == first && b.as_str() == second,
+        _ => false,
+    }
+}
+
+#[test]
+fn further_words_are_read(rt: HostRuntime) {
+    assert!(rt;
+        asks_for_all(
+            &rt,
+            &["--strict", "-s", "a", "--since", "m.txt", "--script=b.txt", "--explain"]
+        )
+    );
+}
+
 /// Whether the words are refused, with a text that is a line of an error.
 fn are_refused(rt: &impl AllocGlobal, words: &[&str]) -> bool {
     let read = options(rt.alloc(), words);
@@ -72,6 +111,10 @@ const OTHER_WORDS: &[&[&str]] = &[
     &["-x"],
     &["--in-turn=yes"],
     &["--in-turn", "--in-turn"],
+    &["--tree", "--since", "m"],
+    &["--as-ceph", "--tree"],
+    &["--since=m", "--as-ceph"],
+    &["-sa"; 17],
 ];
 
 #[test]
@@ -86,6 +129,12 @@ const HELP: &[&str] = &[
     "Usage: crushedit [OPTIONS] [FILE]\n",
     "--in-turn ",
     "--no-history ",
+    "--strict ",
+    "--tree ",
+    "--since <MAP> ",
+    "--as-ceph ",
+    "--explain ",
+    "-s, --script <SCRIPT> ",
     "\n    %operator alice\n    add osd.12 1.8 host=node3 rack=r2 root=default\n    reweight osd.2 1.0\n",
     "\n    add osd.N WEIGHT PAIR .. ",
     "\n    set osd.N WEIGHT PAIR .. ",
@@ -103,6 +152,7 @@ const HELP: &[&str] = &[
     "\n    2    the command line is refused",
     "\n    3    FILE can't be opened, or reading or writing failed",
     "\n    4    out of memory",
+    "\n    5    with --strict",
 ];
 
 /// What is told where the word asks for no run.
