@@ -1,12 +1,13 @@
 -- The definitions, computed on worked examples.
 use Rattle.std.proofs.Common.{◌≡◌, true, false, [], ◌∷◌, refl, lit<}
 use Rattle.std.proofs.lemmas.Fmt.{decimal_digit}
+use Rattle.std.specs.Fmt.{digits}
 use Rattle.std.specs.Prelude.{codes}
 use Rattle.crush_units.specs.declared.limits.TheConstants.{UNITS_OF_ONE}
 use Rattle.crush_edits.specs.declared.edit.Edit.TheVariants.{Insert, Reweight, Remove, Rename}
 use Rattle.crush_edits.specs.declared.refusal.Refusal.TheVariants.{NotPlaced, NoSuchItem}
-use Rattle.crush_calls.specs.declared.call.Call.TheVariants.{One, Batch}
-use Rattle.crush_calls.specs.declared.call.Reply.TheVariants.{Done, Dones, Refused, BatchRefused}
+use Rattle.crush_calls.specs.declared.call.Call.TheVariants.{One, Batch, Guarded}
+use Rattle.crush_calls.specs.declared.call.Reply.TheVariants.{Done, Dones, Refused, BatchRefused, Stale}
 use Rattle.crush_calls.specs.HistoryText.{edit_text, line_front, line_end, line_text}
 
 -- an edit as its command
@@ -36,3 +37,12 @@ empty_batch = rw (decimal_digit 2 (lit< tt), decimal_digit 0 (lit< tt)) refl
 refused_batch : line_text 1 (codes "a") (Batch (Rename (codes "h1") (codes "hq") ∷ (Remove (codes "x") ∷ []))) (BatchRefused 1 NoSuchItem) ≡ codes "# 1 a begin ; rename-bucket h1 hq ; rm x ; commit = refused at 1 NoSuchItem 2\n"
 unfolding line_front line_end
 refused_batch = rw (decimal_digit 1 (lit< tt), decimal_digit 2 (lit< tt)) refl
+
+-- a guarded batch that is made, and the same again, which is stale
+guarded_line : line_text 1 (codes "a") (Guarded 0 (Reweight (codes "osd.0") 131072 ∷ [])) (Dones (record { edits = 1; changed = 1; made = 0 })) ≡ codes "# 1 a begin at 0 ; reweight osd.0 2.00000 ; commit = dones 1 changed 1 made 0\n"
+unfolding line_front line_end digits
+guarded_line = refl
+
+stale_line : line_text 2 (codes "a") (Guarded 0 (Reweight (codes "osd.0") 131072 ∷ [])) (Stale 1) ≡ codes "# 2 a begin at 0 ; reweight osd.0 2.00000 ; commit = refused Stale 11 changes 1\n"
+unfolding line_front line_end digits
+stale_line = refl

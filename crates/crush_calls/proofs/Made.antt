@@ -1,8 +1,6 @@
 -- What is made whatever changes came before, and what is guarded.
 use Rattle.std.proofs.Common.{◌≡◌, ◌≢◌, ◌==◌, ℕ, List, Result, Ok, Err, true, false, refl, rules, tests}
 use Rattle.std.specs.Prelude.{IfOk}
-use Rattle.crush_table.specs.Table.{Row}
-use Rattle.crush_edits.specs.Setting.{SettingData}
 use Rattle.crush_edits.specs.declared.edit.Edit.{Edit}
 use Rattle.crush_map.specs.MapData.{MapData}
 use Rattle.crush_calls.specs.declared.call.Call.{Call}

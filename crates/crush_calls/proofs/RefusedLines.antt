@@ -5,8 +5,8 @@ use Rattle.std.proofs.lemmas.List.{append-nil, take_more, length-take-le}
 use Rattle.std.specs.Prelude.{codes, slice_index_or, if◌then◌else◌}
 use Rattle.crush_edits.specs.declared.edit.Edit.TheVariants.{Reweight, Remove}
 use Rattle.crush_edits.specs.declared.refusal.Refusal.TheVariants.{NotEmpty, NoSuchItem}
-use Rattle.crush_calls.specs.declared.call.Call.TheVariants.{One, Batch}
-use Rattle.crush_calls.specs.declared.call.Reply.TheVariants.{Done, Refused, BatchRefused}
+use Rattle.crush_calls.specs.declared.call.Call.TheVariants.{One, Batch, Guarded}
+use Rattle.crush_calls.specs.declared.call.Reply.TheVariants.{Done, Dones, Refused, BatchRefused, Stale}
 use Rattle.crush_calls.specs.declared.entry.Entry.{Entry}
 use Rattle.crush_calls.specs.History.{EntryData}
 use Rattle.crush_calls.specs.HistoryText.{line_front, line_end}
@@ -62,3 +62,9 @@ batch_example : refused_text (codes "a" ∷ []) 1 ((record { operator = 0; call 
     ≡ codes "# 1 a begin ; rm osd.0 ; rm default ; commit = refused at 1 NotEmpty 39\n"
 unfolding refused_text line_front line_end digits
 batch_example = refl
+
+-- and a guarded batch that came too late
+stale_example : refused_text (codes "a" ∷ []) 1 ((record { operator = 0; call = Guarded 0 (Reweight (codes "osd.0") 131072 ∷ []); reply = Dones (record { edits = 1; changed = 1; made = 0 }) }) ∷ ((record { operator = 0; call = Guarded 0 (Reweight (codes "osd.0") 131072 ∷ []); reply = Stale 1 }) ∷ []))
+    ≡ codes "# 2 a begin at 0 ; reweight osd.0 2.00000 ; commit = refused Stale 11 changes 1\n"
+unfolding refused_text line_front line_end digits
+stale_example = refl

@@ -14,7 +14,7 @@ use Rattle.crush_edits.proofs.Edits.{edit_keeps, batch_keeps}
 use Rattle.crush_calls.specs.declared.call.Call.{Call}
 use Rattle.crush_calls.specs.declared.call.Call.TheVariants.{One, Batch, Guarded}
 use Rattle.crush_calls.specs.Script.{ScriptData}
-use Rattle.crush_calls.specs.History.{EntryData, Counted, untouched, later, counted_after, edit_outcome, batch_outcome, guarded_outcome, call_outcome, entry_on, turn, turns_from}
+use Rattle.crush_calls.specs.History.{EntryData, Counted, untouched, later, counted_after, edit_outcome, batch_outcome, guarded_outcome, entry_on, turn, turns_from}
 use Rattle.crush_calls.specs.LawRun.{IsCall, CallKeeps, HistoryKeeps, TurnsKeep}
 
 -- a call that is refused leaves the table

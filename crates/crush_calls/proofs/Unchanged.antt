@@ -1,5 +1,5 @@
 -- What is no change leaves the table.
-use Rattle.std.proofs.Common.{◌≡◌, ℕ, ◌+◌, ◌≤◌, ◌==◌, ◌&&◌, Bool, true, false, not, List, [], ◌∷◌, ◌++◌, Option, Some, None, nat_eq, nat_lt, refl, ap, sym, subst, ◌∙◌, arith}
+use Rattle.std.proofs.Common.{◌≡◌, ℕ, ◌+◌, ◌≤◌, ◌==◌, ◌&&◌, Bool, true, false, not, List, [], ◌∷◌, Option, Some, None, nat_eq, refl, ap, sym, ◌∙◌, arith}
 use Rattle.std.specs.Prelude.{bytes_eq, if◌then◌else◌}
 use Rattle.std.specs.Option.{option_eq}
 use Rattle.std.proofs.lemmas.Bool.{eqb-true, not-false, ltb-false}
@@ -23,7 +23,7 @@ use Rattle.crush_edits.specs.Batch.{BatchAnswer, batch_refused, batch_done, no_d
 use Rattle.crush_calls.specs.declared.call.Call.{Call}
 use Rattle.crush_calls.specs.declared.call.Call.TheVariants.{One, Batch, Guarded}
 use Rattle.crush_calls.specs.declared.call.Reply.TheVariants.{Stale}
-use Rattle.crush_calls.specs.History.{EntryData, Counted, untouched, later, counted_after, changes, change_of, is_change, edit_outcome, batch_outcome, guarded_outcome, call_outcome, table_after, IsLegalBehind, IsLegal}
+use Rattle.crush_calls.specs.History.{EntryData, Counted, untouched, later, counted_after, changes, change_of, is_change, edit_outcome, batch_outcome, guarded_outcome, call_outcome, IsLegalBehind}
 use Rattle.crush_calls.specs.LawRun.{NoChangeKeeps, SameCountSameTable}
 use Rattle.crush_calls.proofs.Histories.{changes-append, counted_after-append, IsLegal-behind}
 

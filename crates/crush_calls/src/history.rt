@@ -180,8 +180,8 @@ fn write_reply<W: Write>(reply: Reply, out: &mut W) -> Result<(), WriteFault>
 /// Entries count from 1. An edit shows as its command, its weight with five decimals, and a batch
 /// as `begin ; EDIT ; .. ; commit`, a guarded one with `begin at N` in front. The reply is
 /// `done changed C made M`, where C is 1 or 0, `dones N changed C made M`, `refused NAME ERROR`,
-/// `refused at INDEX NAME ERROR` or `refused Stale 11 changes N`; `docs/FORMATS.md` has the form. The line begins with `#`, and so is a comment by the grammar of
-/// a map's text.
+/// `refused at INDEX NAME ERROR` or `refused Stale 11 changes N`; `docs/FORMATS.md` has the form.
+/// The line begins with `#`, and so is a comment by the grammar of a map's text.
 ///
 /// It takes no memory, so the one fault is [`WriteFault::Write`], after which the writer holds a
 /// front of the line.
@@ -202,7 +202,7 @@ pub fn write_entry<W: Write>(
 }
 
 /// The name of an operator, by its number.
-pub(crate) fn operator_name(scripts: &[Script], operator: usize) -> &[u8]
+pub fn operator_name(scripts: &[Script], operator: usize) -> &[u8]
     requires { operator < length scripts.now }
     ensures { result.now ≡ slice_index_or (names_of (scripts_data scripts.now)) operator [] }
 {

@@ -13,8 +13,9 @@ mod script;
 
 pub use call::{Call, Edits, Reply};
 pub use entry::{Entry, Slip, count_changes, is_change};
-pub use history::{history_text, write_entry};
+pub use history::{history_text, operator_name, write_entry};
 pub use law::{runs_keep_lawful, same_count_is_same_table, turns_are_history};
 pub use making::make_call;
+pub use printed::write_edit;
 pub use refused::{count_refused, is_refused, refused_text};
 pub use script::Script;

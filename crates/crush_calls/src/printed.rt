@@ -128,8 +128,12 @@ fn write_move<W: Write>(name: &Name<Global>, at: &Location, out: &mut W) -> Resu
     write_pairs(at.pairs(), out)
 }
 
-/// Writes the command of an edit.
-fn write_edit<W: Write>(edit: &Edit, out: &mut W) -> Result<(), WriteFault>
+/// Writes an edit as its command: the words of a job's line, a weight with five decimals and each
+/// pair of a location.
+///
+/// It takes no memory, so the one fault is [`WriteFault::Write`], after which the writer holds a
+/// front of the command.
+pub fn write_edit<W: Write>(edit: &Edit, out: &mut W) -> Result<(), WriteFault>
     ensures writes { Writes result (W.contents out.old) (W.contents out.new) (edit_text edit.now) }
     ensures fault { IfErr result (λ fault. fault ≡ WriteFault.Write) }
 {
