@@ -7,6 +7,7 @@
 #   make install   the program, the recipe and their manual pages below PREFIX, which is /usr/local if nothing is said
 #   make dist      the same as an archive and, where dpkg-deb is there, a package of Debian, below out/
 #   make manual    writes the manual page out of the help, which `make check` compares
+#   make tables    writes the columns of must-fail edits, and what the last `make check` took, into docs/
 #   make recipe    installs below out/, and tries the recipe for operators there
 #   make trials    tries that program with jobs of chance, little memory and stack, and streams that fail
 #   make clean     removes what the checks kept, and out/
@@ -19,7 +20,7 @@ PROGRAM = crates/crushedit/out/crushedit
 # What the program is proved and built of.
 SOURCES = crates.txt $(shell find crates \( -name out -o -name '*_tests' \) -prune -o \( -name '*.rt' -o -name '*.antt' \) -print)
 
-.PHONY: all try check install uninstall dist manual recipe trials clean
+.PHONY: all try check install uninstall dist manual tables recipe trials clean
 
 all: $(PROGRAM)
 
@@ -48,6 +49,10 @@ dist: $(PROGRAM)
 
 manual:
 	python3 docs/manual.py
+
+tables:
+	python3 docs/tables.py
+	test ! -e out/costs.log || python3 docs/costs.py out/costs.log
 
 recipe: $(PROGRAM)
 	$(MAKE) install DESTDIR=$(CURDIR)/out/tried PREFIX=/usr

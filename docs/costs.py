@@ -1,0 +1,97 @@
+#!/usr/bin/env python3
+"""Measures what each crate costs the gate, and writes the table of docs/WORKING.md out of such a log.
+
+    python3 docs/costs.py --watch LOG PROCESS
+    python3 docs/costs.py LOG
+
+With --watch, as long as that process lasts or until it is ended, LOG has a line for each crate, `NAME WHAT SECONDS`:
+the processor seconds of the provers that the process started, by what they are at: `proof`, `tests` or `edits`. They
+are looked at each second, so a prover's last second is missed. Without it the table between the two comments
+of docs/WORKING.md is made of LOG.
+"""
+import collections
+import itertools
+import os
+import pathlib
+import re
+import sys
+import time
+
+PAGE = pathlib.Path(__file__).resolve().parent / "WORKING.md"
+BEGIN, END = "<!-- made by docs/costs.py -->\n", "<!-- end -->\n"
+WHATS = ("proof", "tests", "edits")
+PROVER = "rattle"
+TICKS = os.sysconf("SC_CLK_TCK")
+
+
+def processes():
+    """Each process there is: its parent, its processor seconds, and of a prover its words."""
+    for folder in os.scandir("/proc"):
+        if folder.name.isdigit():
+            try:
+                name, _, rest = pathlib.Path(folder.path, "stat").read_text().partition("(")[2].rpartition(")")
+                stat = rest.split()
+                words = pathlib.Path(folder.path, "cmdline").read_bytes().decode(errors="replace") if name == PROVER else ""
+            except OSError:
+                continue
+            yield int(folder.name), int(stat[1]), (int(stat[11]) + int(stat[12])) / TICKS, words.split("\0")
+
+
+def what_of(words):
+    """The crate that a prover is at, and whether it is its proof, its tests or one of its edits; else nothing."""
+    if "--crate-name" not in words:
+        return None
+    crate = words[words.index("--crate-name") + 1]
+    return crate, "tests" if "--test" in words else "edits" if words[1] == "check" else "proof"
+
+
+def look(root, spent):
+    """Notes of each prover below a process what it has spent so far, and answers whether the process is there."""
+    there = {number: (parent, seconds, words) for number, parent, seconds, words in processes()}
+    for number, (parent, seconds, words) in there.items():
+        while parent in there and parent != root:
+            parent = there[parent][0]
+        what = parent == root and what_of(words)
+        if what:
+            spent[number, what] = seconds
+    return root in there
+
+
+def watch(root, log):
+    """Keeps the log until the process has ended."""
+    log.parent.mkdir(exist_ok=True)
+    spent, looks = {}, itertools.count()
+    while look(root, spent):
+        if next(looks) % 10 == 0:
+            sums = collections.Counter()
+            for (_, what), seconds in spent.items():
+                sums[what] += seconds
+            log.write_text("".join(f"{crate} {what} {round(sums[crate, what])}\n" for crate, what in sorted(sums)))
+        time.sleep(1)
+
+
+def table(log):
+    sums = collections.defaultdict(collections.Counter)
+    for name, what, seconds in re.findall(r"(?m)^(crush\w+) (proof|tests|edits) (\d+)$", log):
+        sums[name][what] += int(seconds)
+    rows = sorted(sums.items(), key=lambda row: -sum(row[1].values()))
+    total = collections.Counter()
+    for _, row in rows:
+        total.update(row)
+    lines = ["| Crate | Proof | Tests | Edits | All |", "|---|---|---|---|---|"]
+    for name, row in [*rows, ("all", total)]:
+        shown = [str(row[what]) if row[what] else "" for what in WHATS]
+        lines.append(f"| {name} | {' | '.join(shown)} | {sum(row.values())} |")
+    return "".join(line + "\n" for line in lines)
+
+
+def main():
+    if sys.argv[1:2] == ["--watch"]:
+        watch(int(sys.argv[3]), pathlib.Path(sys.argv[2]))
+        return
+    text = PAGE.read_text()
+    begin, end = text.index(BEGIN) + len(BEGIN), text.index(END)
+    PAGE.write_text(text[:begin] + table(pathlib.Path(sys.argv[1]).read_text()) + text[end:])
+
+
+main()
