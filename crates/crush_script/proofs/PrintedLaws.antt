@@ -21,7 +21,7 @@ use Rattle.crush_edits.specs.Pushed.{IsLocation}
 use Rattle.crush_script.specs.declared.command.Command.TheVariants as says
 use Rattle.crush_script.specs.Lines.{line_words}
 use Rattle.crush_script.specs.Words.{equals_at, pair_of, device_named}
-use Rattle.crush_script.specs.Command.{name_at, weight_at, end_at, with_pair, with_pairs, location_at, placing_at, located_at, one_name_at, two_names_at, weighed_at, keyword_of, moving_keyword, naming_keyword, classing_keyword, edit_at, command}
+use Rattle.crush_script.specs.Command.{name_at, weight_at, end_at, with_pair, with_pairs, location_at, placing_at, located_at, one_name_at, two_names_at, weighed_at, keyword_of, edit_at, command}
 use Rattle.crush_calls.specs.HistoryText.{edit_text, pairs_text, one_name}
 use Rattle.crush_script.specs.Printed.{IsSaid, PrintedIsRead}
 use Rattle.crush_script.proofs.Pairs.{pair_added}
@@ -186,7 +186,7 @@ said : (first : List ℕ) (words : List (List ℕ)) (e : Edit) → edit_text e �
 said first words e is some bytes are reads = record { first = first; words = words; text = is; is = record { some = some; bytes = bytes }; are = are; says = reads }
 
 pub printed : (e : Edit) → IsSaid e → IsPrinted e
-unfolding command keyword_of moving_keyword naming_keyword classing_keyword edit_at
+unfolding command keyword_of edit_at
 printed (Insert d n w l) is =
     let are = of_location l is.at in
     let reads = placing_read d n (weight_text w) w l is.name is.device (read_again w is.weight) are is.at.few in

@@ -26,6 +26,7 @@ use Rattle.crush_script.specs.Printed.{IsSaid}
 use Rattle.crush_script.specs.ScriptsText.{call_lines, script_lines, scripts_text, IsSaidCall, IsSaidScript, ends_line, JobsAreReadBack}
 use Rattle.crush_script.proofs.PrintedLaws.{count_word, name_word, printed, printed_is_read}
 use Rattle.crush_script.proofs.Counts.{count_read}
+use Rattle.crush_script.proofs.MapTexts.{map_texts_have_no_section}
 use Rattle.crush_script.proofs.PrintedWords.{joined, is_line_byte, IsWord, both, never, bytes-joined, line_words-joined}
 
 -- LINES: none has a line feed
@@ -291,9 +292,9 @@ unfolding with_lines
 at_end n e is = ap (without_batch e) is
 
 pub jobs_are_read_back : JobsAreReadBack
-jobs_are_read_back text s t adjusted scripts is part are short =
+jobs_are_read_back text s t adjusted scripts is last are short =
     let rest : List ℕ = scripts_text scripts in
-    let place = cut_behind true text rest part.whole part.ended (begins_sections scripts) in
+    let place = cut_behind true text rest (map_texts_have_no_section text s t adjusted is) last (begins_sections scripts) in
     let front : map_part (text ++ rest) ≡ text = ap (λ (n : ℕ). take n (text ++ rest)) place ∙ take-append_seam text rest in
     let back : section_part (text ++ rest) ≡ rest = ap (λ (n : ℕ). drop n (text ++ rest)) place ∙ drop-append_seam text rest in
     let number : ℕ = section_line (text ++ rest) in

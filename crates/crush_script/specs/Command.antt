@@ -97,37 +97,22 @@ weighed_at words = do
   weight ← weight_at name.rest
   end_at (name.value, weight.value) weight.rest
 
--- the command that a first word names: those of a device's class
-unfoldable pub classing_keyword : List ℕ → Option Keyword
-classing_keyword first =
-    if bytes_eq first (codes "set-device-class") then Some word.SetDeviceClass
-    else if bytes_eq first (codes "rm-device-class") then Some word.RmDeviceClass
-    else None
-
--- before these, those that only name what comes, goes or is renamed
-unfoldable pub naming_keyword : List ℕ → Option Keyword
-naming_keyword first =
-    if bytes_eq first (codes "rm") || bytes_eq first (codes "remove") then Some word.Rm
-    else if bytes_eq first (codes "add-bucket") then Some word.AddBucket
-    else if bytes_eq first (codes "rename-bucket") then Some word.RenameBucket
-    else classing_keyword first
-
--- before these, those that move or weigh items
-unfoldable pub moving_keyword : List ℕ → Option Keyword
-moving_keyword first =
-    if bytes_eq first (codes "move") then Some word.Move
-    else if bytes_eq first (codes "swap-bucket") then Some word.SwapBucket
-    else if bytes_eq first (codes "reweight") then Some word.Reweight
-    else if bytes_eq first (codes "reweight-subtree") then Some word.ReweightSubtree
-    else naming_keyword first
-
--- and first, those that place a device
+-- the command that a first word names
 unfoldable pub keyword_of : List ℕ → Option Keyword
 keyword_of first =
     if bytes_eq first (codes "add") then Some (word.Place place.Add)
     else if bytes_eq first (codes "set") then Some (word.Place place.Set)
     else if bytes_eq first (codes "create-or-move") then Some (word.Place place.CreateOrMove)
-    else moving_keyword first
+    else if bytes_eq first (codes "move") then Some word.Move
+    else if bytes_eq first (codes "swap-bucket") then Some word.SwapBucket
+    else if bytes_eq first (codes "reweight") then Some word.Reweight
+    else if bytes_eq first (codes "reweight-subtree") then Some word.ReweightSubtree
+    else if bytes_eq first (codes "rm") || bytes_eq first (codes "remove") then Some word.Rm
+    else if bytes_eq first (codes "add-bucket") then Some word.AddBucket
+    else if bytes_eq first (codes "rename-bucket") then Some word.RenameBucket
+    else if bytes_eq first (codes "set-device-class") then Some word.SetDeviceClass
+    else if bytes_eq first (codes "rm-device-class") then Some word.RmDeviceClass
+    else None
 
 -- the edit of a command that places a device
 abbrev pub edit_to_place : Placement → Placing → Edit

@@ -9,7 +9,7 @@ use Rattle.crush_script.specs.declared.fault.JobFault.{JobFault}
 use Rattle.crush_script.specs.declared.fault.JobFault.TheVariants.{Text, OutOfMemory, TooLong}
 use Rattle.crush_script.specs.declared.job.Job.{Job}
 use Rattle.crush_script.specs.Lines.{map_part}
-use Rattle.crush_script.specs.MapPart.{IsNoMap}
+use Rattle.crush_script.specs.MapPart.{IsTextFault}
 use Rattle.crush_calls.specs.Script.{ScriptData, scripts_data}
 use Rattle.crush_script.specs.Sections.{SectionsData, sections_of}
 use Rattle.crush_units.specs.declared.limits.TheConstants.{LONGEST_JOB}
@@ -48,14 +48,23 @@ pub record IsLineFault (bytes : List ℕ) (fault : JobFault) : Type 0 where
   pub map : IsMapText (map_part bytes) setting table adjusted
   pub sections : sections_of bytes ≡ Err fault
 
--- the map text is that of no map
-pub record HasNoMap (bytes : List ℕ) (fault : TextFault) : Type 0 where
+-- the map text isn't read, for this fault
+pub record LacksMap (bytes : List ℕ) (fault : TextFault) : Type 0 where
   pub short : length bytes ≤ LONGEST_JOB
-  pub map : IsNoMap (map_part bytes) fault
+  pub map : IsTextFault (map_part bytes) fault
 
--- when each fault is told: the length first, then the map text, then the lines in order
+-- the map text is one
+pub record HasMap (bytes : List ℕ) : Type 0 where
+  pub short : length bytes ≤ LONGEST_JOB
+  pub setting : SettingData
+  pub table : List Row
+  pub adjusted : ℕ
+  pub map : IsMapText (map_part bytes) setting table adjusted
+
+-- when each fault is told: the length first, then the map text, then the lines in order; out of memory for the scripts, where
+-- the map text is one
 abbrev pub IsJobFault : List ℕ → JobFault → Type 0
 IsJobFault bytes TooLong = LONGEST_JOB < length bytes
-IsJobFault bytes (Text fault) = HasNoMap bytes fault
-IsJobFault bytes OutOfMemory = length bytes ≤ LONGEST_JOB
+IsJobFault bytes (Text fault) = LacksMap bytes fault
+IsJobFault bytes OutOfMemory = HasMap bytes
 IsJobFault bytes fault = IsLineFault bytes fault

@@ -49,14 +49,13 @@ abbrev pub ends_line : Bool → List ℕ → Bool
 ends_line starts [] = starts
 ends_line starts (b ∷ bs) = ends_line (b == 10) bs
 
--- a text that sections may stand behind: none of its lines begins with `%`, and its last one ends
-pub record IsMapPart (text : List ℕ) : Type 0 where
-  pub whole : length_to_section true text ≡ length text
-  pub ended : ends_line true text ≡ true
+-- NO SECTION BEGINS in the text of a map: none of its lines begins with `%`
+abbrev pub MapTextsHaveNoSection : Type 0
+MapTextsHaveNoSection = (text : List ℕ) (s : SettingData) (t : List Row) (adjusted : ℕ) → IsMapText text s t adjusted → length_to_section true text ≡ length text
 
--- JOBS ARE READ BACK: a map's text with scripts behind it is the job of that map with these scripts
+-- JOBS ARE READ BACK: a map's text whose last line ends, with scripts behind it, is the job of that map with these scripts
 abbrev pub JobsAreReadBack : Type 0
-JobsAreReadBack = (text : List ℕ) (s : SettingData) (t : List Row) (adjusted : ℕ) (scripts : List ScriptData) → IsMapText text s t adjusted → IsMapPart text
+JobsAreReadBack = (text : List ℕ) (s : SettingData) (t : List Row) (adjusted : ℕ) (scripts : List ScriptData) → IsMapText text s t adjusted → ends_line true text ≡ true
     → AreScripts scripts → length (text ++ scripts_text scripts) ≤ LONGEST_JOB
     → IsJob (text ++ scripts_text scripts) (record { setting = s; table = t; adjusted = adjusted; scripts = scripts })
 

@@ -2,7 +2,7 @@
 
 ghost use Rattle.std.specs.Prelude.{◌≡◌};
 ghost use Rattle.crush_script.specs.ReadsAs.{ReadsAs, ReadsAndLeaves};
-ghost use Rattle.crush_script.specs.Command.{command, operator, name_at, weight_at, end_at, with_pair, location_at, placing_at, located_at, one_name_at, two_names_at, weighed_at, keyword_of, moving_keyword, naming_keyword, classing_keyword, edit_to_place, edit_of, edit_at, begin_at, count_at};
+ghost use Rattle.crush_script.specs.Command.{command, operator, name_at, weight_at, end_at, with_pair, location_at, placing_at, located_at, one_name_at, two_names_at, weighed_at, keyword_of, edit_to_place, edit_of, edit_at, begin_at, count_at};
 
 use crate::line::{LineWords, place_of};
 use crate::word::{count_of, device_named};
@@ -95,17 +95,7 @@ fn keyword_of(first: &[u8]) -> Option<Keyword>
         Some(Keyword::Place(Placement::Set))
     } else if first == b"create-or-move".as_slice() {
         Some(Keyword::Place(Placement::CreateOrMove))
-    } else {
-        moving_keyword(first)
-    }
-}
-
-/// The command of a first word that places no device: first those that move or weigh items.
-#[tactic(auto, unfolding(crate::specs::Command::moving_keyword))]
-fn moving_keyword(first: &[u8]) -> Option<Keyword>
-    ensures { result ≡ moving_keyword first.now }
-{
-    if first == b"move".as_slice() {
+    } else if first == b"move".as_slice() {
         Some(Keyword::Move)
     } else if first == b"swap-bucket".as_slice() {
         Some(Keyword::SwapBucket)
@@ -113,33 +103,13 @@ fn moving_keyword(first: &[u8]) -> Option<Keyword>
         Some(Keyword::Reweight)
     } else if first == b"reweight-subtree".as_slice() {
         Some(Keyword::ReweightSubtree)
-    } else {
-        naming_keyword(first)
-    }
-}
-
-/// The command of a first word that only names what comes, goes or is renamed.
-#[tactic(auto, unfolding(crate::specs::Command::naming_keyword))]
-fn naming_keyword(first: &[u8]) -> Option<Keyword>
-    ensures { result ≡ naming_keyword first.now }
-{
-    if first == b"rm".as_slice() || first == b"remove".as_slice() {
+    } else if first == b"rm".as_slice() || first == b"remove".as_slice() {
         Some(Keyword::Rm)
     } else if first == b"add-bucket".as_slice() {
         Some(Keyword::AddBucket)
     } else if first == b"rename-bucket".as_slice() {
         Some(Keyword::RenameBucket)
-    } else {
-        classing_keyword(first)
-    }
-}
-
-/// The command of a first word that is about a device's class.
-#[tactic(auto, unfolding(crate::specs::Command::classing_keyword))]
-fn classing_keyword(first: &[u8]) -> Option<Keyword>
-    ensures { result ≡ classing_keyword first.now }
-{
-    if first == b"set-device-class".as_slice() {
+    } else if first == b"set-device-class".as_slice() {
         Some(Keyword::SetDeviceClass)
     } else if first == b"rm-device-class".as_slice() {
         Some(Keyword::RmDeviceClass)

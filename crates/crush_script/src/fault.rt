@@ -28,10 +28,11 @@ pub enum JobFault {
     /// The line begins a section with a name that an earlier section has.
     #[error("line {0}: DuplicateOperator")]
     DuplicateOperator(usize),
-    /// The map's text has a flaw, whose place is one in the job.
+    /// The map's text has a flaw, whose place is one in the job; or memory lacked for its map, at a
+    /// word that is right, as all before it.
     #[error("{0}")]
     Text(TextFault),
-    /// There was no memory.
+    /// The map was read, and there was no memory for the scripts.
     #[error("out of memory")]
     OutOfMemory,
     /// The job has more than 16,777,216 bytes.
@@ -54,6 +55,17 @@ impl JobFault {
             JobFault::Text(fault) => matches!(fault.kind, TextFaultKind::OutOfMemory),
             _ => false,
         }
+    }
+}
+
+impl From<TextFault> for JobFault {
+    ghost use Rattle.std.specs.Prelude.{◌≡◌};
+    ghost use Rattle.crush_script.specs.declared.fault.JobFault.TheVariants.{Text};
+
+    ghost from_gives = { λ fault told. told ≡ Text fault };
+
+    fn from(fault: TextFault) -> JobFault {
+        JobFault::Text(fault)
     }
 }
 

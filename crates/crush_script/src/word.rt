@@ -42,7 +42,8 @@ pub(crate) fn count_of(digits: &[u8]) -> Option<u32>
             return None;
         }
         value = value * 10 + (*digit - 48) as usize;
-        if value > MOST_ENTRIES {
+        let many = value > MOST_ENTRIES;
+        if many {
             return None;
         }
     }

@@ -1,7 +1,14 @@
-use Rattle.std.proofs.Common.{◌≡◌, ℕ, ◌+◌, ◌==◌, ◌≤◌, List, [], Result, Ok, Err, length, count_by, is_ok, true≢false, refl, sym, ap, subst, ◌∙◌, arith}
+use Rattle.std.proofs.Common.{◌≡◌, ℕ, ◌+◌, ◌==◌, ◌≤◌, List, [], Result, Ok, Err, length, count_by, is_ok, true≢false, inl, inr, refl, sym, ap, subst, ◌∙◌, arith}
 use Rattle.std.proofs.lemmas.List.{length-map}
 use Rattle.std.proofs.lemmas.Result.{err_from_is_err_and}
+use Rattle.crush_bytes.specs.Words.{words}
+use Rattle.crush_text.specs.declared.fault.TextFault.{TextFault}
 use Rattle.crush_text.specs.Document.{IsMapText}
+use Rattle.crush_text.specs.Flaw.{IsFlawOrWant, IsWant}
+use Rattle.crush_text.specs.Want.{IsToldInTime}
+use Rattle.crush_text.proofs.Laws.{no_want}
+use Rattle.crush_script.specs.Fault.{is_want, lacks_memory}
+use Rattle.crush_script.specs.MapPart.{IsTextFault}
 use Rattle.crush_script.specs.Lines.{lines, map_part, section_part, section_line}
 use Rattle.crush_calls.specs.Script.{ScriptData, script_data, scripts_data}
 use Rattle.crush_script.specs.Sections.{SectionsData, no_sections, sections_data, sections_of, with_lines}
@@ -47,7 +54,7 @@ fault_of_lines (TooManyOperators number) bytes s t n short map err = record { sh
 fault_of_lines (DuplicateOperator number) bytes s t n short map err = record { short = short; setting = s; table = t; adjusted = n; map = map; sections = err }
 fault_of_lines (TooManyCalls number) bytes s t n short map err = record { short = short; setting = s; table = t; adjusted = n; map = map; sections = err }
 fault_of_lines (Text fault) bytes s t n short map err = absurd err
-fault_of_lines OutOfMemory bytes s t n short map err = short
+fault_of_lines OutOfMemory bytes s t n short map err = record { short = short; setting = s; table = t; adjusted = n; map = map }
 fault_of_lines TooLong bytes s t n short map err = absurd err
 
 -- two lists of sections with the same text have the same scripts
@@ -77,7 +84,7 @@ returns-clause-job c =
 pub returns-clause-only : goal.returns-clause-only
 returns-clause-only c = λ job is.
     let own = sections_of-cut c.args.bytes.now _ _ _ _ c.cut_job.ensures.map c.cut_job.ensures.sections c.line_feeds.ensures.count c.in_ok-sections.ensures in
-    let m = c.in_ok-map.ensures.only job.setting job.table job.adjusted (subst (λ (x : List ℕ). IsMapText x job.setting job.table job.adjusted) (sym c.cut_job.ensures.map) is.map) in
+    let m = c.in_ok-map.ensures.spelled job.setting job.table job.adjusted (subst (λ (x : List ℕ). IsMapText x job.setting job.table job.adjusted) (sym c.cut_job.ensures.map) is.map) in
     record {
       map = m.0;
       adjusted = m.1;
@@ -92,10 +99,24 @@ returns-clause-operators c =
     let few = scripts_few (c.line_feeds.result + 1) (lines c.cut_job.result.1.now) (sections_data c.in_ok-sections.sections) c.in_ok-sections.ensures in
     omega (arith, few, length-map c.in_ok-sections.sections.scripts.items script_data)
 
+-- a text that isn't read has a flaw, and so is that of no map, or memory was refused in time
+text_fault : (text : List ℕ) (fault : TextFault) → IsFlawOrWant text fault → IsToldInTime text fault → ((s : SettingData) (t : List Row) (n : ℕ) → IsMapText text s t n → IsWant fault) → IsTextFault text fault
+text_fault text fault (inl want) told only = inr (record { want = want; told = told })
+text_fault text fault (inr flaw) told only = inl (record { flaw = flaw; none = λ s t n map. no_want (words 0 text) fault flaw (only s t n map) })
+
 pub returns-in_err-map-clause-want : goal.returns-in_err-map-clause-want
 returns-in_err-map-clause-want c =
     let p = err_from_is_err_and c.from_residual.result c.from_residual.ensures.1 in
-    λ job is. rw (p.1, p.2) (c.in_err-map.ensures.want job.setting job.table job.adjusted (subst (λ (x : List ℕ). IsMapText x job.setting job.table job.adjusted) (sym c.cut_job.ensures.map) is.map))
+    λ job is.
+    let want = c.in_err-map.ensures.only job.setting job.table job.adjusted (subst (λ (x : List ℕ). IsMapText x job.setting job.table job.adjusted) (sym c.cut_job.ensures.map) is.map) in
+    rw (p.1, p.2) (ap is_want want)
+
+pub returns-in_err-map-clause-fault : goal.returns-in_err-map-clause-fault
+returns-in_err-map-clause-fault c =
+    let p = err_from_is_err_and c.from_residual.result c.from_residual.ensures.1 in
+    let fault = c.in_err-map.field-0.0 in
+    let is = text_fault _ fault c.in_err-map.ensures.flaw c.in_err-map.ensures.want c.in_err-map.ensures.only in
+    rw (p.1, p.2) (record { short = omega arith; map = subst (λ (x : List ℕ). IsTextFault x fault) c.cut_job.ensures.map is })
 
 -- what the lines behind the cut fail as
 cut_fails : (fault : JobFault) (bytes text rest : List ℕ) (feeds : ℕ) → text ≡ map_part bytes → rest ≡ section_part bytes → feeds ≡ count_by (λ b. b == 10) text
@@ -105,7 +126,7 @@ cut_fails fault bytes text rest feeds front back counted = subst (FailsAs fault)
 pub returns-in_err-sections-clause-want : goal.returns-in_err-sections-clause-want
 returns-in_err-sections-clause-want c =
     let p = err_from_is_err_and c.from_residual-in_err-sections.result c.from_residual-in_err-sections.ensures.1 in
-    λ job is. rw (p.1, p.2) (want_alone c.in_err-sections.field-0.0 is.said (sections_of c.args.bytes.now) is.sections (cut_fails c.in_err-sections.field-0.0 c.args.bytes.now _ _ _ c.cut_job.ensures.map c.cut_job.ensures.sections c.line_feeds.ensures.count c.in_err-sections.ensures))
+    λ job is. rw (p.1, p.2) (ap lacks_memory (want_alone c.in_err-sections.field-0.0 is.said (sections_of c.args.bytes.now) is.sections (cut_fails c.in_err-sections.field-0.0 c.args.bytes.now _ _ _ c.cut_job.ensures.map c.cut_job.ensures.sections c.line_feeds.ensures.count c.in_err-sections.ensures)))
 
 pub returns-in_err-sections-clause-fault : goal.returns-in_err-sections-clause-fault
 returns-in_err-sections-clause-fault c =

@@ -33,7 +33,7 @@ too_many digits place number within so_far digit large =
     let many : nat_le (digits_value 10 digits) MOST_ENTRIES ≡ false = search (rules, tests) in
     uncounted (not (length digits == 0)) (list_all is_ascii_digit digits) (nat_le (digits_value 10 digits) MOST_ENTRIES) (digits_value 10 digits) many
 
-pub returns-then-value-gt-MOST_ENTRIES : goal.returns-then-value-gt-MOST_ENTRIES
-returns-then-value-gt-MOST_ENTRIES c =
+pub returns-then-many : goal.returns-then-many
+returns-then-many c =
     let digit : is_ascii_digit (get_or c.args.digits.now c.loop-digit.digit-index 0) ≡ true = search rules in
-    too_many c.args.digits.now c.loop-digit.digit-index c.loop-digit.value c.loop-digit-test.true c.loop-digit.invariant.value digit c.if-value-gt-MOST_ENTRIES.true
+    too_many c.args.digits.now c.loop-digit.digit-index c.loop-digit.value c.loop-digit-test.true c.loop-digit.invariant.value digit (search rules)

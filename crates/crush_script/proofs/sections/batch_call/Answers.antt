@@ -1,0 +1,6 @@
+-- The number of changes that was named is that of the call.
+use Rattle.std.proofs.Common.{rules}
+use Rattle.crush_script.proofs.sections.batch_call.Goals as goal
+
+pub returns-in-Some : goal.returns-in-Some
+returns-in-Some c = search rules
