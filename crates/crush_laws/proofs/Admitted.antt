@@ -24,7 +24,7 @@ use Rattle.crush_map.specs.Building.{IsPending, is_bucket_kind, has_name, has_bu
 use Rattle.crush_bytes.specs.Words.{is_brace_word}
 use Rattle.crush_text.specs.declared.opening.Opening.{Opening}
 use Rattle.crush_text.specs.declared.opening.Opening.TheVariants as openings
-use Rattle.crush_text.specs.Forms.{is_number, is_signed, signed_value}
+use Rattle.crush_bytes.specs.Numbers.{is_number, is_signed, signed_value}
 use Rattle.crush_text.specs.Role.{Role, value, kind_of_word, opened, item_of, bucket_of_word, units, key, any_word, number, opening, tunable_name, type_number, type_name, device_id, new_name, bucket_id, id_or_alg, id_class, algorithm, item_or_end, item, lone_item, weight, rule_name, rule_id_key, rule_id, step_or_end, step_word, StepWord, takes, chooses, sets, emits, step_said, taken_bucket, step_order, step_count, step_type}
 use Rattle.crush_text.specs.Form.{Mode, first, second, begun, numbered, filling, ruled, Form, done, word, optional, ahead}
 use Rattle.crush_text.specs.Grammar.{tunable_line, type_line, device_class, device_line, bucket_line, id_line, class_id_line, alg_line, id_or_alg_line, item_line, new_rule, max_size, sizes, rule_line, step_behind, step_or_brace, statement, item_or_brace, line_forms}

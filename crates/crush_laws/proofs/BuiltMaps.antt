@@ -23,7 +23,7 @@ use Rattle.crush_text.specs.Form.{first, at}
 use Rattle.crush_text.specs.Flow.{State, between, takes_statement}
 use Rattle.crush_text.specs.Document.{IsMap, start}
 use Rattle.crush_laws.specs.Admitted.{IsLawfulText}
-use Rattle.crush_laws.specs.ReadingBack.{in_order, IsReadAs, PrintedTextsAreReadBack, CommentsBehindAreNoMatter}
+use Rattle.crush_laws.specs.ReadingBack.{in_order, IsTextOf, TypesAreReadInOrder, AreCommentLines}
 use Rattle.crush_laws.proofs.Comments.{comment_lines-hold}
 use Rattle.crush_laws.proofs.Keeps.{nothing_there}
 use Rattle.crush_laws.proofs.LawfulTexts.{maps_are_the_lawful_texts}
@@ -138,7 +138,7 @@ module _ (s : SettingData) (t : List Row) (l : Lawful t) (f : Fits s t) where
   may_end false = refl
 
   -- THE WHOLE MAP is read back, where its buckets are built, whatever stands behind it that has no words
-  read_as : (rest : List ℕ) → Holds rest [] → BucketsLead s t false due rules_behind → IsReadAs (map_text s t ++ rest) (in_order s) t
+  read_as : (rest : List ℕ) → Holds rest [] → BucketsLead s t false due rules_behind → IsTextOf (map_text s t ++ rest) (in_order s) t
   read_as rest none b =
       let u = b.last.table in
       let is : b.last ≡ quiet (kinded s.tunables (in_order s).kinds) u = λ i. record { setting = b.setting i; table = u; pending = b.pending i; adjusted = b.adjusted i } in
@@ -159,13 +159,13 @@ module _ (s : SettingData) (t : List Row) (l : Lawful t) (f : Fits s t) where
       let text : IsLawfulText (map_text s t ++ rest) (in_order s) u 0 = record { draft = quiet (in_order s) u; built = built; end = holds.ends 0; setting = refl; table = refl; count = refl } in
       record { table = u; text = (maps_are_the_lawful_texts (map_text s t ++ rest) (in_order s) u 0).1 text; same = Same-sym t u b.table }
 
-  pub map_read_back : BucketsAreBuilt → (rest : List ℕ) → Holds rest [] → IsReadAs (map_text s t ++ rest) (in_order s) t
+  pub map_read_back : BucketsAreBuilt → (rest : List ℕ) → Holds rest [] → IsTextOf (map_text s t ++ rest) (in_order s) t
   map_read_back built rest none = read_as rest none (built s t l false due rules_behind before.ready)
 
--- what is printed is read back, where its buckets are built
-pub printed_texts_read_back : BucketsAreBuilt → PrintedTextsAreReadBack
-printed_texts_read_back built s t l f = subst (λ bytes. IsReadAs bytes (in_order s) t) (append-nil (map_text s t)) (map_read_back s t l f built [] holds_nothing)
+-- what is printed is read so, where its buckets are built
+pub types_are_read_in_order : BucketsAreBuilt → TypesAreReadInOrder
+types_are_read_in_order built s t l f = subst (λ bytes. IsTextOf bytes (in_order s) t) (append-nil (map_text s t)) (map_read_back s t l f built [] holds_nothing)
 
 -- and with comments behind it
-pub comments_behind : BucketsAreBuilt → CommentsBehindAreNoMatter
+pub comments_behind : BucketsAreBuilt → (s : SettingData) (t : List Row) (comments : List ℕ) → Lawful t → Fits s t → AreCommentLines comments → IsTextOf (map_text s t ++ comments) (in_order s) t
 comments_behind built s t comments l f are = map_read_back s t l f built comments (comment_lines-hold comments are)

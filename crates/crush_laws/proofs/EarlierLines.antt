@@ -15,7 +15,7 @@ use Rattle.crush_map.proofs.RowSteps.{new_device, new_bucket}
 use Rattle.crush_print.proofs.PrintedTexts.{All-left}
 use Rattle.crush_text.specs.declared.opening.Opening.{Opening}
 use Rattle.crush_text.specs.declared.opening.Opening.TheVariants as openings
-use Rattle.crush_text.specs.Forms.{signed_value}
+use Rattle.crush_bytes.specs.Numbers.{signed_value}
 use Rattle.crush_text.specs.Role.{opening, StepWord, takes, chooses, sets, emits, item_of, bucket_of_word, units, opened, step_said}
 use Rattle.crush_text.specs.Form.{Mode, first, second, begun, numbered, filling, ruled, word}
 use Rattle.crush_text.specs.Grammar.{device_class, id_line, class_id_line, alg_line, id_or_alg_line, item_line, item_or_brace, max_size, sizes, step_behind, step_or_brace, statement, line_forms}

@@ -34,7 +34,23 @@ example_is_right = record {
           hash = inl refl;
           items = (_, (codes "2.0", refl, refl), refl);
         },
-        refl,
+        (
+          _,
+          record {
+            key = codes "ruleset";
+            id = codes "3";
+            behind_type = _;
+            behind_least = _;
+            behind_most = _;
+            head = refl;
+            id_key = inr refl;
+            number = (refl, refl);
+            min_size = refl;
+            max_size = (codes "10", (refl, refl), refl);
+            steps = (_, (codes "5", refl, (refl, refl), refl), (_, (_, refl, refl), (_, (codes "-1", (refl, refl), refl), (_, refl, (_, (_, refl, refl), (_, (codes "0", (refl, refl), refl), refl))))));
+          },
+          refl,
+        ),
       ),
     ),
   );

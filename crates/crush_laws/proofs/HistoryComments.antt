@@ -17,8 +17,7 @@ use Rattle.crush_edits.specs.declared.refusal.Refusal.{Refusal}
 use Rattle.crush_edits.specs.declared.refusal.Refusal.TheVariants.{BadName, BadLocation, NoSuchType, NoPlace, WeightTooLarge, NoSuchItem, NameTaken, AlreadyPlaced, NotPlaced, NotADevice, NotABucket, WrongType, Loop, Nested, NotEmpty, InUse, NotDirectory, AlreadyRenamed, NoRoom, SumTooLarge, ClassBound}
 use Rattle.crush_print.proofs.PrintedWords.{in_line}
 use Rattle.crush_laws.specs.ReadingBack.{are_comments}
-use Rattle.crush_laws.proofs.BuiltBuckets.{buckets_are_built}
-use Rattle.crush_laws.proofs.BuiltMaps.{comments_behind}
+use Rattle.crush_laws.proofs.ReadBack.{comments_behind_are_no_matter}
 use Rattle.crush_laws.proofs.Comments.{within}
 use Rattle.crush_calls.specs.declared.call.Call.{Call}
 use Rattle.crush_calls.specs.declared.call.Call.TheVariants.{One, Batch, Guarded}
@@ -213,4 +212,4 @@ history_lines_are_comments names number (e ∷ h) ns hs =
 
 -- WHAT IS WRITTEN of a run is read as the map
 pub written_is_read_back : WhatIsWrittenIsReadBack
-written_is_read_back s t names number h l f ns hs = comments_behind buckets_are_built s t (entries_text names number h) l f (history_lines_are_comments names number h ns hs)
+written_is_read_back s t names number h l f ns hs = comments_behind_are_no_matter s t (entries_text names number h) l f (history_lines_are_comments names number h ns hs)

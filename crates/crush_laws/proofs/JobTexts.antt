@@ -11,8 +11,7 @@ use Rattle.crush_edits.specs.declared.edit.Edit.{Edit}
 use Rattle.crush_edits.specs.declared.edit.Edit.TheVariants.{Insert, CreateOrMove, Update, Move, Swap, Reweight, ReweightSubtree, Remove, AddBucket, Rename, SetClass, RemoveClass}
 use Rattle.crush_edits.specs.declared.location.Pair.{Pair}
 use Rattle.crush_edits.specs.LawEdit as table
-use Rattle.crush_laws.proofs.BuiltBuckets.{buckets_are_built}
-use Rattle.crush_laws.proofs.BuiltMaps.{printed_texts_read_back}
+use Rattle.crush_laws.proofs.ReadBack.{printed_texts_are_read_back}
 use Rattle.crush_laws.proofs.Keeps.{each_map_is_lawful}
 use Rattle.crush_calls.specs.declared.call.Call.{Call}
 use Rattle.crush_calls.specs.declared.call.Call.TheVariants.{One, Batch, Guarded}
@@ -21,10 +20,11 @@ use Rattle.crush_calls.specs.History.{untouched, table_after, turns}
 use Rattle.crush_calls.specs.HistoryText.{names_of}
 use Rattle.crush_calls.specs.LawRun.{IsCall}
 use Rattle.crush_calls.proofs.RunLaws.{history_keeps, turns_calls, turns_keep}
+use Rattle.crush_script.specs.Job.{JobData, IsJob}
 use Rattle.crush_script.specs.Lines.{map_part}
 use Rattle.crush_script.specs.Words.{is_plain, device_named}
 use Rattle.crush_script.specs.Printed.{IsSaidPlacing, IsSaid}
-use Rattle.crush_laws.specs.Written.{IsNamed, IsNamedCall, JobsStayLawful, JobTextsAreReadBack, JobMapsAreReadBack, HistoryTextsAreReadBack}
+use Rattle.crush_laws.specs.Written.{IsNamed, IsNamedCall, IsNamedHistory, JobsStayLawful, JobTextsAreReadBack, JobMapsAreReadBack, HistoryTextsAreReadBack}
 use Rattle.crush_laws.proofs.HistoryComments.{written_is_read_back}
 use Rattle.crush_script.specs.ScriptsText.{IsSaidCall, IsSaidScript}
 use Rattle.crush_script.proofs.SaidJobs.{job_said}
@@ -92,20 +92,31 @@ jobs_stay_lawful bytes job is =
     let read = each_map_is_lawful (map_part bytes) job.setting job.table job.adjusted is.map in
     turns_keep job.setting job.table job.scripts (record { lawful = read.0; fits = read.1 }) (of_calls_said IsCall call_form job.scripts (job_said bytes job is))
 
+-- names are names in the history of a job's run
+pub record JobHistory (job : JobData) : Type 0 where
+  pub names : All IsName (names_of job.scripts)
+  pub calls : IsNamedHistory (turns job.setting job.table job.scripts)
+
+pub job_history : (bytes : List ℕ) (job : JobData) → IsJob bytes job → JobHistory job
+job_history bytes job is =
+    let said = job_said bytes job is in
+    record {
+      names = All-map IsName (λ (x : ScriptData). x.name) job.scripts (All-weaker IsSaidScript (λ (x : ScriptData). IsName x.name) (λ x own. own.name) job.scripts said);
+      calls = turns_calls IsNamedCall job.setting (untouched job.table) 0 job.scripts (of_calls_said IsNamedCall call_named job.scripts said);
+    }
+
 pub job_texts_are_read_back : JobTextsAreReadBack
 job_texts_are_read_back bytes job is =
     let s = job.setting in
     let h = turns s job.table job.scripts in
-    let said = job_said bytes job is in
     let keeps = jobs_stay_lawful bytes job is in
-    let names = All-map IsName (λ (x : ScriptData). x.name) job.scripts (All-weaker IsSaidScript (λ (x : ScriptData). IsName x.name) (λ x own. own.name) job.scripts said) in
-    let named = turns_calls IsNamedCall s (untouched job.table) 0 job.scripts (of_calls_said IsNamedCall call_named job.scripts said) in
-    written_is_read_back s (table_after s job.table h) (names_of job.scripts) 1 h keeps.lawful keeps.fits names named
+    let named = job_history bytes job is in
+    written_is_read_back s (table_after s job.table h) (names_of job.scripts) 1 h keeps.lawful keeps.fits named.names named.calls
 
 pub job_maps_are_read_back : JobMapsAreReadBack
 job_maps_are_read_back bytes job is =
     let keeps = jobs_stay_lawful bytes job is in
-    printed_texts_read_back buckets_are_built job.setting (table_after job.setting job.table (turns job.setting job.table job.scripts)) keeps.lawful keeps.fits
+    printed_texts_are_read_back job.setting (table_after job.setting job.table (turns job.setting job.table job.scripts)) keeps.lawful keeps.fits
 
 pub history_texts_are_read_back : HistoryTextsAreReadBack
 history_texts_are_read_back s t names h lawful fits named said calls =

@@ -34,7 +34,7 @@ use Rattle.crush_bytes.specs.Words.{Word, Text, words, is_brace_word, AreFormed,
 use Rattle.crush_bytes.proofs.Forms.{words_are_formed}
 use Rattle.crush_text.specs.declared.fault.TextFaultKind.TheVariants.{Unexpected, BadNumber, BadWeight, DuplicateId, DuplicateName, UnknownType, UnknownItem, LeftOut, UnknownBucketInRule, TooMany, SumTooLarge}
 use Rattle.crush_text.specs.declared.opening.Opening.TheVariants as openings
-use Rattle.crush_text.specs.Forms.{is_number, is_signed, signed_value}
+use Rattle.crush_bytes.specs.Numbers.{is_number, is_signed, signed_value}
 use Rattle.crush_text.specs.Role.{opening, device_id, new_name, weight, step_word, takes, chooses, sets, emits, value, kind_of_word, item_of, bucket_of_word, units_or_none, units}
 use Rattle.crush_text.specs.Form.{Mode, first, second, begun, numbered, filling, ruled, Progress, at, Form, done, word, optional, ahead}
 use Rattle.crush_text.specs.Grammar.{tunable_line, type_line, device_line, bucket_line, id_line, class_id_line, alg_line, id_or_alg_line, item_line, rule_line, new_rule, with_step, step_behind, step_or_brace, statement, item_or_brace, line_forms, next}

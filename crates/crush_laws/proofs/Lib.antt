@@ -26,11 +26,13 @@ pub mod LawfulTexts
 pub mod OneOfBoth
 pub mod PrintedAgain
 pub mod Read
+pub mod ReadBack
 pub mod ReadLines
 pub mod ReadParts
 pub mod ReadRest
 pub mod ReadSteps
 pub mod Ruled
+pub mod RunOn
 pub mod Shapes
 pub mod Spelled
 pub mod SpelledBuckets

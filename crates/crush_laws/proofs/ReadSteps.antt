@@ -12,7 +12,7 @@ use Rattle.crush_map.specs.Built.{Draft, Pending, nothing}
 use Rattle.crush_map.specs.Building.{closed_item}
 use Rattle.crush_map.specs.Rules.{complete_bucket_named}
 use Rattle.crush_text.specs.declared.fault.TextFaultKind.TheVariants.{BadNumber}
-use Rattle.crush_text.specs.Forms.{signed_value}
+use Rattle.crush_bytes.specs.Numbers.{signed_value}
 use Rattle.crush_text.specs.Role.{key, any_word, step_word, step_order, taken_bucket, value, bucket_of_word, takes as word_takes, chooses as word_chooses, sets as word_sets, emits as word_emits}
 use Rattle.crush_text.specs.Form.{ruled, Progress, at, word}
 use Rattle.crush_text.specs.Grammar.{with_step, step_done, step_behind}

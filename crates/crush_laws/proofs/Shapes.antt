@@ -25,7 +25,7 @@ use Rattle.crush_map.proofs.RowSteps.{new_device, new_bucket}
 use Rattle.crush_print.proofs.PrintedTexts.{All-left}
 use Rattle.crush_text.specs.declared.opening.Opening.{Opening}
 use Rattle.crush_text.specs.declared.opening.Opening.TheVariants as openings
-use Rattle.crush_text.specs.Forms.{signed_value}
+use Rattle.crush_bytes.specs.Numbers.{signed_value}
 use Rattle.crush_text.specs.Role.{opening, taken_bucket, StepWord, takes, chooses, sets, emits, value, kind_of_word, item_of, bucket_of_word, units, opened, step_said}
 use Rattle.crush_text.specs.Form.{Mode, first, second, begun, numbered, filling, ruled, Progress, at, Form, done, word, optional, ahead}
 use Rattle.crush_text.specs.Grammar.{device_line, bucket_line, tunable_line, type_line, rule_line, id_line, class_id_line, alg_line, id_or_alg_line, item_line, item_or_brace, new_rule, with_step, step_behind, step_or_brace, statement, line_forms}

@@ -1,22 +1,26 @@
--- A SMALL DOCUMENT, worked by hand: two devices; a host, in which one of them is listed with a weight and one without; and a root,
--- in which the host is listed with a weight that isn't its sum.
-use Rattle.std.specs.Prelude.{◌≡◌, ℕ, List, [], ◌∷◌, Some, None, codes}
+-- A SMALL DOCUMENT, worked by hand: two devices; a host, in which one of them is listed with a weight and one without; a root, in
+-- which the host is listed with a weight that isn't its sum; and a rule with each kind of step.
+use Rattle.std.specs.Prelude.{◌≡◌, ℕ, pos, neg_ℤ, List, [], ◌∷◌, true, false, Some, None, codes}
 use Rattle.crush_units.specs.declared.alg.Alg.TheVariants.{Straw2}
 use Rattle.crush_units.specs.declared.id.ItemId.TheVariants.{Device, Bucket}
 use Rattle.crush_table.specs.Table.{Row}
-use Rattle.crush_edits.specs.Setting.{SettingData}
-use Rattle.crush_laws.specs.Document.{Document, tunable, kind, device, bucket}
+use Rattle.crush_edits.specs.Setting.{SettingData, take, choose, set, emit}
+use Rattle.crush_laws.specs.Document.{Document, takes, chooses, sets, emits, tunable, kind, device, bucket, rule}
 use Rattle.crush_laws.specs.Spells.{Spells}
 use Rattle.crush_laws.specs.Meaning.{setting_of, table_of, adjusted}
 
--- what stands first, and then the host and the root
+-- what stands first, and then the host, the root and the rule
 abbrev pub example_words : List (List ℕ)
 example_words =
     codes "tunable" ∷ codes "tries" ∷ codes "50" ∷ codes "type" ∷ codes "1" ∷ codes "host" ∷ codes "type" ∷ codes "11" ∷ codes "root"
     ∷ codes "device" ∷ codes "0" ∷ codes "osd.0" ∷ codes "class" ∷ codes "ssd" ∷ codes "device" ∷ codes "01" ∷ codes "osd.1"
     ∷ codes "host" ∷ codes "h1" ∷ codes "{" ∷ codes "id" ∷ codes "-2" ∷ codes "id" ∷ codes "-3" ∷ codes "class" ∷ codes "ssd" ∷ codes "alg" ∷ codes "straw2" ∷ codes "hash" ∷ codes "0"
     ∷ codes "item" ∷ codes "osd.1" ∷ codes "weight" ∷ codes "0.5" ∷ codes "item" ∷ codes "osd.0" ∷ codes "}"
-    ∷ codes "root" ∷ codes "default" ∷ codes "{" ∷ codes "id" ∷ codes "-1" ∷ codes "alg" ∷ codes "straw2" ∷ codes "item" ∷ codes "h1" ∷ codes "weight" ∷ codes "2.0" ∷ codes "}" ∷ []
+    ∷ codes "root" ∷ codes "default" ∷ codes "{" ∷ codes "id" ∷ codes "-1" ∷ codes "alg" ∷ codes "straw2" ∷ codes "item" ∷ codes "h1" ∷ codes "weight" ∷ codes "2.0" ∷ codes "}"
+    ∷ codes "rule" ∷ codes "data" ∷ codes "{" ∷ codes "ruleset" ∷ codes "3" ∷ codes "type" ∷ codes "replicated" ∷ codes "max_size" ∷ codes "10"
+    ∷ codes "step" ∷ codes "set_chooseleaf_tries" ∷ codes "5" ∷ codes "step" ∷ codes "take" ∷ codes "default" ∷ codes "class" ∷ codes "ssd"
+    ∷ codes "step" ∷ codes "choose" ∷ codes "indep" ∷ codes "-1" ∷ codes "type" ∷ codes "host" ∷ codes "step" ∷ codes "emit"
+    ∷ codes "step" ∷ codes "take" ∷ codes "h1" ∷ codes "step" ∷ codes "chooseleaf" ∷ codes "firstn" ∷ codes "0" ∷ codes "type" ∷ codes "osd" ∷ codes "}" ∷ []
 
 abbrev pub example : Document
 example = record {
@@ -31,6 +35,15 @@ example = record {
         items = record { name = codes "osd.1"; weight = Some 32768 } ∷ record { name = codes "osd.0"; weight = None } ∷ [];
       })
       ∷ bucket (record { kind = codes "root"; name = codes "default"; id = 1; class_ids = []; alg = Straw2; items = record { name = codes "h1"; weight = Some 131072 } ∷ [] })
+      ∷ rule (record {
+        name = codes "data";
+        id = 3;
+        kind = codes "replicated";
+        min_size = None;
+        max_size = Some 10;
+        steps = sets (codes "set_chooseleaf_tries") 5 ∷ takes (codes "default") (Some (codes "ssd")) ∷ chooses false false (neg_ℤ (pos 1)) (codes "host") ∷ emits
+            ∷ takes (codes "h1") None ∷ chooses true true (pos 0) (codes "osd") ∷ [];
+      })
       ∷ [];
 }
 
@@ -38,7 +51,14 @@ abbrev pub example_setting : SettingData
 example_setting = record {
   kinds = record { number = 1; name = codes "host" } ∷ record { number = 11; name = codes "root" } ∷ [];
   tunables = record { name = codes "tries"; value = 50 } ∷ [];
-  rules = [];
+  rules = record {
+    name = codes "data";
+    id = 3;
+    kind = codes "replicated";
+    min_size = None;
+    max_size = Some 10;
+    steps = set (codes "set_chooseleaf_tries") 5 ∷ take 1 (Some (codes "ssd")) ∷ choose false false (neg_ℤ (pos 1)) (codes "host") ∷ emit ∷ take 2 None ∷ choose true true (pos 0) (codes "osd") ∷ [];
+  } ∷ [];
 }
 
 -- the devices stand behind the host, as they are listed, and the host behind the root

@@ -9,6 +9,29 @@ use Rattle.crush_edits.specs.Fits.{Fits}
 use Rattle.crush_print.specs.MapText.{kind_numbers, kind_text, map_text}
 use Rattle.crush_text.specs.Document.{IsMapText}
 
+-- two settings are the same but for the order of their types
+pub record SameSetting (s r : SettingData) : Type 0 where
+  pub kinds : IsReordered s.kinds r.kinds
+  pub tunables : s.tunables ≡ r.tunables
+  pub rules : s.rules ≡ r.rules
+
+-- the bytes are the text of a map with this setting and the same table, in which each written weight of a bucket is its sum
+pub record IsTextOf (bytes : List ℕ) (s : SettingData) (t : List Row) : Type 0 where
+  pub table : List Row
+  pub text : IsMapText bytes s table 0
+  pub same : Same table t
+
+-- READ AS: the text of such a map, whose setting is the same but for the order of its types; and that map prints the same text
+pub record IsReadAs (bytes : List ℕ) (s : SettingData) (t : List Row) : Type 0 where
+  pub setting : SettingData
+  pub settings : SameSetting s setting
+  pub map : IsTextOf bytes setting t
+  pub again : map_text setting map.table ≡ map_text s t
+
+-- READING BACK: what is printed of a lawful table and a setting that fits it is read as that map
+abbrev pub PrintedTextsAreReadBack : Type 0
+PrintedTextsAreReadBack = (s : SettingData) (t : List Row) → Lawful t → Fits s t → IsReadAs (map_text s t) s t
+
 -- the type of a number, by its printed name
 abbrev pub printed_kind : SettingData → ℕ → KindData
 printed_kind s n = record { number = n; name = kind_text s n }
@@ -17,27 +40,15 @@ printed_kind s n = record { number = n; name = kind_text s n }
 abbrev pub in_order : SettingData → SettingData
 in_order s = record s { kinds = map (printed_kind s) (kind_numbers s) }
 
--- two settings are the same but for the order of their types
-pub record SameSetting (s r : SettingData) : Type 0 where
-  pub kinds : IsReordered s.kinds r.kinds
-  pub tunables : s.tunables ≡ r.tunables
-  pub rules : s.rules ≡ r.rules
-
 -- a setting that fits is the same with its types in order
 abbrev pub InOrderIsTheSame : Type 0
 InOrderIsTheSame = (s : SettingData) (t : List Row) → Fits s t → SameSetting s (in_order s)
 
--- the bytes are the text of a map with this setting and the same table, in which each written weight of a bucket is its sum
-pub record IsReadAs (bytes : List ℕ) (s : SettingData) (t : List Row) : Type 0 where
-  pub table : List Row
-  pub text : IsMapText bytes s table 0
-  pub same : Same table t
+-- and so the types of what is printed are read
+abbrev pub TypesAreReadInOrder : Type 0
+TypesAreReadInOrder = (s : SettingData) (t : List Row) → Lawful t → Fits s t → IsTextOf (map_text s t) (in_order s) t
 
--- READING BACK: what is printed of a lawful table and a setting that fits it is the text of that map, but for the order of types
-abbrev pub PrintedTextsAreReadBack : Type 0
-PrintedTextsAreReadBack = (s : SettingData) (t : List Row) → Lawful t → Fits s t → IsReadAs (map_text s t) (in_order s) t
-
--- and what is read back of it prints the same text again
+-- with them, whatever table is the same prints the same text
 abbrev pub ReadBackPrintsAlike : Type 0
 ReadBackPrintsAlike = (s : SettingData) (t u : List Row) → Lawful t → Fits s t → Same u t → map_text (in_order s) u ≡ map_text s t
 
@@ -53,4 +64,4 @@ AreCommentLines bytes = are_comments false bytes ≡ true
 
 -- what is printed is read as the same map, whatever comment lines stand behind it
 abbrev pub CommentsBehindAreNoMatter : Type 0
-CommentsBehindAreNoMatter = (s : SettingData) (t : List Row) (comments : List ℕ) → Lawful t → Fits s t → AreCommentLines comments → IsReadAs (map_text s t ++ comments) (in_order s) t
+CommentsBehindAreNoMatter = (s : SettingData) (t : List Row) (comments : List ℕ) → Lawful t → Fits s t → AreCommentLines comments → IsReadAs (map_text s t ++ comments) s t

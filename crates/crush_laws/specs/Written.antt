@@ -1,5 +1,5 @@
 -- What is written of a run, and that it is read back.
-use Rattle.std.specs.Prelude.{ℕ, ◌++◌, List, All}
+use Rattle.std.specs.Prelude.{ℕ, ◌≤◌, ◌++◌, List, All, length}
 use Rattle.crush_units.specs.Name.{IsName}
 use Rattle.crush_table.specs.Table.{Row}
 use Rattle.crush_table.specs.Lawful.{Lawful}
@@ -10,13 +10,16 @@ use Rattle.crush_edits.specs.Pushed.{IsLocation}
 use Rattle.crush_edits.specs.declared.edit.Edit.{Edit}
 use Rattle.crush_edits.specs.declared.edit.Edit.TheVariants.{Insert, CreateOrMove, Update, Move, Swap, Reweight, ReweightSubtree, Remove, AddBucket, Rename, SetClass, RemoveClass}
 use Rattle.crush_print.specs.MapText.{map_text}
-use Rattle.crush_laws.specs.ReadingBack.{in_order, IsReadAs, AreCommentLines}
+use Rattle.crush_laws.specs.ReadingBack.{IsReadAs, AreCommentLines}
 use Rattle.crush_calls.specs.declared.call.Call.{Call}
 use Rattle.crush_calls.specs.declared.call.Call.TheVariants.{One, Batch, Guarded}
 use Rattle.crush_calls.specs.History.{EntryData, table_after, turns}
 use Rattle.crush_calls.specs.LawRun.{IsCall}
 use Rattle.crush_calls.specs.HistoryText.{entries_text, names_of}
+use Rattle.crush_units.specs.declared.limits.TheConstants.{LONGEST_JOB}
+use Rattle.crush_calls.specs.Script.{ScriptData}
 use Rattle.crush_script.specs.Job.{JobData, IsJob}
+use Rattle.crush_script.specs.ScriptsText.{AreScripts, scripts_text}
 
 -- the names of an edit are names and its location is one, as their types keep
 abbrev pub IsNamed : Edit → Type 0
@@ -47,11 +50,10 @@ IsNamedHistory h = All (λ (e : EntryData). IsNamedCall e.call) h
 abbrev pub HistoryLinesAreComments : Type 0
 HistoryLinesAreComments = (names : List (List ℕ)) (number : ℕ) (h : List EntryData) → All IsName names → IsNamedHistory h → AreCommentLines (entries_text names number h)
 
--- WHAT IS WRITTEN IS READ BACK: the printed map and the lines of any history behind it are the text of that map, but for the order
--- of types
+-- WHAT IS WRITTEN IS READ BACK: the printed map and the lines of any history behind it are read as that map
 abbrev pub WhatIsWrittenIsReadBack : Type 0
 WhatIsWrittenIsReadBack = (s : SettingData) (t : List Row) (names : List (List ℕ)) (number : ℕ) (h : List EntryData) → Lawful t → Fits s t
-    → All IsName names → IsNamedHistory h → IsReadAs (map_text s t ++ entries_text names number h) (in_order s) t
+    → All IsName names → IsNamedHistory h → IsReadAs (map_text s t ++ entries_text names number h) s t
 
 -- the text of a map after a history, and a line for each entry
 abbrev pub text_after : SettingData → List Row → List (List ℕ) → List EntryData → List ℕ
@@ -60,7 +62,7 @@ text_after s t names h = map_text s (table_after s t h) ++ entries_text names 1 
 -- THE TEXT OF ANY HISTORY: the map after it, and its lines, are read back as that map
 abbrev pub HistoryTextsAreReadBack : Type 0
 HistoryTextsAreReadBack = (s : SettingData) (t : List Row) (names : List (List ℕ)) (h : List EntryData) → Lawful t → Fits s t
-    → All IsName names → IsNamedHistory h → All (λ (e : EntryData). IsCall e.call) h → IsReadAs (text_after s t names h) (in_order s) (table_after s t h)
+    → All IsName names → IsNamedHistory h → All (λ (e : EntryData). IsCall e.call) h → IsReadAs (text_after s t names h) s (table_after s t h)
 
 -- THE MAP AFTER A JOB: whatever job bytes are, the table after its run is lawful, and the setting fits it
 abbrev pub JobsStayLawful : Type 0
@@ -69,9 +71,24 @@ JobsStayLawful = (bytes : List ℕ) (job : JobData) → IsJob bytes job → Keep
 -- THE TEXT OF A JOB that has run is read back as that map, with its history
 abbrev pub JobTextsAreReadBack : Type 0
 JobTextsAreReadBack = (bytes : List ℕ) (job : JobData) → IsJob bytes job
-    → let h = turns job.setting job.table job.scripts in IsReadAs (text_after job.setting job.table (names_of job.scripts) h) (in_order job.setting) (table_after job.setting job.table h)
+    → let h = turns job.setting job.table job.scripts in IsReadAs (text_after job.setting job.table (names_of job.scripts) h) job.setting (table_after job.setting job.table h)
 
 -- and without
 abbrev pub JobMapsAreReadBack : Type 0
 JobMapsAreReadBack = (bytes : List ℕ) (job : JobData) → IsJob bytes job
-    → let u = table_after job.setting job.table (turns job.setting job.table job.scripts) in IsReadAs (map_text job.setting u) (in_order job.setting) u
+    → let u = table_after job.setting job.table (turns job.setting job.table job.scripts) in IsReadAs (map_text job.setting u) job.setting u
+
+-- RUNS ON: the bytes are read as a map, and with the sections of scripts behind them they are the job of that map with these scripts
+pub record RunsOn (bytes : List ℕ) (s : SettingData) (t : List Row) : Type 0 where
+  pub read : IsReadAs bytes s t
+  pub job : (scripts : List ScriptData) → AreScripts scripts → length (bytes ++ scripts_text scripts) ≤ LONGEST_JOB
+      → IsJob (bytes ++ scripts_text scripts) (record { setting = read.setting; table = read.map.table; adjusted = 0; scripts = scripts })
+
+-- PRINT, WRITE A SECTION BEHIND IT, RUN: so it is with what is printed of a map, whatever comment lines stand behind it
+abbrev pub PrintedMapsRunOn : Type 0
+PrintedMapsRunOn = (s : SettingData) (t : List Row) (comments : List ℕ) → Lawful t → Fits s t → AreCommentLines comments → RunsOn (map_text s t ++ comments) s t
+
+-- and with what is written of a job that has run
+abbrev pub JobTextsRunOn : Type 0
+JobTextsRunOn = (bytes : List ℕ) (job : JobData) → IsJob bytes job
+    → let h = turns job.setting job.table job.scripts in RunsOn (text_after job.setting job.table (names_of job.scripts) h) job.setting (table_after job.setting job.table h)

@@ -3,7 +3,6 @@ pub mod Fault
 pub mod Flaw
 pub mod Flow
 pub mod Form
-pub mod Forms
 pub mod Grammar
 pub mod Reads
 pub mod ReadsLines
