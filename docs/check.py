@@ -2,7 +2,7 @@
 """Looks whether what docs/ and README.md name is there.
 
 Each name in backticks has to stand in the crates: a function, a type, a definition, a clause, a file or
-an edit that must fail; but of the pages of WORDS_OF_TEXTS, which name words of jobs and of Ceph beside them.
+an edit that must fail, or be a job of examples/; but of the pages of WORDS_OF_TEXTS, which name words of jobs and of Ceph beside them.
 In a table whose head has a column of must-fail edits, each name of that column has to be the file of one; and
 each such file has to be named by a page. Each link leads to a file, and to a heading of it. ADDING.md lists
 the files that an addition touches: each has to be there, and each file of src/, specs/ and proofs/ that names all
@@ -73,7 +73,7 @@ def crate_files():
 
 
 def known_words():
-    words = set()
+    words = {path.stem for path in (TOP / "examples").rglob("*.job")}
     for path in crate_files():
         words.add(path.stem)
         words.update(part for part in path.parts)
