@@ -3,7 +3,7 @@
 
 use super::asks::{fits, fits_moved, has_item};
 use super::items::{Item, bucket, bucket_item, device, device_item, holding, inside, name, node};
-use super::puts::{Refused, add, add_in, exchange, give_name, put, weigh, weigh_all};
+use super::puts::{Refused, add, add_in, classify, exchange, give_name, put, weigh, weigh_all};
 use crush_tree::{Forest, Node, Place, View};
 use crush_units::{Alg, BucketId, ItemId, Weight};
 use linked_list_allocator::LocalHeap;
@@ -56,10 +56,36 @@ fn example_in<A: Allocator + Copy>(rt: &impl Abort, alloc: A) -> Result<Forest<A
     match put_all(rt, alloc, &mut forest) {
         Ok(()) => Ok(forest),
         Err(refused) => {
+            let is_begun = is_begun(rt, &forest);
             drop(forest);
+            assert!(rt; is_begun);
             Err(refused)
         }
     }
+}
+
+/// Whether the forest has so many devices and buckets, of so many units together.
+fn has_so_many<A: Allocator>(forest: &Forest<A>, devices: u32, buckets: u32, units: u64) -> bool {
+    let counts = forest.counts();
+    counts.devices == devices && counts.buckets == buckets && forest.total() == units
+}
+
+/// Whether a forest into which not all of them came has the first of the root, h1, osd.0 and osd.1, and
+/// no other item.
+fn is_begun<A: Allocator>(rt: &impl Abort, forest: &Forest<A>) -> bool {
+    if !has_item(forest, &bucket_item(rt, 1)) {
+        return has_so_many(forest, 0, 0, 0);
+    }
+    if !has_item(forest, &bucket_item(rt, 2)) {
+        return has_so_many(forest, 0, 1, 0);
+    }
+    if !has_item(forest, &device_item(rt, 0)) {
+        return has_so_many(forest, 0, 2, 0);
+    }
+    if !has_item(forest, &device_item(rt, 1)) {
+        return has_so_many(forest, 1, 2, 65536);
+    }
+    has_so_many(forest, 2, 2, 131072)
 }
 
 /// The forest of the example map in the machine's memory.
@@ -322,6 +348,46 @@ fn weights_and_names(rt: HostRuntime) {
     let is_named = gets_a_free_name(&rt, &mut forest);
     drop(forest);
     assert!(rt; is_weighed && is_named);
+}
+
+/// Whether the devices of class `ssd` that are the item or below it weigh so many units.
+fn weighs_of_ssd(forest: &Forest<Global>, id: ItemId, units: u32) -> bool {
+    forest.class_weight(id, "ssd") == Some(Weight::from_units(units))
+}
+
+/// Whether osd.0 gets the class `ssd`, and then weighs alone of that class.
+fn gets_a_class(rt: &(impl Abort + AllocGlobal), forest: &mut Forest<Global>) -> bool {
+    let class = Some(name(rt, rt.alloc(), "ssd"));
+    let old = classify(forest, device(rt, 0), class).expect(rt, "osd.0");
+    let had_none = old.is_none();
+    drop(old);
+    had_none
+        && forest.class(device_item(rt, 0)) == Some("ssd")
+        && weighs_of_ssd(forest, bucket_item(rt, 1), 65536)
+        && weighs_of_ssd(forest, bucket_item(rt, 3), 0)
+        && forest.class_weight(bucket_item(rt, 1), "hdd") == Some(Weight::from_units(0))
+        && forest.class_weight(bucket_item(rt, 4), "ssd").is_none()
+}
+
+/// Whether osd.3, which no bucket holds, loses the class `ssd`.
+fn loses_its_class(rt: &impl Abort, forest: &mut Forest<Global>) -> bool {
+    let old = classify(forest, device(rt, 3), None).expect(rt, "osd.3");
+    let was_ssd = match &old {
+        Some(old) => old.as_str() == "ssd",
+        None => false,
+    };
+    drop(old);
+    was_ssd && forest.class(device_item(rt, 3)).is_none() && forest.total() == 163840
+}
+
+#[test]
+fn classes_of_devices(rt: HostRuntime) {
+    let mut forest = example(&rt);
+    let idle = Item::DeviceOfClass(3, "osd.3", 0);
+    add(&rt, &mut forest, Place::Unplaced, idle);
+    let is_done = gets_a_class(&rt, &mut forest) && loses_its_class(&rt, &mut forest);
+    drop(forest);
+    assert!(rt; is_done);
 }
 
 /// Whether the list of unplaced devices has memory to spare beside osd.3, gives it back, and keeps the

@@ -137,6 +137,20 @@ pub(super) fn give_name<A: Allocator>(
     Ok(forest.rename(*id, name))
 }
 
+/// Gives a device a class, or takes its class away, and answers the old one.
+pub(super) fn classify<A: Allocator>(
+    forest: &mut Forest<A>,
+    device: DeviceId,
+    class: Option<Name<A>>,
+) -> Result<Option<Name<A>>, Refused> {
+    forest.recall_invariant();
+    if !has_item(forest, &ItemId::Device(device)) {
+        drop(class);
+        return Err(Refused::Missing);
+    }
+    Ok(forest.set_class(device, class))
+}
+
 /// Exchanges names and items of two buckets.
 pub(super) fn exchange<A: Allocator>(
     forest: &mut Forest<A>,
