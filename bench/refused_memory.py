@@ -6,7 +6,7 @@ A library that is preloaded answers the Nth request by nothing, for N from 1 unt
 such run has to end with status 4, nothing on standard output and its one line on standard error, or exactly as
 the run without a refusal. Each job runs at once and with --in-turn. Where several operators run at once the
 history may be another in each run: there the same calls of each operator, in order, count as the same ending.
-A worker that lacks memory lets the others finish: the run waits for them all, so it has to end by itself, and
+A worker that is out of memory lets the others finish: the run waits for them all, so it has to end by itself, and
 at its end the library looks whether a thread is left: in `_exit`, since the program ends by that. With words only jobs whose names have one of them are
 run. As many jobs are run side by side as there are processors. Needs a C compiler, `cc`, `gcc` or what CC names,
 and the /proc of Linux. Prints how many requests were refused, and ends with status 1 where a run ends otherwise
@@ -145,7 +145,7 @@ class Refuser:
         return run, self.told.exists()
 
     def wants(self, run, number, whole):
-        """Whether the run in which this request was refused ended for want of memory; else it has to be the whole."""
+        """Whether the run in which this request was refused ended out of memory; else it has to be the whole."""
         if self.left.exists():
             raise Ending(f"{self.name}: request {number} refused: a thread is left")
         if run.returncode == 4 and not run.stdout and run.stderr in NO_MEMORY:
@@ -156,7 +156,7 @@ class Refuser:
         return False
 
     def refuse_each(self):
-        """How many requests were refused, and how many of these runs ended for want of memory."""
+        """How many requests were refused, and how many of these runs ended out of memory."""
         whole, _ = self.run(0)
         number = wanting = 0
         while True:
