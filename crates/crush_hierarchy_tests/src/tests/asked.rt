@@ -107,6 +107,19 @@ fn is_below(guide: &Asked<'_>, bucket: BucketId, id: &ItemId) -> bool {
     guide.forest.contains_by(guide, bucket, *id)
 }
 
+/// Whether the bucket has no class id.
+fn has_no_class_id(guide: &Asked<'_>, bucket: BucketId) -> bool {
+    match guide.forest.class_ids_by(guide, bucket) {
+        Some(ids) => ids.is_empty(),
+        None => false,
+    }
+}
+
+/// Whether the devices of the class weigh so much that are the item or below it.
+fn weighs_of_class(guide: &Asked<'_>, id: &ItemId, class: &str, weight: Weight) -> bool {
+    guide.forest.class_weight_by(guide, *id, class) == Some(weight)
+}
+
 /// Whether the weight of the device is this.
 fn weighs(guide: &Asked<'_>, device: DeviceId, weight: Weight) -> bool {
     is_held(guide.forest, &ItemId::Device(device))
@@ -154,6 +167,8 @@ fn asks_for_a_device(rt: &impl Abort, guide: &Asked<'_>) -> bool {
         && guide.was_asked(3)
         && weighs(guide, osd_0, one)
         && guide.was_asked(3)
+        && weighs_of_class(guide, &id, "ssd", Weight::from_units(0))
+        && guide.was_asked(3)
 }
 
 /// Whether h1, which is 1 deep, and the place in it are asked for 2 times at most, and osd.0 and h2 5
@@ -163,6 +178,10 @@ fn asks_for_a_bucket(rt: &impl Abort, guide: &Asked<'_>) -> bool {
     finds(guide, &id)
         && guide.was_asked(2)
         && has_items(guide, h1)
+        && guide.was_asked(2)
+        && has_no_class_id(guide, h1)
+        && guide.was_asked(2)
+        && weighs_of_class(guide, &id, "ssd", Weight::from_units(0))
         && guide.was_asked(2)
         && can_receive(guide, h1, one)
         && guide.was_asked(2)

@@ -148,8 +148,35 @@ fn give_name(
     true
 }
 
-/// Exchanges names and items of two buckets. Whether that is done.
-fn exchange(guide: &Asked<'_>, forest: &mut Forest<Global>, a: BucketId, b: BucketId) -> bool
+/// Gives a device another class, if it is there. Whether that is done.
+fn classify(
+    guide: &Asked<'_>,
+    forest: &mut Forest<Global>,
+    device: DeviceId,
+    class: Name<Global>,
+) -> bool
+    requires { rows_of forest.old ≡ rows_of guide.now.forest.now }
+{
+    forest.recall_invariant();
+    if !has_item(forest, &ItemId::Device(device)) {
+        drop(class);
+        return false;
+    }
+    let old = forest.set_class_by(guide, device, Some(class));
+    let is_first = old.is_none();
+    drop(old);
+    is_first
+}
+
+/// Exchanges names and items of two buckets. Whether that is done, with so many questions at most
+/// for the test and so many again for the exchange.
+fn exchange(
+    guide: &Asked<'_>,
+    forest: &mut Forest<Global>,
+    a: BucketId,
+    b: BucketId,
+    most: u32,
+) -> bool
     requires { rows_of forest.old ≡ rows_of guide.now.forest.now }
 {
     forest.recall_invariant();
@@ -165,8 +192,11 @@ fn exchange(guide: &Asked<'_>, forest: &mut Forest<Global>, a: BucketId, b: Buck
     if !forest.fits_swap_by(guide, a, b) {
         return false;
     }
+    if !guide.was_asked(most) {
+        return false;
+    }
     forest.swap_by(guide, a, b);
-    true
+    guide.was_asked(most)
 }
 
 /// Whether an item is taken out, with so many questions at most.
@@ -210,15 +240,29 @@ fn weigh_all_asks(rt: &impl Abort, guide: &Asked<'_>, bucket: BucketId, most: u3
     asks
 }
 
-/// Whether h1 and h2 are exchanged, once they were asked for, with so many questions at most.
-fn exchange_asks(rt: &impl Abort, guide: &Asked<'_>, most: u32) -> bool {
+/// Whether a device gets a class, with so many questions at most.
+fn class_asks(
+    rt: &(impl Abort + AllocGlobal),
+    guide: &Asked<'_>,
+    device: DeviceId,
+    most: u32,
+) -> bool {
     let mut forest = copy_of(rt, guide);
-    let asks = exchange(guide, &mut forest, bucket(rt, 2), bucket(rt, 3)) && guide.was_asked(most);
+    let asks = classify(guide, &mut forest, device, name(rt, "ssd")) && guide.was_asked(most);
     drop(forest);
     asks
 }
 
-/// Whether osd.0, which is 2 deep, and h1, which is 1 deep, are asked for 3 and 2 times at most.
+/// Whether h1 and h2 are exchanged, and asked for before, each with so many questions at most.
+fn exchange_asks(rt: &impl Abort, guide: &Asked<'_>, most: u32) -> bool {
+    let mut forest = copy_of(rt, guide);
+    let asks = exchange(guide, &mut forest, bucket(rt, 2), bucket(rt, 3), most);
+    drop(forest);
+    asks
+}
+
+/// Whether osd.0, which is 2 deep, and h1, which is 1 deep, are asked for 3 and 2 times at most, and
+/// osd.3, which no bucket holds, once.
 pub(super) fn changes_ask(rt: &(impl Abort + AllocGlobal), guide: &Asked<'_>) -> bool {
     detach_asks(rt, guide, &device_item(rt, 0), 3)
         && detach_asks(rt, guide, &bucket_item(rt, 2), 2)
@@ -228,7 +272,9 @@ pub(super) fn changes_ask(rt: &(impl Abort + AllocGlobal), guide: &Asked<'_>) ->
         && weigh_all_asks(rt, guide, bucket(rt, 2), 2)
         && reserve_asks(rt, guide, bucket(rt, 2), 2)
         && attach_asks(rt, guide, bucket(rt, 2), 2)
-        && exchange_asks(rt, guide, 8)
+        && class_asks(rt, guide, device(rt, 0), 3)
+        && class_asks(rt, guide, device(rt, 3), 1)
+        && exchange_asks(rt, guide, 4)
 }
 
 /// Whether an item comes into a bucket that has room for it, with so many questions at most. Room is

@@ -5,7 +5,7 @@ use super::items::{bucket, bucket_item, device, device_item, empty, inside, leaf
 use super::puts::{add, exchange, give_name, make_room, put_device, weigh, weigh_all};
 use crush_hierarchy::{Hashing, Hierarchy};
 use crush_tree::{Node, Place};
-use crush_units::Weight;
+use crush_units::{Alg, DeviceId, ItemId, Name, Weight};
 use std::alloc::Global;
 use std::process::Abort;
 
@@ -55,6 +55,28 @@ fn tells_of_h2(rt: &impl Abort, hierarchy: &Hierarchy<Global>) -> bool {
         && weighs(rt, hierarchy, 3, 32768)
 }
 
+/// Whether h2 is found whole by its id, in the root, with no class id, and no item of an id that none
+/// has.
+fn finds_h2(rt: &impl Abort, hierarchy: &Hierarchy<Global>) -> bool {
+    let has_no_class_id = match hierarchy.class_ids(bucket(rt, 3)) {
+        Some(ids) => ids.is_empty(),
+        None => false,
+    };
+    let is_found = match hierarchy.find(bucket_item(rt, 3)) {
+        Some(view) => {
+            view.name == "h2"
+                && view.weight.units() == 32768
+                && view.parent == Some(bucket(rt, 1))
+                && view.alg == Some(Alg::Straw2)
+        }
+        None => false,
+    };
+    has_no_class_id
+        && is_found
+        && hierarchy.find(bucket_item(rt, 9)).is_none()
+        && hierarchy.class_ids(bucket(rt, 9)).is_none()
+}
+
 /// Whether osd.2 is below the root and not below h1.
 fn tells_what_is_below(rt: &impl Abort, hierarchy: &Hierarchy<Global>) -> bool {
     hierarchy.contains(bucket(rt, 1), device_item(rt, 2))
@@ -101,6 +123,7 @@ fn tells_all(rt: &impl Abort, hierarchy: &Hierarchy<Global>) -> bool {
     sums_up(hierarchy, 4, 3, 163840)
         && is_osd_2_in_h2(rt, hierarchy)
         && tells_of_h2(rt, hierarchy)
+        && finds_h2(rt, hierarchy)
         && tells_what_is_below(rt, hierarchy)
         && holds(rt, hierarchy, 2, &[0, 1])
         && frees_two_ids(rt, hierarchy)
@@ -256,6 +279,73 @@ fn sums_follow(rt: &impl Abort, hierarchy: &mut Hierarchy<Global>) -> bool {
         && are_weighed
         && weighs(rt, hierarchy, 2, 2)
         && sums_up(hierarchy, 4, 3, 3)
+}
+
+/// Gives a device a class or takes it away, if it is there, and tells whether it had none before.
+fn had_no_class(
+    hierarchy: &mut Hierarchy<Global>,
+    device: DeviceId,
+    class: Option<Name<Global>>,
+) -> bool {
+    hierarchy.recall_invariant();
+    if !has_item(hierarchy, &ItemId::Device(device)) {
+        drop(class);
+        return false;
+    }
+    let old = hierarchy.set_class(device, class);
+    let had_none = old.is_none();
+    drop(old);
+    had_none
+}
+
+/// Whether the devices of class `ssd` that are the item or below it weigh so many units.
+fn weighs_of_ssd(hierarchy: &Hierarchy<Global>, id: ItemId, units: u32) -> bool {
+    hierarchy.class_weight(id, "ssd") == Some(Weight::from_units(units))
+}
+
+/// Whether a device without a class gets the class `ssd`.
+fn gets_ssd(
+    rt: &(impl Abort + AllocGlobal),
+    hierarchy: &mut Hierarchy<Global>,
+    number: u32,
+) -> bool {
+    let class = Some(name(rt, "ssd"));
+    had_no_class(hierarchy, device(rt, number), class)
+}
+
+/// Whether osd.0 and osd.2, and no other device, are of the class `ssd`: they weigh 98304 units
+/// together in the root and 32768 in h2, and nothing is of another class.
+fn tells_of_classes(rt: &impl Abort, hierarchy: &Hierarchy<Global>) -> bool {
+    hierarchy.class(device_item(rt, 0)) == Some("ssd")
+        && hierarchy.class(device_item(rt, 1)).is_none()
+        && weighs_of_ssd(hierarchy, bucket_item(rt, 1), 98304)
+        && weighs_of_ssd(hierarchy, bucket_item(rt, 3), 32768)
+        && weighs_of_ssd(hierarchy, device_item(rt, 1), 0)
+        && hierarchy.class_weight(bucket_item(rt, 1), "hdd") == Some(Weight::from_units(0))
+        && hierarchy.class_weight(bucket_item(rt, 9), "ssd").is_none()
+}
+
+/// Whether osd.0 and osd.2 get the class `ssd`, and are then told so.
+fn are_classed(rt: &(impl Abort + AllocGlobal), hierarchy: &mut Hierarchy<Global>) -> bool {
+    let is_first = gets_ssd(rt, hierarchy, 0);
+    let is_second = gets_ssd(rt, hierarchy, 2);
+    is_first && is_second && tells_of_classes(rt, hierarchy)
+}
+
+/// Whether osd.0 loses its class, which then weighs 32768 units in the root.
+fn is_unclassed(rt: &impl Abort, hierarchy: &mut Hierarchy<Global>) -> bool {
+    !had_no_class(hierarchy, device(rt, 0), None)
+        && hierarchy.class(device_item(rt, 0)).is_none()
+        && weighs_of_ssd(hierarchy, bucket_item(rt, 1), 32768)
+        && sums_up(hierarchy, 4, 3, 163840)
+}
+
+#[test]
+fn classes_of_devices(rt: HostRuntime) {
+    let mut hierarchy = example(&rt);
+    let is_done = are_classed(&rt, &mut hierarchy) && is_unclassed(&rt, &mut hierarchy);
+    drop(hierarchy);
+    assert!(rt; is_done);
 }
 
 /// Whether h1 gets the name h9.
