@@ -8,7 +8,7 @@
 #   make dist      the same as an archive and, where dpkg-deb is there, a package of Debian, below out/
 #   make manual    writes the manual page out of the help, which `make check` compares
 #   make tables    writes the columns of must-fail edits, and what the last `make check` took, into docs/
-#   make recipe    installs below out/, and tries the recipe for operators there
+#   make recipe    installs below out/, and tries there the recipe for operators and what its pages show
 #   make trials    tries that program with jobs of chance, little memory and stack, and streams that fail
 #   make clean     removes what the checks kept, and out/
 
@@ -57,6 +57,7 @@ tables:
 recipe: $(PROGRAM)
 	$(MAKE) install DESTDIR=$(CURDIR)/out/tried PREFIX=/usr
 	examples/recipe_test.sh out/tried/usr/bin/crushedit out/tried/usr/bin/crushedit-recipe
+	python3 examples/pages_test.py out/tried/usr/bin/crushedit
 
 trials: $(PROGRAM)
 	python3 bench/against_reference.py $(PROGRAM) 1000
