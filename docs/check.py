@@ -7,7 +7,7 @@ In a table whose head has a column of must-fail edits, each name of that column 
 each such file has to be named by a page. Each link leads to a file, and to a heading of it. ADDING.md lists
 the files that an addition touches: each has to be there, and each file of src/, specs/ and proofs/ that names all
 variants of an enum of ADDED, or all words of a row of NAMED, has to stand in its section. RULES.md has a row for each variant of the enums of
-ROWS, and for each limit. Each public function is named by a page, but for those of INSIDE; and PROVED.md has a
+ROWS, and for each limit, and a sentence for each, which is the one of SENTENCES. Each public function is named by a page, but for those of INSIDE; and PROVED.md has a
 row for each that may answer one of several faults, or fails and is lent what it changes, with clauses that its
 contract has. The index of examples/ names each job. In the drawing of crates/README.md each crate has
 a place, and code calls downward. The version of the command line stands in VERSIONS, the
@@ -46,6 +46,9 @@ ROWS = {
     "Faults of a text": ("crush_text/src/fault.rt", "TextFaultKind"),
     "Faults of a job": ("crush_script/src/fault.rt", "JobFault"),
 }
+# Where the sentences of these enums stand, each by the word that its definition begins with; RULES.md has the same.
+SENTENCES = "crush_reasons/specs/Sentences.antt"
+SAID = {"text": "Faults of a text", "job": "Faults of a job", "refusal": "Refusals"}
 # Where the version stands that the command line tells.
 COMMAND_LINE = "crates/crush_options/src/command_line.rt"
 VERSIONS = {
@@ -136,6 +139,25 @@ def rule_faults():
         for name in names:
             if name not in there:
                 yield f"{title} has no row for {name}"
+
+
+def sentence_faults():
+    """Which faults and refusals have no sentence, or another one in RULES.md."""
+    specs = (TOP / "crates" / SENTENCES).read_text()
+    said = re.findall(r'(?m)^(\w+)_sentence (?:\(?\w+\.(\w+)[^=\n]*)?= codes "(.*)"$', specs)
+    told = [(cell(row[1]), row[2]) for _, rows in tables(sections_of("RULES.md").get("Sentences", "")) for row in rows]
+    if told != [(name or word.capitalize(), sentence) for word, name, sentence in said]:
+        yield f"the sentences aren't those of {SENTENCES}"
+    for word, title in SAID.items():
+        there = {name for other, name, _ in said if other == word} | {"Text"}
+        for name in variants(*ROWS[title]):
+            if name not in there:
+                yield f"{SENTENCES} has no sentence for {name}"
+
+
+def cell(text):
+    """What a cell has without its backticks."""
+    return text.strip("`")
 
 
 def anchors(text):
@@ -319,7 +341,7 @@ def main():
     faults += [f"crates/README.md: {fault}" for fault in room_faults()]
     for page in [*PAGES, TOP / "examples/README.md", TOP / "bench/README.md", TOP / "crates/README.md"]:
         faults += link_faults(page)
-    faults += [f"RULES.md: {fault}" for fault in rule_faults()]
+    faults += [f"RULES.md: {fault}" for fault in [*rule_faults(), *sentence_faults()]]
     faults += [f"ADDING.md: {fault}" for fault in adding_faults()]
     faults += [f"PROVED.md: {fault}" for fault in call_faults()]
     faults += [f"examples/README.md: {fault}" for fault in example_faults()]

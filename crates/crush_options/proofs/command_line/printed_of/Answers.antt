@@ -5,6 +5,9 @@ use Rattle.crush_options.proofs.Reading.{none_read, refused_much, said, since_an
 use Rattle.crush_options.proofs.command_line.printed_of.Goals as goal
 use Rattle.crush_options.proofs.command_line.printed_of.Goals.{then-tree+else-as_ceph, else-tree}
 
+pub returns-in-None-clause-asked : goal.returns-in-None-clause-asked
+returns-in-None-clause-asked c = tt
+
 pub returns-in-None-2-clause-asked : goal.returns-in-None-2-clause-asked
 returns-in-None-2-clause-asked c =
     let rows = rows_of (found_of c.args.matches.now) in

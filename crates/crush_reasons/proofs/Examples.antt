@@ -1,0 +1,63 @@
+-- What is told of worked histories and texts.
+use Rattle.std.proofs.Common.{◌≡◌, true, false, [], ◌∷◌, refl}
+use Rattle.std.specs.Fmt.{digits}
+use Rattle.std.specs.Prelude.{codes}
+use Rattle.crush_edits.specs.declared.edit.Edit.TheVariants.{Move, Reweight, Remove, SetClass, Swap}
+use Rattle.crush_edits.specs.declared.refusal.Refusal.TheVariants.{NotEmpty, NoSuchItem}
+use Rattle.crush_calls.specs.declared.call.Call.TheVariants.{One, Batch, Guarded}
+use Rattle.crush_calls.specs.declared.call.Reply.TheVariants.{Done, Dones, Refused, BatchRefused, Stale}
+use Rattle.crush_calls.specs.HistoryText.{line_front, line_end}
+use Rattle.crush_script.specs.declared.fault.JobFault.TheVariants as job
+use Rattle.crush_text.specs.declared.fault.TextFaultKind.TheVariants.{UnknownType}
+use Rattle.crush_reasons.specs.Ceph.{ceph_heading, ceph_line, ceph_text}
+use Rattle.crush_reasons.specs.Explained.{explained_text}
+use Rattle.crush_reasons.specs.Place.{column_line, fault_text, from_line, number_line}
+
+-- of four commands two changed the map
+two_commands : ceph_text (
+    (record { operator = 0; call = One (Reweight (codes "osd.0") 131072); reply = Done (record { changed = true; made = 0 }) })
+    ∷ (record { operator = 0; call = One (Reweight (codes "osd.0") 131072); reply = Done (record { changed = false; made = 0 }) })
+    ∷ (record { operator = 0; call = One (Remove (codes "x")); reply = Refused NoSuchItem })
+    ∷ (record { operator = 0; call = One (Move (codes "h2") ((record { kind = codes "rack"; name = codes "r1" }) ∷ (record { kind = codes "root"; name = codes "default" }) ∷ [])); reply = Done (record { changed = true; made = 1 }) })
+    ∷ [])
+    ≡ codes "# 2 commands\nceph osd crush reweight osd.0 2.00000\nceph osd crush move h2 rack=r1 root=default\n"
+unfolding ceph_text ceph_heading digits
+two_commands = refl
+
+-- a class, and a swap
+class_line : ceph_line (SetClass (codes "osd.0") (codes "ssd")) ≡ codes "ceph osd crush set-device-class ssd osd.0\n"
+class_line = refl
+
+swap_line : ceph_line (Swap (codes "h1") (codes "h2")) ≡ codes "ceph osd crush swap-bucket h1 h2 --yes-i-really-mean-it\n"
+swap_line = refl
+
+-- a batch that changed the map has all its edits, one that was refused none
+batches : ceph_text (
+    (record { operator = 0; call = Batch (Reweight (codes "osd.0") 131072 ∷ Remove (codes "osd.1") ∷ []); reply = Dones (record { edits = 2; changed = 1; made = 0 }) })
+    ∷ (record { operator = 1; call = Batch (Remove (codes "osd.2") ∷ Remove (codes "default") ∷ []); reply = BatchRefused 1 NotEmpty })
+    ∷ [])
+    ≡ codes "# 2 commands\nceph osd crush reweight osd.0 2.00000\nceph osd crush rm osd.1\n"
+unfolding ceph_text ceph_heading digits
+batches = refl
+
+-- refused lines with their reasons
+explained : explained_text (codes "a" ∷ []) 1 (
+    (record { operator = 0; call = One (Remove (codes "default")); reply = Refused NotEmpty })
+    ∷ (record { operator = 0; call = One (Reweight (codes "osd.0") 131072); reply = Done (record { changed = true; made = 0 }) })
+    ∷ (record { operator = 0; call = Guarded 0 (Remove (codes "x") ∷ []); reply = Stale 1 })
+    ∷ [])
+    ≡ codes "# 1 a rm default = refused NotEmpty 39\n  the bucket holds items: move or remove them first\n# 3 a begin at 0 ; rm x ; commit = refused Stale 11 changes 1\n  the map has changed since: look at it again, and name the number of changes that is told\n"
+unfolding explained_text line_front line_end digits
+explained = refl
+
+-- a type that isn't declared, behind a tab in a second line
+unknown_type : fault_text [] (codes "type 0 osd\n\thots h2 {\n}\n") (job.Text (record { kind = UnknownType; place = 12 }))
+    ≡ codes "  line 2, column 2\n     hots h2 {\n     ^\n  no type of this name is declared above\n"
+unfolding column_line digits
+unknown_type = refl
+
+-- a line of a file that isn't a command
+no_command : fault_text (codes "alice.txt") (codes "%operator a\nfly x\nrm y\n") (job.NoSuchCommand 2)
+    ≡ codes "  alice.txt line 2\n    fly x\n  the first word of a line is to be a command: --help has all of them\n"
+unfolding number_line from_line digits
+no_command = refl

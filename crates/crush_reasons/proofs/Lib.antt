@@ -1,0 +1,4 @@
+pub mod Explaining
+pub mod CephLines
+pub mod Lines
+pub mod Examples

@@ -1,0 +1,4 @@
+pub mod Sentences
+pub mod Explained
+pub mod Ceph
+pub mod Place

@@ -1,0 +1,77 @@
+-- What is told of a fault or a refusal: what was wanted, in an operator's words. RULES.md has the same sentences.
+use Rattle.std.specs.Prelude.{ℕ, List, [], codes}
+use Rattle.crush_calls.specs.declared.call.Reply.{Reply}
+use Rattle.crush_calls.specs.declared.call.Reply.TheVariants.{Done, Dones, Refused, BatchRefused, Stale}
+use Rattle.crush_edits.specs.declared.refusal.Refusal.{Refusal}
+use Rattle.crush_edits.specs.declared.refusal.Refusal.TheVariants as refusal
+use Rattle.crush_script.specs.declared.fault.JobFault.{JobFault}
+use Rattle.crush_script.specs.declared.fault.JobFault.TheVariants as job
+use Rattle.crush_text.specs.declared.fault.TextFaultKind.{TextFaultKind}
+use Rattle.crush_text.specs.declared.fault.TextFaultKind.TheVariants as text
+
+-- FAULTS OF A TEXT
+abbrev pub text_sentence : TextFaultKind → List ℕ
+text_sentence text.BadWord = codes "a word has letters, digits, - _ and . alone, and at most 255 of them"
+text_sentence text.Ended = codes "the text ends inside a statement: its end is wanted"
+text_sentence text.Unexpected = codes "another word is wanted here"
+text_sentence text.BadNumber = codes "a whole number is wanted that is in range here"
+text_sentence text.BadWeight = codes "a weight is wanted, 0 to 65535.99998, of a device at most 32767.99998"
+text_sentence text.DuplicateId = codes "a number or an id is wanted that no line above has"
+text_sentence text.DuplicateName = codes "a name or a class is wanted that no line above has"
+text_sentence text.UnknownType = codes "no type of this name is declared above"
+text_sentence text.UnknownItem = codes "no device is declared and no bucket is closed above with this name"
+text_sentence text.SecondParent = codes "a bucket above holds this item: an item stands in one bucket"
+text_sentence text.OtherAlgorithm = codes "the algorithm is to be straw2, straw or list"
+text_sentence text.LeftOut = codes "weight sets, MSR steps and positions of items are not read: take them out first"
+text_sentence text.UnknownBucketInRule = codes "a rule takes a bucket that is closed above"
+text_sentence text.TooMany = codes "the map has as many of these already as it may have"
+text_sentence text.SumTooLarge = codes "with this item a bucket weighs more than 65535.99998, or all devices more than 134217727.99998"
+text_sentence text.OutOfMemory = codes "there is no memory for the map"
+
+-- FAULTS OF A JOB
+abbrev pub job_sentence : JobFault → List ℕ
+job_sentence (job.BadLine number) = codes "the line is not of the form that its first word asks for"
+job_sentence (job.NoSuchCommand number) = codes "the first word of a line is to be a command: --help has all of them"
+job_sentence (job.OpenBatch number) = codes "the batch that begins here is to end by commit, before the next operator"
+job_sentence (job.TooManyOperators number) = codes "a job has at most 16 operators"
+job_sentence (job.DuplicateOperator number) = codes "an operator above has this name"
+job_sentence (job.Text fault) = text_sentence fault.kind
+job_sentence job.OutOfMemory = codes "there is no memory for the job"
+job_sentence job.TooLong = codes "a job has at most 16777216 bytes"
+job_sentence (job.TooManyCalls number) = codes "a job has at most 65536 commands and batches"
+
+-- REFUSALS
+abbrev pub refusal_sentence : Refusal → List ℕ
+refusal_sentence refusal.BadName = codes "the location names a bucket as the device is named"
+refusal_sentence refusal.BadLocation = codes "a location names each type and each bucket once, and not the type of devices"
+refusal_sentence refusal.NoSuchType = codes "the map has no type of this name"
+refusal_sentence refusal.NoPlace = codes "a location is wanted: a TYPE=BUCKET, or several"
+refusal_sentence refusal.WeightTooLarge = codes "a device weighs at most 32767.99998"
+refusal_sentence refusal.NoSuchItem = codes "the map has no item of this name"
+refusal_sentence refusal.NameTaken = codes "an item has this name, or the device has another one"
+refusal_sentence refusal.AlreadyPlaced = codes "the device stands in a bucket: set and create-or-move put it into another"
+refusal_sentence refusal.NotPlaced = codes "the device stands in no bucket: add puts it into one"
+refusal_sentence refusal.NotADevice = codes "the item is a bucket: reweight-subtree sets the weights below it"
+refusal_sentence refusal.NotABucket = codes "the item is a device, where a bucket is wanted"
+refusal_sentence refusal.WrongType = codes "the bucket is of another type, or a new one would be of the type of devices"
+refusal_sentence refusal.Loop = codes "a bucket cannot come below itself"
+refusal_sentence refusal.Nested = codes "the buckets are one, or one of them is below the other"
+refusal_sentence refusal.NotEmpty = codes "the bucket holds items: move or remove them first"
+refusal_sentence refusal.InUse = codes "a rule takes the bucket"
+refusal_sentence refusal.NotDirectory = codes "the item is a device: only a bucket gets another name"
+refusal_sentence refusal.AlreadyRenamed = codes "the first name is gone and the second is there, as if it had been done before"
+refusal_sentence refusal.NoRoom = codes "a map has at most 4096 buckets and 65536 devices"
+refusal_sentence refusal.SumTooLarge = codes "a bucket weighs at most 65535.99998, and all devices 134217727.99998"
+refusal_sentence refusal.ClassBound = codes "the device has another class: rm-device-class takes it away"
+
+-- a guarded batch that came too late
+abbrev pub stale_sentence : List ℕ
+stale_sentence = codes "the map has changed since: look at it again, and name the number of changes that is told"
+
+-- of a reply that is a refusal, and of another nothing
+abbrev pub reply_sentence : Reply → List ℕ
+reply_sentence (Done d) = []
+reply_sentence (Dones d) = []
+reply_sentence (Refused r) = refusal_sentence r
+reply_sentence (BatchRefused index r) = refusal_sentence r
+reply_sentence (Stale n) = stale_sentence

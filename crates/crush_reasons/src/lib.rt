@@ -1,0 +1,13 @@
+//! What is told of faults and refusals, and the commands of a history as Ceph's own.
+#![tactic(auto)]
+
+mod ceph;
+mod explained;
+mod place;
+mod sentences;
+mod words;
+
+pub use ceph::ceph_text;
+pub use explained::explained_text;
+pub use place::fault_text;
+pub use sentences::{job_sentence, refusal_sentence, reply_sentence, text_sentence};

@@ -1,0 +1,122 @@
+//! What is told of a fault or a refusal: what was wanted, in an operator's words.
+
+ghost use Rattle.std.specs.Prelude.{◌≡◌};
+ghost use Rattle.crush_reasons.specs.Sentences.{job_sentence, refusal_sentence, reply_sentence, stale_sentence, text_sentence};
+
+use crush_calls::Reply;
+use crush_edits::Refusal;
+use crush_script::JobFault;
+use crush_text::TextFaultKind;
+
+/// What is told of a guarded batch that came too late.
+const STALE: &str =
+    "the map has changed since: look at it again, and name the number of changes that is told";
+
+/// What is told of a fault of a map's text.
+pub fn text_sentence(kind: TextFaultKind) -> &'static str
+    ensures { result.now ≡ text_sentence kind }
+{
+    match kind {
+        TextFaultKind::BadWord => {
+            "a word has letters, digits, - _ and . alone, and at most 255 of them"
+        }
+        TextFaultKind::Ended => "the text ends inside a statement: its end is wanted",
+        TextFaultKind::Unexpected => "another word is wanted here",
+        TextFaultKind::BadNumber => "a whole number is wanted that is in range here",
+        TextFaultKind::BadWeight => {
+            "a weight is wanted, 0 to 65535.99998, of a device at most 32767.99998"
+        }
+        TextFaultKind::DuplicateId => "a number or an id is wanted that no line above has",
+        TextFaultKind::DuplicateName => "a name or a class is wanted that no line above has",
+        TextFaultKind::UnknownType => "no type of this name is declared above",
+        TextFaultKind::UnknownItem => {
+            "no device is declared and no bucket is closed above with this name"
+        }
+        TextFaultKind::SecondParent => {
+            "a bucket above holds this item: an item stands in one bucket"
+        }
+        TextFaultKind::OtherAlgorithm => "the algorithm is to be straw2, straw or list",
+        TextFaultKind::LeftOut => {
+            "weight sets, MSR steps and positions of items are not read: take them out first"
+        }
+        TextFaultKind::UnknownBucketInRule => "a rule takes a bucket that is closed above",
+        TextFaultKind::TooMany => "the map has as many of these already as it may have",
+        TextFaultKind::SumTooLarge => {
+            "with this item a bucket weighs more than 65535.99998, or all devices more than 134217727.99998"
+        }
+        TextFaultKind::OutOfMemory => "there is no memory for the map",
+    }
+}
+
+/// What is told of a fault of a job: of one of its map's text as [`text_sentence`] has it.
+pub fn job_sentence(fault: JobFault) -> &'static str
+    ensures { result.now ≡ job_sentence fault }
+{
+    match fault {
+        JobFault::BadLine(_) => "the line is not of the form that its first word asks for",
+        JobFault::NoSuchCommand(_) => {
+            "the first word of a line is to be a command: --help has all of them"
+        }
+        JobFault::OpenBatch(_) => {
+            "the batch that begins here is to end by commit, before the next operator"
+        }
+        JobFault::TooManyOperators(_) => "a job has at most 16 operators",
+        JobFault::DuplicateOperator(_) => "an operator above has this name",
+        JobFault::Text(fault) => text_sentence(fault.kind),
+        JobFault::OutOfMemory => "there is no memory for the job",
+        JobFault::TooLong => "a job has at most 16777216 bytes",
+        JobFault::TooManyCalls(_) => "a job has at most 65536 commands and batches",
+    }
+}
+
+/// What is told of a refused edit.
+pub fn refusal_sentence(refusal: Refusal) -> &'static str
+    ensures { result.now ≡ refusal_sentence refusal }
+{
+    match refusal {
+        Refusal::BadName => "the location names a bucket as the device is named",
+        Refusal::BadLocation => {
+            "a location names each type and each bucket once, and not the type of devices"
+        }
+        Refusal::NoSuchType => "the map has no type of this name",
+        Refusal::NoPlace => "a location is wanted: a TYPE=BUCKET, or several",
+        Refusal::WeightTooLarge => "a device weighs at most 32767.99998",
+        Refusal::NoSuchItem => "the map has no item of this name",
+        Refusal::NameTaken => "an item has this name, or the device has another one",
+        Refusal::AlreadyPlaced => {
+            "the device stands in a bucket: set and create-or-move put it into another"
+        }
+        Refusal::NotPlaced => "the device stands in no bucket: add puts it into one",
+        Refusal::NotADevice => "the item is a bucket: reweight-subtree sets the weights below it",
+        Refusal::NotABucket => "the item is a device, where a bucket is wanted",
+        Refusal::WrongType => {
+            "the bucket is of another type, or a new one would be of the type of devices"
+        }
+        Refusal::Loop => "a bucket cannot come below itself",
+        Refusal::Nested => "the buckets are one, or one of them is below the other",
+        Refusal::NotEmpty => "the bucket holds items: move or remove them first",
+        Refusal::InUse => "a rule takes the bucket",
+        Refusal::NotDirectory => "the item is a device: only a bucket gets another name",
+        Refusal::AlreadyRenamed => {
+            "the first name is gone and the second is there, as if it had been done before"
+        }
+        Refusal::NoRoom => "a map has at most 4096 buckets and 65536 devices",
+        Refusal::SumTooLarge => {
+            "a bucket weighs at most 65535.99998, and all devices 134217727.99998"
+        }
+        Refusal::ClassBound => "the device has another class: rm-device-class takes it away",
+    }
+}
+
+/// What is told of a reply: of one that is no refusal nothing.
+pub fn reply_sentence(reply: Reply) -> &'static str
+    ensures { result.now ≡ reply_sentence reply }
+{
+    match reply {
+        Reply::Done(_) => "",
+        Reply::Dones(_) => "",
+        Reply::Refused(refusal) => refusal_sentence(refusal),
+        Reply::BatchRefused(_, refusal) => refusal_sentence(refusal),
+        Reply::Stale(_) => STALE,
+    }
+}
