@@ -304,8 +304,8 @@ def room_faults():
     for crate in crates:
         if crate.endswith("_tests") or crate in PROGRAMS - {"crushedit"}:
             continue
-        if f"`{crate}`" not in text:
-            yield f"no room has {crate}"
+        if f"`{crate}`" not in text or calls_of(crate) and crate not in rooms | dict.fromkeys(model):
+            yield f"no room has {crate}, or it isn't drawn"
         for called in sorted(calls_of(crate) - model):
             if crate in rooms and rooms.get(called, -1) < rooms[crate]:
                 yield f"{crate} calls {called}, which isn't drawn below it"
