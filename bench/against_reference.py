@@ -12,6 +12,7 @@ same seed makes the same jobs.
 """
 
 import collections
+import os
 import pathlib
 import random
 import re
@@ -106,15 +107,17 @@ def run(program, flags, text):
     return ran.returncode, ran.stdout.decode("latin-1"), ran.stderr.decode("latin-1")
 
 
-def has_words(program):
-    """Whether the program has the words that print something else than a map."""
-    return all(run(program, [word], "")[0] == 0 for word in ("--tree", "--as-ceph", "--strict"))
+def words_of(program):
+    """Which words the program has that print something else than a map, or make a run strict."""
+    asked = {"--tree": [], "--since": [os.devnull], "--as-ceph": [], "--strict": []}
+    return {word for word, more in asked.items() if run(program, [word, *more], "")[0] == 0}
 
 
-def any_words(dice):
-    """Words of the command line; of those that print something else than a map at most one."""
+def any_words(dice, there):
+    """Words of the command line, of those that are there; of those that print something else than a map at most one."""
     shown = dice.choice([[], ["--tree"], ["--tree"], ["--since"], ["--since"], ["--as-ceph"]])
-    return [word for word in ["--no-history", "--strict"] if dice.randint(0, 2) == 0] + shown
+    words = [word for word in ["--no-history", "--strict"] if dice.randint(0, 2) == 0] + shown
+    return [word for word in words if word in there | {"--no-history"}]
 
 
 def any_map_text(dice, text):
@@ -160,9 +163,10 @@ def difference(program, text, due, words, since):
 
 
 def compare(program, count, seed):
-    is_looking = has_words(program)
-    if not is_looking:
-        print("this program has no --tree, --since, --as-ceph and --strict: without them")
+    there = words_of(program)
+    missing = sorted({"--tree", "--since", "--as-ceph", "--strict"} - there)
+    if missing:
+        print(f"this program has no {', '.join(missing)}: without these")
     examples = [path.read_bytes().decode("latin-1") for path in sorted(DATA.glob("*.job"))]
     refused = (DATA / "records").read_bytes().decode("latin-1").split("\x1e")
     told, refusals = collections.Counter(), collections.Counter()
@@ -170,7 +174,7 @@ def compare(program, count, seed):
         dice = Dice(f"{seed} {index}")
         job = any_job(dice, examples, refused)
         for name, text in (("job", job), ("mutation", mutated(dice, job)), ("prefix", prefix(dice, job))):
-            words = any_words(dice) if is_looking and dice.randint(0, 1) else []
+            words = any_words(dice, there) if dice.randint(0, 1) else []
             since = any_map_text(dice, text)
             due = outcome(text, words, since)
             wrong = difference(program, text, due, words, since)
