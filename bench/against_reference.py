@@ -6,8 +6,8 @@ status, standard error and what is printed with what a plain model says.
 The model (`model.py`, and `reading.py`, which reads jobs) is written from docs/ alone. Jobs are of random maps and
 scripts, of sixteen operators, and those of examples/, the refused ones too, as crush_examples has them: these have
 tunables, rules and classes. In turn all bytes are compared. At once the history may be another each time: the model
-makes the calls in its order (`at_once.py`). Where the program has the words `--tree`, `--since MAP`, `--as-ceph` and
-`--strict`, half of the runs have some of them (`looking.py` says what comes then); else that is told. The seed may be any word; without one it is drawn. It is printed, and the
+makes the calls in its order (`at_once.py`). Where the program has the words `--tree`, `--since MAP`, `--as-ceph`,
+`--strict` and `--script`, half of the runs have some of them (`looking.py` says what comes then); else that is told. The seed may be any word; without one it is drawn. It is printed, and the
 same seed makes the same jobs.
 """
 
@@ -109,14 +109,14 @@ def run(program, flags, text):
 
 def words_of(program):
     """Which words the program has that print something else than a map, or make a run strict."""
-    asked = {"--tree": [], "--since": [os.devnull], "--as-ceph": [], "--strict": []}
+    asked = {"--tree": [], "--since": [os.devnull], "--as-ceph": [], "--strict": [], "--script": [os.devnull]}
     return {word for word, more in asked.items() if run(program, [word, *more], "")[0] == 0}
 
 
 def any_words(dice, there):
     """Words of the command line, of those that are there; of those that print something else than a map at most one."""
     shown = dice.choice([[], ["--tree"], ["--tree"], ["--since"], ["--since"], ["--as-ceph"]])
-    words = [word for word in ["--no-history", "--strict"] if dice.randint(0, 2) == 0] + shown
+    words = [word for word in ["--no-history", "--strict", "--script"] if dice.randint(0, 2) == 0] + shown
     return [word for word in words if word in there | {"--no-history"}]
 
 
@@ -139,17 +139,39 @@ def refusals_fault(printed, told, scripts):
     return None
 
 
+def parted(text, folder):
+    """The text up to its sections, and a file for each of these, up to sixteen, which make the same job behind it. A
+    file is called by its operator, and has no line of it, where that can be."""
+    front, *sections = re.split(r"(?m)^(?=%)", text)
+    files = []
+    for number, section in enumerate(sections[:16]):
+        head = re.match(r"%operator ([A-Za-z0-9_-]+)\n(?=[ \t]*[a-z])", section)
+        name = head[1] + ".txt" if head and len(head[1]) < 200 else "script"
+        path = pathlib.Path(folder, str(number), name)
+        path.parent.mkdir()
+        rest = "".join(sections[16:]) if number == 15 else ""
+        path.write_bytes(((section[head.end():] if name != "script" else section) + rest).encode("latin-1"))
+        files.append(str(path))
+    return front, files
+
+
 def difference(program, text, due, words, since):
     """What the program does otherwise than the model, which says what is due in turn, or nothing."""
-    with tempfile.NamedTemporaryFile() as file:
-        file.write(since.encode("latin-1"))
-        file.flush()
-        flags = [part for word in words for part in ([word, file.name] if word == "--since" else [word])]
-        got = run(program, ["--in-turn", *flags], text)
+    with tempfile.TemporaryDirectory() as folder:
+        file = pathlib.Path(folder, "since")
+        file.write_bytes(since.encode("latin-1"))
+        flags, given = [], text
+        for word in words:
+            if word == "--script":
+                given, files = parted(text, folder)
+                flags += [part for name in files for part in ("--script", name)]
+            else:
+                flags += [word, str(file)] if word == "--since" else [word]
+        got = run(program, ["--in-turn", *flags], given)
         if got != due:
             return f"in turn: {got}\n--- and not {due}"
         flags = [flag for flag in flags if flag != "--no-history"]
-        status, printed, told = run(program, flags, text)
+        status, printed, told = run(program, flags, given)
     if due[0] == 1:
         return f"at once: status {status}, {told}, {printed}" if (status, printed, told) != due else None
     read, adjusted, scripts = read_job(text)
@@ -164,7 +186,7 @@ def difference(program, text, due, words, since):
 
 def compare(program, count, seed):
     there = words_of(program)
-    missing = sorted({"--tree", "--since", "--as-ceph", "--strict"} - there)
+    missing = sorted({"--tree", "--since", "--as-ceph", "--strict", "--script"} - there)
     if missing:
         print(f"this program has no {', '.join(missing)}: without these")
     examples = [path.read_bytes().decode("latin-1") for path in sorted(DATA.glob("*.job"))]
@@ -182,7 +204,7 @@ def compare(program, count, seed):
                 sys.stdout.reconfigure(errors="backslashreplace")
                 print(f"{text}\n--- {' '.join(words)}, since\n{since}\n--- {wrong}")
                 sys.exit(f"{name} {index} of seed {seed} differs")
-            told[due[2].split()[-1] if due[0] else "done"] += 1
+            told[{0: "done", 5: "strict and refused"}.get(due[0]) or due[2].split()[-1]] += 1
             told.update(words)
             refusals.update(re.findall(r" = refused (?:at \d+ )?(\w+) \d+(?: changes \d+)?\n", due[1]))
     print(f"{count} jobs of seed {seed}, a mutation and a prefix of each, in turn and at once, end as the model says:",
