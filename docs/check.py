@@ -23,7 +23,7 @@ import sys
 from fnmatch import fnmatch
 
 TOP = pathlib.Path(__file__).resolve().parent.parent
-PAGES = sorted((TOP / "docs").glob("*.md")) + [TOP / "README.md"]
+PAGES = sorted((TOP / "docs").glob("*.md")) + [TOP / "README.md", TOP / "bench/README.md"]
 # A name alone, with the types or modules that it stands in, and perhaps with its brackets.
 NAME = re.compile(r"^[A-Za-z_][A-Za-z0-9_]*(?:(?:::|\.)[A-Za-z_][A-Za-z0-9_]*)*(?:\(\))?$")
 # A file or a folder of the repository.
@@ -339,7 +339,7 @@ def main():
                         faults.append(f"{page.name}: nothing is named {name}")
                         break
     faults += [f"crates/README.md: {fault}" for fault in room_faults()]
-    for page in [*PAGES, TOP / "examples/README.md", TOP / "bench/README.md", TOP / "crates/README.md"]:
+    for page in [*PAGES, TOP / "examples/README.md", TOP / "crates/README.md"]:
         faults += link_faults(page)
     faults += [f"RULES.md: {fault}" for fault in [*rule_faults(), *sentence_faults()]]
     faults += [f"ADDING.md: {fault}" for fault in adding_faults()]

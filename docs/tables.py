@@ -10,7 +10,7 @@ import re
 import sys
 
 TOP = pathlib.Path(__file__).resolve().parent.parent
-PAGES = sorted((TOP / "docs").glob("*.md"))
+PAGES = sorted([*(TOP / "docs").glob("*.md"), TOP / "bench/README.md"])
 
 
 def quoted(text):
