@@ -1,9 +1,16 @@
--- Two seats that were taken out of their list, and put back as they had stood, are in order.
-use Rattle.std.proofs.Common.{◌≡◌, ℕ, zero, suc, ◌+◌, ◌<◌, List, [], ◌∷◌, ◌++◌, length, slice_index_or, Option, Some, Result, Ok, Err, IfOk, IfSome, ap, sym, subst, ◌∙◌, arith}
+-- Two seats that were taken out of their list, and put back as they had stood.
+use Rattle.std.proofs.Common.{◌≡◌, ℕ, zero, suc, ◌+◌, ◌<◌, ◌≤◌, List, [], ◌∷◌, ◌++◌, length, slice_index_or, Option, Some, Result, Ok, Err, IfOk, IfSome, refl, ap, sym, subst, ◌∙◌, arith}
+use Rattle.std.specs.List.{All}
 use Rattle.std.specs.Option.{option_to_list}
 use Rattle.std.specs.Result.{result_ok}
-use Rattle.std.proofs.lemmas.List.{length_push}
-use Rattle.crush_editor.specs.Seat.{SeatData, seat_data, InOrder}
+use Rattle.std.proofs.lemmas.List.{length_push, get_or_past}
+use Rattle.std.proofs.lemmas.List.Elements.{All-nil, All-same}
+use Rattle.crush_calls.specs.declared.call.Call.{Call}
+use Rattle.crush_calls.specs.History.{EntryData, AnsweredData, of_operator}
+use Rattle.crush_calls.specs.Turns.{calls_of}
+use Rattle.crush_map.specs.MapData.{MapData}
+use Rattle.crush_editor.specs.Seat.{SeatData, seat_data, slips_of, InOrder, IsHistoryOfSeats}
+use Rattle.crush_two_operators.specs.Calls.{AreTheirs, HasMade}
 
 -- what a clause says of the value that was taken out
 pub of_ok : {A E : Type 0} (r : Result A E) (x : A) (P : A → Type 0) → result_ok r ≡ Some x → IfOk r P → P x
@@ -17,28 +24,66 @@ of_some r x P is holds = subst (λ o. IfSome o P) is holds
 pub shorter : {A : Type 0} (r : Option A) (x : A) (n m : ℕ) → r ≡ Some x → n + length (option_to_list r) ≡ m → n + 1 ≡ m
 shorter r x n m is len = subst (λ o. n + length (option_to_list o) ≡ m) is len
 
--- of two seats, the first is operator 0's and the second operator 1's
-in_two : (one two : SeatData) → one.operator ≡ 0 → two.operator ≡ 1 → (k : ℕ) → k < 2 → (slice_index_or (one ∷ two ∷ []) k (seat_data 0 [] [])).operator ≡ k
-in_two one two e f zero less = e
-in_two one two e f (suc zero) less = f
-in_two one two e f (suc (suc k)) less = absurd (omega arith)
+-- the two seats of an editor, taken out of their list: nothing is left in it, and each is as it was handed out
+pub record AreTaken (left : List SeatData) (one two : SeatData) : Type 0 where
+  pub rest : left ≡ []
+  pub first : one ≡ seat_data 0 [] []
+  pub second : two ≡ seat_data 1 [] []
 
-two_back : (l : List SeatData) (one two one' two' : SeatData) → length ((l ++ one ∷ []) ++ two ∷ []) ≡ 2
-    → ((k : ℕ) → k < 2 → slice_index_or ((l ++ one ∷ []) ++ two ∷ []) k (seat_data 0 [] []) ≡ seat_data k [] [])
-    → one'.operator ≡ one.operator → two'.operator ≡ two.operator → InOrder ((l ++ one' ∷ []) ++ two' ∷ [])
-two_back [] one two one' two' len each e f =
-    in_two one' two' (e ∙ ap (λ (x : SeatData). x.operator) (each 0 (omega arith))) (f ∙ ap (λ (x : SeatData). x.operator) (each 1 (omega arith)))
-two_back (x ∷ l) one two one' two' len each e f =
+two_taken : (l : List SeatData) (one two : SeatData) → length ((l ++ one ∷ []) ++ two ∷ []) ≡ 2
+    → ((k : ℕ) → k < 2 → slice_index_or ((l ++ one ∷ []) ++ two ∷ []) k (seat_data 0 [] []) ≡ seat_data k [] []) → AreTaken l one two
+two_taken [] one two len each = record { rest = refl; first = each 0 (omega arith); second = each 1 (omega arith) }
+two_taken (x ∷ l) one two len each =
     let p = length_push (l ++ one ∷ []) two in let q = length_push l one in absurd (omega arith)
 
 -- s are the seats as they were handed out, and l is what is left where two are taken
-pub back_in_order : (s m l p q : List SeatData) (r t : Option SeatData) (one two one' two' : SeatData)
+pub are_taken : (s m l : List SeatData) (r t : Option SeatData) (one two : SeatData)
     → s ≡ m ++ option_to_list r → r ≡ Some two → m ≡ l ++ option_to_list t → t ≡ Some one → length s ≡ 2
-    → ((k : ℕ) → k < 2 → slice_index_or s k (seat_data 0 [] []) ≡ seat_data k [] [])
-    → one'.operator ≡ one.operator → two'.operator ≡ two.operator → p ≡ l ++ one' ∷ [] → q ≡ p ++ two' ∷ [] → InOrder q
-back_in_order s m l p q r t one two one' two' a r_is b t_is len each e f c d =
+    → ((k : ℕ) → k < 2 → slice_index_or s k (seat_data 0 [] []) ≡ seat_data k [] []) → AreTaken l one two
+are_taken s m l r t one two a r_is b t_is len each =
     let m_is : m ≡ l ++ one ∷ [] = b ∙ ap (λ (o : Option SeatData). l ++ option_to_list o) t_is in
     let s_is : s ≡ (l ++ one ∷ []) ++ two ∷ [] = a ∙ ap (λ (o : Option SeatData). m ++ option_to_list o) r_is ∙ ap (λ (xs : List SeatData). xs ++ two ∷ []) m_is in
-    let q_is : q ≡ (l ++ one' ∷ []) ++ two' ∷ [] = d ∙ ap (λ (xs : List SeatData). xs ++ two' ∷ []) c in
-    subst (λ (xs : List SeatData). InOrder xs) (sym q_is) (two_back l one two one' two' (sym (ap length s_is) ∙ len)
-    (λ k less. subst (λ (xs : List SeatData). slice_index_or xs k (seat_data 0 [] []) ≡ seat_data k [] []) s_is (each k less)) e f)
+    two_taken l one two (sym (ap length s_is) ∙ len) (λ k less. subst (λ (xs : List SeatData). slice_index_or xs k (seat_data 0 [] []) ≡ seat_data k [] []) s_is (each k less))
+
+-- two seats that are put back into it are all that is in it
+pub put_back : (l p q : List SeatData) (one two one' two' : SeatData) → AreTaken l one two → p ≡ l ++ one' ∷ [] → q ≡ p ++ two' ∷ [] → q ≡ one' ∷ two' ∷ []
+put_back l p q one two one' two' taken c d = d ∙ ap (λ (xs : List SeatData). xs ++ two' ∷ []) (c ∙ ap (λ (xs : List SeatData). xs ++ one' ∷ []) taken.rest)
+
+in_order : (one two : SeatData) → one.operator ≡ 0 → two.operator ≡ 1 → (k : ℕ) → k < 2 → (slice_index_or (one ∷ two ∷ []) k (seat_data 0 [] [])).operator ≡ k
+in_order one two e f zero less = e
+in_order one two e f (suc zero) less = f
+in_order one two e f (suc (suc k)) less = absurd (omega arith)
+
+-- and they are in order
+pub back_in_order : (l q : List SeatData) (one two one' two' : SeatData) → AreTaken l one two → q ≡ one' ∷ two' ∷ [] → one'.operator ≡ one.operator → two'.operator ≡ two.operator → InOrder q
+back_in_order l q one two one' two' taken is e f =
+    subst (λ (xs : List SeatData). InOrder xs) (sym is)
+    (in_order one' two' (e ∙ ap (λ (x : SeatData). x.operator) taken.first) (f ∙ ap (λ (x : SeatData). x.operator) taken.second))
+
+-- the slips of the two, and of nobody else
+slips_past : (one two : SeatData) (k : ℕ) → slips_of (one ∷ two ∷ []) (suc (suc k)) ≡ []
+slips_past one two k = ap (λ (x : SeatData). x.slips) (get_or_past (one ∷ two ∷ []) (suc (suc k)) (seat_data 0 [] []) (omega arith))
+
+-- EXACTLY THEIRS: what the two were answered is what the closed history has
+pub are_theirs : (one two : SeatData) (first second : List Call) (h : List EntryData) → ((k : ℕ) → of_operator k h ≡ slips_of (one ∷ two ∷ []) k) → calls_of one.slips ≡ first → calls_of two.slips ≡ second → AreTheirs first second h
+are_theirs one two first second h slips e f zero = ap calls_of (slips 0) ∙ e
+are_theirs one two first second h slips e f (suc zero) = ap calls_of (slips 1) ∙ f
+are_theirs one two first second h slips e f (suc (suc k)) = ap calls_of (slips (suc (suc k)) ∙ slips_past one two k)
+
+-- what a seat without a slip was answered is all that it was asked
+pub from_none : (old new : SeatData) (calls : List Call) (k : ℕ) → old ≡ seat_data k [] [] → HasMade old calls new → calls_of new.slips ≡ calls
+from_none old new calls k fresh made = made.calls ∙ ap (λ (x : SeatData). calls_of x.slips ++ calls) fresh
+
+-- what holds of the calls of the two holds of all
+pub each_of_two : (P : Call → Type 0) (one two : SeatData) (h : List EntryData) → ((k : ℕ) → of_operator k h ≡ slips_of (one ∷ two ∷ []) k)
+    → All (λ (a : AnsweredData). P a.call) one.slips → All (λ (a : AnsweredData). P a.call) two.slips → (k : ℕ) → All (λ (a : AnsweredData). P a.call) (of_operator k h)
+each_of_two P one two h slips e f zero = All-same (λ (a : AnsweredData). P a.call) _ _ (slips 0) e
+each_of_two P one two h slips e f (suc zero) = All-same (λ (a : AnsweredData). P a.call) _ _ (slips 1) f
+each_of_two P one two h slips e f (suc (suc k)) = All-same (λ (a : AnsweredData). P a.call) _ _ (slips (suc (suc k)) ∙ slips_past one two k) (All-nil _)
+
+-- so what two seats were answered is what the closed history has
+pub theirs_of_two : (o m : MapData) (first second : List Call) (h : List EntryData) (l q : List SeatData) (one two one' two' : SeatData) → AreTaken l one two → q ≡ one' ∷ two' ∷ []
+    → HasMade one first one' → HasMade two second two' → IsHistoryOfSeats o m h q → AreTheirs first second h
+theirs_of_two o m first second h l q one two one' two' taken is made made' closed =
+    are_theirs one' two' first second h (subst (λ (xs : List SeatData). (k : ℕ) → of_operator k h ≡ slips_of xs k) is closed.slips)
+    (from_none one one' first 0 taken.first made) (from_none two two' second 1 taken.second made')

@@ -2,6 +2,7 @@
 
 ghost use Rattle.std.specs.Prelude.{◌≡◌, IfOk, IfSome};
 ghost use Rattle.crush_editor.specs.Book.{MakesAll};
+ghost use Rattle.crush_two_operators.specs.Calls.{AreTheirs, HasMade};
 
 use anyhow::Context;
 use crush_calls::Call;
@@ -14,7 +15,8 @@ use std::sync::Wait;
 use std::thread::{Threads, join};
 
 /// Lets two operators make their calls at once, and hands out what the editor has at its close: the
-/// map before, the map after, and the history between them, which one thread could have made.
+/// map before, the map after, and the history between them, which one thread could have made. The
+/// calls in it are exactly those of the two, each operator's in order.
 ///
 /// Beside it stands the later of what the two read after their last calls: who came last has read of
 /// all changes. An `Err` is want of memory.
@@ -25,7 +27,8 @@ pub fn edit_at_once<R: Threads + Wait + Sync>(
     first: &[Call],
     second: &[Call],
 ) -> anyhow::Result<(Closed<Global>, Reading)>
-    ensures { IfOk result (λ r. MakesAll map r.0.map r.0.history.items) }
+    ensures all { IfOk result (λ r. MakesAll map r.0.map r.0.history.items) }
+    ensures calls { IfOk result (λ r. AreTheirs first.now second.now r.0.history.items) }
 {
     // An editor has a name, by which contracts tell its gauge and its opening. It can be given only
     // once these are there: so the work stands in a function that is generic in the name and is called
@@ -46,7 +49,8 @@ fn work_together<N: Desk + Send + Sync, R: Threads + Wait + Sync>(
     requires opening { started.opening ≡ N.opening }
     requires name { started.name ≡ N.name }
     requires parts { (started.parts ≡ N.parts) × (N.parts ≡ 2) }
-    ensures { IfOk result (λ r. MakesAll N.opening r.0.map r.0.history.items) }
+    ensures all { IfOk result (λ r. MakesAll N.opening r.0.map r.0.history.items) }
+    ensures calls { IfOk result (λ r. AreTheirs first.now second.now r.0.history.items) }
 {
     let (editor, mut seats) = Editor::<N>::open(started, alloc).ok().context("no memory")?;
     let two = seats.pop().context("no seat")?;
@@ -58,10 +62,10 @@ fn work_together<N: Desk + Send + Sync, R: Threads + Wait + Sync>(
     let (one, two) = join(
         rt,
         move || -> Option<Worked<N>>
-            ensures { IfSome result (λ w. w.seat.operator ≡ one.operator) }
+            ensures { IfSome result (λ w. HasMade one first.entry.now w.seat) }
         { work(rt, alloc, shared, one, first) },
         move || -> Option<Worked<N>>
-            ensures { IfSome result (λ w. w.seat.operator ≡ two.operator) }
+            ensures { IfSome result (λ w. HasMade two second.entry.now w.seat) }
         { work(rt, alloc, shared, two, second) },
     );
     let one = one.context("no memory")?;
@@ -91,7 +95,7 @@ fn work<N: Desk, R: Wait>(
     mut seat: Seat<N>,
     calls: &[Call],
 ) -> Option<Worked<N>>
-    ensures { IfSome result (λ w. w.seat.operator ≡ seat.operator) }
+    ensures { IfSome result (λ w. HasMade seat calls.now w.seat) }
 {
     let mut last = editor.reading(&mut seat);
     for call in calls {

@@ -2,15 +2,17 @@
 //! thread of its own, and what they made of it is printed.
 //!
 //! It reads a map's text from standard input. Operator 0 gives two devices new weights; operator 1
-//! adds a device, and asks for what is refused. What is printed is the same in whichever order the
-//! two came: the map, each operator's part of the history, and what a seat then reads.
+//! adds a device, and asks for what is refused. Then both work through one plan, each of whose steps
+//! is to be made once, by whoever comes first. What is printed is the same in whichever order the two
+//! came: the map, each operator's part of the first history and what a seat then read, and the
+//! changes of the second.
 #![tactic(auto)]
 
 ghost use Rattle.std.specs.Prelude.{◌<◌, ◌^◌, length};
 
 use anyhow::Context;
 use at_once::edit_at_once;
-use crush_calls::{Call, Entry, write_entry};
+use crush_calls::{Call, Entry, is_change, write_entry};
 use crush_editor::Closed;
 use crush_edits::{Edit, Location};
 use crush_gauge::Reading;
@@ -18,18 +20,30 @@ use crush_map::CrushMap;
 use crush_print::write_map;
 use crush_text::read_map;
 use crush_units::{DeviceId, Name, Weight};
+use plan::follow_at_once;
 use std::alloc::Global;
 use std::io;
 
 mod at_once;
+mod plan;
 
 fn main(rt: HostRuntime) -> anyhow::Result<()> {
     let first = first_calls(rt.alloc())?;
     let second = second_calls(rt.alloc())?;
     let map = read_input(&rt)?;
     let (closed, last) = edit_at_once(&rt, rt.alloc(), map, first.as_slice(), second.as_slice())?;
-    print_closed(&rt, &closed)?;
-    print_reading(&rt, last)
+    let Closed {
+        opening: _,
+        map,
+        history,
+    } = closed;
+    let steps = steps(rt.alloc())?;
+    let followed = follow_at_once(&rt, rt.alloc(), map, steps.as_slice())?;
+    write_map(rt.alloc(), &followed.map, &mut rt.stdout())?;
+    print_part(&rt, history.as_slice(), 0, b"first")?;
+    print_part(&rt, history.as_slice(), 1, b"second")?;
+    print_reading(&rt, last)?;
+    print_changes(&rt, followed.history.as_slice())
 }
 
 /// The map whose text standard input has.
@@ -42,51 +56,52 @@ fn read_input(rt: &HostRuntime) -> anyhow::Result<CrushMap<Global>> {
 /// What operator 0 asks for.
 fn first_calls(alloc: Global) -> anyhow::Result<Vec<Call>> {
     let mut calls = Vec::new(alloc);
-    calls.push(reweight(alloc, b"osd.0", "2")?)?;
-    calls.push(reweight(alloc, b"osd.1", "0.5")?)?;
+    calls.push(Call::One(reweight(alloc, b"osd.0", "2")?))?;
+    calls.push(Call::One(reweight(alloc, b"osd.1", "0.5")?))?;
     Ok(calls)
 }
 
 /// What operator 1 asks for.
 fn second_calls(alloc: Global) -> anyhow::Result<Vec<Call>> {
     let mut calls = Vec::new(alloc);
-    calls.push(add(alloc)?)?;
-    calls.push(remove(alloc, b"h2")?)?;
+    calls.push(Call::One(add(alloc, 3, b"osd.3", b"h2")?))?;
+    calls.push(Call::One(remove(alloc, b"h2")?))?;
     Ok(calls)
 }
 
-/// Prints the map, and each operator's part of the history.
-fn print_closed(rt: &HostRuntime, closed: &Closed<Global>) -> anyhow::Result<()> {
-    write_map(rt.alloc(), &closed.map, &mut rt.stdout())?;
-    print_part(rt, closed.history.as_slice(), 0, b"first")?;
-    print_part(rt, closed.history.as_slice(), 1, b"second")
+/// The plan: a device is moved to a host by two edits, of which the second needs the first.
+fn steps(alloc: Global) -> anyhow::Result<Vec<Edit>> {
+    let mut steps = Vec::new(alloc);
+    steps.push(remove(alloc, b"osd.3")?)?;
+    steps.push(add(alloc, 3, b"osd.3", b"h1")?)?;
+    Ok(steps)
 }
 
-/// A call that gives a device of this name another weight.
-fn reweight(alloc: Global, device: &[u8], weight: &str) -> anyhow::Result<Call> {
-    Ok(Call::One(Edit::Reweight {
+/// The edit that gives a device of this name another weight.
+fn reweight(alloc: Global, device: &[u8], weight: &str) -> anyhow::Result<Edit> {
+    Ok(Edit::Reweight {
         name: Name::read(alloc, device)?,
         weight: Weight::read(weight)?,
-    }))
+    })
 }
 
-/// A call that puts the new device osd.3 into the host h2.
-fn add(alloc: Global) -> anyhow::Result<Call> {
+/// The edit that puts a new device into a host.
+fn add(alloc: Global, id: i32, name: &[u8], host: &[u8]) -> anyhow::Result<Edit> {
     let mut at = Location::new(alloc);
-    at.push(b"host", b"h2")?;
-    Ok(Call::One(Edit::Insert {
-        device: DeviceId::new(3).context("no id")?,
-        name: Name::read(alloc, b"osd.3")?,
+    at.push(b"host", host)?;
+    Ok(Edit::Insert {
+        device: DeviceId::new(id).context("no id")?,
+        name: Name::read(alloc, name)?,
         weight: Weight::read("1")?,
         at,
-    }))
+    })
 }
 
-/// A call that removes an item.
-fn remove(alloc: Global, item: &[u8]) -> anyhow::Result<Call> {
-    Ok(Call::One(Edit::Remove {
+/// The edit that removes an item.
+fn remove(alloc: Global, item: &[u8]) -> anyhow::Result<Edit> {
+    Ok(Edit::Remove {
         name: Name::read(alloc, item)?,
-    }))
+    })
 }
 
 /// Prints the entries of one operator, which count from 1. What stands between them in the whole
@@ -102,6 +117,25 @@ fn print_part(
         if entry.operator == operator {
             number = number.saturating_add(1);
             write_entry(number, name, &entry.call, entry.reply, &mut rt.stdout())?;
+        }
+    }
+    Ok(())
+}
+
+/// Prints the entries that changed the map, which count from 1. By whom each was made may be another
+/// each time.
+fn print_changes(rt: &HostRuntime, history: &[Entry]) -> anyhow::Result<()> {
+    let mut number = 0u32;
+    for entry in history {
+        if is_change(entry.reply) {
+            number = number.saturating_add(1);
+            write_entry(
+                number,
+                b"either",
+                &entry.call,
+                entry.reply,
+                &mut rt.stdout(),
+            )?;
         }
     }
     Ok(())

@@ -1,6 +1,7 @@
-use Rattle.std.proofs.Common.{◌≡◌}
+use Rattle.std.proofs.Common.{take}
+use Rattle.crush_two_operators.specs.Calls.{HasMade}
 use Rattle.crush_two_operators.proofs.at_once.work.Given as goal
 
--- the seat stays its operator's
+-- the seat was answered the calls so far
 abbrev pub invariant-loop-call : goal.invariant-loop-call
-invariant-loop-call g l = l.seat.operator ≡ l.fn.seat.operator
+invariant-loop-call g l = HasMade l.fn.seat (take l.call-index l.calls) l.seat

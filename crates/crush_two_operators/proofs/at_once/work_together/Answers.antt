@@ -1,8 +1,8 @@
 use denote.Exit.{no}
 use denote.Param.Send.{param_send, arg_send}
-use Rattle.std.proofs.Common.{◌≡◌, sym, ◌∙◌, arith}
+use Rattle.std.proofs.Common.{sym, ◌∙◌, arith}
 use Rattle.crush_two_operators.proofs.Crossing.{worker_send}
-use Rattle.crush_two_operators.proofs.Order.{of_ok, of_some, shorter, back_in_order}
+use Rattle.crush_two_operators.proofs.Order.{of_ok, of_some, shorter, are_taken, put_back, back_in_order, theirs_of_two}
 use Rattle.crush_two_operators.proofs.at_once.work_together.Goals as goal
 
 pub join-one-requires-send-F : goal.join-one-requires-send-F
@@ -22,7 +22,20 @@ close-requires-clause-order g c =
     let n = of_ok _ _ _ is c.open.ensures.count in
     let v = c.in_ok-editor.seats.ok in
     let two = c.requires.parts.1 in
-    back_in_order _ _ _ _ _ _ _ _ _ _ _ c.pop.ensures.items c.in_ok-two.ensures c.pop-2.ensures.items c.in_ok-one.ensures (omega arith)
-    (λ k less. of_ok _ _ _ is c.open.ensures.seats k (omega arith))
-    (of_some _ _ _ c.in_ok-one-2.ensures c.join-one.ensures.first) (of_some _ _ _ c.in_ok-two-2.ensures c.join-one.ensures.second)
-    c.in_ok-push.ensures.items c.in_ok-push-2.ensures.items
+    let taken = are_taken _ _ _ _ _ _ _ c.pop.ensures.items c.in_ok-two.ensures c.pop-2.ensures.items c.in_ok-one.ensures (omega arith)
+    (λ k less. of_ok _ _ _ is c.open.ensures.seats k (omega arith)) in
+    let first = of_some _ _ _ c.in_ok-one-2.ensures c.join-one.ensures.first in
+    let second = of_some _ _ _ c.in_ok-two-2.ensures c.join-one.ensures.second in
+    back_in_order _ _ _ _ _ _ taken (put_back _ _ _ _ _ _ _ taken c.in_ok-push.ensures.items c.in_ok-push-2.ensures.items) first.operator second.operator
+
+pub returns-clause-calls : goal.returns-clause-calls
+returns-clause-calls g c =
+    let is = sym c.ok.ensures.value ∙ c.in_ok-editor.ensures in
+    let n = of_ok _ _ _ is c.open.ensures.count in
+    let v = c.in_ok-editor.seats.ok in
+    let two = c.requires.parts.1 in
+    let taken = are_taken _ _ _ _ _ _ _ c.pop.ensures.items c.in_ok-two.ensures c.pop-2.ensures.items c.in_ok-one.ensures (omega arith)
+    (λ k less. of_ok _ _ _ is c.open.ensures.seats k (omega arith)) in
+    let first = of_some _ _ _ c.in_ok-one-2.ensures c.join-one.ensures.first in
+    let second = of_some _ _ _ c.in_ok-two-2.ensures c.join-one.ensures.second in
+    theirs_of_two _ _ _ _ _ _ _ _ _ _ _ taken (put_back _ _ _ _ _ _ _ taken c.in_ok-push.ensures.items c.in_ok-push-2.ensures.items) first second c.close.ensures.history

@@ -1,0 +1,11 @@
+use Rattle.std.proofs.Common.{◌≡◌}
+use Rattle.std.specs.List.{All}
+use Rattle.crush_calls.specs.History.{AnsweredData}
+use Rattle.crush_two_operators.specs.Plan.{IsStep}
+use Rattle.crush_two_operators.proofs.plan.follow.Given as goal
+
+-- the seat stays its operator's, and asked for nothing but steps
+abbrev pub invariant-loop : goal.invariant-loop
+invariant-loop g l =
+    (l.seat.operator ≡ l.fn.seat.operator)
+    × (All (λ (a : AnsweredData). IsStep l.plan a.call) l.fn.seat.slips → All (λ (a : AnsweredData). IsStep l.plan a.call) l.seat.slips)

@@ -1,0 +1,10 @@
+use Rattle.std.proofs.Common.{sym, ◌∙◌, subst, IfOk}
+use Rattle.crush_editor.specs.Book.{MakesAll}
+use Rattle.crush_two_operators.proofs.Order.{of_ok}
+use Rattle.crush_two_operators.proofs.plan.follow_at_once.Goals as goal
+
+-- the opening is the map that was given
+pub returns-clause-all : goal.returns-clause-all
+returns-clause-all g c =
+    let o = of_ok _ _ _ (sym c.ok.ensures.value ∙ c.in_ok-started.ensures) c.new.ensures.opening in
+    subst (λ m. IfOk c.follow_together.result (λ r. MakesAll m r.map r.history.items)) o c.follow_together.ensures.all
