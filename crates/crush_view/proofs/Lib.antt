@@ -1,4 +1,14 @@
+pub mod BelowLaws
+pub mod EqualItems
+pub mod EqualRows
 pub mod Examples
+pub mod IdLaws
+pub mod KindPairs
+pub mod PairLaws
+pub mod PartLaws
 pub mod SameTree
+pub mod SeenLaws
 pub mod SinceExamples
+pub mod SinceItself
+pub mod TallyLaws
 pub mod WalkLaws

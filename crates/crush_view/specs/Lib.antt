@@ -1,4 +1,13 @@
+pub mod Equal
+pub mod Ids
+pub mod ItemData
+pub mod ItemParts
+pub mod ItemWords
+pub mod SeenItem
 pub mod SeenStep
+pub mod Settings
 pub mod Since
+pub mod SinceLaws
+pub mod Tallies
 pub mod Tree
 pub mod TreeText

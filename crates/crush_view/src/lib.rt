@@ -2,9 +2,11 @@
 #![tactic(auto)]
 
 mod columns;
+mod since;
 mod steps;
 mod tree;
 mod words;
 
-pub use steps::{Step, walk};
+pub use since::{no_item_is_told_where_rows_are_equal, nothing_changes_since_itself, write_since};
+pub use steps::{Step, walk, walk_below};
 pub use tree::{same_tables_have_one_tree, write_tree};

@@ -14,7 +14,7 @@ ghost use Rattle.crush_view.specs.TreeText.{SameTablesHaveOneTree, at_right, hea
 
 use crate::columns::{push_left, push_right};
 use crate::steps::{Step, walk};
-use crate::words::{class_bytes, push_id, push_indent, push_kind, push_row, push_weight};
+use crate::words::{bytes_of, push_id, push_indent, push_kind, push_row, push_weight};
 use crush_bytes::{WriteFault, put};
 use crush_map::{CrushMap, Setting};
 use crush_tree::View;
@@ -150,7 +150,7 @@ fn class_column(alloc: Global, width: usize, class: Option<&str>) -> Result<Vec<
         ≡ at_right width (unwrap_or (option_map (λ c. c.now) class.entry) [])) }
 {
     let mut column = Vec::new(alloc);
-    push_right(width, class_bytes(class), &mut column)?;
+    push_right(width, bytes_of(class), &mut column)?;
     Ok(column)
 }
 
@@ -238,7 +238,7 @@ fn widths_of<A: Allocator>(alloc: Global, steps: &[Step<'_, A>]) -> Result<Width
     for step in steps {
         let view = step.view();
         id = wider_id(alloc, id, view.id)?;
-        class = wider(class, class_bytes(view.class));
+        class = wider(class, bytes_of(view.class));
         weight = wider_weight(alloc, weight, view.weight)?;
     }
     Ok(Widths { id, class, weight })

@@ -15,7 +15,7 @@ use itoa::Buffer;
 use std::alloc::AllocError;
 
 /// All parts, one after the other.
-fn push_all(parts: &[&[u8]], out: &mut Vec<u8>) -> Result<(), AllocError>
+pub(crate) fn push_all(parts: &[&[u8]], out: &mut Vec<u8>) -> Result<(), AllocError>
     ensures { OnOk result (out.new.items ≡ out.old.items ++ flat_map (λ part. part.now) parts.now) }
 {
     put_all(out, parts).map_err(|_| AllocError)
@@ -38,12 +38,12 @@ pub(crate) fn push_id(id: ItemId, out: &mut Vec<u8>) -> Result<(), AllocError>
     }
 }
 
-/// A class, or nothing where there is none.
-pub(crate) fn class_bytes<'a>(class: Option<&'a str>) -> &'a [u8]
-    ensures { result.now ≡ unwrap_or (option_map (λ c. c.now) class.entry) [] }
+/// A text, or nothing where there is none.
+pub(crate) fn bytes_of<'a>(text: Option<&'a str>) -> &'a [u8]
+    ensures { result.now ≡ unwrap_or (option_map (λ c. c.now) text.entry) [] }
 {
-    match class {
-        Some(class) => class.as_bytes(),
+    match text {
+        Some(text) => text.as_bytes(),
         None => b"".as_slice(),
     }
 }

@@ -21,6 +21,6 @@ loop-step-preserved g c =
     record {
       id = widest-taken step_data id_word 2 _ _ steps i x lt is c.loop-step.invariant.id (c.in_ok-id.ensures ∙ ap (λ (v : ViewData). max c.loop-step.id (length (id_text v.id))) c.view-view.ensures);
       class = widest-taken step_data class_word 5 _ _ steps i x lt is c.loop-step.invariant.class
-          (c.wider-class.ensures ∙ ap (λ (w : List ℕ). max c.loop-step.class (length w)) c.class_bytes.ensures ∙ ap (λ (v : ViewData). max c.loop-step.class (length (unwrap_or v.class []))) c.view-view.ensures);
+          (c.wider-class.ensures ∙ ap (λ (w : List ℕ). max c.loop-step.class (length w)) c.bytes_of.ensures ∙ ap (λ (v : ViewData). max c.loop-step.class (length (unwrap_or v.class []))) c.view-view.ensures);
       weight = widest-taken step_data weight_word 6 _ _ steps i x lt is c.loop-step.invariant.weight (c.in_ok-weight.ensures ∙ ap (λ (v : ViewData). max c.loop-step.weight (length (weight_text v.weight))) c.view-view.ensures);
     }

@@ -1,0 +1,9 @@
+use Rattle.std.proofs.Common.{◌≡◌, ◌++◌, List, take}
+use Rattle.std.specs.Prelude.{flat_map}
+use Rattle.crush_table.specs.Stands.{Stands}
+use Rattle.crush_table.specs.Table.{Row}
+use Rattle.crush_view.specs.Since.{told, id_line}
+use Rattle.crush_view.proofs.since.push_items.Given as goal
+
+abbrev pub invariant-loop-id : goal.invariant-loop-id
+invariant-loop-id g l = (t u : List Row) → Stands l.old.forest t → Stands l.new.forest u → l.out.items ≡ l.fn.out.items ++ flat_map (id_line (told l.old.setting t) (told l.new.setting u)) (take l.id-index l.ids)

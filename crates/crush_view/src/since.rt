@@ -1,0 +1,134 @@
+//! What has changed from one map to another, as text.
+
+ghost use Rattle.std.specs.Prelude.{◌≡◌, ◌++◌, List, OnOk, flat_map};
+ghost use Rattle.std.specs.Io.KnownBytes.{Keeps};
+ghost use Rattle.crush_bytes.specs.Writes.{Writes};
+ghost use Rattle.crush_table.specs.Stands.{Stands};
+ghost use Rattle.crush_table.specs.Table.{Row};
+ghost use Rattle.crush_view.specs.Since.{told, since_text, id_line};
+ghost use Rattle.crush_view.specs.SinceLaws.{NothingSinceItself, NoItemWhereRowsAreEqual};
+
+mod columns;
+mod ids;
+mod parts;
+mod seen;
+mod settings;
+mod tally;
+mod words;
+
+use columns::same_class_ids;
+use crush_bytes::{WriteFault, put};
+use crush_map::CrushMap;
+use crush_units::ItemId;
+use ids::ids_of_both;
+use parts::push_line;
+use seen::{class_ids_of, look_up};
+use settings::push_settings;
+use std::alloc::{AllocError, Allocator, Global};
+use std::io::Write;
+use tally::count_changes;
+use words::{push_counts, push_totals};
+
+/// Writes what has changed from the old map to the new: a line for each item that differs, buckets
+/// by id from -1 downward and then devices upward; a line each where tunables, types and rules
+/// differ; the totals; and how many items differ in which way.
+///
+/// Items are told apart by their ids, as CRUSH does. The text is laid out in the given memory
+/// first. With [`WriteFault::OutOfMemory`] nothing is written, with [`WriteFault::Write`] a front of
+/// the text.
+pub fn write_since<A: Allocator, B: Allocator, W: Write>(
+    alloc: Global,
+    old: &CrushMap<A>,
+    new: &CrushMap<B>,
+    out: &mut W,
+) -> Result<(), WriteFault>
+    ensures writes { (t u : List Row) → Stands old.now.forest t → Stands new.now.forest u
+        → Writes result (W.contents out.old) (W.contents out.new)
+        (since_text (told old.now.setting t) (told new.now.setting u)) }
+    ensures none { result ≡ Err WriteFault.OutOfMemory
+        → Keeps (W.contents out.old) (W.contents out.new) }
+{
+    let mut text = Vec::new(alloc);
+    match push_since(alloc, old, new, &mut text) {
+        Ok(()) => put(out, text.as_slice()),
+        Err(_) => Err(WriteFault::OutOfMemory),
+    }
+}
+
+/// A map since itself tells its total and counts nothing, and no more. There is nothing to run: the
+/// contract is the law.
+pub fn nothing_changes_since_itself()
+    ensures { NothingSinceItself }
+{}
+
+/// No item is told exactly where both tables have equal rows, in whatever order. There is nothing to
+/// run: the contract is the law.
+pub fn no_item_is_told_where_rows_are_equal()
+    ensures { NoItemWhereRowsAreEqual }
+{}
+
+/// The whole text.
+fn push_since<A: Allocator, B: Allocator>(
+    alloc: Global,
+    old: &CrushMap<A>,
+    new: &CrushMap<B>,
+    out: &mut Vec<u8>,
+) -> Result<(), AllocError>
+    ensures { (t u : List Row) → Stands old.now.forest t → Stands new.now.forest u
+        → OnOk result (out.new.items ≡ out.old.items
+        ++ since_text (told old.now.setting t) (told new.now.setting u)) }
+{
+    let ids = ids_of_both(alloc, old, new)?;
+    push_items(alloc, old, new, ids.as_slice(), out)?;
+    push_settings(old.setting(), new.setting(), out)?;
+    push_totals(old.total(), new.total(), out)?;
+    let counts = count_changes(old, new, ids.as_slice());
+    push_counts(&counts, out)?;
+    Ok(())
+}
+
+/// The lines of the items of these ids.
+fn push_items<A: Allocator, B: Allocator>(
+    alloc: Global,
+    old: &CrushMap<A>,
+    new: &CrushMap<B>,
+    ids: &[ItemId],
+    out: &mut Vec<u8>,
+) -> Result<(), AllocError>
+    ensures { (t u : List Row) → Stands old.now.forest t → Stands new.now.forest u
+        → OnOk result (out.new.items ≡ out.old.items
+        ++ flat_map (id_line (told old.now.setting t) (told new.now.setting u)) ids.now) }
+{
+    for id in ids {
+        push_item(alloc, old, new, id, out)?;
+    }
+    Ok(())
+}
+
+/// The line of the item of this id.
+#[tactic(auto, unfolding(crate::specs::Since::id_line))]
+fn push_item<A: Allocator, B: Allocator>(
+    alloc: Global,
+    old: &CrushMap<A>,
+    new: &CrushMap<B>,
+    id: &ItemId,
+    out: &mut Vec<u8>,
+) -> Result<(), AllocError>
+    ensures { (t u : List Row) → Stands old.now.forest t → Stands new.now.forest u
+        → OnOk result (out.new.items ≡ out.old.items
+        ++ id_line (told old.now.setting t) (told new.now.setting u) id.now) }
+{
+    let before = look_up(old, *id);
+    let after = look_up(new, *id);
+    let same = same_class_ids(class_ids_of(old, *id), class_ids_of(new, *id));
+    push_line(
+        alloc,
+        old.setting(),
+        new.setting(),
+        *id,
+        &before,
+        &after,
+        same,
+        out,
+    )
+}

@@ -1,0 +1,148 @@
+//! The ids of two maps, each once.
+
+ghost use Rattle.std.specs.Prelude.{◌≡◌, ◌∷◌, [], ◌++◌, List, OnOk, IfOk, flat_map, map as each};
+ghost use Rattle.crush_print.specs.MapText.{ascending, device_number};
+ghost use Rattle.crush_table.specs.Forest.{all_items};
+ghost use Rattle.crush_table.specs.Stands.{Stands};
+ghost use Rattle.crush_table.specs.Table.{Row, bucket_ids};
+ghost use Rattle.crush_nodes.specs.Seen.{items_of};
+ghost use Rattle.crush_view.specs.Ids.{ids_below};
+ghost use Rattle.crush_view.specs.Since.{all_ids, once};
+
+use crate::since::columns::same_number;
+use crush_map::CrushMap;
+use crush_tree::{Bucket, Forest, Node};
+use crush_units::{BucketId, DeviceId, ItemId};
+use std::alloc::{AllocError, Allocator, Global};
+
+/// The ids of both maps, each once: buckets from -1 downward, and then devices upward.
+pub(crate) fn ids_of_both<A: Allocator, B: Allocator>(
+    alloc: Global,
+    old: &CrushMap<A>,
+    new: &CrushMap<B>,
+) -> Result<Vec<ItemId>, AllocError>
+    ensures { IfOk result (λ ids. (t u : List Row) → Stands old.now.forest t
+        → Stands new.now.forest u → ids.items ≡ all_ids t u) }
+{
+    let mut found = Vec::new(alloc);
+    push_forest(old.forest(), &mut found)?;
+    push_forest(new.forest(), &mut found)?;
+    let buckets = buckets_among(alloc, found.as_slice())?;
+    let devices = devices_among(alloc, found.as_slice())?;
+    let mut ids = Vec::new(alloc);
+    push_buckets(buckets.as_slice(), &mut ids)?;
+    push_devices(devices.as_slice(), &mut ids)?;
+    Ok(ids)
+}
+
+/// The ids of a forest's items.
+fn push_forest<A: Allocator>(forest: &Forest<A>, found: &mut Vec<ItemId>) -> Result<(), AllocError>
+    ensures { OnOk result (found.new.items ≡ found.old.items ++ ids_below (all_items forest.now)) }
+{
+    push_nodes(forest.unplaced(), found)?;
+    push_nodes(forest.roots(), found)?;
+    Ok(())
+}
+
+/// The ids of the nodes, each with what is below it.
+fn push_nodes<A: Allocator>(nodes: &[Node<A>], found: &mut Vec<ItemId>) -> Result<(), AllocError>
+    ensures { OnOk result (found.new.items ≡ found.old.items ++ ids_below (items_of nodes.now)) }
+{
+    for node in nodes {
+        push_node(node, found)?;
+    }
+    Ok(())
+}
+
+/// The id of a node, and those of what is below it.
+fn push_node<A: Allocator>(node: &Node<A>, found: &mut Vec<ItemId>) -> Result<(), AllocError>
+    ensures { OnOk result (found.new.items ≡ found.old.items
+        ++ ids_below (items_of (node.now ∷ []))) }
+{
+    found.push(node.id())?;
+    match node {
+        Node::Device(_) => Ok(()),
+        Node::Bucket(bucket) => {
+            let bucket: &Bucket<A> = bucket;
+            let items = bucket.items.as_slice();
+            for item in items {
+                push_node(item, found)?;
+            }
+            Ok(())
+        }
+    }
+}
+
+/// The buckets among the ids, from -1 downward.
+fn buckets_among(alloc: Global, ids: &[ItemId]) -> Result<Vec<BucketId>, AllocError>
+    ensures { IfOk result (λ buckets. buckets.items ≡ ascending (flat_map bucket_ids ids.now)) }
+{
+    let mut buckets = only_buckets(alloc, ids)?;
+    buckets.sort_unstable_by_key(|bucket| bucket.distance());
+    Ok(buckets)
+}
+
+/// The buckets among the ids, in their order.
+fn only_buckets(alloc: Global, ids: &[ItemId]) -> Result<Vec<BucketId>, AllocError>
+    ensures { IfOk result (λ buckets. buckets.items ≡ flat_map bucket_ids ids.now) }
+{
+    let mut buckets = Vec::new(alloc);
+    for id in ids {
+        if let ItemId::Bucket(bucket) = id {
+            buckets.push(*bucket)?;
+        }
+    }
+    Ok(buckets)
+}
+
+/// The devices among the ids, upward.
+fn devices_among(alloc: Global, ids: &[ItemId]) -> Result<Vec<DeviceId>, AllocError>
+    ensures { IfOk result (λ devices. devices.items ≡ ascending (flat_map device_number ids.now)) }
+{
+    let mut devices = only_devices(alloc, ids)?;
+    devices.sort_unstable_by_key(|device| device.number());
+    Ok(devices)
+}
+
+/// The devices among the ids, in their order.
+fn only_devices(alloc: Global, ids: &[ItemId]) -> Result<Vec<DeviceId>, AllocError>
+    ensures { IfOk result (λ devices. devices.items ≡ flat_map device_number ids.now) }
+{
+    let mut devices = Vec::new(alloc);
+    for id in ids {
+        if let ItemId::Device(device) = id {
+            devices.push(*device)?;
+        }
+    }
+    Ok(devices)
+}
+
+/// Pushes buckets whose equals stand side by side, each once.
+fn push_buckets(buckets: &[BucketId], ids: &mut Vec<ItemId>) -> Result<(), AllocError>
+    ensures { OnOk result (ids.new.items ≡ ids.old.items
+        ++ each ItemId.Bucket (once buckets.now)) }
+{
+    let mut last = None;
+    for bucket in buckets {
+        if !same_number(last, bucket.distance()) {
+            ids.push(ItemId::Bucket(*bucket))?;
+        }
+        last = Some(bucket.distance());
+    }
+    Ok(())
+}
+
+/// Pushes devices whose equals stand side by side, each once.
+fn push_devices(devices: &[DeviceId], ids: &mut Vec<ItemId>) -> Result<(), AllocError>
+    ensures { OnOk result (ids.new.items ≡ ids.old.items
+        ++ each ItemId.Device (once devices.now)) }
+{
+    let mut last = None;
+    for device in devices {
+        if !same_number(last, device.number()) {
+            ids.push(ItemId::Device(*device))?;
+        }
+        last = Some(device.number());
+    }
+    Ok(())
+}

@@ -1,0 +1,264 @@
+//! The line of an item: what there is to tell of it.
+
+ghost use Rattle.std.specs.Prelude.{◌≡◌, ◌≤◌, ◌++◌, OnOk, length, drop, flat_map};
+ghost use Rattle.std.specs.Option.{option_map};
+ghost use Rattle.crush_view.specs.SeenItem.{seen_data};
+ghost use Rattle.crush_nodes.specs.SeenView.{view_data};
+ghost use Rattle.crush_view.specs.ItemParts.{behind, part, change, name_part, type_part, place_part, weight_part, class_part, alg_part, class_ids_part, changes, line_text, name_told, parts as all_parts, item_line};
+
+use crate::since::columns::{same_algs, same_class, same_parent};
+use crate::since::seen::Seen;
+use crate::since::words::{
+    alg_bytes, class_bytes, place_of, push_item_word, push_whole, type_bytes, weight_of,
+};
+use crate::words::push_all;
+use crush_map::Setting;
+use crush_tree::View;
+use crush_units::ItemId;
+use std::alloc::{AllocError, Global};
+
+/// The line of an item, by what both maps say of its id. Nothing where they say the same.
+pub(crate) fn push_line(
+    alloc: Global,
+    old: &Setting,
+    new: &Setting,
+    id: ItemId,
+    before: &Option<Seen<'_>>,
+    after: &Option<Seen<'_>>,
+    same_class_ids: bool,
+    out: &mut Vec<u8>,
+) -> Result<(), AllocError>
+    ensures { OnOk result (out.new.items ≡ out.old.items
+        ++ item_line old.now new.now id (option_map seen_data before.now)
+        (option_map seen_data after.now) same_class_ids) }
+{
+    let mut parts = Vec::new(alloc);
+    push_parts(alloc, old, new, before, after, same_class_ids, &mut parts)?;
+    let told = parts.as_slice();
+    if told.is_empty() {
+        return Ok(());
+    }
+    push_text(name_told(before, after), id, after_mark(told), out)?;
+    Ok(())
+}
+
+/// Parts without the mark in front of the first.
+fn after_mark(parts: &[u8]) -> &[u8]
+    requires { 2 ≤ length parts.now }
+    ensures { result.now ≡ drop 2 parts.now }
+{
+    &parts[2..]
+}
+
+/// The line of an item of which this is told.
+fn push_text(name: &[u8], id: ItemId, text: &[u8], out: &mut Vec<u8>) -> Result<(), AllocError>
+    ensures { OnOk result (out.new.items ≡ out.old.items ++ line_text name.now id text.now) }
+{
+    push_item_word(name, id, out)?;
+    push_all(&[b": ".as_slice(), text, b"\n".as_slice()], out)
+}
+
+/// The name after, or before of what is gone.
+fn name_told<'a>(before: &'a Option<Seen<'_>>, after: &'a Option<Seen<'_>>) -> &'a [u8]
+    ensures { result.now
+        ≡ name_told (option_map seen_data before.now) (option_map seen_data after.now) }
+{
+    match after {
+        Some(after) => after.view.name.as_bytes(),
+        None => match before {
+            Some(before) => before.view.name.as_bytes(),
+            None => b"".as_slice(),
+        },
+    }
+}
+
+/// What there is to tell of an item, each part behind a semicolon.
+fn push_parts(
+    alloc: Global,
+    old: &Setting,
+    new: &Setting,
+    before: &Option<Seen<'_>>,
+    after: &Option<Seen<'_>>,
+    same_class_ids: bool,
+    parts: &mut Vec<u8>,
+) -> Result<(), AllocError>
+    ensures { OnOk result (parts.new.items ≡ parts.old.items
+        ++ behind (all_parts old.now new.now (option_map seen_data before.now)
+        (option_map seen_data after.now) same_class_ids)) }
+{
+    match before {
+        None => match after {
+            None => Ok(()),
+            Some(after) => {
+                push_all(&[b"; made as ".as_slice()], parts)?;
+                push_whole(alloc, new, after, parts)
+            }
+        },
+        Some(before) => match after {
+            None => {
+                push_all(&[b"; removed, was ".as_slice()], parts)?;
+                push_whole(alloc, old, before, parts)
+            }
+            Some(after) => { push_changes(alloc, old, new, before, after, same_class_ids, parts) }
+        },
+    }
+}
+
+/// What is another of an item that both maps have.
+fn push_changes(
+    alloc: Global,
+    old: &Setting,
+    new: &Setting,
+    before: &Seen<'_>,
+    after: &Seen<'_>,
+    same_class_ids: bool,
+    parts: &mut Vec<u8>,
+) -> Result<(), AllocError>
+    ensures { OnOk result (parts.new.items ≡ parts.old.items ++ behind
+        (changes old.now new.now (seen_data before.now) (seen_data after.now) same_class_ids)) }
+{
+    push_name(&before.view, &after.view, parts)?;
+    push_type(old, new, &before.view, &after.view, parts)?;
+    push_place(alloc, before, after, parts)?;
+    push_weight(alloc, &before.view, &after.view, parts)?;
+    push_class(&before.view, &after.view, parts)?;
+    push_alg(&before.view, &after.view, parts)?;
+    push_class_ids(same_class_ids, parts)?;
+    Ok(())
+}
+
+/// A part of these words where a column differs.
+fn push_part(same: bool, words: &[&[u8]], parts: &mut Vec<u8>) -> Result<(), AllocError>
+    ensures { OnOk result (parts.new.items ≡ parts.old.items
+        ++ behind (part same (flat_map (λ w. w.now) words.now))) }
+{
+    if same {
+        return Ok(());
+    }
+    push_all(&[b"; ".as_slice()], parts)?;
+    push_all(words, parts)
+}
+
+/// A part that says what a column was and what it is, where it differs.
+fn push_change(
+    same: bool,
+    word: &[u8],
+    before: &[u8],
+    after: &[u8],
+    parts: &mut Vec<u8>,
+) -> Result<(), AllocError>
+    ensures { OnOk result (parts.new.items ≡ parts.old.items
+        ++ behind (change same word.now before.now after.now)) }
+{
+    push_part(same, &[word, before, b" to ".as_slice(), after], parts)
+}
+
+/// That the class ids differ.
+fn push_class_ids(same: bool, parts: &mut Vec<u8>) -> Result<(), AllocError>
+    ensures { OnOk result (parts.new.items ≡ parts.old.items ++ behind (class_ids_part same)) }
+{
+    push_part(same, &[b"class ids".as_slice()], parts)
+}
+
+/// The name that an item had.
+fn push_name(before: &View<'_>, after: &View<'_>, parts: &mut Vec<u8>) -> Result<(), AllocError>
+    ensures { OnOk result (parts.new.items ≡ parts.old.items
+        ++ behind (name_part (view_data before.now) (view_data after.now))) }
+{
+    let name = before.name.as_bytes();
+    push_part(
+        name == after.name.as_bytes(),
+        &[b"was ".as_slice(), name],
+        parts,
+    )
+}
+
+/// The types.
+fn push_type(
+    old: &Setting,
+    new: &Setting,
+    before: &View<'_>,
+    after: &View<'_>,
+    parts: &mut Vec<u8>,
+) -> Result<(), AllocError>
+    ensures { OnOk result (parts.new.items ≡ parts.old.items
+        ++ behind (type_part old.now new.now (view_data before.now) (view_data after.now))) }
+{
+    push_change(
+        before.kind.number() == after.kind.number(),
+        b"type ".as_slice(),
+        type_bytes(old, before.id, before.kind),
+        type_bytes(new, after.id, after.kind),
+        parts,
+    )
+}
+
+/// The places.
+fn push_place(
+    alloc: Global,
+    before: &Seen<'_>,
+    after: &Seen<'_>,
+    parts: &mut Vec<u8>,
+) -> Result<(), AllocError>
+    ensures { OnOk result (parts.new.items ≡ parts.old.items
+        ++ behind (place_part (seen_data before.now) (seen_data after.now))) }
+{
+    let from = place_of(alloc, before)?;
+    let to = place_of(alloc, after)?;
+    push_change(
+        same_parent(before.view.parent, after.view.parent),
+        b"from ".as_slice(),
+        from.as_slice(),
+        to.as_slice(),
+        parts,
+    )
+}
+
+/// The weights.
+fn push_weight(
+    alloc: Global,
+    before: &View<'_>,
+    after: &View<'_>,
+    parts: &mut Vec<u8>,
+) -> Result<(), AllocError>
+    ensures { OnOk result (parts.new.items ≡ parts.old.items
+        ++ behind (weight_part (view_data before.now) (view_data after.now))) }
+{
+    let was = weight_of(alloc, before.weight)?;
+    let is = weight_of(alloc, after.weight)?;
+    push_change(
+        before.weight.units() == after.weight.units(),
+        b"weight ".as_slice(),
+        was.as_slice(),
+        is.as_slice(),
+        parts,
+    )
+}
+
+/// The classes.
+fn push_class(before: &View<'_>, after: &View<'_>, parts: &mut Vec<u8>) -> Result<(), AllocError>
+    ensures { OnOk result (parts.new.items ≡ parts.old.items
+        ++ behind (class_part (view_data before.now) (view_data after.now))) }
+{
+    push_change(
+        same_class(before.class, after.class),
+        b"class ".as_slice(),
+        class_bytes(before.class),
+        class_bytes(after.class),
+        parts,
+    )
+}
+
+/// The algorithms.
+fn push_alg(before: &View<'_>, after: &View<'_>, parts: &mut Vec<u8>) -> Result<(), AllocError>
+    ensures { OnOk result (parts.new.items ≡ parts.old.items
+        ++ behind (alg_part (view_data before.now) (view_data after.now))) }
+{
+    push_change(
+        same_algs(before.alg, after.alg),
+        b"alg ".as_slice(),
+        alg_bytes(before.alg),
+        alg_bytes(after.alg),
+        parts,
+    )
+}

@@ -1,0 +1,145 @@
+//! How many items differ, and in which way.
+
+ghost use Rattle.std.specs.Prelude.{◌≡◌, ◌+◌, ◌<◌, ◌^◌, List};
+ghost use Rattle.std.specs.Option.{option_map};
+ghost use Rattle.crush_table.specs.Count.{one_if};
+ghost use Rattle.crush_table.specs.Stands.{Stands};
+ghost use Rattle.crush_table.specs.Table.{Row};
+ghost use Rattle.crush_view.specs.SeenItem.{seen_data};
+ghost use Rattle.crush_view.specs.Tallies.{HasRoom, tally_of, tally_with, is_made, is_renamed, is_moved, is_reweighed, is_reclassed};
+
+use crate::since::columns::{same_class, same_parent};
+use crate::since::seen::{Seen, look_up};
+use crush_map::CrushMap;
+use crush_units::ItemId;
+use std::alloc::Allocator;
+
+/// How many items differ in which way. The last four are of those that both maps have.
+#[derive(Clone, Copy, Debug)]
+pub(crate) struct Tally {
+    /// That the new map alone has.
+    pub made: usize,
+    /// That the old map alone has.
+    pub removed: usize,
+    /// Of another name.
+    pub renamed: usize,
+    /// In another place.
+    pub moved: usize,
+    /// Of another weight.
+    pub reweighed: usize,
+    /// Of another class.
+    pub reclassed: usize,
+}
+
+/// How many items of these ids differ in which way.
+pub(crate) fn count_changes<A: Allocator, B: Allocator>(
+    old: &CrushMap<A>,
+    new: &CrushMap<B>,
+    ids: &[ItemId],
+) -> Tally
+    ensures { (t u : List Row) → Stands old.now.forest t → Stands new.now.forest u
+        → result ≡ tally_of t u ids.now }
+{
+    let mut tally = Tally {
+        made: 0,
+        removed: 0,
+        renamed: 0,
+        moved: 0,
+        reweighed: 0,
+        reclassed: 0,
+    };
+    for id in ids {
+        let before = look_up(old, *id);
+        let after = look_up(new, *id);
+        tally = with(tally, &before, &after);
+    }
+    tally
+}
+
+/// The counts with one item more.
+fn with(tally: Tally, before: &Option<Seen<'_>>, after: &Option<Seen<'_>>) -> Tally
+    requires { HasRoom tally }
+    ensures { result
+        ≡ tally_with tally (option_map seen_data before.now) (option_map seen_data after.now) }
+{
+    Tally {
+        made: more(tally.made, is_made(before, after)),
+        removed: more(tally.removed, is_made(after, before)),
+        renamed: more(tally.renamed, is_renamed(before, after)),
+        moved: more(tally.moved, is_moved(before, after)),
+        reweighed: more(tally.reweighed, is_reweighed(before, after)),
+        reclassed: more(tally.reclassed, is_reclassed(before, after)),
+    }
+}
+
+/// A count, or one more where the test holds.
+fn more(count: usize, test: bool) -> usize
+    requires { count + 1 < 2 ^ 64 }
+    ensures { result ≡ count + one_if test }
+{
+    if test { count + 1 } else { count }
+}
+
+/// Whether the second map alone has the item.
+fn is_made(before: &Option<Seen<'_>>, after: &Option<Seen<'_>>) -> bool
+    ensures { result
+        ≡ is_made (option_map seen_data before.now) (option_map seen_data after.now) }
+{
+    before.is_none() && after.is_some()
+}
+
+/// Whether both have the item, by another name.
+fn is_renamed(before: &Option<Seen<'_>>, after: &Option<Seen<'_>>) -> bool
+    ensures { result
+        ≡ is_renamed (option_map seen_data before.now) (option_map seen_data after.now) }
+{
+    match before {
+        Some(before) => match after {
+            Some(after) => !(before.view.name.as_bytes() == after.view.name.as_bytes()),
+            None => false,
+        },
+        None => false,
+    }
+}
+
+/// Whether both have the item, in another place.
+fn is_moved(before: &Option<Seen<'_>>, after: &Option<Seen<'_>>) -> bool
+    ensures { result
+        ≡ is_moved (option_map seen_data before.now) (option_map seen_data after.now) }
+{
+    match before {
+        Some(before) => match after {
+            Some(after) => !same_parent(before.view.parent, after.view.parent),
+            None => false,
+        },
+        None => false,
+    }
+}
+
+/// Whether both have the item, of another weight.
+fn is_reweighed(before: &Option<Seen<'_>>, after: &Option<Seen<'_>>) -> bool
+    ensures { result
+        ≡ is_reweighed (option_map seen_data before.now) (option_map seen_data after.now) }
+{
+    match before {
+        Some(before) => match after {
+            Some(after) => before.view.weight.units() != after.view.weight.units(),
+            None => false,
+        },
+        None => false,
+    }
+}
+
+/// Whether both have the item, of another class.
+fn is_reclassed(before: &Option<Seen<'_>>, after: &Option<Seen<'_>>) -> bool
+    ensures { result
+        ≡ is_reclassed (option_map seen_data before.now) (option_map seen_data after.now) }
+{
+    match before {
+        Some(before) => match after {
+            Some(after) => !same_class(before.view.class, after.view.class),
+            None => false,
+        },
+        None => false,
+    }
+}
