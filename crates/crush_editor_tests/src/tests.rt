@@ -123,6 +123,27 @@ fn submit_by<N: Desk>(
     editor.submit(rt, rt.alloc(), seat, call)
 }
 
+/// What the seat of this operator reads.
+fn reading_by<N: Desk>(
+    rt: &impl Abort,
+    editor: &Editor<N>,
+    seats: &mut Vec<Seat<N>>,
+    operator: usize,
+) -> Reading
+    requires { AreAll N.parts seats.old.items }
+    ensures { AreAll N.parts seats.new.items }
+{
+    editor.reading(seats.get_mut(operator).expect(rt, "no seat"))
+}
+
+/// The edit that sets the weight of the device of this name to 2.
+fn weight_two(rt: &(impl Abort + AllocGlobal), device: &[u8]) -> Edit {
+    Edit::Reweight {
+        name: Name::read(rt.alloc(), device).expect(rt, "no name"),
+        weight: Weight::from_units(131072),
+    }
+}
+
 /// Sets the weight of the device of this name to 2.
 fn weigh_two<N: Desk>(
     rt: &(impl Abort + AllocGlobal + Wait),
@@ -130,9 +151,7 @@ fn weigh_two<N: Desk>(
     seat: &mut Seat<N>,
     device: &[u8],
 ) {
-    let name = Name::read(rt.alloc(), device).expect(rt, "no name");
-    let weight = Weight::from_units(131072);
-    let call = Call::One(Edit::Reweight { name, weight });
+    let call = Call::One(weight_two(rt, device));
     let answered = editor.submit(rt, rt.alloc(), seat, &call).is_ok();
     drop(call);
     assert!(rt; answered);
@@ -155,10 +174,14 @@ fn one_operator_of<N: Desk>(rt: &(impl Abort + AllocGlobal + Wait), started: Sta
     requires parts { started.parts ≡ N.parts }
 {
     let (editor, mut seats) = opened::<N>(rt, started);
-    let mut seat = seats.pop().expect(rt, "no seat");
-    assert!(rt; reads(editor.reading(&mut seat), 0, 163840));
-    weigh_two(rt, &editor, &mut seat, b"osd.0");
-    assert!(rt; reads(editor.reading(&mut seat), 1, 229376) && seat.slips().len() == 1);
+    assert!(rt; reads(reading_by(rt, &editor, &mut seats, 0), 0, 163840));
+    let call = Call::One(weight_two(rt, b"osd.0"));
+    let answered = submit_by(rt, &editor, &mut seats, 0, &call).is_ok();
+    drop(call);
+    let read = reading_by(rt, &editor, &mut seats, 0);
+    assert!(rt; answered && reads(read, 1, 229376));
+    let closed = editor.close(seats);
+    assert!(rt; closed.history.len() == 1 && closed.map.total() == 229376);
 }
 
 #[test]
@@ -177,6 +200,26 @@ fn two_operators<N: Desk>(rt: &(impl Abort + AllocGlobal + Wait), started: Start
     let mut first = seats.pop().expect(rt, "no seat");
     weigh_two(rt, &editor, &mut first, b"osd.0");
     assert!(rt; reads(editor.reading(&mut last), 1, 229376) && last.slips().len() == 0);
+}
+
+#[test]
+fn a_seat_that_learns_a_note_reads_what_it_tells(rt: HostRuntime) {
+    a_note_between_two::<Brand>(&rt, started(&rt, 2));
+}
+
+fn a_note_between_two<N: Desk>(rt: &(impl Abort + AllocGlobal + Wait), started: Started)
+    requires gauge { started.table ≡ N.gauge }
+    requires opening { started.opening ≡ N.opening }
+    requires name { started.name ≡ N.name }
+    requires parts { started.parts ≡ N.parts }
+{
+    let (editor, mut seats) = opened::<N>(rt, started);
+    let mut last = seats.pop().expect(rt, "no seat");
+    let mut first = seats.pop().expect(rt, "no seat");
+    weigh_two(rt, &editor, &mut first, b"osd.0");
+    let note = editor.note(&mut first);
+    editor.learn(&mut last, note);
+    assert!(rt; reads(editor.reading(&mut last), 1, 229376) && last.operator() == 1);
 }
 
 #[test]

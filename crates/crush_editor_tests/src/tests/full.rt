@@ -3,7 +3,7 @@
 ghost use Rattle.std.specs.Prelude.{◌≡◌};
 ghost use Rattle.crush_editor_tests.specs.Seats.{AreAll};
 
-use super::{opened, started, submit_by};
+use super::{opened, reading_by, reads, started, submit_by};
 use crush_calls::{Call, Reply};
 use crush_editor::{Book, Desk, Editor, MapGauge, Seat, Started, SubmitFault};
 use crush_edits::{Edit, Refusal};
@@ -63,6 +63,7 @@ fn one_operator<N: Desk>(rt: &(impl Abort + AllocGlobal + Wait), started: Starte
     let filled = fill_editor(rt, &editor, &mut seats, &call);
     let outcome = submit_by(rt, &editor, &mut seats, 0, &call);
     assert!(rt; filled && outcome == Err(SubmitFault::Full));
+    assert!(rt; reads(reading_by(rt, &editor, &mut seats, 0), 0, 163840));
     let closed = editor.close(seats);
     assert!(rt; closed.history.len() == MOST_ENTRIES && closed.map.total() == 163840);
 }

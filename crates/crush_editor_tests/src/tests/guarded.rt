@@ -1,10 +1,11 @@
 //! Guarded batches of one seat, beside the calls of another.
 
-use super::{opened, reads, started, weigh_two};
+ghost use Rattle.std.specs.Prelude.{◌≡◌};
+
+use super::{opened, reads, started, weigh_two, weight_two};
 use crush_calls::{Call, Edits, Reply};
 use crush_editor::{Desk, Editor, Seat, Started};
-use crush_edits::{Dones, Edit};
-use crush_units::{Name, Weight};
+use crush_edits::Dones;
 use std::marker::Brand;
 use std::process::Abort;
 use std::sync::Wait;
@@ -19,12 +20,8 @@ fn is_answered<N: Desk>(
     device: &[u8],
     reply: Reply,
 ) -> bool {
-    let name = Name::read(rt.alloc(), device).expect(rt, "no name");
-    let weight = Weight::from_units(131072);
     let mut edits = Vec::new(rt.alloc());
-    edits
-        .push(Edit::Reweight { name, weight })
-        .expect(rt, "no memory");
+    edits.push(weight_two(rt, device)).expect(rt, "no memory");
     let call = Call::Guarded {
         seen,
         edits: Edits::new(edits),
