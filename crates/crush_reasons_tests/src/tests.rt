@@ -1,0 +1,127 @@
+//! Faults and histories of jobs, and what is told of them.
+//!
+//! Expected values are written from the forms in docs/FORMATS.md and the sentences in docs/RULES.md.
+
+ghost use Rattle.std.specs.Prelude.{◌<◌, length};
+ghost use Rattle.crush_calls.specs.Entries.{AreOf};
+
+use crush_calls::{Call, Entry, Script, is_change, make_call};
+use crush_map::{CrushMap, Hashing};
+use crush_reasons::{ceph_text, explained_text, fault_text};
+use crush_script::{Job, JobFault, read_job};
+use std::alloc::Global;
+use std::process::Abort;
+
+/// The plain example map, where the type of the second host is misspelt.
+const MISSPELT: &[u8] =
+    b"# begin crush map\ntunable choose_total_tries 50\n\n# devices\ndevice 0 osd.0\ndevice 1 osd.1\ndevice 2 osd.2\n\n# types\ntype 0 osd\ntype 1 host\ntype 3 rack\ntype 11 root\n\n# buckets\nhost h1 {\n\tid -2\t\t# do not change unnecessarily\n\t# weight 2.00000\n\talg straw2\n\thash 0\t# rjenkins1\n\titem osd.0 weight 1.00000\n\titem osd.1 weight 1.00000\n}\nhots h2 {\n\tid -3\t\t# do not change unnecessarily\n\t# weight 0.50000\n\talg straw2\n\thash 0\t# rjenkins1\n\titem osd.2 weight 0.50000\n}\nroot default {\n\tid -1\t\t# do not change unnecessarily\n\t# weight 2.50000\n\talg straw2\n\thash 0\t# rjenkins1\n\titem h1 weight 2.00000\n\titem h2 weight 0.50000\n}\n\n# rules\n\n# end crush map\n";
+
+/// The plain example map and a script, of which the first and the last command change it.
+const JOB: &[u8] =
+    b"# begin crush map\ntunable choose_total_tries 50\n\n# devices\ndevice 0 osd.0\ndevice 1 osd.1\ndevice 2 osd.2\n\n# types\ntype 0 osd\ntype 1 host\ntype 3 rack\ntype 11 root\n\n# buckets\nhost h1 {\n\tid -2\t\t# do not change unnecessarily\n\t# weight 2.00000\n\talg straw2\n\thash 0\t# rjenkins1\n\titem osd.0 weight 1.00000\n\titem osd.1 weight 1.00000\n}\nhost h2 {\n\tid -3\t\t# do not change unnecessarily\n\t# weight 0.50000\n\talg straw2\n\thash 0\t# rjenkins1\n\titem osd.2 weight 0.50000\n}\nroot default {\n\tid -1\t\t# do not change unnecessarily\n\t# weight 2.50000\n\talg straw2\n\thash 0\t# rjenkins1\n\titem h1 weight 2.00000\n\titem h2 weight 0.50000\n}\n\n# rules\n\n# end crush map\n%operator a\nreweight osd.0 2\nreweight osd.0 2\nrm default\nmove h2 rack=r1 root=default\n";
+
+/// What is wrong with bytes that are no job.
+fn fault_of(rt: &(impl Abort + AllocGlobal), bytes: &[u8]) -> JobFault {
+    match read_job(rt.alloc(), Hashing::plain(), bytes) {
+        Ok(job) => {
+            drop(job);
+            panic!(rt; "a job")
+        }
+        Err(fault) => fault,
+    }
+}
+
+/// Whether this is told of a short text with a fault.
+fn is_told(rt: &(impl Abort + AllocGlobal), name: &[u8], bytes: &[u8], told: &[u8]) -> bool {
+    if bytes.len() > 10_000 {
+        return false;
+    }
+    let fault = fault_of(rt, bytes);
+    let text = fault_text(rt.alloc(), name, bytes, fault).expect(rt, "no memory");
+    text.as_slice() == told
+}
+
+#[test]
+fn a_fault_is_told_with_its_place(rt: HostRuntime) {
+    assert!(rt;
+        is_told(
+            &rt,
+            b"",
+            MISSPELT,
+            b"  line 24, column 1\n    hots h2 {\n    ^\n  no type of this name is declared above\n"
+        ) && is_told(
+            &rt,
+            b"alice.txt",
+            b"# nothing\n%operator alice\nfly\tx\n",
+            b"  alice.txt line 3\n    fly x\n  the first word of a line is to be a command: --help has all of them\n"
+        )
+    );
+}
+
+/// The entries of one operator's calls, made one after the other.
+fn entries_of(
+    rt: &(impl Abort + AllocGlobal),
+    map: &mut CrushMap<Global>,
+    calls: &[Call],
+) -> Vec<Entry>
+    ensures { AreOf 1 result.items }
+{
+    let mut entries = Vec::new(rt.alloc());
+    let mut changes = 0u32;
+    for call in calls {
+        let reply = make_call(map, changes, call).expect(rt, "no memory");
+        changes = changes.saturating_add(is_change(reply) as u32);
+        let call = call.try_copy(rt.alloc()).expect(rt, "no memory");
+        let entry = Entry {
+            operator: 0,
+            call,
+            reply,
+        };
+        let Ok(()) = entries.push(entry) else {
+            panic!(rt; "no memory")
+        };
+    }
+    entries
+}
+
+/// Whether the commands that changed the map are these, and this is told of the others.
+fn are_printed(
+    rt: &(impl Abort + AllocGlobal),
+    scripts: &[Script],
+    entries: &[Entry],
+    made: &[u8],
+    told: &[u8],
+) -> bool
+    requires few { length entries.now < 100 }
+    requires operators { AreOf (length scripts.now) entries.now }
+{
+    let commands = ceph_text(rt.alloc(), entries).expect(rt, "no memory");
+    let reasons = explained_text(rt.alloc(), scripts, entries).expect(rt, "no memory");
+    commands.as_slice() == made && reasons.as_slice() == told
+}
+
+/// Whether that holds of the only script of a job.
+fn is_answered(rt: &(impl Abort + AllocGlobal), job: &mut Job, made: &[u8], told: &[u8]) -> bool {
+    let scripts = job.scripts.as_slice();
+    if scripts.len() != 1 {
+        return false;
+    }
+    let entries = entries_of(rt, &mut job.map, scripts[0].calls.as_slice());
+    let answered = entries.len() < 100 && are_printed(rt, scripts, entries.as_slice(), made, told);
+    drop(entries);
+    answered
+}
+
+#[test]
+fn commands_and_reasons_are_told(rt: HostRuntime) {
+    let mut job = read_job(rt.alloc(), Hashing::plain(), JOB).expect(&rt, "no job");
+    assert!(rt;
+        is_answered(
+            &rt,
+            &mut job,
+            b"# 2 commands\nceph osd crush reweight osd.0 2.00000\nceph osd crush move h2 rack=r1 root=default\n",
+            b"# 3 a rm default = refused NotEmpty 39\n  the bucket holds items: move or remove them first\n"
+        )
+    );
+    drop(job);
+}
