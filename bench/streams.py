@@ -2,7 +2,9 @@
 
     python3 bench/streams.py crates/crushedit/out/crushedit [--table]
 
-Each case is a command of bash, with `$C` for the program, in a folder with `job` (a map with an edit), `large` (one
+Each case is a command of bash, with `$C` for the program and `$L` for a library that is preloaded, with which the
+close of standard output answers that the disk is full (it needs a C compiler, `cc`, `gcc` or what CC names), in a
+folder with `job` (a map with an edit), `large` (one
 of 2,000 devices, more than a pipe holds) and `adjusted` (a weight that is no sum). Of each it tells the status, of
 what a signal ended 128 and its number, what standard error got, and how much of its output was written. With --table
 what comes is printed as a table and not judged; else a line for each case that ends otherwise, and status 1 where
@@ -10,6 +12,7 @@ any does.
 """
 
 import os
+import shutil
 import subprocess
 import sys
 import tempfile
@@ -21,6 +24,19 @@ FILE_SIZE = 128 + 25
 ADJUSTED = "type 1 host\nhost a { id -1 alg straw2 }\nhost b { id -2 alg straw2 item a weight 1 }\n"
 # Makes 4 the end for writing of a pipe whose only reader has closed its end.
 NO_READER = "mkfifo pipe; exec 3<> pipe 4> pipe 3<&-"
+# What `$L` is made of.
+CLOSE = """
+#include <errno.h>
+#include <sys/syscall.h>
+#include <unistd.h>
+
+int close(int fd) {
+    int status = syscall(SYS_close, fd);
+    if (fd != 1) return status;
+    errno = ENOSPC;
+    return -1;
+}
+"""
 JOBS = {"job": map_text(3) + script(3, 1), "large": map_text(2000) + script(2000, 1), "adjusted": ADJUSTED}
 # What it is, the command, the status, standard error, and what of the output is written: all, none, or the
 # start of it; of the empty job all are 75 bytes. None where the command sends the output elsewhere.
@@ -62,6 +78,9 @@ CASES = [
     ("--version to a full disk", "$C --version > /dev/full", 3, WRITE, None),
     ("--help to a pipe whose reader is gone", f"{NO_READER}; $C --help >&4", 3, WRITE, None),
     ("--help to a closed output", "$C --help >&-", 3, WRITE, None),
+    ("standard output tells its error at the close", "LD_PRELOAD=$L $C job", 3, WRITE, "all"),
+    ("--help, and the same", "LD_PRELOAD=$L $C --help > help", 3, WRITE, None),
+    ("the same, and nothing was written", "LD_PRELOAD=$L $C missing", 3, READ, "none"),
 ]
 
 
@@ -73,13 +92,21 @@ def written(out, whole):
     return "start" if any(text.startswith(out) for text in whole) else str(len(out))
 
 
-def ending(program, folder, command):
+def make_library(folder):
+    """The library whose close of standard output fails."""
+    compiler = os.environ.get("CC") or ("cc" if shutil.which("cc") else "gcc")
+    library = os.path.join(folder, "close.so")
+    subprocess.run([compiler, "-shared", "-fPIC", "-x", "c", "-o", library, "-"], input=CLOSE, text=True, check=True)
+    return library
+
+
+def ending(program, library, folder, command):
     """The status, standard error and standard output of a case, in a folder of its own."""
     with tempfile.TemporaryDirectory(dir=folder) as case:
         for name in JOBS:
             os.link(os.path.join(folder, name), os.path.join(case, name))
         with open(os.path.join(folder, "out"), "wb") as out:
-            run = subprocess.run(["bash", "-c", command], cwd=case, env={**os.environ, "C": program},
+            run = subprocess.run(["bash", "-c", command], cwd=case, env={**os.environ, "C": program, "L": library},
                                  stdin=subprocess.DEVNULL, stdout=out, stderr=subprocess.PIPE, timeout=60,
                                  restore_signals=True)
         with open(os.path.join(folder, "out"), "rb") as out:
@@ -91,13 +118,14 @@ def main():
     program, as_table = os.path.abspath(sys.argv[1]), "--table" in sys.argv
     failed = False
     with tempfile.TemporaryDirectory() as folder:
+        library = make_library(folder)
         whole = []
         for name, text in JOBS.items():
             with open(os.path.join(folder, name), "w") as out:
                 out.write(text)
             whole.append(subprocess.run([program, out.name], capture_output=True, check=True).stdout)
         for name, command, *due in CASES:
-            status, told, out = ending(program, folder, command)
+            status, told, out = ending(program, library, folder, command)
             got = [status, told, written(out, whole) if due[2] is not None else None]
             if as_table:
                 print(f"| {name} | {status} | {f'`{told}`' if told else ''} | {got[2] or ''} |")

@@ -6,7 +6,8 @@ standard error must get anything, a NAME.err. It becomes a file of crates/crush_
 there for each mode that it is run in, and a part of the crate's `stdout`. A job of several operators is run
 with --in-turn, since without it there may be several outputs; others are run without. A job of at_once/ has
 them all, a NAME.OPERATOR.out for each operator whose script may be the first: there the job is run in turn
-with that operator's section before the others (NAME.OPERATOR.job). Of an example of this folder or of
+with that operator's section before the others (NAME.OPERATOR.job). A job of asked/ is run with each line of
+NAME.words before its name, beside the files NAME.txt there. Of an example of this folder or of
 maps/ that is no refused one, what is written is run again and gives the same map (NAME.again.job), and the
 job's map alone is printed as it is, or, where there is a NAME.map, as that (NAME.alone.job). What a run is
 summed up as is counted here from the history. Each row of a table of refused/ is a job that is refused; these
@@ -31,6 +32,8 @@ GROWTHS = HERE.parent / "crates/crush_growths"
 SEPARATOR = "\x1e"
 # What stands between the parts of a job of crush_growths.
 PART_SEPARATOR = "\x1f"
+# What standard error is told first of a run that was not done, where the status is another than 1.
+STATUSES = {"crushedit: refused ": 5}
 # How many jobs of chance there are, and of which seed.
 CHANCE, SEED = 200, 1
 # The words before a job's name, for each run of a job that has more than one.
@@ -58,7 +61,7 @@ def mode(job):
 
 def map_of(out):
     """What is written but for the history."""
-    return lines_before(out, "# 1 ")
+    return lines_before(out, "# 1 (?!commands$)")
 
 
 def summary(out, err):
@@ -71,8 +74,9 @@ def summary(out, err):
 
 
 def printed(line, out, err):
-    """What the program prints of a run. Of a job that is refused nothing is written."""
-    ending = f"< {summary(out, err)}\n{err}< status 0\n" if out else f"< not done\n{err}< status 1\n"
+    """What the program prints of a run. Of a job or a strict run that is refused nothing is written."""
+    status = next((status for told, status in STATUSES.items() if err.startswith(told)), 1)
+    ending = f"< {summary(out, err)}\n{err}< status 0\n" if out else f"< not done\n{err}< status {status}\n"
     return f"> {line}\n{map_of(out) if '--no-history' in line else out}{ending}"
 
 
@@ -86,6 +90,13 @@ def runs(job):
         alone = lines_before(text, "%")
         yield mode(alone), f"{name}.alone.job", alone, read(job.with_suffix(".map")) or alone, err
         yield mode(out), f"{name}.again.job", out, map_of(out), ""
+
+
+def asked(job):
+    """The runs of a job of asked/, one for each line of words, which all come to one output or are all refused."""
+    text, out, err = read(job), read(job.with_suffix(".out")), read(job.with_suffix(".err"))
+    for words in read(job.with_suffix(".words")).splitlines():
+        yield f"{words} ", job.name, text, out, err
 
 
 def orders(job):
@@ -127,10 +138,12 @@ def wanted():
     """What each file of the crate beside src/ has to hold."""
     jobs = [job for folder in (HERE, HERE / "maps", HERE / "worked") for job in sorted(folder.glob("*.job"))]
     at_once = sorted((HERE / "at_once").glob("*.job"))
-    names = {job.name for job in jobs + at_once}
-    assert len(names) == len(jobs + at_once), "two examples have one name"
+    asked_for = sorted((HERE / "asked").glob("*.job"))
+    names = {job.name for job in jobs + at_once + asked_for}
+    assert len(names) == len(jobs + at_once + asked_for), "two examples have one name"
     files, lines, stdout = {}, [], []
     each_run = [run for job in jobs for run in runs(job)] + [run for job in at_once for run in orders(job)]
+    each_run += [run for job in asked_for for run in asked(job)]
     for words, name, text, out, err in each_run:
         files[CRATE / "data" / name] = text
         lines.append(f"{words}{name}\n")
@@ -140,6 +153,7 @@ def wanted():
     assert not any(SEPARATOR in text for text, _, _ in records), "a job has the byte that separates jobs"
     stdout += [printed(f"record {number}", out, err) for number, (_, out, err) in enumerate(records)]
     files[CRATE / "data/records"] = SEPARATOR.join(text for text, _, _ in records)
+    files |= {CRATE / "data" / script.name: read(script) for script in (HERE / "asked").glob("*.txt")}
     return files | {CRATE / "data/jobs": "".join(lines), CRATE / "stdout": "".join(stdout)}
 
 

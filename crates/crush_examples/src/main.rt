@@ -3,9 +3,11 @@
 //! then those of the file `records`.
 #![tactic(auto)]
 
+ghost use Rattle.std.specs.Prelude.{◌≡◌, []};
+
 use crush_options::{Mode, options};
 use crush_report::report;
-use crush_run::{NoGate, RunFault, Summary, run_job, run_options};
+use crush_run::{Asked, NoGate, RunFault, Summary, SystemFiles, run_job, run_options};
 use std::random::RandomSource;
 use std::sync::Wait;
 use std::thread::Threads;
@@ -34,7 +36,9 @@ fn run_records(
     let jobs = records.split(|byte| *byte == RECORD_SEPARATOR);
     for (number, job) in jobs.enumerate() {
         println!(rt; "> record {number}")?;
-        print_end(rt, &run_record(rt, workers, job))?;
+        let mut notes = Vec::new(rt.alloc());
+        let outcome = run_record(rt, workers, job, &mut notes);
+        print_end(rt, &outcome, notes.as_slice())?;
     }
     Ok(())
 }
@@ -44,14 +48,25 @@ fn run_record(
     rt: &HostRuntime,
     workers: &(impl AllocGlobal + RandomSource + Threads + Wait + Sync),
     job: &[u8],
-) -> Result<Summary, RunFault> {
+    notes: &mut Vec<u8>,
+) -> Result<Summary, RunFault>
+    requires { notes.old.items ≡ [] }
+{
     let mode = Mode {
         in_turn: true,
         history: true,
         strict: false,
     };
-    let mut reader = job;
-    run_job(workers, &NoGate, mode, &mut reader, &mut rt.stdout())
+    let (mut reader, mut output) = (job, rt.stdout());
+    run_job(
+        workers,
+        &NoGate,
+        mode,
+        Asked::Map,
+        &mut reader,
+        &mut output,
+        notes,
+    )
 }
 
 /// Runs each line, which has the words of a command line behind the program's name.
@@ -62,7 +77,9 @@ fn run_lines(
 ) -> io::Result<()> {
     for line in lines.lines() {
         println!(rt; "> {line}")?;
-        print_end(rt, &run_line(rt, workers, line))?;
+        let mut notes = Vec::new(rt.alloc());
+        let outcome = run_line(rt, workers, line, &mut notes);
+        print_end(rt, &outcome, notes.as_slice())?;
     }
     Ok(())
 }
@@ -72,12 +89,23 @@ fn run_line(
     rt: &HostRuntime,
     workers: &(impl AllocGlobal + RandomSource + Threads + Wait + Sync),
     line: &str,
-) -> Result<Summary, RunFault> {
+    notes: &mut Vec<u8>,
+) -> Result<Summary, RunFault>
+    requires { notes.old.items ≡ [] }
+{
     let words: Vec<&str> = line.split_whitespace().collect(rt.alloc())?;
     let read = options(rt.alloc(), words.as_slice());
     drop(words);
+    let (mut input, mut output) = (rt.stdin(), rt.stdout());
     let outcome = match &read {
-        Ok(options) => run_options(workers, rt, options, &mut rt.stdin(), &mut rt.stdout()),
+        Ok(options) => run_options(
+            workers,
+            &SystemFiles(rt),
+            options,
+            &mut input,
+            &mut output,
+            notes,
+        ),
         Err(_) => Err(RunFault::Read),
     };
     drop(read);
@@ -85,7 +113,11 @@ fn run_line(
 }
 
 /// Prints what a run comes to, what standard error is told of it, and the status.
-fn print_end(rt: &HostRuntime, outcome: &Result<Summary, RunFault>) -> io::Result<()> {
+fn print_end(
+    rt: &HostRuntime,
+    outcome: &Result<Summary, RunFault>,
+    notes: &[u8],
+) -> io::Result<()> {
     match outcome {
         Ok(done) => println!(rt;
             "< adjusted {} calls {} changes {}",
@@ -93,6 +125,6 @@ fn print_end(rt: &HostRuntime, outcome: &Result<Summary, RunFault>) -> io::Resul
         )?,
         Err(_) => println!(rt; "< not done")?,
     }
-    let status = report(outcome, &mut rt.stdout());
+    let status = report(outcome, notes, &mut rt.stdout());
     println!(rt; "< status {status}")
 }

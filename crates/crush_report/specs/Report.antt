@@ -37,6 +37,10 @@ job_fault (Text f) = text_fault f
 job_fault TooLong = codes "crushedit: TooLong\n"
 job_fault OutOfMemory = out_of_memory
 
+-- how many calls of a strict run were refused
+abbrev pub refused_line : ℕ → List ℕ
+refused_line count = codes "crushedit: refused " ++ decimal count ++ codes "\n"
+
 -- a run that was not done
 abbrev pub run_fault : RunFault → List ℕ
 run_fault (run.Job f) = if lacks_memory f then out_of_memory else job_fault f
@@ -44,11 +48,16 @@ run_fault run.Read = codes "crushedit: read fault\n"
 run_fault run.Write = codes "crushedit: write fault\n"
 run_fault run.Memory = out_of_memory
 run_fault run.Thread = codes "crushedit: no thread\n"
+run_fault (run.Refused count) = refused_line count
 
 -- one line, or nothing where all is well and no weight was replaced
 abbrev pub report_line : Result Summary RunFault → List ℕ
 report_line (Ok s) = if s.adjusted == 0 then [] else adjusted_line s.adjusted
 report_line (Err f) = run_fault f
+
+-- the line, and behind it what the run notes
+abbrev pub report_text : Result Summary RunFault → List ℕ → List ℕ
+report_text outcome notes = report_line outcome ++ notes
 
 abbrev pub fault_status : RunFault → ℕ
 fault_status (run.Job f) = if lacks_memory f then 4 else 1
@@ -56,8 +65,10 @@ fault_status run.Read = 3
 fault_status run.Write = 3
 fault_status run.Memory = 4
 fault_status run.Thread = 4
+fault_status (run.Refused count) = 5
 
--- 0 where the run was done, 1 for what is no job, 3 where reading or writing failed, 4 for want of memory or of a thread
+-- 0 where the run was done, 1 for what is no job, 3 where reading or writing failed, 4 for want of memory or of a thread, 5 where
+-- calls of a strict run were refused
 abbrev pub status : Result Summary RunFault → ℕ
 status (Ok s) = 0
 status (Err f) = fault_status f

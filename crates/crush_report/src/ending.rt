@@ -3,7 +3,7 @@
 ghost use Rattle.std.specs.Prelude.{◌≡◌, IfOk};
 ghost use Rattle.crush_bytes.specs.Writes.{Writes, AppendsFront};
 ghost use Rattle.crush_report.specs.OptionsReport.{IsHelpWhole, IsOptionsStatus, options_error, options_output};
-ghost use Rattle.crush_report.specs.Report.{adjusted_line, line_fault, text_fault, job_fault, run_fault, report_line, status};
+ghost use Rattle.crush_report.specs.Report.{adjusted_line, line_fault, text_fault, job_fault, run_fault, refused_line, report_line, report_text, status};
 
 use crush_bytes::{WriteFault, put, put_all};
 use crush_options::OptionsFault;
@@ -83,7 +83,21 @@ fn write_run_fault<E: Write>(fault: RunFault, err: &mut E) -> Result<(), WriteFa
         RunFault::Write => put(err, b"crushedit: write fault\n"),
         RunFault::Memory => put(err, OUT_OF_MEMORY),
         RunFault::Thread => put(err, b"crushedit: no thread\n"),
+        RunFault::Refused(count) => write_refused(count, err),
     }
+}
+
+/// Writes how many calls of a strict run were refused.
+fn write_refused<E: Write>(count: u32, err: &mut E) -> Result<(), WriteFault>
+    ensures { Writes result (E.contents err.old) (E.contents err.new)
+        (refused_line count) }
+{
+    let mut buffer = Buffer::new();
+    let count = buffer.format(count).as_bytes();
+    put_all(
+        err,
+        &[b"crushedit: refused ".as_slice(), count, b"\n".as_slice()],
+    )
 }
 
 /// Writes how many written weights were replaced.
@@ -126,6 +140,27 @@ fn put_report<E: Write>(outcome: &Result<Summary, RunFault>, err: &mut E)
     let _ = write_report(outcome, err);
 }
 
+/// Writes the one line, or nothing, and behind it the notes.
+fn write_told<E: Write>(
+    outcome: &Result<Summary, RunFault>,
+    notes: &[u8],
+    err: &mut E,
+) -> Result<(), WriteFault>
+    ensures { Writes result (E.contents err.old) (E.contents err.new)
+        (report_text outcome.now notes.now) }
+{
+    write_report(outcome, err)?;
+    put(err, notes)
+}
+
+/// Puts the one line and the notes, or what of them standard error takes.
+fn put_told<E: Write>(outcome: &Result<Summary, RunFault>, notes: &[u8], err: &mut E)
+    ensures { AppendsFront (E.contents err.old) (E.contents err.new)
+        (report_text outcome.now notes.now) }
+{
+    let _ = write_told(outcome, notes, err);
+}
+
 /// Puts the bytes, or what of them standard error takes.
 fn put_front<E: Write>(bytes: &[u8], err: &mut E)
     ensures { AppendsFront (E.contents err.old) (E.contents err.new) bytes.now }
@@ -147,7 +182,7 @@ pub fn report_line(
     Ok(line)
 }
 
-/// Writes the one line of standard error and answers the status.
+/// Writes the one line of standard error, and behind it the notes of the run, and answers the status.
 ///
 /// | Status | When | Line |
 /// |---|---|---|
@@ -156,17 +191,19 @@ pub fn report_line(
 /// | 3 | reading or writing failed | `crushedit: read fault`, `crushedit: write fault` |
 /// | 4 | a growth was refused, whatever the fault that says so | `crushedit: out of memory` |
 /// | 4 | a worker couldn't be started | `crushedit: no thread` |
+/// | 5 | calls of a strict run were refused | `crushedit: refused N`, and their lines in the notes |
 ///
-/// Where writing the line fails, a front of it stands there, and the status is the same.
-pub fn report<E: Write>(outcome: &Result<Summary, RunFault>, err: &mut E) -> u8
+/// Where writing fails, a front of the line and the notes stands there, and the status is the same.
+pub fn report<E: Write>(outcome: &Result<Summary, RunFault>, notes: &[u8], err: &mut E) -> u8
     ensures status { result ≡ status outcome.now }
-    ensures line { AppendsFront (E.contents err.old) (E.contents err.new)
-        (report_line outcome.now) }
+    ensures text { AppendsFront (E.contents err.old) (E.contents err.new)
+        (report_text outcome.now notes.now) }
 {
-    put_report(outcome, err);
+    put_told(outcome, notes, err);
     match outcome {
         Ok(_) => 0,
         Err(RunFault::Memory | RunFault::Thread) => 4,
+        Err(RunFault::Refused(_)) => 5,
         Err(RunFault::Job(fault)) if fault.lacks_memory() => 4,
         Err(RunFault::Job(_)) => 1,
         Err(RunFault::Read | RunFault::Write) => 3,
@@ -188,12 +225,18 @@ pub fn tell<W: Write, E: Write>(fault: &OptionsFault, out: &mut W, err: &mut E) 
     match fault {
         OptionsFault::Help(text) => match put(out, text.as_bytes()) {
             Ok(()) => 0,
-            Err(_) => report(&Err(RunFault::Write), err),
+            Err(_) => {
+                put_report(&Err(RunFault::Write), err);
+                3
+            }
         },
         OptionsFault::Refused(text) => {
             put_front(text.as_bytes(), err);
             2
         }
-        OptionsFault::Memory => report(&Err(RunFault::Memory), err),
+        OptionsFault::Memory => {
+            put_report(&Err(RunFault::Memory), err);
+            4
+        }
     }
 }

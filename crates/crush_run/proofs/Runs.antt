@@ -14,15 +14,19 @@ use Rattle.crush_calls.specs.Script.{ScriptData, script_data, scripts_data}
 use Rattle.crush_calls.specs.History.{EntryData, of_operator, table_after, turns}
 use Rattle.crush_calls.specs.Turns.{calls_at, calls_of}
 use Rattle.crush_calls.specs.HistoryText.{names_of}
-use Rattle.crush_print.specs.MapText.{map_text}
 use Rattle.crush_print.proofs.SameText.{map_text_is_some}
+use Rattle.crush_reasons.specs.Ceph.{ceph_heading, ceph_text}
+use Rattle.crush_view.proofs.WalkLaws.{tree_text_is_some}
 use Rattle.crush_calls.proofs.Histories.{turns_are_history}
 use Rattle.crush_editor.specs.Book.{MakesAll}
+use Rattle.crush_run.specs.declared.asked.Asked.{Asked}
+use Rattle.crush_run.specs.declared.asked.Asked.TheVariants as asked
 use Rattle.crush_run.specs.declared.fault.RunFault.{RunFault}
 use Rattle.crush_run.specs.declared.summary.Summary.{Summary}
 use Rattle.crush_script.specs.Job.{JobData}
-use Rattle.crush_run.specs.Run.{Ends, IsRunOf, lines_asked, output_of}
-use Rattle.crush_run.specs.Stages.{RunsScripts}
+use Rattle.crush_run.specs.Run.{Ends, IsRunOf, IsStrict, lines_asked, main_text, output_of}
+use Rattle.crush_run.specs.Stages.{IsEarlyFault, RunsScripts}
+use Rattle.crush_run.proofs.Strictly.{early_strict}
 use Rattle.crush_run.proofs.Told.{nothing_written}
 
 -- the turns of the scripts are a run, in turn and at once
@@ -95,26 +99,44 @@ pub entries_of_scripts : (scripts : List Script) (h : List EntryData) → ((k : 
 entries_of_scripts scripts h calls = entries_below (length scripts) h (λ k past. calls k ∙ no_calls (scripts_data scripts) k (omega (arith, past, length-map scripts script_data)))
 
 -- what was laid out is the output
-pub outcome_text : (history : Bool) (job : JobData) (s : SettingData) (scripts : List ScriptData) (h es : List EntryData) → s ≡ job.setting → scripts ≡ job.scripts → es ≡ h
-    → map_text s (table_after job.setting job.table h) ++ lines_asked history (names_of scripts) es ≡ output_of history job h
-outcome_text history job s scripts h es setting same entries = λ i. map_text (setting i) (table_after job.setting job.table h) ++ lines_asked history (names_of (same i)) (entries i)
+pub outcome_text : (asked : Asked) (history : Bool) (job : JobData) (s : SettingData) (scripts : List ScriptData) (h es : List EntryData) → s ≡ job.setting → scripts ≡ job.scripts → es ≡ h
+    → main_text asked s (table_after job.setting job.table h) es ++ lines_asked history (names_of scripts) es ≡ output_of asked history job h
+outcome_text asked history job s scripts h es setting same entries = λ i. main_text asked (setting i) (table_after job.setting job.table h) (entries i) ++ lines_asked history (names_of (same i)) (entries i)
 
--- no output is empty: it begins with a map's text
-output_is_some : (history : Bool) (job : JobData) (h : List EntryData) → 0 < length (output_of history job h)
-output_is_some history job h =
-    let some = map_text_is_some job.setting (table_after job.setting job.table h) in
+-- the commands of a history have a heading
+pub ceph_text_is_some : (h : List EntryData) → 0 < length (ceph_text h)
+unfolding ceph_text ceph_heading
+ceph_text_is_some h = omega arith
+
+-- whatever is asked for, its text isn't empty
+pub main_text_is_some : (asked : Asked) (s : SettingData) (t : List Row) (h : List EntryData) → 0 < length (main_text asked s t h)
+main_text_is_some asked.Map s t h = map_text_is_some s t
+main_text_is_some asked.Tree s t h = tree_text_is_some s t
+main_text_is_some asked.AsCeph s t h = ceph_text_is_some h
+
+-- so no output is empty
+output_is_some : (asked : Asked) (history : Bool) (job : JobData) (h : List EntryData) → 0 < length (output_of asked history job h)
+output_is_some asked history job h =
+    let some = main_text_is_some asked job.setting (table_after job.setting job.table h) h in
     simp length-append (omega (arith, some))
 
 -- a run of which a front was written, and not the whole
-pub ended_by : (mode : Mode) (job : JobData) (r : Result Summary RunFault) (f : RunFault) (old new : Option (List ℕ)) (h : List EntryData) → r ≡ Err f → IsRunOf mode.in_turn job h
-    → AppendsLess old new (output_of mode.history job h) → Ends mode job r old new
-ended_by mode job r f old new h is run less = record { history = h; run = run; writes = rw is less; summary = rw is tt }
+pub ended_by : (mode : Mode) (asked : Asked) (job : JobData) (r : Result Summary RunFault) (f : RunFault) (old new : Option (List ℕ)) (notes : List ℕ) (h : List EntryData) → r ≡ Err f
+    → IsRunOf mode.in_turn job h → AppendsLess old new (output_of asked mode.history job h) → IsStrict mode.strict (names_of job.scripts) h r notes → Ends mode asked job r old new notes
+ended_by mode asked job r f old new notes h is run less strict = record { history = h; run = run; writes = rw is less; summary = rw is tt; strict = strict }
 
 -- where nothing was written of a job, nothing is a front of what its turns would have had written
-pub ended_early : (mode : Mode) (job : JobData) (r : Result Summary RunFault) (f : RunFault) (old : Option (List ℕ)) → r ≡ Err f → Ends mode job r old old
-ended_early mode job r f old is =
+pub ended_early : (mode : Mode) (asked : Asked) (job : JobData) (r : Result Summary RunFault) (f : RunFault) (old : Option (List ℕ)) (notes : List ℕ) → r ≡ Err f → IsEarlyFault f → notes ≡ []
+    → Ends mode asked job r old old notes
+ended_early mode asked job r f old notes is early none =
     let h = turns job.setting job.table job.scripts in
-    record { history = h; run = turns_run mode.in_turn job; writes = nothing_written r f old (output_of mode.history job h) (output_is_some mode.history job h) is; summary = rw is tt }
+    record {
+      history = h;
+      run = turns_run mode.in_turn job;
+      writes = nothing_written r f old (output_of asked mode.history job h) (output_is_some asked mode.history job h) is;
+      summary = rw is tt;
+      strict = early_strict mode.strict (names_of job.scripts) h r f notes is early none;
+    }
 
 -- what follows of one promise of a run that was done, and of two
 pub when_ok : {X E : Type 0} (P Q : X → Type 0) (r : Result X E) → ((x : X) → P x → Q x) → IfOk r P → IfOk r Q

@@ -1,6 +1,8 @@
--- What is known of the bytes of a job is known of all that the reader gave.
+-- What is known of the bytes of a job is known of all that there was to read.
 use Rattle.std.proofs.Common.{◌≡◌, ℕ, ◌≤◌, ◌<◌, Bool, true, false, cond, List, Option, Some, None, Result, Ok, Err, length, take, refl, sym, ap, subst, ◌∙◌, arith}
 use Rattle.std.specs.Prelude.{IfOk, IfErr, IfSome}
+use mathlib.Core.Logic.{dite}
+use native.Mathlib.Decide.{dec_le}
 use Rattle.crush_bytes.specs.Writes.{Writes}
 use Rattle.crush_bytes.proofs.Appending.{nothing_is_less}
 use Rattle.std.proofs.lemmas.List.{take_all, length-take}
@@ -9,86 +11,121 @@ use Rattle.crush_script.specs.Job.{HasJob, IsJob, IsJobFault, JobData}
 use Rattle.crush_script.specs.declared.fault.JobFault.{JobFault}
 use Rattle.crush_script.specs.declared.fault.JobFault.TheVariants.{BadLine, NoSuchCommand, OpenBatch, TooManyOperators, DuplicateOperator, Text, OutOfMemory, TooLong, TooManyCalls}
 use Rattle.crush_script.specs.Fault.{is_want}
+use Rattle.crush_options.specs.declared.asked.Mode.{Mode}
 use Rattle.crush_run.specs.declared.input.TheConstants.{MOST_BYTES}
 use Rattle.crush_run.specs.Faults.{of_job}
 use Rattle.crush_run.specs.declared.fault.RunFault.TheVariants as run
 use Rattle.crush_run.specs.declared.fault.RunFault.{RunFault}
 use Rattle.crush_run.specs.declared.summary.Summary.{Summary}
-use Rattle.crush_run.specs.Run.{IsRunFault}
+use Rattle.crush_run.specs.Input.{IsInput}
+use Rattle.crush_run.specs.Run.{IsRefusal, IsRunFault}
 use Rattle.crush_run.specs.Stages.{IsInputFault, IsOutcomeFault, IsScriptsFault}
 
--- what is read of a short input is all of it
-pub all_read : (bytes all : List ℕ) → bytes ≡ take MOST_BYTES all → length bytes ≤ LONGEST_JOB → bytes ≡ all
-all_read bytes all e h =
-    let short : length all ≤ MOST_BYTES = omega (arith, ap length e, length-take MOST_BYTES all) in
-    e ∙ take_all MOST_BYTES all short
+-- what a reader gives, up to one byte too many, is all that it has, where either is no longer than a job
+input_of_take : (bytes all : List ℕ) → bytes ≡ take MOST_BYTES all → IsInput bytes all
+input_of_take bytes all e = record {
+  read = λ short. let few : length all ≤ MOST_BYTES = omega (arith, short, ap length e, length-take MOST_BYTES all) in e ∙ take_all MOST_BYTES all few;
+  whole = λ short. let few : length all ≤ MOST_BYTES = omega (arith, short) in e ∙ take_all MOST_BYTES all few;
+}
 
--- the bytes read are a job, and so are all
-pub has_job : (all : Option (List ℕ)) (bytes : List ℕ) (job : JobData) → IfSome all (λ xs. bytes ≡ take MOST_BYTES xs) → IsJob bytes job → IfSome all HasJob
-has_job None bytes job e is = tt
-has_job (Some xs) bytes job e is = (job, subst (λ (z : List ℕ). IsJob z job) (all_read bytes xs e is.short) is)
+pub known_of_take : (all : Option (List ℕ)) (bytes : List ℕ) → IfSome all (λ xs. bytes ≡ take MOST_BYTES xs) → IfSome all (IsInput bytes)
+known_of_take None bytes e = tt
+known_of_take (Some xs) bytes e = input_of_take bytes xs e
 
--- so where the run is done, or a write failed
-pub is_job : (r : Result Summary RunFault) (all : Option (List ℕ)) → IfSome all HasJob → IfOk r (λ _. IfSome all HasJob)
-is_job (Err f) all has = tt
-is_job (Ok x) all has = has
+-- what is known of a file is what it gives
+pub known_through : (content given : Option (List ℕ)) (bytes : List ℕ) → IfSome content (λ all. given ≡ Some all) → IfSome given (IsInput bytes) → IfSome content (IsInput bytes)
+known_through None given bytes tells read = tt
+known_through (Some all) given bytes tells read = subst (λ (o : Option (List ℕ)). IfSome o (IsInput bytes)) tells read
 
-pub run_fault_of_job : (in_turn : Bool) (r : Result Summary RunFault) (all : Option (List ℕ)) → IfSome all HasJob → IfErr r (IsOutcomeFault in_turn) → IfErr r (IsRunFault in_turn all)
-run_fault_of_job in_turn (Ok x) all has h = tt
-run_fault_of_job in_turn (Err (run.Job f)) all has h = absurd h
-run_fault_of_job in_turn (Err run.Read) all has h = absurd h
-run_fault_of_job in_turn (Err run.Write) all has h = has
-run_fault_of_job in_turn (Err run.Memory) all has h = tt
-run_fault_of_job in_turn (Err run.Thread) all has h = (h, has)
+-- bytes that are a job are all that there is
+has_job : (all : Option (List ℕ)) (bytes : List ℕ) → IfSome all (IsInput bytes) → HasJob bytes → IfSome all HasJob
+has_job None bytes input has = tt
+has_job (Some xs) bytes input has = (has.0, subst (λ (z : List ℕ). IsJob z has.0) (input.read has.1.short) has.1)
 
--- a fault of the scripts is one of the outcome
-pub outcome_fault_of_scripts : (in_turn : Bool) (f : RunFault) → IsScriptsFault in_turn f → IsOutcomeFault in_turn f
-outcome_fault_of_scripts in_turn (run.Job f) h = h
-outcome_fault_of_scripts in_turn run.Read h = h
-outcome_fault_of_scripts in_turn run.Write h = absurd h
-outcome_fault_of_scripts in_turn run.Memory h = h
-outcome_fault_of_scripts in_turn run.Thread h = h
+pub has_job_where_done : (r : Result Summary RunFault) (all : Option (List ℕ)) (bytes : List ℕ) → IfSome all (IsInput bytes) → IfOk r (λ _. HasJob bytes) → IfOk r (λ _. IfSome all HasJob)
+has_job_where_done (Ok x) all bytes input has = has_job all bytes input has
+has_job_where_done (Err f) all bytes input has = tt
 
 -- whatever job all bytes are, the bytes read are that job
-pub job_of_all : (all : Option (List ℕ)) (bytes xs : List ℕ) (job : JobData) → IfSome all (λ ys. bytes ≡ take MOST_BYTES ys) → length bytes ≤ LONGEST_JOB → all ≡ Some xs → IsJob xs job → IsJob bytes job
-job_of_all all bytes xs job e short is_xs is =
-    let front : bytes ≡ take MOST_BYTES xs = subst (λ (o : Option (List ℕ)). IfSome o (λ ys. bytes ≡ take MOST_BYTES ys)) is_xs e in
-    subst (λ (z : List ℕ). IsJob z job) (sym (all_read bytes xs front short)) is
+pub job_of_all : (all : Option (List ℕ)) (bytes xs : List ℕ) (job : JobData) → IfSome all (IsInput bytes) → all ≡ Some xs → IsJob xs job → IsJob bytes job
+job_of_all all bytes xs job input is_xs is =
+    let same : IsInput bytes xs = subst (λ (o : Option (List ℕ)). IfSome o (IsInput bytes)) is_xs input in
+    subst (λ (z : List ℕ). IsJob z job) (sym (same.whole is.short)) is
+
+-- a fault of the bytes read is one of all bytes
+fault_of_all : (bytes xs : List ℕ) (f : JobFault) → IsInput bytes xs → IsJobFault bytes f → IsJobFault xs f
+fault_of_all bytes xs (BadLine n) input h = subst (λ (z : List ℕ). IsJobFault z (BadLine n)) (input.read h.short) h
+fault_of_all bytes xs (NoSuchCommand n) input h = subst (λ (z : List ℕ). IsJobFault z (NoSuchCommand n)) (input.read h.short) h
+fault_of_all bytes xs (OpenBatch n) input h = subst (λ (z : List ℕ). IsJobFault z (OpenBatch n)) (input.read h.short) h
+fault_of_all bytes xs (TooManyOperators n) input h = subst (λ (z : List ℕ). IsJobFault z (TooManyOperators n)) (input.read h.short) h
+fault_of_all bytes xs (DuplicateOperator n) input h = subst (λ (z : List ℕ). IsJobFault z (DuplicateOperator n)) (input.read h.short) h
+fault_of_all bytes xs (TooManyCalls n) input h = subst (λ (z : List ℕ). IsJobFault z (TooManyCalls n)) (input.read h.short) h
+fault_of_all bytes xs (Text f) input h = subst (λ (z : List ℕ). IsJobFault z (Text f)) (input.read h.short) h
+fault_of_all bytes xs TooLong input h = dite (dec_le (length xs) LONGEST_JOB) (λ few. let same = ap length (input.whole few) in absurd (omega (arith, same, h, few))) (λ many. omega (arith, many))
+fault_of_all bytes xs OutOfMemory input h = subst (λ (z : List ℕ). IsJobFault z OutOfMemory) (input.read h.short) h
+
+refusal_of_all : (all : Option (List ℕ)) (bytes : List ℕ) (f : JobFault) → IfSome all (IsInput bytes) → IsRefusal (Some bytes) f → IsRefusal all f
+refusal_of_all None bytes f input h = (h.0, tt)
+refusal_of_all (Some xs) bytes f input h = (h.0, fault_of_all bytes xs f input h.1)
+
+pub run_fault_of_all : (mode : Mode) (r : Result Summary RunFault) (all : Option (List ℕ)) (bytes : List ℕ) → IfSome all (IsInput bytes) → IfErr r (IsRunFault mode (Some bytes)) → IfErr r (IsRunFault mode all)
+run_fault_of_all mode (Ok x) all bytes input h = tt
+run_fault_of_all mode (Err (run.Job f)) all bytes input h = refusal_of_all all bytes f input h
+run_fault_of_all mode (Err run.Read) all bytes input h = tt
+run_fault_of_all mode (Err run.Write) all bytes input h = has_job all bytes input h
+run_fault_of_all mode (Err run.Memory) all bytes input h = tt
+run_fault_of_all mode (Err run.Thread) all bytes input h = (h.0, has_job all bytes input h.1)
+run_fault_of_all mode (Err (run.Refused n)) all bytes input h = (h.0, has_job all bytes input h.1)
+
+-- where a job was read, there is one
+pub is_job : (r : Result Summary RunFault) (bytes : List ℕ) → HasJob bytes → IfOk r (λ _. HasJob bytes)
+is_job (Err f) bytes has = tt
+is_job (Ok x) bytes has = has
+
+-- and faults of its run are those of the bytes
+pub run_fault_of_job : (mode : Mode) (r : Result Summary RunFault) (all : Option (List ℕ)) → IfSome all HasJob → IfErr r (IsOutcomeFault mode) → IfErr r (IsRunFault mode all)
+run_fault_of_job mode (Ok x) all has h = tt
+run_fault_of_job mode (Err (run.Job f)) all has h = absurd h
+run_fault_of_job mode (Err run.Read) all has h = absurd h
+run_fault_of_job mode (Err run.Write) all has h = has
+run_fault_of_job mode (Err run.Memory) all has h = tt
+run_fault_of_job mode (Err run.Thread) all has h = (h, has)
+run_fault_of_job mode (Err (run.Refused n)) all has h = (h, has)
+
+-- a fault of the scripts is one of the outcome
+pub outcome_fault_of_scripts : (mode : Mode) (f : RunFault) → IsScriptsFault mode.in_turn f → IsOutcomeFault mode f
+outcome_fault_of_scripts mode (run.Job f) h = h
+outcome_fault_of_scripts mode run.Read h = h
+outcome_fault_of_scripts mode run.Write h = absurd h
+outcome_fault_of_scripts mode run.Memory h = h
+outcome_fault_of_scripts mode run.Thread h = h
+outcome_fault_of_scripts mode (run.Refused n) h = absurd h
 
 -- after a fault before anything was written, nothing is a front of the output, which isn't empty
 pub nothing_written : (r : Result Summary RunFault) (f : RunFault) (old : Option (List ℕ)) (text : List ℕ) → 0 < length text → r ≡ Err f → Writes r old old text
 nothing_written r f old text some e = rw e (nothing_is_less old text some)
 
--- a fault of the bytes read is one of all bytes
-fault_of_all : (all : Option (List ℕ)) (bytes : List ℕ) (f : JobFault) → IfSome all (λ xs. bytes ≡ take MOST_BYTES xs) → length bytes ≤ LONGEST_JOB → IsJobFault bytes f → IfSome all (λ xs. IsJobFault xs f)
-fault_of_all None bytes f e short h = tt
-fault_of_all (Some xs) bytes f e short h = subst (λ (z : List ℕ). IsJobFault z f) (all_read bytes xs e short) h
-
--- a reader that gave too many bytes has too many
-too_long : (all : Option (List ℕ)) (bytes : List ℕ) → IfSome all (λ xs. bytes ≡ take MOST_BYTES xs) → IsJobFault bytes TooLong → IfSome all (λ xs. IsJobFault xs TooLong)
-too_long None bytes e h = tt
-too_long (Some xs) bytes e h = omega (arith, h, ap length e, length-take MOST_BYTES xs)
-
 -- a fault of the bytes, as one of the run
-pub is_run_fault : (in_turn : Bool) (all : Option (List ℕ)) (bytes : List ℕ) (f : JobFault) → IfSome all (λ xs. bytes ≡ take MOST_BYTES xs) → IsJobFault bytes f → IsRunFault in_turn all (of_job f)
-is_run_fault in_turn all bytes (BadLine n) e h = (refl, fault_of_all all bytes (BadLine n) e h.short h)
-is_run_fault in_turn all bytes (NoSuchCommand n) e h = (refl, fault_of_all all bytes (NoSuchCommand n) e h.short h)
-is_run_fault in_turn all bytes (OpenBatch n) e h = (refl, fault_of_all all bytes (OpenBatch n) e h.short h)
-is_run_fault in_turn all bytes (TooManyOperators n) e h = (refl, fault_of_all all bytes (TooManyOperators n) e h.short h)
-is_run_fault in_turn all bytes (DuplicateOperator n) e h = (refl, fault_of_all all bytes (DuplicateOperator n) e h.short h)
-is_run_fault in_turn all bytes (TooManyCalls n) e h = (refl, fault_of_all all bytes (TooManyCalls n) e h.short h)
-is_run_fault in_turn all bytes (Text f) e h = by_want (is_want f.kind) refl
+pub is_run_fault : (mode : Mode) (bytes : List ℕ) (f : JobFault) → IsJobFault bytes f → IsRunFault mode (Some bytes) (of_job f)
+is_run_fault mode bytes (BadLine n) h = (refl, h)
+is_run_fault mode bytes (NoSuchCommand n) h = (refl, h)
+is_run_fault mode bytes (OpenBatch n) h = (refl, h)
+is_run_fault mode bytes (TooManyOperators n) h = (refl, h)
+is_run_fault mode bytes (DuplicateOperator n) h = (refl, h)
+is_run_fault mode bytes (TooManyCalls n) h = (refl, h)
+is_run_fault mode bytes (Text f) h = by_want (is_want f.kind) refl
   where
-    by_want : (b : Bool) → is_want f.kind ≡ b → IsRunFault in_turn all (cond b run.Memory (run.Job (Text f)))
+    by_want : (b : Bool) → is_want f.kind ≡ b → IsRunFault mode (Some bytes) (cond b run.Memory (run.Job (Text f)))
     by_want true k = tt
-    by_want false k = (k, fault_of_all all bytes (Text f) e h.short h)
-is_run_fault in_turn all bytes TooLong e h = (refl, too_long all bytes e h)
-is_run_fault in_turn all bytes OutOfMemory e h = tt
+    by_want false k = (k, h)
+is_run_fault mode bytes TooLong h = (refl, h)
+is_run_fault mode bytes OutOfMemory h = tt
 
 -- no fault of reading is one of the bytes
-pub run_fault_of_input : (in_turn : Bool) (f : RunFault) (all : Option (List ℕ)) → IsInputFault f → IsRunFault in_turn all f
-run_fault_of_input in_turn (run.Job f) all h = absurd h
-run_fault_of_input in_turn run.Read all h = tt
-run_fault_of_input in_turn run.Write all h = absurd h
-run_fault_of_input in_turn run.Memory all h = tt
-run_fault_of_input in_turn run.Thread all h = absurd h
+pub run_fault_of_input : (mode : Mode) (f : RunFault) (all : Option (List ℕ)) → IsInputFault f → IsRunFault mode all f
+run_fault_of_input mode (run.Job f) all h = absurd h
+run_fault_of_input mode run.Read all h = tt
+run_fault_of_input mode run.Write all h = absurd h
+run_fault_of_input mode run.Memory all h = tt
+run_fault_of_input mode run.Thread all h = absurd h
+run_fault_of_input mode (run.Refused n) all h = absurd h

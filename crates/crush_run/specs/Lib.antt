@@ -1,4 +1,7 @@
 pub mod Faults
+pub mod Input
+pub mod Joined
+pub mod Options
 pub mod Run
 pub mod Script
 pub mod Stages

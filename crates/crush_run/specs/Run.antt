@@ -1,16 +1,23 @@
 -- The run of a job: what its contract says, on one page.
-use Rattle.std.specs.Prelude.{◌≡◌, ◌≤◌, ◌+◌, ℕ, Option, Result, IfOk, IfSome, List, [], ◌++◌, Bool, true, false, if◌then◌else◌, length}
+use Rattle.std.specs.Prelude.{◌≡◌, ◌<◌, ◌≤◌, ◌+◌, ℕ, Option, Result, Ok, Err, IfOk, IfSome, List, [], ◌++◌, Bool, true, false, if◌then◌else◌, length}
 use Rattle.std.specs.Io.KnownBytes.{Consumes}
 use Rattle.crush_units.specs.declared.limits.TheConstants.{LONGEST_JOB}
 use Rattle.crush_bytes.specs.Writes.{Writes}
+use Rattle.crush_table.specs.Table.{Row}
+use Rattle.crush_edits.specs.Setting.{SettingData}
 use Rattle.crush_print.specs.MapText.{map_text}
+use Rattle.crush_view.specs.TreeText.{tree_text}
+use Rattle.crush_reasons.specs.Ceph.{ceph_text}
 use Rattle.crush_calls.specs.History.{EntryData, IsLegal, of_operator, table_after, changes, turns}
 use Rattle.crush_calls.specs.Turns.{calls_at, calls_of}
 use Rattle.crush_calls.specs.HistoryText.{entries_text, names_of}
+use Rattle.crush_calls.specs.Refused.{refusals, refused_text}
 use Rattle.crush_script.specs.Fault.{lacks_memory}
 use Rattle.crush_script.specs.Job.{JobData, HasJob, IsJobFault}
 use Rattle.crush_script.specs.declared.fault.JobFault.{JobFault}
 use Rattle.crush_options.specs.declared.asked.Mode.{Mode}
+use Rattle.crush_run.specs.declared.asked.Asked.{Asked}
+use Rattle.crush_run.specs.declared.asked.Asked.TheVariants as asked
 use Rattle.crush_run.specs.declared.fault.RunFault.{RunFault}
 use Rattle.crush_run.specs.declared.fault.RunFault.TheVariants as run
 use Rattle.crush_run.specs.declared.summary.Summary.{Summary}
@@ -26,22 +33,43 @@ pub record IsRunOf (in_turn : Bool) (job : JobData) (h : List EntryData) : Type 
 abbrev pub lines_asked : Bool → List (List ℕ) → List EntryData → List ℕ
 lines_asked history names h = if history then entries_text names 1 h else []
 
--- OUTPUT: the map after the history, and behind it the lines that are asked for
-abbrev pub output_of : Bool → JobData → List EntryData → List ℕ
-output_of history job h =
-    map_text job.setting (table_after job.setting job.table h) ++ lines_asked history (names_of job.scripts) h
+-- what is asked for of a map with this setting and this table, which it has after a history: its text, its tree, or the commands
+-- that changed it
+abbrev pub main_text : Asked → SettingData → List Row → List EntryData → List ℕ
+main_text asked.Map s t h = map_text s t
+main_text asked.Tree s t h = tree_text s t
+main_text asked.AsCeph s t h = ceph_text h
+
+-- OUTPUT: what is asked for of the map after the history, and behind it the lines that are asked for
+abbrev pub output_of : Asked → Bool → JobData → List EntryData → List ℕ
+output_of what history job h =
+    main_text what job.setting (table_after job.setting job.table h) h ++ lines_asked history (names_of job.scripts) h
 
 -- SUMMARY: the written weights that were replaced, the calls, and those that changed the map
 abbrev pub summary_of : JobData → List EntryData → Summary
 summary_of job h = record { adjusted = job.adjusted; calls = length h; changes = changes h }
 
--- ENDS: there is a run of the job whose output is written, or after a fault a front of it that isn't the whole, and which the
--- summary sums up
-pub record Ends (mode : Mode) (job : JobData) (result : Result Summary RunFault) (old new : Option (List ℕ)) : Type 0 where
+-- STRICT: a strict run that comes to its output has no refused entry, and one that ends by refusals hands out how many there
+-- are and their lines; nothing else is noted
+abbrev pub IsStrict : {X : Type 0} → Bool → List (List ℕ) → List EntryData → Result X RunFault → List ℕ → Type 0
+IsStrict strict names h (Ok x) notes = (notes ≡ []) × (strict ≡ true → refusals h ≡ 0)
+IsStrict strict names h (Err run.Write) notes = (notes ≡ []) × (strict ≡ true → refusals h ≡ 0)
+IsStrict strict names h (Err (run.Refused n)) notes = (strict ≡ true) × (n ≡ refusals h) × (0 < n) × (notes ≡ refused_text names 1 h)
+IsStrict strict names h (Err fault) notes = notes ≡ []
+
+-- nothing is noted but of refused entries
+abbrev pub IsQuiet : {X : Type 0} → Result X RunFault → List ℕ → Type 0
+IsQuiet (Err (run.Refused n)) notes = Unit {0}
+IsQuiet result notes = notes ≡ []
+
+-- ENDS: there is a run of the job whose output is written, or after a fault a front of it that isn't the whole, which the
+-- summary sums up, and whose refused entries end it where it is strict
+pub record Ends (mode : Mode) (what : Asked) (job : JobData) (result : Result Summary RunFault) (old new : Option (List ℕ)) (notes : List ℕ) : Type 0 where
   pub history : List EntryData
   pub run : IsRunOf mode.in_turn job history
-  pub writes : Writes result old new (output_of mode.history job history)
+  pub writes : Writes result old new (output_of what mode.history job history)
   pub summary : IfOk result (λ (s : Summary). s ≡ summary_of job history)
+  pub strict : IsStrict mode.strict (names_of job.scripts) history result notes
 
 -- TAKEN: of the reader's bytes no more are taken than the longest job has and one more, its first
 abbrev pub TakesFew : Option (List ℕ) → Option (List ℕ) → Type 0
@@ -51,10 +79,12 @@ TakesFew old new = (front : List ℕ) × (length front ≤ LONGEST_JOB + 1) × C
 abbrev pub IsRefusal : Option (List ℕ) → JobFault → Type 0
 IsRefusal all fault = (lacks_memory fault ≡ false) × IfSome all (λ bytes. IsJobFault bytes fault)
 
--- when each fault is told: Job of bytes that are no job, Write and Thread only of bytes that are one, and Thread never in turn
-abbrev pub IsRunFault : Bool → Option (List ℕ) → RunFault → Type 0
-IsRunFault in_turn all (run.Job fault) = IsRefusal all fault
-IsRunFault in_turn all run.Write = IfSome all HasJob
-IsRunFault in_turn all run.Read = Unit {0}
-IsRunFault in_turn all run.Memory = Unit {0}
-IsRunFault in_turn all run.Thread = (in_turn ≡ false) × IfSome all HasJob
+-- when each fault is told: Job of bytes that are no job, Write, Thread and Refused only of bytes that are one, Thread never in
+-- turn, and Refused of strict runs alone
+abbrev pub IsRunFault : Mode → Option (List ℕ) → RunFault → Type 0
+IsRunFault mode all (run.Job fault) = IsRefusal all fault
+IsRunFault mode all run.Write = IfSome all HasJob
+IsRunFault mode all run.Read = Unit {0}
+IsRunFault mode all run.Memory = Unit {0}
+IsRunFault mode all run.Thread = (mode.in_turn ≡ false) × IfSome all HasJob
+IsRunFault mode all (run.Refused n) = (mode.strict ≡ true) × IfSome all HasJob

@@ -1,9 +1,10 @@
 -- The stages of a run: what comes of each, and which faults may come at which.
-use Rattle.std.specs.Prelude.{◌≡◌, List, Bool, false}
+use Rattle.std.specs.Prelude.{◌≡◌, List, Bool, false, true}
 use Rattle.crush_map.specs.MapData.{MapData, MapStands}
 use Rattle.crush_calls.specs.History.{EntryData, table_after}
 use Rattle.crush_calls.specs.Script.{ScriptData}
 use Rattle.crush_script.specs.Job.{JobData}
+use Rattle.crush_options.specs.declared.asked.Mode.{Mode}
 use Rattle.crush_run.specs.declared.fault.RunFault.{RunFault}
 use Rattle.crush_run.specs.declared.fault.RunFault.TheVariants as run
 use Rattle.crush_run.specs.Run.{IsRunOf}
@@ -27,11 +28,24 @@ IsScriptsFault in_turn run.Thread = in_turn ≡ false
 IsScriptsFault in_turn fault = ⊥
 
 -- what may fail once the job is read
-abbrev pub IsOutcomeFault : Bool → RunFault → Type 0
-IsOutcomeFault in_turn run.Write = Unit {0}
-IsOutcomeFault in_turn run.Memory = Unit {0}
-IsOutcomeFault in_turn run.Thread = in_turn ≡ false
-IsOutcomeFault in_turn fault = ⊥
+abbrev pub IsOutcomeFault : Mode → RunFault → Type 0
+IsOutcomeFault mode run.Write = Unit {0}
+IsOutcomeFault mode run.Memory = Unit {0}
+IsOutcomeFault mode run.Thread = mode.in_turn ≡ false
+IsOutcomeFault mode (run.Refused n) = mode.strict ≡ true
+IsOutcomeFault mode fault = ⊥
+
+-- what may fail before there is a history
+abbrev pub IsEarlyFault : RunFault → Type 0
+IsEarlyFault run.Write = ⊥
+IsEarlyFault (run.Refused n) = ⊥
+IsEarlyFault fault = Unit {0}
+
+-- what the check of a strict run may answer
+abbrev pub IsStrictFault : RunFault → Type 0
+IsStrictFault run.Memory = Unit {0}
+IsStrictFault (run.Refused n) = Unit {0}
+IsStrictFault fault = ⊥
 
 -- what scripts leave of a map, whatever job they and the map stand for: a run of the job, and the map after its history
 pub record HaveRun (in_turn : Bool) (job : JobData) (after : MapData) (h : List EntryData) : Type 0 where

@@ -24,6 +24,9 @@ pub enum RunFault {
     /// A worker couldn't be started. Nothing was written.
     #[error("no thread")]
     Thread,
+    /// In a strict run so many calls were refused. Nothing was written.
+    #[error("refused {0}")]
+    Refused(u32),
 }
 
 impl<T: Drop> From<AllocFailed<T>> for RunFault {

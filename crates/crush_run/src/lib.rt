@@ -4,16 +4,22 @@
 mod asked;
 mod at_once;
 mod fault;
+mod files;
 mod gate;
 mod in_turn;
 mod input;
+mod joined;
+mod options;
 mod run;
+mod strict;
 mod summary;
 mod worker;
 mod workers;
 
-pub use asked::run_options;
+pub use asked::Asked;
 pub use fault::RunFault;
+pub use files::{Opens, SystemFiles};
 pub use gate::{Gate, NoGate};
+pub use options::run_options;
 pub use run::run_job;
 pub use summary::Summary;

@@ -2,7 +2,8 @@
 
 use crush_options::Mode;
 use crush_report::report;
-use crush_run::{NoGate, RunFault, Summary, run_job};
+use crush_run::{Asked, Gate, NoGate, RunFault, Summary, run_job};
+use std::io::{Read, Write};
 use std::process::Abort;
 use std::random::RandomSource;
 use std::sync::Wait;
@@ -11,9 +12,12 @@ use std::thread::Threads;
 mod at_once;
 mod command_lines;
 mod failing;
+mod gates;
 mod limits;
 mod prefixes;
 mod reporting;
+mod scripts;
+mod strict;
 
 /// The plain example map, with nothing behind it.
 const PLAIN: &[u8] =
@@ -47,6 +51,24 @@ fn put_behind(rt: &impl Abort, text: &mut Vec<u8>, bytes: &[u8]) {
     text.extend_from_slice(bytes).expect(rt, "no memory");
 }
 
+/// Runs a job of which the map is asked for.
+fn run_map<H, G, R, W>(
+    rt: &H,
+    gate: &G,
+    mode: Mode,
+    reader: &mut R,
+    writer: &mut W,
+) -> Result<Summary, RunFault>
+where
+    H: AllocGlobal + RandomSource + Threads + Wait + Sync,
+    G: Gate + Sync,
+    R: Read,
+    W: Write,
+{
+    let mut notes = Vec::new(rt.alloc());
+    run_job(rt, gate, mode, Asked::Map, reader, writer, &mut notes)
+}
+
 /// Whether a job that is run in this mode writes this map and these lines behind it, and is summed
 /// up like this.
 fn writes(
@@ -58,7 +80,7 @@ fn writes(
     summary: Summary,
 ) -> bool {
     let mut out = Vec::new(rt.alloc());
-    let outcome = run_job(rt, &NoGate, mode, &mut &*job, &mut out);
+    let outcome = run_map(rt, &NoGate, mode, &mut &*job, &mut out);
     outcome == Ok(summary)
         && out.len().checked_sub(map.len()) == Some(lines.len())
         && out.starts_with(map)
@@ -94,5 +116,5 @@ fn is_told(
     status: u8,
 ) -> bool {
     let mut err = Vec::new(rt.alloc());
-    report(outcome, &mut err) == status && err.as_slice() == line
+    report(outcome, b"", &mut err) == status && err.as_slice() == line
 }

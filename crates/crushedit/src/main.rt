@@ -3,7 +3,7 @@
 
 use crush_options::{Options, OptionsFault, options};
 use crush_report::{report, tell};
-use crush_run::run_options;
+use crush_run::{RunFault, Summary, SystemFiles, run_options};
 use std::io::ErrorKind;
 use std::process::ExitCode;
 
@@ -11,12 +11,31 @@ fn main(rt: HostRuntime) -> ExitCode {
     let status = match read_options(&rt) {
         Ok(options) => {
             let (mut input, mut output) = (rt.stdin(), rt.stdout());
-            let outcome = run_options(&rt, &rt, &options, &mut input, &mut output);
-            report(&outcome, &mut rt.stderr())
+            let mut notes = Vec::new(rt.alloc());
+            let files = SystemFiles(&rt);
+            let outcome = run_options(&rt, &files, &options, &mut input, &mut output, &mut notes);
+            report(&closed(outcome), notes.as_slice(), &mut rt.stderr())
         }
-        Err(fault) => tell(&fault, &mut rt.stdout(), &mut rt.stderr()),
+        Err(fault) => match tell(&fault, &mut rt.stdout(), &mut rt.stderr()) {
+            0 if !closes_output() => report(&Err(RunFault::Write), b"", &mut rt.stderr()),
+            status => status,
+        },
     };
     ExitCode::from(status)
+}
+
+/// Closes standard output behind a run that was done: some file systems tell only then that they
+/// couldn't store what was written. That is a failed write.
+fn closed(outcome: Result<Summary, RunFault>) -> Result<Summary, RunFault> {
+    match outcome {
+        Ok(_) if !closes_output() => Err(RunFault::Write),
+        outcome => outcome,
+    }
+}
+
+/// Closes standard output, and answers whether no error was told.
+fn closes_output() -> bool {
+    libc::close(libc::STDOUT_FILENO) == 0
 }
 
 /// The options in the words behind the program's name.

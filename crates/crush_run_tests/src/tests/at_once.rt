@@ -1,8 +1,8 @@
 //! Runs of operators at once. What a gate sees shows that threads are at work at the same time, which
 //! no clause says.
 
-use super::{AT_ONCE, PLAIN, joined, put_behind, summary};
-use crush_run::{Gate, NoGate, run_job};
+use super::{AT_ONCE, PLAIN, joined, put_behind, run_map, summary};
+use crush_run::{Gate, NoGate};
 use std::process::Abort;
 use std::sync::Wait;
 use std::sync::atomic::{AtomicU64, Ordering};
@@ -13,7 +13,7 @@ use std::time::{Clock, Duration};
 const MOST_NAPS: u64 = 10_000;
 
 /// Waits until the count is as high as is asked, and answers whether it came to that.
-fn reaches(clock: &impl Clock, count: &AtomicU64, goal: u64) -> bool {
+pub(super) fn reaches(clock: &impl Clock, count: &AtomicU64, goal: u64) -> bool {
     for _ in 0..MOST_NAPS {
         if count.load(Ordering::SeqCst) >= goal {
             return true;
@@ -97,7 +97,7 @@ fn two_operators_are_at_work_at_the_same_time(rt: HostRuntime) {
     };
     let job = joined(&rt, PLAIN, ONE_DEVICE);
     let mut out = Vec::new(rt.alloc());
-    let outcome = run_job(&rt, &gate, AT_ONCE, &mut job.as_slice(), &mut out);
+    let outcome = run_map(&rt, &gate, AT_ONCE, &mut job.as_slice(), &mut out);
     let missed = gate.missed.load(Ordering::SeqCst);
     assert!(&rt;
         missed == 0
@@ -118,7 +118,7 @@ fn a_gate_dictates_the_order_of_calls(rt: HostRuntime) {
     let gate = ByTurns::new(&rt);
     let job = joined(&rt, PLAIN, TWO_WEIGHTS);
     let mut out = Vec::new(rt.alloc());
-    let outcome = run_job(&rt, &gate, AT_ONCE, &mut job.as_slice(), &mut out);
+    let outcome = run_map(&rt, &gate, AT_ONCE, &mut job.as_slice(), &mut out);
     let in_order = gate.kept_order();
     assert!(&rt; in_order && outcome == Ok(summary(0, 4, 2)) && out.ends_with(BY_TURNS));
 }
@@ -156,7 +156,7 @@ fn lines_of(out: &[u8], name: u8) -> usize {
 fn sixteen_operators_have_all_their_calls_answered(rt: HostRuntime) {
     let job = sixteen_scripts(&rt, 256);
     let mut out = Vec::new(rt.alloc());
-    let outcome = run_job(&rt, &NoGate, AT_ONCE, &mut job.as_slice(), &mut out);
+    let outcome = run_map(&rt, &NoGate, AT_ONCE, &mut job.as_slice(), &mut out);
     assert!(&rt; outcome == Ok(summary(0, 4096, 1)));
     for name in SIXTEEN {
         assert!(&rt; lines_of(out.as_slice(), *name) == 256);

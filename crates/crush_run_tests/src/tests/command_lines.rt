@@ -86,7 +86,15 @@ fn further_words_are_read(rt: HostRuntime) {
     assert!(rt;
         asks_for_all(
             &rt,
-            &["--strict", "-s", "a", "--since", "m.txt", "--script=b.txt", "--explain"]
+            &[
+                "--strict",
+                "-s",
+                "a",
+                "--since",
+                "m.txt",
+                "--script=b.txt",
+                "--explain"
+            ]
         )
     );
 }

@@ -1,7 +1,7 @@
 //! Readers and writers that fail, once or from then on, and readers of blanks alone, some without an end.
 
-use super::{MODE, PLAIN, REWEIGHED, is_told, joined, summary};
-use crush_run::{NoGate, RunFault, run_job};
+use super::{MODE, PLAIN, REWEIGHED, is_told, joined, run_map, summary};
+use crush_run::{NoGate, RunFault};
 use crush_script::JobFault;
 use std::io::{self, ErrorKind, Read, Write};
 use std::random::RandomSource;
@@ -121,7 +121,7 @@ fn stops_at(
         way,
     };
     let mut out = Vec::new(rt.alloc());
-    let outcome = run_job(rt, &NoGate, MODE, &mut reader, &mut out);
+    let outcome = run_map(rt, &NoGate, MODE, &mut reader, &mut out);
     outcome == Err(RunFault::Read)
         && out.is_empty()
         && is_told(rt, &outcome, b"crushedit: read fault\n", 3)
@@ -153,7 +153,7 @@ fn leaves_a_front(
         answers_error,
         way,
     };
-    let outcome = run_job(rt, &NoGate, MODE, &mut &*job, &mut writer);
+    let outcome = run_map(rt, &NoGate, MODE, &mut &*job, &mut writer);
     outcome == Err(RunFault::Write)
         && writer.taken.len() == room
         && whole.starts_with(writer.taken.as_slice())
@@ -185,7 +185,7 @@ fn is_too_long(
     reader: &mut Blanks,
 ) -> bool {
     let mut out = Vec::new(rt.alloc());
-    let outcome = run_job(rt, &NoGate, MODE, reader, &mut out);
+    let outcome = run_map(rt, &NoGate, MODE, reader, &mut out);
     outcome == Err(RunFault::Job(JobFault::TooLong))
         && reader.left == usize::MAX - LONGEST_JOB - 1
         && out.is_empty()
@@ -224,6 +224,6 @@ fn the_most_blanks_are_the_empty_map(rt: HostRuntime) {
         asked: 0,
     };
     let mut out = Vec::new(rt.alloc());
-    let outcome = run_job(&rt, &NoGate, MODE, &mut reader, &mut out);
+    let outcome = run_map(&rt, &NoGate, MODE, &mut reader, &mut out);
     assert!(rt; outcome == Ok(summary(0, 0, 0)) && reader.left == 0 && out.as_slice() == EMPTY);
 }

@@ -1,8 +1,8 @@
 //! As much as a map and a job may have: buckets below one another, and calls.
 
 use super::at_once::ByTurns;
-use super::{AT_ONCE, MODE, PLAIN, joined, put_behind, summary, writes};
-use crush_run::{NoGate, run_job};
+use super::{AT_ONCE, MODE, PLAIN, joined, put_behind, run_map, summary, writes};
+use crush_run::NoGate;
 use std::process::Abort;
 
 /// As many buckets as a map may have.
@@ -73,7 +73,7 @@ fn two_operators_edit_the_most_buckets(rt: HostRuntime) {
     let after = chain(&rt, "2.00000");
     let expected = joined(&rt, after.as_slice(), TWO_PARTS);
     let mut out = Vec::new(rt.alloc());
-    let outcome = run_job(&rt, &gate, AT_ONCE, &mut job.as_slice(), &mut out);
+    let outcome = run_map(&rt, &gate, AT_ONCE, &mut job.as_slice(), &mut out);
     let in_order = gate.kept_order();
     assert!(&rt; in_order && outcome == Ok(summary(0, 4, 4)) && out == expected);
 }
@@ -90,7 +90,7 @@ fn runs_the_most_calls(rt: HostRuntime) {
     let mut job = joined(&rt, PLAIN, b"%operator a\n");
     put_most_calls(&rt, &mut job);
     let mut out = Vec::new(rt.alloc());
-    let outcome = run_job(&rt, &NoGate, MODE, &mut job.as_slice(), &mut out);
+    let outcome = run_map(&rt, &NoGate, MODE, &mut job.as_slice(), &mut out);
     assert!(rt;
         outcome == Ok(summary(0, 65_536, 65_536))
             && out.starts_with(PLAIN)

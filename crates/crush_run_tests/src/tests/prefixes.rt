@@ -1,7 +1,7 @@
 //! Each prefix of a job: it is run, and the whole output is written, or it is no job, and nothing is written.
 
-use super::{MODE, PLAIN, REWEIGHED, joined, summary};
-use crush_run::{NoGate, RunFault, Summary, run_job};
+use super::{MODE, PLAIN, REWEIGHED, joined, run_map, summary};
+use crush_run::{NoGate, RunFault, Summary};
 use std::process::Abort;
 use std::random::RandomSource;
 use std::sync::Wait;
@@ -17,7 +17,7 @@ fn ends_so(
     due: Option<Due<'_>>,
 ) -> bool {
     let mut out = Vec::new(rt.alloc());
-    match (run_job(rt, &NoGate, MODE, &mut &*job, &mut out), due) {
+    match (run_map(rt, &NoGate, MODE, &mut &*job, &mut out), due) {
         (Ok(sum), Some((text, due))) => sum == due && out.as_slice() == text,
         (Err(RunFault::Job(_)), None) => out.is_empty(),
         _ => false,
@@ -91,7 +91,7 @@ fn is_run_or_refused(
     text: &[u8],
 ) -> bool {
     let mut out = Vec::new(rt.alloc());
-    match run_job(rt, &NoGate, MODE, &mut &*text, &mut out) {
+    match run_map(rt, &NoGate, MODE, &mut &*text, &mut out) {
         Ok(sum) => sum == summary(0, 0, 0) && out.ends_with(b"\n\n# end crush map\n"),
         Err(fault) => matches!(fault, RunFault::Job(_)) && out.is_empty(),
     }

@@ -1,20 +1,26 @@
 use Rattle.std.proofs.lemmas.Result.{err_from_is_err_and}
 use Rattle.crush_bytes.proofs.Appending.{less_of_both, nothing_is_less, then_less}
-use Rattle.crush_print.proofs.SameText.{map_text_is_some}
+use Rattle.crush_run.proofs.Runs.{main_text_is_some}
 use Rattle.crush_run.proofs.run.write_outcome.Goals as goal
+
+-- where calls were refused, nothing was written of a text that isn't empty
+pub returns-in_err-check_strict-clause-writes : goal.returns-in_err-check_strict-clause-writes
+returns-in_err-check_strict-clause-writes g c = λ t stands.
+    let p = err_from_is_err_and c.from_residual.result c.from_residual.ensures.1 in
+    rw p.1 (less_of_both _ _ _ _ (nothing_is_less _ _ (main_text_is_some c.args.asked c.args.map.now.setting t c.args.entries.now)))
 
 -- where there was no room for the lines, nothing was written of a text that isn't empty
 pub returns-in_err-lines-clause-writes : goal.returns-in_err-lines-clause-writes
 returns-in_err-lines-clause-writes g c = λ t stands.
-    let p = err_from_is_err_and c.from_residual.result c.from_residual.ensures.1 in
-    rw p.1 (less_of_both _ _ _ _ (nothing_is_less _ _ (map_text_is_some c.args.map.now.setting t)))
+    let p = err_from_is_err_and c.from_residual-in_err-lines.result c.from_residual-in_err-lines.ensures.1 in
+    rw p.1 (less_of_both _ _ _ _ (nothing_is_less _ _ (main_text_is_some c.args.asked c.args.map.now.setting t c.args.entries.now)))
 
-pub returns-in_err-write_map-clause-writes : goal.returns-in_err-write_map-clause-writes
-returns-in_err-write_map-clause-writes g c = λ t stands.
-    let p = err_from_is_err_and c.from_residual-in_err-write_map.result c.from_residual-in_err-write_map.ensures.1 in
-    rw p.1 (less_of_both _ _ _ _ (c.in_err-write_map.ensures.writes t stands))
+pub returns-in_err-write_asked-clause-writes : goal.returns-in_err-write_asked-clause-writes
+returns-in_err-write_asked-clause-writes g c = λ t stands.
+    let p = err_from_is_err_and c.from_residual-in_err-write_asked.result c.from_residual-in_err-write_asked.ensures.1 in
+    rw p.1 (less_of_both _ _ _ _ (c.in_err-write_asked.ensures.writes t stands))
 
 pub returns-in_err-put-clause-writes : goal.returns-in_err-put-clause-writes
 returns-in_err-put-clause-writes g c = λ t stands.
     let p = err_from_is_err_and c.from_residual-in_err-put.result c.from_residual-in_err-put.ensures.1 in
-    rw (p.1, ← c.in_ok-lines.ensures, ← c.as_slice.ensures.value) (then_less _ _ _ _ _ (c.in_ok-write_map.ensures.writes t stands) c.in_err-put.ensures.writes)
+    rw (p.1, ← c.in_ok-lines.ensures, ← c.as_slice.ensures.value) (then_less _ _ _ _ _ (c.in_ok-write_asked.ensures.writes t stands) c.in_err-put.ensures.writes)

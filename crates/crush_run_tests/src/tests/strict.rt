@@ -1,0 +1,133 @@
+//! Strict runs: their lines, their status, and that nothing is written where a call is refused.
+
+use super::{MODE, PLAIN, joined, summary};
+use crush_options::Mode;
+use crush_report::report;
+use crush_run::{Asked, NoGate, RunFault, Summary, run_job};
+use std::random::RandomSource;
+use std::sync::Wait;
+use std::thread::Threads;
+
+/// In turn, with the history, and strict.
+const STRICT: Mode = Mode {
+    in_turn: true,
+    history: true,
+    strict: true,
+};
+
+/// Whether a run of the job comes to this outcome, writes this, and tells this with this status.
+fn ends_so(
+    rt: &(impl AllocGlobal + RandomSource + Threads + Wait + Sync),
+    mode: Mode,
+    asked: Asked,
+    job: &[u8],
+    outcome: Result<Summary, RunFault>,
+    output: &[u8],
+    told: &[u8],
+    status: u8,
+) -> bool {
+    let mut out = Vec::new(rt.alloc());
+    let mut err = Vec::new(rt.alloc());
+    let mut notes = Vec::new(rt.alloc());
+    let came = run_job(rt, &NoGate, mode, asked, &mut &*job, &mut out, &mut notes);
+    came == outcome
+        && report(&came, notes.as_slice(), &mut err) == status
+        && out.as_slice() == output
+        && err.as_slice() == told
+}
+
+/// A bucket that isn't empty, a new weight, and an item that isn't there.
+const TWO_REFUSED: &[u8] = b"%operator a\nrm default\nreweight osd.0 2\nrm x\n";
+
+const TWO_LINES: &[u8] =
+    b"crushedit: refused 2\n# 1 a rm default = refused NotEmpty 39\n# 3 a rm x = refused NoSuchItem 2\n";
+
+#[test]
+fn a_strict_run_tells_all_that_is_refused(rt: HostRuntime) {
+    let job = joined(&rt, PLAIN, TWO_REFUSED);
+    let outcome = Err(RunFault::Refused(2));
+    let alone = Mode {
+        in_turn: false,
+        history: false,
+        strict: true,
+    };
+    assert!(rt;
+        ends_so(
+            &rt,
+            STRICT,
+            Asked::Map,
+            job.as_slice(),
+            outcome,
+            b"",
+            TWO_LINES,
+            5
+        ) && ends_so(
+            &rt,
+            alone,
+            Asked::Tree,
+            job.as_slice(),
+            outcome,
+            b"",
+            TWO_LINES,
+            5
+        )
+    );
+}
+
+/// A guarded batch that came too late, and a batch whose second edit is refused.
+const BATCHES: &[u8] =
+    b"%operator a\nbegin at 1\nrm osd.0\ncommit\nbegin\nrm osd.0\nrm default\ncommit\n";
+
+const BATCH_LINES: &[u8] =
+    b"crushedit: refused 2\n# 1 a begin at 1 ; rm osd.0 ; commit = refused Stale 11 changes 0\n# 2 a begin ; rm osd.0 ; rm default ; commit = refused at 1 NotEmpty 39\n";
+
+#[test]
+fn refused_batches_are_refused_entries(rt: HostRuntime) {
+    let job = joined(&rt, PLAIN, BATCHES);
+    let outcome = Err(RunFault::Refused(2));
+    assert!(rt;
+        ends_so(
+            &rt,
+            STRICT,
+            Asked::Map,
+            job.as_slice(),
+            outcome,
+            b"",
+            BATCH_LINES,
+            5
+        )
+    );
+}
+
+/// The tree of the plain example map.
+const TREE: &[u8] =
+    b"ID  CLASS  WEIGHT   TYPE NAME\n-1         2.50000  root default\n-2         2.00000      host h1\n 0         1.00000          osd.0\n 1         1.00000          osd.1\n-3         0.50000      host h2\n 2         0.50000          osd.2\n";
+
+#[test]
+fn the_tree_is_written_in_the_place_of_the_map(rt: HostRuntime) {
+    let job = joined(&rt, PLAIN, b"%operator a\nbegin\ncommit\n");
+    let lines = b"# 1 a begin ; commit = dones 0 changed 0 made 0\n";
+    let output = joined(&rt, TREE, lines);
+    let outcome = Ok(summary(0, 1, 0));
+    assert!(rt;
+        ends_so(
+            &rt,
+            STRICT,
+            Asked::Tree,
+            job.as_slice(),
+            outcome,
+            output.as_slice(),
+            b"",
+            0
+        ) && ends_so(
+            &rt,
+            MODE,
+            Asked::Tree,
+            PLAIN,
+            Ok(summary(0, 0, 0)),
+            TREE,
+            b"",
+            0
+        )
+    );
+}
