@@ -1,4 +1,5 @@
-//! The calls of a job, made by a book whose maps are in memory that refuses requests.
+//! The calls of a job, made by a book whose maps are in memory that refuses requests. What answers
+//! that memory lacked counts that in `answers`.
 
 ghost use Rattle.std.specs.Prelude.{◌≡◌, ◌<◌, IfOk};
 ghost use Rattle.crush_units.specs.declared.limits.TheConstants.{MOST_OPERATORS};
@@ -19,9 +20,10 @@ pub fn run_by_book<A: Allocator + Clone>(
     map: CrushMap<A>,
     scripts: &[Script],
     parts: &Parts,
+    answers: &mut usize,
 ) -> anyhow::Result<usize> {
-    let (gauge, mut book) = open_again(alloc, map, parts.printed)?;
-    commit_all(alloc, &gauge, &mut book, scripts)?;
+    let (gauge, mut book) = open_again(alloc, map, parts.printed, answers)?;
+    commit_all(alloc, &gauge, &mut book, scripts, answers)?;
     ensure!(
         is_book_written(alloc, &book, scripts, parts.output)?,
         "another output of a book"
@@ -35,12 +37,16 @@ fn open_again<A: Allocator + Clone>(
     alloc: Global,
     map: CrushMap<A>,
     printed: &[u8],
+    answers: &mut usize,
 ) -> anyhow::Result<(MapGauge, Book<A>)>
     ensures { IfOk result (λ opened. opened.1.table ≡ opened.0.table.shared.table_id) }
 {
     match Started::new(map, 1, alloc) {
         Ok(started) => Ok(started.into_book()),
-        Err(map) => open_returned(alloc, map, printed),
+        Err(map) => {
+            *answers = answers.saturating_add(1);
+            open_returned(alloc, map, printed)
+        }
     }
 }
 
@@ -66,19 +72,22 @@ fn commit_all<A: Allocator + Clone>(
     gauge: &MapGauge,
     book: &mut Book<A>,
     scripts: &[Script],
+    answers: &mut usize,
 ) -> anyhow::Result<()>
     requires { book.old.table ≡ gauge.now.table.shared.table_id }
 {
     for (operator, script) in scripts.iter().enumerate() {
         ensure!(operator < MOST_OPERATORS, "too many operators");
         for call in script.calls.as_slice() {
-            commit_again(alloc, gauge, book, scripts, operator, call)?;
+            let lacked = commit_again(alloc, gauge, book, scripts, operator, call)?;
+            *answers = answers.saturating_add(usize::from(lacked));
         }
     }
     Ok(())
 }
 
-/// Commits a call, once more where memory lacked. Map and history are then written as before.
+/// Commits a call, once more where memory lacked, and answers whether it did. Map and history are
+/// then written as before.
 fn commit_again<A: Allocator + Clone>(
     alloc: Global,
     gauge: &MapGauge,
@@ -86,14 +95,14 @@ fn commit_again<A: Allocator + Clone>(
     scripts: &[Script],
     operator: usize,
     call: &Call,
-) -> anyhow::Result<()>
+) -> anyhow::Result<bool>
     requires operator { operator < MOST_OPERATORS }
     requires gauge { book.old.table ≡ gauge.now.table.shared.table_id }
     ensures { book.new.table ≡ book.old.table }
 {
     let before = book_text(alloc, book, scripts)?;
     match book.commit(alloc, gauge, operator, call) {
-        Ok(_reply) => return Ok(()),
+        Ok(_reply) => return Ok(false),
         Err(fault) => ensure!(fault == SubmitFault::OutOfMemory, "a full history"),
     }
     ensure!(
@@ -102,7 +111,7 @@ fn commit_again<A: Allocator + Clone>(
     );
     let reply = book.commit(alloc, gauge, operator, call);
     ensure!(reply.is_ok(), "no memory");
-    Ok(())
+    Ok(true)
 }
 
 /// The text of a book's map, with the lines of its history behind it.

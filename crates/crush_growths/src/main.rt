@@ -3,7 +3,8 @@
 //!
 //! Standard input has the jobs. The items of maps are in memory that refuses one request, and what
 //! asked for it is asked once more: so each run has to come to the known output, whichever was
-//! refused. The calls are made on a map alone, and then by a book.
+//! refused, and want of memory has to be told, at most once in each run. The calls are made on a map
+//! alone, and then by a book.
 #![tactic(auto)]
 
 use anyhow::{Context, ensure};
@@ -40,10 +41,11 @@ fn run_records(rt: &HostRuntime, records: &[u8]) -> anyhow::Result<()> {
     Ok(())
 }
 
-/// Runs a job with each request refused. There are no fewer than items, since each has a name.
+/// Runs a job with each request refused. Want of memory is told in no fewer runs than there are
+/// items, since each has a name.
 fn run_record(rt: &HostRuntime, parts: &Parts, maker: Maker) -> anyhow::Result<()> {
     let memory = Refusing::new(rt.alloc());
-    let (refused, items) = run_each(rt.alloc(), &memory, parts, maker)?;
-    ensure!(refused >= items, "too few requests");
+    let (told, items) = run_each(rt.alloc(), &memory, parts, maker)?;
+    ensure!(told >= items, "want of memory is told too seldom");
     Ok(())
 }

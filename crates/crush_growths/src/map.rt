@@ -1,4 +1,5 @@
-//! The calls of a job, made on a map whose memory refuses requests.
+//! The calls of a job, made on a map whose memory refuses requests. What answers that memory lacked
+//! counts that in `answers`.
 
 use anyhow::ensure;
 use crush_calls::{Call, Reply, Script, is_change, make_call, write_entry};
@@ -14,9 +15,10 @@ pub fn run_on_map<A: Allocator + Clone>(
     map: CrushMap<A>,
     scripts: &[Script],
     output: &[u8],
+    answers: &mut usize,
 ) -> anyhow::Result<usize> {
     let mut map = map;
-    let lines = make_calls(alloc, &mut map, scripts)?;
+    let lines = make_calls(alloc, &mut map, scripts, answers)?;
     ensure!(
         is_written(alloc, &map, lines.as_slice(), output)?,
         "another output"
@@ -35,6 +37,7 @@ pub fn read_again<A: Allocator + Clone>(
     alloc: Global,
     memory: A,
     text: &[u8],
+    answers: &mut usize,
 ) -> anyhow::Result<CrushMap<A>> {
     let again = memory.clone()?;
     match read_map_in(alloc, Hashing::plain(), memory, text) {
@@ -44,6 +47,7 @@ pub fn read_again<A: Allocator + Clone>(
                 fault.kind == TextFaultKind::OutOfMemory,
                 "a text with a fault"
             );
+            *answers = answers.saturating_add(1);
             let (map, _adjusted) = read_map_in(alloc, Hashing::plain(), again, text)?;
             Ok(map)
         }
@@ -55,13 +59,14 @@ fn make_calls<A: Allocator + Clone>(
     alloc: Global,
     map: &mut CrushMap<A>,
     scripts: &[Script],
+    answers: &mut usize,
 ) -> anyhow::Result<Vec<u8>> {
     let mut lines = Vec::new(alloc);
     let mut number = 0u32;
     let mut changes = 0u32;
     for script in scripts {
         for call in script.calls.as_slice() {
-            let reply = make_again(alloc, map, changes, call)?;
+            let reply = make_again(alloc, map, changes, call, answers)?;
             number = number.saturating_add(1);
             if is_change(reply) {
                 changes = changes.saturating_add(1);
@@ -79,11 +84,13 @@ fn make_again<A: Allocator + Clone>(
     map: &mut CrushMap<A>,
     changes: u32,
     call: &Call,
+    answers: &mut usize,
 ) -> anyhow::Result<Reply> {
     let before = text_of(alloc, map)?;
     if let Ok(reply) = make_call(map, changes, call) {
         return Ok(reply);
     }
+    *answers = answers.saturating_add(1);
     ensure!(
         is_written(alloc, map, &[], before.as_slice())?,
         "another map after want of memory"

@@ -3,7 +3,7 @@
 use crate::book::run_by_book;
 use crate::job::Parts;
 use crate::map::{read_again, run_on_map};
-use anyhow::bail;
+use anyhow::{bail, ensure};
 use crush_calls::Script;
 use crush_map::Hashing;
 use crush_memory::Refusing;
@@ -19,7 +19,8 @@ pub enum Maker {
     Book,
 }
 
-/// How many requests were refused, and how many items the map then has.
+/// In how many runs it was told that memory lacked, and how many items the map then has. In each run
+/// one request more was refused; where a list asked for a smaller block that is told to nobody.
 pub fn run_each(
     alloc: Global,
     memory: &Refusing<Global>,
@@ -27,27 +28,34 @@ pub fn run_each(
     maker: Maker,
 ) -> anyhow::Result<(usize, usize)> {
     let Job { scripts, .. } = read_job(alloc, Hashing::plain(), parts.job)?;
+    let mut told = 0usize;
     for number in 1..usize::MAX {
         memory.refuse(number);
-        let items = run_refused(alloc, memory, parts, scripts.as_slice(), maker)?;
-        if !memory.has_refused() {
-            return Ok((number - 1, items));
+        let (answers, items) = run_refused(alloc, memory, parts, scripts.as_slice(), maker)?;
+        let refused = memory.has_refused();
+        ensure!(answers <= usize::from(refused), "memory lacked once more");
+        told = told.saturating_add(answers);
+        if !refused {
+            return Ok((told, items));
         }
     }
     bail!("no end of requests")
 }
 
-/// Runs the scripts once, and answers how many items the map then has. Its output is the known one.
+/// Runs the scripts once, and answers how often it was told that memory lacked, and how many items
+/// the map then has. Its output is the known one.
 fn run_refused(
     alloc: Global,
     memory: &Refusing<Global>,
     parts: &Parts,
     scripts: &[Script],
     maker: Maker,
-) -> anyhow::Result<usize> {
-    let map = read_again(alloc, memory, parts.map)?;
-    match maker {
-        Maker::Map => run_on_map(alloc, map, scripts, parts.output),
-        Maker::Book => run_by_book(alloc, map, scripts, parts),
-    }
+) -> anyhow::Result<(usize, usize)> {
+    let mut answers = 0;
+    let map = read_again(alloc, memory, parts.map, &mut answers)?;
+    let items = match maker {
+        Maker::Map => run_on_map(alloc, map, scripts, parts.output, &mut answers)?,
+        Maker::Book => run_by_book(alloc, map, scripts, parts, &mut answers)?,
+    };
+    Ok((answers, items))
 }
