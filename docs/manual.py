@@ -17,8 +17,7 @@ END = r""".SH EXAMPLES
 ceph osd getcrushmap \-o map.bin
 crushtool \-d map.bin \-o map.txt
 { cat map.txt; printf '%%operator alice\enreweight osd.2 1.0\en'; } > job.txt
-crushedit job.txt > new.txt
-grep ' = refused ' new.txt
+crushedit \-\-strict job.txt > new.txt
 diff <(crushedit map.txt) new.txt
 .fi
 .PP
