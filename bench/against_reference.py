@@ -143,6 +143,8 @@ def parted(text, folder):
     """The text up to its sections, and a file for each of these, up to sixteen, which make the same job behind it. A
     file is called by its operator, and has no line of it, where that can be."""
     front, *sections = re.split(r"(?m)^(?=%)", text)
+    if not front:
+        return text, []  # behind an empty text a line feed would come
     files = []
     for number, section in enumerate(sections[:16]):
         head = re.match(r"%operator ([A-Za-z0-9_-]+)\n(?=[ \t]*[a-z])", section)
