@@ -2,8 +2,8 @@
 
     python3 bench/streams.py crates/crushedit/out/crushedit [--table]
 
-Each case is a command of bash, with `$C` for the program and `$L` for a library that is preloaded, with which the
-close of standard output answers that the disk is full (it needs a C compiler, `cc`, `gcc` or what CC names), in a
+Each case is a command of bash, with `$C` for the program and `$L` for a library that is preloaded, with which a
+file that is synced answers that the disk is full (it needs a C compiler, `cc`, `gcc` or what CC names), in a
 folder with `job` (a map with an edit), `large` (one
 of 2,000 devices, more than a pipe holds) and `adjusted` (a weight that is no sum). Of each it tells the status, of
 what a signal ended 128 and its number, what standard error got, and how much of its output was written. With --table
@@ -25,14 +25,10 @@ ADJUSTED = "type 1 host\nhost a { id -1 alg straw2 }\nhost b { id -2 alg straw2 
 # Makes 4 the end for writing of a pipe whose only reader has closed its end.
 NO_READER = "mkfifo pipe; exec 3<> pipe 4> pipe 3<&-"
 # What `$L` is made of.
-CLOSE = """
+SYNC = """
 #include <errno.h>
-#include <sys/syscall.h>
-#include <unistd.h>
 
-int close(int fd) {
-    int status = syscall(SYS_close, fd);
-    if (fd != 1) return status;
+int fsync(int fd) {
     errno = ENOSPC;
     return -1;
 }
@@ -78,7 +74,8 @@ CASES = [
     ("--version to a full disk", "$C --version > /dev/full", 3, WRITE, None),
     ("--help to a pipe whose reader is gone", f"{NO_READER}; $C --help >&4", 3, WRITE, None),
     ("--help to a closed output", "$C --help >&-", 3, WRITE, None),
-    ("standard output tells its error at the close", "LD_PRELOAD=$L $C job", 3, WRITE, "all"),
+    ("standard output tells its error when it is synced", "LD_PRELOAD=$L $C job", 3, WRITE, "all"),
+    ("the same, and it is a pipe", "LD_PRELOAD=$L $C job | cat", 0, "", "all"),
     ("--help, and the same", "LD_PRELOAD=$L $C --help > help", 3, WRITE, None),
     ("the same, and nothing was written", "LD_PRELOAD=$L $C missing", 3, READ, "none"),
 ]
@@ -93,10 +90,10 @@ def written(out, whole):
 
 
 def make_library(folder):
-    """The library whose close of standard output fails."""
+    """The library with which no file can be synced."""
     compiler = os.environ.get("CC") or ("cc" if shutil.which("cc") else "gcc")
-    library = os.path.join(folder, "close.so")
-    subprocess.run([compiler, "-shared", "-fPIC", "-x", "c", "-o", library, "-"], input=CLOSE, text=True, check=True)
+    library = os.path.join(folder, "sync.so")
+    subprocess.run([compiler, "-shared", "-fPIC", "-x", "c", "-o", library, "-"], input=SYNC, text=True, check=True)
     return library
 
 

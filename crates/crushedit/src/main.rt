@@ -4,8 +4,13 @@
 use crush_options::{Options, OptionsFault, options};
 use crush_report::{report, tell};
 use crush_run::{RunFault, Summary, SystemFiles, run_options};
+use std::fs;
+use std::fs::OpenOptions;
 use std::io::ErrorKind;
 use std::process::ExitCode;
+
+/// The name by which a program opens what its standard output is.
+const OUTPUT: &str = "/dev/stdout";
 
 fn main(rt: HostRuntime) -> ExitCode {
     let status = match read_options(&rt) {
@@ -14,28 +19,40 @@ fn main(rt: HostRuntime) -> ExitCode {
             let mut notes = Vec::new(rt.alloc());
             let files = SystemFiles(&rt);
             let outcome = run_options(&rt, &files, &options, &mut input, &mut output, &mut notes);
-            report(&closed(outcome), notes.as_slice(), &mut rt.stderr())
+            report(&stored(&rt, outcome), notes.as_slice(), &mut rt.stderr())
         }
         Err(fault) => match tell(&fault, &mut rt.stdout(), &mut rt.stderr()) {
-            0 if !closes_output() => report(&Err(RunFault::Write), b"", &mut rt.stderr()),
+            0 if !is_stored(&rt) => report(&Err(RunFault::Write), b"", &mut rt.stderr()),
             status => status,
         },
     };
     ExitCode::from(status)
 }
 
-/// Closes standard output behind a run that was done: some file systems tell only then that they
-/// couldn't store what was written. That is a failed write.
-fn closed(outcome: Result<Summary, RunFault>) -> Result<Summary, RunFault> {
+/// The outcome of a run that was done where its output is stored, and else a failed write: some file
+/// systems tell only behind the writes that they couldn't store what was written.
+fn stored(rt: &HostRuntime, outcome: Result<Summary, RunFault>) -> Result<Summary, RunFault> {
     match outcome {
-        Ok(_) if !closes_output() => Err(RunFault::Write),
+        Ok(_) if !is_stored(rt) => Err(RunFault::Write),
         outcome => outcome,
     }
 }
 
-/// Closes standard output, and answers whether no error was told.
-fn closes_output() -> bool {
-    libc::close(libc::STDOUT_FILENO) == 0
+/// Whether what was written to standard output is stored, where that is a file. A pipe or a terminal
+/// stores nothing, and what can't be opened once more isn't asked.
+fn is_stored(rt: &HostRuntime) -> bool {
+    match fs::metadata(rt, OUTPUT) {
+        Ok(metadata) if metadata.is_file() => is_synced(rt),
+        _ => true,
+    }
+}
+
+/// Whether the file that standard output is has been synced without an error.
+fn is_synced(rt: &HostRuntime) -> bool {
+    match OpenOptions::new().write(true).open(rt, OUTPUT) {
+        Ok(file) => file.sync_all().is_ok(),
+        Err(_) => true,
+    }
 }
 
 /// The options in the words behind the program's name.
