@@ -1,5 +1,5 @@
-use Rattle.std.proofs.Common.{◌≡◌, List, sym, subst, refl}
-use Rattle.std.specs.Prelude.{Option, Some, None}
+use Rattle.std.proofs.Common.{List, subst, refl}
+use Rattle.std.specs.Prelude.{Some, None}
 use Rattle.crush_units.specs.declared.id.ItemId.TheVariants.{Device}
 use Rattle.crush_table.specs.Columns.{set_class}
 use Rattle.crush_table.specs.Forest.{rows_of}
