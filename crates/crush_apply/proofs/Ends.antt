@@ -17,7 +17,7 @@ use Rattle.crush_apply.specs.declared.route.stops.Stop.{Stop}
 use Rattle.crush_apply.specs.Stopped.{pair_name, stop_data, stops_data}
 use Rattle.crush_apply.specs.Destination.{end_item_tests, EndsAt}
 
-stops_at : (l : List Pair) (xs : List Stop) (k : ℕ) (x : Stop) → k < length xs → x ≡ get_or xs k x → stops_data l (drop k xs) ≡ stop_data l x ∷ stops_data l (drop (k + 1) xs)
+pub stops_at : (l : List Pair) (xs : List Stop) (k : ℕ) (x : Stop) → k < length xs → x ≡ get_or xs k x → stops_data l (drop k xs) ≡ stop_data l x ∷ stops_data l (drop (k + 1) xs)
 stops_at l xs k x h e =
     let next : suc k ≡ k + 1 = omega arith in
     ap (stops_data l) (drop-cons xs k x h) ∙ (λ j. stop_data l (sym e j) ∷ stops_data l (drop (next j) xs))

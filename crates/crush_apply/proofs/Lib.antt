@@ -17,6 +17,7 @@ pub mod Updates
 pub mod Destinations
 pub mod Weights
 pub mod StillFits
+pub mod FirstNames
 pub mod Found
 pub mod Names
 pub mod Singles

@@ -6,3 +6,4 @@ pub mod Stopped
 pub mod Weighed
 pub mod Alone
 pub mod Batched
+pub mod Blamed

@@ -5,6 +5,7 @@
 mod add_bucket;
 mod apply;
 mod batch;
+mod blaming;
 mod classes;
 mod create_or_move;
 mod insert;
@@ -19,3 +20,4 @@ mod update;
 
 pub use apply::apply_edit;
 pub use batch::apply_batch;
+pub use blaming::blamed;

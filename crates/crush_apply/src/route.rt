@@ -2,6 +2,7 @@
 //! to it.
 
 mod arrive;
+mod blaming;
 mod destination;
 mod new_buckets;
 mod put;
@@ -10,6 +11,7 @@ mod room;
 mod stops;
 
 pub(crate) use arrive::{place_device, place_item};
+pub(crate) use blaming::{bad_name, end_name, unknown_type};
 use crush_edits::Location;
 use crush_units::{DeviceId, Name, Weight};
 pub(crate) use destination::{destination_of, is_held, is_loop};

@@ -10,21 +10,23 @@ ghost use Rattle.crush_edits.specs.Batch.{batch, batch_refused};
 ghost use Rattle.crush_edits.specs.Edit.{edit, takes_memory, sets_weights};
 ghost use Rattle.crush_apply.specs.Answered.{KeepsRooms};
 ghost use Rattle.crush_apply.specs.Batched.{IsBatchDone};
+ghost use Rattle.crush_apply.specs.Blamed.{blamed};
 ghost use Rattle.crush_edits.specs.Outcome.{IsDone, IsChange};
 
 use crate::map::CrushMap;
-use crush_apply::{apply_batch, apply_edit};
-use crush_edits::{BatchFault, Done, Dones, Edit, EditFault};
-use std::alloc::Allocator;
+use crush_apply::{apply_batch, apply_edit, blamed};
+use crush_edits::{BatchFault, Done, Dones, Edit, EditFault, Refusal};
+use crush_units::Name;
+use std::alloc::{Allocator, Global};
 
 impl<A: Allocator> CrushMap<A> {
     /// Makes the edit, or tells why it isn't made.
     ///
     /// Where several refusals hold, the one of least number is told. Want of memory is told only of
     /// an edit that takes memory, where nothing speaks against it and the map would be another after
-    /// it: so never of new weights, of an exchange or of a removal. After an Err the map is as
-    /// before, also its room, as it is where the edit changes nothing. New weights leave each place
-    /// the room that it has, whatever is answered.
+    /// it: so never of new weights, of an exchange or of a removal, also of a class. After an Err
+    /// the map is as before, also its room, as it is where the edit changes nothing. New weights
+    /// leave each place the room that it has, whatever is answered.
     pub fn apply(&mut self, asked: &Edit) -> Result<Done, EditFault>
     where
         A: Clone,
@@ -44,6 +46,18 @@ impl<A: Allocator> CrushMap<A> {
         ensures setting { self.new.setting ≡ self.old.setting }
     {
         apply_edit(&mut self.hierarchy, &self.setting, asked)
+    }
+
+    /// The name of an edit that its refusal is about, where this map has refused it: of a location
+    /// the type or the bucket that is at fault, of two names the one, and else the item that is to
+    /// be edited. It takes no memory.
+    ///
+    /// An edit of a batch is refused by the map that the edits before it made, and not by this one.
+    pub fn blamed<'a>(&self, asked: &'a Edit, refusal: Refusal) -> &'a Name<Global>
+        ensures { (t : List Row) → Stands self.now.forest t
+            → result.now ≡ blamed self.now.setting t asked.now refusal }
+    {
+        blamed(&self.hierarchy, &self.setting, asked, refusal)
     }
 
     /// Makes the edits one after the other, each on what the ones before it made, or none of them:

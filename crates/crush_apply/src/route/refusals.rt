@@ -123,14 +123,14 @@ fn has_bucket_twice(pairs: &[Pair]) -> bool
 }
 
 /// Whether a pair has the type name.
-fn names_type(pairs: &[Pair], name: &Name<Global>) -> bool
+pub(crate) fn names_type(pairs: &[Pair], name: &Name<Global>) -> bool
     ensures { result ≡ list_any (λ (p : Pair). bytes_eq p.kind name.now) pairs.now }
 {
     pairs.iter().any(|pair| pair.kind == *name)
 }
 
 /// Whether a pair has the bucket name.
-fn names_bucket(pairs: &[Pair], name: &Name<Global>) -> bool
+pub(crate) fn names_bucket(pairs: &[Pair], name: &Name<Global>) -> bool
     ensures { result ≡ names_it pairs.now name.now }
 {
     pairs.iter().any(|pair| pair.name == *name)
@@ -144,7 +144,7 @@ fn has_type_zero(setting: &Setting, pairs: &[Pair]) -> bool
 }
 
 /// Whether the pair's type is type 0.
-fn is_type_zero(setting: &Setting, pair: &Pair) -> bool
+pub(crate) fn is_type_zero(setting: &Setting, pair: &Pair) -> bool
     ensures { result ≡ is_type_zero setting.now pair.now }
 {
     match setting.kind_number(pair.kind.as_bytes()) {

@@ -4,6 +4,7 @@ ghost use Rattle.std.specs.Prelude.{◌≡◌, ◌+◌, ◌<◌, ◌≤◌, List
 ghost use Rattle.arrayvec.specs.ArrayVec.{array_vec_len};
 ghost use Rattle.std.specs.Prelude.{nat_le};
 ghost use Rattle.std.specs.List.{position_or_len};
+ghost use Rattle.std.specs.Option.{option_map};
 ghost use Rattle.crush_table.specs.Table.{Row};
 ghost use Rattle.crush_table.specs.Stands.{Stands};
 ghost use Rattle.crush_edits.specs.Answer.{first_refusal};
@@ -12,6 +13,7 @@ ghost use Rattle.crush_edits.specs.Stops.{stops};
 ghost use Rattle.crush_apply.specs.declared.route.stops.Stop.{Stop};
 ghost use Rattle.crush_apply.specs.Stopped.{pair_name, stops_data, IsPairOf, put_stop};
 ghost use Rattle.crush_apply.specs.Destination.{EndsAt};
+ghost use Rattle.crush_apply.specs.Blamed.{end_name};
 
 use crate::route::refusals::check_end;
 use arrayvec::ArrayVec;
@@ -136,4 +138,23 @@ pub(crate) fn route_end<A: Allocator>(
         }
     }
     Ok((stops.len(), None))
+}
+
+/// The name of the first stop whose bucket is there.
+pub(crate) fn first_there<'a, A: Allocator>(
+    hierarchy: &Hierarchy<A>,
+    at: &'a Location,
+    stops: &[Stop],
+) -> Option<&'a Name<Global>>
+    requires { All (IsPairOf at.now) stops.now }
+    ensures { (t : List Row) → Stands hierarchy.now t
+        → option_map (λ name. name.now) result ≡ end_name t (stops_data at.now stops.now) }
+{
+    for stop in stops {
+        let name = stop_name(at, stop);
+        if hierarchy.id_of(name.as_str()).is_some() {
+            return Some(name);
+        }
+    }
+    None
 }

@@ -1,0 +1,130 @@
+//! Which of an edit's names a refusal is about.
+
+ghost use Rattle.std.specs.Prelude.{◌≡◌, List};
+ghost use Rattle.crush_table.specs.Stands.{Stands};
+ghost use Rattle.crush_table.specs.Table.{Row, id_named};
+ghost use Rattle.crush_edits.specs.Answer.{is_a_device};
+ghost use Rattle.crush_apply.specs.Blamed.{blamed, put_blamed, swap_blamed, bucket_blamed, name_blamed};
+
+use crate::route::{bad_name, end_name, unknown_type};
+use crush_edits::{Edit, Location, Refusal, Setting};
+use crush_hierarchy::Hierarchy;
+use crush_units::{ItemId, Name};
+use std::alloc::{Allocator, Global};
+
+/// The name of an edit that its refusal is about, on the hierarchy that refused it and by that
+/// setting: of a location the type or the bucket that is at fault, of two names the one, and else
+/// the item that is to be edited.
+///
+/// A refusal that the edit can't meet is about an item that it names. It takes no memory.
+pub fn blamed<'a, A: Allocator>(
+    hierarchy: &Hierarchy<A>,
+    setting: &Setting,
+    asked: &'a Edit,
+    refusal: Refusal,
+) -> &'a Name<Global>
+    ensures { (t : List Row) → Stands hierarchy.now t
+        → result.now ≡ blamed setting.now t asked.now refusal }
+{
+    match asked {
+        Edit::Insert { name, at, .. }
+        | Edit::CreateOrMove { name, at, .. }
+        | Edit::Update { name, at, .. }
+        | Edit::Move { name, at } => put_blamed(hierarchy, setting, name, at, refusal),
+        Edit::Swap { a, b } => swap_blamed(hierarchy, a, b, refusal),
+        Edit::AddBucket { name, kind } => bucket_blamed(name, kind, refusal),
+        Edit::Rename { from, to } => name_blamed(from, to, refusal),
+        Edit::Reweight { name, .. }
+        | Edit::ReweightSubtree { name, .. }
+        | Edit::Remove { name }
+        | Edit::SetClass { name, .. }
+        | Edit::RemoveClass { name } => name,
+    }
+}
+
+/// Of an item that is to come to a location.
+fn put_blamed<'a, A: Allocator>(
+    hierarchy: &Hierarchy<A>,
+    setting: &Setting,
+    item: &'a Name<Global>,
+    at: &'a Location,
+    refusal: Refusal,
+) -> &'a Name<Global>
+    ensures { (t : List Row) → Stands hierarchy.now t
+        → result.now ≡ put_blamed setting.now t item.now at.now refusal }
+{
+    let there = match refusal {
+        Refusal::BadLocation => bad_name(setting, at),
+        Refusal::NoSuchType => unknown_type(setting, at),
+        Refusal::NotABucket | Refusal::WrongType | Refusal::Loop => {
+            end_name(hierarchy, setting, at)
+        }
+        _ => None,
+    };
+    match there {
+        Some(name) => name,
+        None => item,
+    }
+}
+
+/// Of two buckets that are to be exchanged.
+fn swap_blamed<'a, A: Allocator>(
+    hierarchy: &Hierarchy<A>,
+    a: &'a Name<Global>,
+    b: &'a Name<Global>,
+    refusal: Refusal,
+) -> &'a Name<Global>
+    ensures { (t : List Row) → Stands hierarchy.now t
+        → result.now ≡ swap_blamed t a.now b.now refusal }
+{
+    match refusal {
+        Refusal::NoSuchItem => match hierarchy.id_of(a.as_str()) {
+            Some(_) => b,
+            None => a,
+        },
+        Refusal::NotABucket => { if is_device(hierarchy, a) { a } else { b } }
+        _ => a,
+    }
+}
+
+/// Whether a device has the name.
+fn is_device<A: Allocator>(hierarchy: &Hierarchy<A>, name: &Name<Global>) -> bool
+    ensures { (t : List Row) → Stands hierarchy.now t
+        → result ≡ is_a_device (id_named t name.now) }
+{
+    let Some(id) = hierarchy.id_of(name.as_str()) else {
+        return false;
+    };
+    match id {
+        ItemId::Device(_) => true,
+        ItemId::Bucket(_) => false,
+    }
+}
+
+/// Of a bucket that is to be made.
+fn bucket_blamed<'a>(
+    name: &'a Name<Global>,
+    kind: &'a Name<Global>,
+    refusal: Refusal,
+) -> &'a Name<Global>
+    ensures { result.now ≡ bucket_blamed name.now kind.now refusal }
+{
+    match refusal {
+        Refusal::NoSuchType | Refusal::WrongType => kind,
+        _ => name,
+    }
+}
+
+/// Of a bucket that is to have another name.
+fn name_blamed<'a>(
+    from: &'a Name<Global>,
+    to: &'a Name<Global>,
+    refusal: Refusal,
+) -> &'a Name<Global>
+    ensures { result.now ≡ name_blamed from.now to.now refusal }
+{
+    match refusal {
+        Refusal::NameTaken | Refusal::AlreadyRenamed => to,
+        _ => from,
+    }
+}
