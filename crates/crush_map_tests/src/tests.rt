@@ -6,6 +6,7 @@
 //! place, and not in the proof of each function that owns one.
 
 mod asking;
+mod blaming;
 mod building;
 mod classes;
 mod faults;

@@ -40,6 +40,8 @@ pub(super) enum Fact {
     IsAbsent(&'static str),
     /// The item of this name weighs so much.
     Weighs(&'static str, u32),
+    /// The device of this name has this class.
+    HasClass(&'static str, &'static str),
     /// All placed devices weigh so much.
     Total(u64),
     /// There are so many devices and so many buckets.
@@ -164,7 +166,7 @@ fn holds<A: Allocator>(map: &CrushMap<A>, bucket: &str, items: &[&str]) -> bool 
     let ItemId::Bucket(id) = id else {
         return false;
     };
-    let Some(nodes) = map.forest().items(id) else {
+    let Some(nodes) = map.items(id) else {
         return false;
     };
     are_named(nodes, items)
@@ -181,7 +183,7 @@ fn has_id<A: Allocator>(map: &CrushMap<A>, item: &str, number: i32) -> bool {
 /// Whether the bucket of this name stands in no other.
 fn is_root<A: Allocator>(map: &CrushMap<A>, bucket: &str) -> bool {
     match map.locate(bucket) {
-        Some(id) => map.forest().parent(id).is_none(),
+        Some(id) => map.parent(id).is_none(),
         None => false,
     }
 }
@@ -189,6 +191,14 @@ fn is_root<A: Allocator>(map: &CrushMap<A>, bucket: &str) -> bool {
 /// Whether the item of this name weighs so many units.
 fn weighs<A: Allocator>(map: &CrushMap<A>, item: &str, units: u32) -> bool {
     map.weight_of(item) == Some(Weight::from_units(units))
+}
+
+/// Whether the device of this name has the class.
+pub(super) fn has_class<A: Allocator>(map: &CrushMap<A>, device: &str, class: &str) -> bool {
+    match map.locate(device) {
+        Some(id) => map.class_of(id) == Some(class),
+        None => false,
+    }
 }
 
 /// Whether there are so many devices and so many buckets.
@@ -207,6 +217,7 @@ fn is_true_of<A: Allocator>(map: &CrushMap<A>, fact: Fact) -> bool {
         Fact::IsRoot(bucket) => is_root(map, bucket),
         Fact::IsAbsent(item) => map.locate(item).is_none() && map.weight_of(item).is_none(),
         Fact::Weighs(item, units) => weighs(map, item, units),
+        Fact::HasClass(device, class) => has_class(map, device, class),
         Fact::Total(units) => map.total() == units && map.forest().total() == units,
         Fact::Counts(devices, buckets) => counts(map, devices, buckets),
     }

@@ -288,6 +288,15 @@ const OTHERS: &[Call] = &[
         ],
         least: 0,
     },
+    Call {
+        asked: &[Asked::SetClass("osd.0", "ssd")],
+        told: CHANGED,
+        then: &[
+            Fact::HasClass("osd.0", "ssd"),
+            Fact::Holds("h1", &["osd.0", "osd.1"], 131072),
+        ],
+        least: 0,
+    },
 ];
 
 #[test]

@@ -3,7 +3,7 @@
 use crate::tests::asking::{Asked, edit};
 use crate::tests::whole::whole_example_map;
 use crush_map::{CrushMap, Done, EditFault};
-use crush_units::{ItemId, Weight};
+use crush_units::{BucketId, ItemId, Weight};
 use std::alloc::Global;
 use std::process::Abort;
 
@@ -49,6 +49,29 @@ fn has_name(map: &CrushMap<Global>, id: Option<ItemId>, name: &str) -> bool {
     }
 }
 
+/// Whether the item of the id, if there is one, is found by it, with the bucket that holds it.
+fn is_found(map: &CrushMap<Global>, id: Option<ItemId>, name: &str) -> bool {
+    let Some(id) = id else {
+        return true;
+    };
+    let Some(view) = map.find(id) else {
+        return false;
+    };
+    view.name == name
+        && map.class_of(id) == view.class
+        && map.kind_of(id) == Some(view.kind)
+        && map.parent(id) == map.forest().parent(id)
+        && stands_in(map, id, view.parent)
+}
+
+/// Whether the item stands in the bucket, if one is told.
+fn stands_in(map: &CrushMap<Global>, id: ItemId, parent: Option<BucketId>) -> bool {
+    match parent {
+        Some(bucket) => map.parent(id) == parent && map.contains(bucket, id),
+        None => map.parent(id).is_none(),
+    }
+}
+
 /// Whether the item of a name, and what it weighs, is looked up as a search finds it, and by its id
 /// the name.
 fn is_looked_up(map: &CrushMap<Global>, name: &str) -> bool {
@@ -56,6 +79,7 @@ fn is_looked_up(map: &CrushMap<Global>, name: &str) -> bool {
     map.locate(name) == id
         && map.weight_of(name) == weight_found(map, id)
         && has_name(map, id, name)
+        && is_found(map, id, name)
 }
 
 /// Whether all names are.
