@@ -54,21 +54,22 @@ fn is_found(map: &CrushMap<Global>, id: Option<ItemId>, name: &str) -> bool {
     let Some(id) = id else {
         return true;
     };
-    let Some(view) = map.find(id) else {
+    let id = &id;
+    let Some(view) = map.find(*id) else {
         return false;
     };
     view.name == name
-        && map.class_of(id) == view.class
-        && map.kind_of(id) == Some(view.kind)
-        && map.parent(id) == map.forest().parent(id)
+        && map.class_of(*id) == view.class
+        && map.kind_of(*id) == Some(view.kind)
+        && map.parent(*id) == map.forest().parent(*id)
         && stands_in(map, id, view.parent)
 }
 
 /// Whether the item stands in the bucket, if one is told.
-fn stands_in(map: &CrushMap<Global>, id: ItemId, parent: Option<BucketId>) -> bool {
+fn stands_in(map: &CrushMap<Global>, id: &ItemId, parent: Option<BucketId>) -> bool {
     match parent {
-        Some(bucket) => map.parent(id) == parent && map.contains(bucket, id),
-        None => map.parent(id).is_none(),
+        Some(bucket) => map.parent(*id) == parent && map.contains(bucket, *id),
+        None => map.parent(*id).is_none(),
     }
 }
 
