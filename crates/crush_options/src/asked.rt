@@ -35,8 +35,6 @@ pub struct Options {
     pub mode: Mode,
     /// What is printed of the map after the scripts.
     pub printed: Printed,
-    /// Whether reasons are told behind the one line on standard error.
-    pub explain: bool,
     /// The files, at most 16, of which each has a script; they follow the job in this order.
     pub scripts: Vec<String>,
     /// The file that the job is read from; without one it is read from standard input.

@@ -77,8 +77,7 @@ for a shell; at most one of the three.
 Standard error gets `crushedit: adjusted N` where N buckets were written with
 another weight than the sum of their devices, and got the sum. With `--strict`
 it gets `crushedit: refused N` where N commands or batches were refused, and
-their lines. With `--explain` it tells more below: where a fault stands, and
-what was wanted.
+their lines.
 
 Exit status:
     0    the run was done, also where commands were refused, without --strict
@@ -178,11 +177,7 @@ fn with_printed<'a>(alloc: Global) -> Result<Command<'a>, AllocError>
 fn command<'a>(alloc: Global) -> Result<Command<'a>, AllocError>
     ensures { IfOk result (λ command. app_of command ≡ program) }
 {
-    let explain = "Tell where and why, below the one line on standard error";
-    with_printed(alloc)?
-        .arg(flag(alloc, "explain", explain))?
-        .arg(scripts(alloc))?
-        .arg(file(alloc))
+    with_printed(alloc)?.arg(scripts(alloc))?.arg(file(alloc))
 }
 
 /// Whether the words have a flag.
@@ -267,14 +262,12 @@ fn options_of(alloc: Global, matches: &ArgMatches<'_>) -> Result<Options, Option
         history: !is_set(matches, "no-history"),
         strict: is_set(matches, "strict"),
     };
-    let explain = is_set(matches, "explain");
     let printed = printed_of(alloc, matches)?;
     let scripts = scripts_of(alloc, matches)?;
     let file = file_of(alloc, matches)?;
     Ok(Options {
         mode,
         printed,
-        explain,
         scripts,
         file,
     })
@@ -295,8 +288,8 @@ fn fault_of(alloc: Global, error: &Error) -> OptionsFault
 }
 
 /// Reads the words of a command line behind the program's name: `[--in-turn] [--no-history]
-/// [--strict] [--tree | --since MAP | --as-ceph] [--explain] [-s SCRIPT].. [FILE]`, in any order,
-/// with up to 16 scripts. Each word is one of these or refused: none is ignored.
+/// [--strict] [--tree | --since MAP | --as-ceph] [-s SCRIPT].. [FILE]`, in any order, with up to 16
+/// scripts. Each word is one of these or refused: none is ignored.
 pub fn options<S: AsStr>(alloc: Global, words: &[S]) -> Result<Options, OptionsFault>
     ensures asked { IfOk result (IsAsked (map S.text words.now)) }
     ensures fault { IfErr result (IsFaultIn (map S.text words.now)) }

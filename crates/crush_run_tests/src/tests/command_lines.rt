@@ -52,8 +52,7 @@ fn flags_and_a_file_are_read(rt: HostRuntime) {
     );
 }
 
-/// Whether the words ask for the changes since the map of a file, strictly and with reasons, and for
-/// two scripts.
+/// Whether the words ask for the changes since the map of a file, strictly, and for two scripts.
 fn asks_for_all(rt: &impl AllocGlobal, words: &[&str]) -> bool {
     let read = options(rt.alloc(), words);
     let asked = match &read {
@@ -64,13 +63,13 @@ fn asks_for_all(rt: &impl AllocGlobal, words: &[&str]) -> bool {
     asked
 }
 
-/// Whether the changes since the map of this file are asked for, strictly and with reasons.
+/// Whether the changes since the map of this file are asked for, strictly.
 fn asks_since(options: &Options, map: &str) -> bool {
     let since = match &options.printed {
         Printed::Since(name) => name.as_str() == map,
         _ => false,
     };
-    since && options.mode.strict && options.explain
+    since && options.mode.strict
 }
 
 /// Whether these are the scripts.
@@ -86,15 +85,7 @@ fn further_words_are_read(rt: HostRuntime) {
     assert!(rt;
         asks_for_all(
             &rt,
-            &[
-                "--strict",
-                "-s",
-                "a",
-                "--since",
-                "m.txt",
-                "--script=b.txt",
-                "--explain"
-            ]
+            &["--strict", "-s", "a", "--since", "m.txt", "--script=b.txt"]
         )
     );
 }
@@ -141,7 +132,6 @@ const HELP: &[&str] = &[
     "--tree ",
     "--since <MAP> ",
     "--as-ceph ",
-    "--explain ",
     "-s, --script <SCRIPT> ",
     "\n    %operator alice\n    add osd.12 1.8 host=node3 rack=r2 root=default\n    reweight osd.2 1.0\n",
     "\n    add osd.N WEIGHT PAIR .. ",
