@@ -4,9 +4,11 @@ use Rattle.crush_text.specs.declared.fault.TextFault.{TextFault}
 use Rattle.crush_text.specs.Fault.{fault_name}
 use Rattle.crush_script.specs.declared.fault.JobFault.{JobFault}
 use Rattle.crush_script.specs.declared.fault.JobFault.TheVariants.{BadLine, NoSuchCommand, OpenBatch, TooManyOperators, DuplicateOperator, Text, OutOfMemory, TooLong, TooManyCalls}
-use Rattle.crush_script.specs.Fault.{lacks_memory}
+use Rattle.crush_script.specs.Fault.{is_want, lacks_memory}
 use Rattle.crush_run.specs.declared.fault.RunFault.{RunFault}
 use Rattle.crush_run.specs.declared.fault.RunFault.TheVariants as run
+use Rattle.crush_run.specs.declared.fault.SinceFault.{SinceFault}
+use Rattle.crush_run.specs.declared.fault.SinceFault.TheVariants as since
 use Rattle.crush_run.specs.declared.summary.Summary.{Summary}
 
 -- want of memory, wherever it comes
@@ -41,6 +43,16 @@ job_fault OutOfMemory = out_of_memory
 abbrev pub refused_line : ℕ → List ℕ
 refused_line count = codes "crushedit: refused " ++ decimal count ++ codes "\n"
 
+-- a fault of the text of the map since which changes are asked for
+abbrev pub since_text_fault : TextFault → List ℕ
+since_text_fault f = codes "crushedit: since: byte " ++ decimal f.place ++ codes ": " ++ fault_name f.kind ++ codes "\n"
+
+-- a fault of that map
+abbrev pub since_fault : SinceFault → List ℕ
+since_fault (since.Text f) = if is_want f.kind then out_of_memory else since_text_fault f
+since_fault since.TooLong = codes "crushedit: since: TooLong\n"
+since_fault since.Read = codes "crushedit: since: read fault\n"
+
 -- a run that was not done
 abbrev pub run_fault : RunFault → List ℕ
 run_fault (run.Job f) = if lacks_memory f then out_of_memory else job_fault f
@@ -49,6 +61,7 @@ run_fault run.Write = codes "crushedit: write fault\n"
 run_fault run.Memory = out_of_memory
 run_fault run.Thread = codes "crushedit: no thread\n"
 run_fault (run.Refused count) = refused_line count
+run_fault (run.Since f) = since_fault f
 
 -- one line, or nothing where all is well and no weight was replaced
 abbrev pub report_line : Result Summary RunFault → List ℕ
@@ -59,6 +72,11 @@ report_line (Err f) = run_fault f
 abbrev pub report_text : Result Summary RunFault → List ℕ → List ℕ
 report_text outcome notes = report_line outcome ++ notes
 
+abbrev pub since_status : SinceFault → ℕ
+since_status (since.Text f) = if is_want f.kind then 4 else 1
+since_status since.TooLong = 1
+since_status since.Read = 3
+
 abbrev pub fault_status : RunFault → ℕ
 fault_status (run.Job f) = if lacks_memory f then 4 else 1
 fault_status run.Read = 3
@@ -66,8 +84,9 @@ fault_status run.Write = 3
 fault_status run.Memory = 4
 fault_status run.Thread = 4
 fault_status (run.Refused count) = 5
+fault_status (run.Since f) = since_status f
 
--- 0 where the run was done, 1 for what is no job, 3 where reading or writing failed, 4 for want of memory or of a thread, 5 where
+-- 0 where the run was done, 1 for what is no job or no map, 3 where reading or writing failed, 4 for want of memory or of a thread, 5 where
 -- calls of a strict run were refused
 abbrev pub status : Result Summary RunFault → ℕ
 status (Ok s) = 0

@@ -3,11 +3,11 @@
 ghost use Rattle.std.specs.Prelude.{◌≡◌, IfOk};
 ghost use Rattle.crush_bytes.specs.Writes.{Writes, AppendsFront};
 ghost use Rattle.crush_report.specs.OptionsReport.{IsHelpWhole, IsOptionsStatus, options_error, options_output};
-ghost use Rattle.crush_report.specs.Report.{adjusted_line, line_fault, text_fault, job_fault, run_fault, refused_line, report_line, report_text, status};
+ghost use Rattle.crush_report.specs.Report.{adjusted_line, line_fault, text_fault, job_fault, run_fault, refused_line, report_line, report_text, since_fault, since_status, since_text_fault, status};
 
 use crush_bytes::{WriteFault, put, put_all};
 use crush_options::OptionsFault;
-use crush_run::{RunFault, Summary};
+use crush_run::{RunFault, SinceFault, Summary};
 use crush_script::JobFault;
 use crush_text::TextFault;
 use itoa::Buffer;
@@ -72,6 +72,38 @@ fn write_job_fault<E: Write>(fault: JobFault, err: &mut E) -> Result<(), WriteFa
     }
 }
 
+/// Writes the line of a flaw of the text of the map since which changes are asked for.
+fn write_since_text<E: Write>(fault: TextFault, err: &mut E) -> Result<(), WriteFault>
+    ensures { Writes result (E.contents err.old) (E.contents err.new)
+        (since_text_fault fault) }
+{
+    let mut buffer = Buffer::new();
+    let place = buffer.format(fault.place).as_bytes();
+    let name = fault.kind.name().as_bytes();
+    put_all(
+        err,
+        &[
+            b"crushedit: since: byte ".as_slice(),
+            place,
+            b": ".as_slice(),
+            name,
+            b"\n".as_slice(),
+        ],
+    )
+}
+
+/// Writes the line of a fault of the map since which changes are asked for.
+fn write_since_fault<E: Write>(fault: SinceFault, err: &mut E) -> Result<(), WriteFault>
+    ensures { Writes result (E.contents err.old) (E.contents err.new) (since_fault fault) }
+{
+    match fault {
+        SinceFault::Text(fault) if JobFault::Text(fault).lacks_memory() => put(err, OUT_OF_MEMORY),
+        SinceFault::Text(fault) => write_since_text(fault, err),
+        SinceFault::TooLong => put(err, b"crushedit: since: TooLong\n"),
+        SinceFault::Read => put(err, b"crushedit: since: read fault\n"),
+    }
+}
+
 /// Writes the line of a run that was not done.
 fn write_run_fault<E: Write>(fault: RunFault, err: &mut E) -> Result<(), WriteFault>
     ensures { Writes result (E.contents err.old) (E.contents err.new) (run_fault fault) }
@@ -84,6 +116,7 @@ fn write_run_fault<E: Write>(fault: RunFault, err: &mut E) -> Result<(), WriteFa
         RunFault::Memory => put(err, OUT_OF_MEMORY),
         RunFault::Thread => put(err, b"crushedit: no thread\n"),
         RunFault::Refused(count) => write_refused(count, err),
+        RunFault::Since(fault) => write_since_fault(fault, err),
     }
 }
 
@@ -182,13 +215,25 @@ pub fn report_line(
     Ok(line)
 }
 
+/// The status of a run whose other map was not read.
+fn since_status(fault: SinceFault) -> u8
+    ensures { result ≡ since_status fault }
+{
+    match fault {
+        SinceFault::Text(fault) if JobFault::Text(fault).lacks_memory() => 4,
+        SinceFault::Text(_) | SinceFault::TooLong => 1,
+        SinceFault::Read => 3,
+    }
+}
+
 /// Writes the one line of standard error, and behind it the notes of the run, and answers the status.
 ///
 /// | Status | When | Line |
 /// |---|---|---|
 /// | 0 | the run was done | `crushedit: adjusted N` where N written weights of bucket items were replaced, else none |
 /// | 1 | the input is no job | `crushedit: line L: NAME`, `crushedit: byte P: NAME` or `crushedit: TooLong` |
-/// | 3 | reading or writing failed | `crushedit: read fault`, `crushedit: write fault` |
+/// | 1 | the map since which changes are asked for is none | `crushedit: since: byte P: NAME` or `crushedit: since: TooLong` |
+/// | 3 | reading or writing failed | `crushedit: read fault`, `crushedit: since: read fault`, `crushedit: write fault` |
 /// | 4 | a growth was refused, whatever the fault that says so | `crushedit: out of memory` |
 /// | 4 | a worker couldn't be started | `crushedit: no thread` |
 /// | 5 | calls of a strict run were refused | `crushedit: refused N`, and their lines in the notes |
@@ -206,6 +251,7 @@ pub fn report<E: Write>(outcome: &Result<Summary, RunFault>, notes: &[u8], err: 
         Err(RunFault::Refused(_)) => 5,
         Err(RunFault::Job(fault)) if fault.lacks_memory() => 4,
         Err(RunFault::Job(_)) => 1,
+        Err(RunFault::Since(fault)) => since_status(*fault),
         Err(RunFault::Read | RunFault::Write) => 3,
     }
 }

@@ -1,3 +1,4 @@
+pub mod Asking
 pub mod Carry
 pub mod Consuming
 pub mod Crossing

@@ -4,6 +4,7 @@ use Rattle.std.specs.Prelude.{IfOk}
 use Rattle.std.proofs.lemmas.List.{length-append, length-map}
 use Rattle.std.proofs.lemmas.List.Elements.{All-nil, All-cons}
 use Rattle.crush_bytes.specs.Writes.{AppendsLess}
+use Rattle.crush_table.specs.Forest.{rows_of}
 use Rattle.crush_table.specs.Table.{Row}
 use Rattle.crush_edits.specs.Setting.{SettingData}
 use Rattle.crush_map.specs.MapData.{MapData, MapStands}
@@ -16,6 +17,8 @@ use Rattle.crush_calls.specs.Turns.{calls_at, calls_of}
 use Rattle.crush_calls.specs.HistoryText.{names_of}
 use Rattle.crush_print.proofs.SameText.{map_text_is_some}
 use Rattle.crush_reasons.specs.Ceph.{ceph_heading, ceph_text}
+use Rattle.crush_view.specs.Since.{told}
+use Rattle.crush_view.proofs.PartLaws.{since_text_is_some}
 use Rattle.crush_view.proofs.WalkLaws.{tree_text_is_some}
 use Rattle.crush_calls.proofs.Histories.{turns_are_history}
 use Rattle.crush_editor.specs.Book.{MakesAll}
@@ -112,6 +115,7 @@ ceph_text_is_some h = omega arith
 pub main_text_is_some : (asked : Asked) (s : SettingData) (t : List Row) (h : List EntryData) → 0 < length (main_text asked s t h)
 main_text_is_some asked.Map s t h = map_text_is_some s t
 main_text_is_some asked.Tree s t h = tree_text_is_some s t
+main_text_is_some (asked.Since m) s t h = since_text_is_some (told m.setting (rows_of m.forest)) (told s t)
 main_text_is_some asked.AsCeph s t h = ceph_text_is_some h
 
 -- so no output is empty

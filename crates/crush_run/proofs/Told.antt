@@ -19,7 +19,7 @@ use Rattle.crush_run.specs.declared.fault.RunFault.{RunFault}
 use Rattle.crush_run.specs.declared.summary.Summary.{Summary}
 use Rattle.crush_run.specs.Input.{IsInput}
 use Rattle.crush_run.specs.Run.{IsRefusal, IsRunFault}
-use Rattle.crush_run.specs.Stages.{IsInputFault, IsOutcomeFault, IsScriptsFault}
+use Rattle.crush_run.specs.Stages.{IsInputFault, IsNoJob, IsOutcomeFault, IsReadFault, IsScriptsFault}
 
 -- what a reader gives, up to one byte too many, is all that it has, where either is no longer than a job
 input_of_take : (bytes all : List ℕ) → bytes ≡ take MOST_BYTES all → IsInput bytes all
@@ -42,7 +42,7 @@ has_job : (all : Option (List ℕ)) (bytes : List ℕ) → IfSome all (IsInput b
 has_job None bytes input has = tt
 has_job (Some xs) bytes input has = (has.0, subst (λ (z : List ℕ). IsJob z has.0) (input.read has.1.short) has.1)
 
-pub has_job_where_done : (r : Result Summary RunFault) (all : Option (List ℕ)) (bytes : List ℕ) → IfSome all (IsInput bytes) → IfOk r (λ _. HasJob bytes) → IfOk r (λ _. IfSome all HasJob)
+pub has_job_where_done : {X : Type 0} (r : Result X RunFault) (all : Option (List ℕ)) (bytes : List ℕ) → IfSome all (IsInput bytes) → IfOk r (λ _. HasJob bytes) → IfOk r (λ _. IfSome all HasJob)
 has_job_where_done (Ok x) all bytes input has = has_job all bytes input has
 has_job_where_done (Err f) all bytes input has = tt
 
@@ -76,6 +76,7 @@ run_fault_of_all mode (Err run.Write) all bytes input h = has_job all bytes inpu
 run_fault_of_all mode (Err run.Memory) all bytes input h = tt
 run_fault_of_all mode (Err run.Thread) all bytes input h = (h.0, has_job all bytes input h.1)
 run_fault_of_all mode (Err (run.Refused n)) all bytes input h = (h.0, has_job all bytes input h.1)
+run_fault_of_all mode (Err (run.Since s)) all bytes input h = absurd h
 
 -- where a job was read, there is one
 pub is_job : (r : Result Summary RunFault) (bytes : List ℕ) → HasJob bytes → IfOk r (λ _. HasJob bytes)
@@ -91,6 +92,7 @@ run_fault_of_job mode (Err run.Write) all has h = has
 run_fault_of_job mode (Err run.Memory) all has h = tt
 run_fault_of_job mode (Err run.Thread) all has h = (h, has)
 run_fault_of_job mode (Err (run.Refused n)) all has h = (h, has)
+run_fault_of_job mode (Err (run.Since s)) all has h = absurd h
 
 -- a fault of the scripts is one of the outcome
 pub outcome_fault_of_scripts : (mode : Mode) (f : RunFault) → IsScriptsFault mode.in_turn f → IsOutcomeFault mode f
@@ -100,26 +102,27 @@ outcome_fault_of_scripts mode run.Write h = absurd h
 outcome_fault_of_scripts mode run.Memory h = h
 outcome_fault_of_scripts mode run.Thread h = h
 outcome_fault_of_scripts mode (run.Refused n) h = absurd h
+outcome_fault_of_scripts mode (run.Since s) h = h
 
 -- after a fault before anything was written, nothing is a front of the output, which isn't empty
 pub nothing_written : (r : Result Summary RunFault) (f : RunFault) (old : Option (List ℕ)) (text : List ℕ) → 0 < length text → r ≡ Err f → Writes r old old text
 nothing_written r f old text some e = rw e (nothing_is_less old text some)
 
 -- a fault of the bytes, as one of the run
-pub is_run_fault : (mode : Mode) (bytes : List ℕ) (f : JobFault) → IsJobFault bytes f → IsRunFault mode (Some bytes) (of_job f)
-is_run_fault mode bytes (BadLine n) h = (refl, h)
-is_run_fault mode bytes (NoSuchCommand n) h = (refl, h)
-is_run_fault mode bytes (OpenBatch n) h = (refl, h)
-is_run_fault mode bytes (TooManyOperators n) h = (refl, h)
-is_run_fault mode bytes (DuplicateOperator n) h = (refl, h)
-is_run_fault mode bytes (TooManyCalls n) h = (refl, h)
-is_run_fault mode bytes (Text f) h = by_want (is_want f.kind) refl
+pub is_no_job : (bytes : List ℕ) (f : JobFault) → IsJobFault bytes f → IsNoJob (Some bytes) (of_job f)
+is_no_job bytes (BadLine n) h = (refl, h)
+is_no_job bytes (NoSuchCommand n) h = (refl, h)
+is_no_job bytes (OpenBatch n) h = (refl, h)
+is_no_job bytes (TooManyOperators n) h = (refl, h)
+is_no_job bytes (DuplicateOperator n) h = (refl, h)
+is_no_job bytes (TooManyCalls n) h = (refl, h)
+is_no_job bytes (Text f) h = by_want (is_want f.kind) refl
   where
-    by_want : (b : Bool) → is_want f.kind ≡ b → IsRunFault mode (Some bytes) (cond b run.Memory (run.Job (Text f)))
+    by_want : (b : Bool) → is_want f.kind ≡ b → IsNoJob (Some bytes) (cond b run.Memory (run.Job (Text f)))
     by_want true k = tt
     by_want false k = (k, h)
-is_run_fault mode bytes TooLong h = (refl, h)
-is_run_fault mode bytes OutOfMemory h = tt
+is_no_job bytes TooLong h = (refl, h)
+is_no_job bytes OutOfMemory h = tt
 
 -- no fault of reading is one of the bytes
 pub run_fault_of_input : (mode : Mode) (f : RunFault) (all : Option (List ℕ)) → IsInputFault f → IsRunFault mode all f
@@ -129,3 +132,37 @@ run_fault_of_input mode run.Write all h = absurd h
 run_fault_of_input mode run.Memory all h = tt
 run_fault_of_input mode run.Thread all h = absurd h
 run_fault_of_input mode (run.Refused n) all h = absurd h
+run_fault_of_input mode (run.Since s) all h = absurd h
+
+-- bytes that are no job have a fault of the run
+pub run_fault_of_no_job : (mode : Mode) (f : RunFault) (all : Option (List ℕ)) → IsNoJob all f → IsRunFault mode all f
+run_fault_of_no_job mode (run.Job f) all h = h
+run_fault_of_no_job mode run.Read all h = tt
+run_fault_of_no_job mode run.Write all h = absurd h
+run_fault_of_no_job mode run.Memory all h = tt
+run_fault_of_no_job mode run.Thread all h = absurd h
+run_fault_of_no_job mode (run.Refused n) all h = absurd h
+run_fault_of_no_job mode (run.Since s) all h = absurd h
+
+-- nor of what was read and is no job
+no_job_of_all : (f : RunFault) (all : Option (List ℕ)) (bytes : List ℕ) → IfSome all (IsInput bytes) → IsNoJob (Some bytes) f → IsReadFault all f
+no_job_of_all (run.Job f) all bytes input h = refusal_of_all all bytes f input h
+no_job_of_all run.Read all bytes input h = tt
+no_job_of_all run.Write all bytes input h = absurd h
+no_job_of_all run.Memory all bytes input h = tt
+no_job_of_all run.Thread all bytes input h = absurd h
+no_job_of_all (run.Refused n) all bytes input h = absurd h
+no_job_of_all (run.Since s) all bytes input h = absurd h
+
+pub read_fault_of_all : {X : Type 0} (r : Result X RunFault) (all : Option (List ℕ)) (bytes : List ℕ) → IfSome all (IsInput bytes) → IfErr r (IsNoJob (Some bytes)) → IfErr r (IsReadFault all)
+read_fault_of_all (Ok x) all bytes input h = tt
+read_fault_of_all (Err f) all bytes input h = no_job_of_all f all bytes input h
+
+pub read_fault_of_input : (f : RunFault) (all : Option (List ℕ)) → IsInputFault f → IsReadFault all f
+read_fault_of_input (run.Job f) all h = absurd h
+read_fault_of_input run.Read all h = tt
+read_fault_of_input run.Write all h = absurd h
+read_fault_of_input run.Memory all h = tt
+read_fault_of_input run.Thread all h = absurd h
+read_fault_of_input (run.Refused n) all h = absurd h
+read_fault_of_input (run.Since s) all h = absurd h

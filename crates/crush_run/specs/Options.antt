@@ -1,13 +1,72 @@
 -- What a command line asks a run for.
-use Rattle.std.specs.Prelude.{Option, Some, None}
+use Rattle.std.specs.Prelude.{◌≡◌, ℕ, ◌<◌, ◌≤◌, List, Option, Result, Ok, Err, IfSome, length}
+use Rattle.crush_table.specs.Table.{Row}
+use Rattle.crush_table.specs.Stands.{Stands}
+use Rattle.crush_map.specs.MapData.{MapData}
+use Rattle.crush_text.specs.Document.{IsMapText}
+use Rattle.crush_text.specs.Flaw.{IsMapFlaw}
+use Rattle.crush_script.specs.Job.{HasJob, JobData}
+use Rattle.crush_options.specs.declared.asked.Options.{Options}
 use Rattle.crush_options.specs.declared.asked.Printed.{Printed}
 use Rattle.crush_options.specs.declared.asked.Printed.TheVariants as printed
+use Rattle.crush_units.specs.declared.limits.TheConstants.{LONGEST_JOB}
 use Rattle.crush_run.specs.declared.asked.Asked.{Asked}
 use Rattle.crush_run.specs.declared.asked.Asked.TheVariants as asked
+use Rattle.crush_run.specs.declared.fault.RunFault.{RunFault}
+use Rattle.crush_run.specs.declared.fault.RunFault.TheVariants as run
+use Rattle.crush_run.specs.declared.fault.SinceFault.{SinceFault}
+use Rattle.crush_run.specs.declared.fault.SinceFault.TheVariants as since
+use Rattle.crush_run.specs.declared.summary.Summary.{Summary}
+use Rattle.crush_run.specs.Run.{Ends, IsRunFault}
 
--- what is printed; what has changed since another map no run tells yet
-abbrev pub asked_of : Printed → Option Asked
-asked_of printed.Map = Some asked.Map
-asked_of printed.Tree = Some asked.Tree
-asked_of (printed.Since name) = None
-asked_of printed.AsCeph = Some asked.AsCeph
+-- the map is one whose text the bytes are, no more than a job may have
+pub record IsTextOf (m : MapData) (bytes : List ℕ) : Type 0 where
+  pub short : length bytes ≤ LONGEST_JOB
+  pub table : List Row
+  pub adjusted : ℕ
+  pub text : IsMapText bytes m.setting table adjusted
+  pub stands : Stands m.forest table
+
+-- what is printed where the words ask for it; of a map since which changes are asked for, what its file has is its text
+abbrev pub IsAskedOf : (List ℕ → Option (List ℕ)) → Printed → Asked → Type 0
+IsAskedOf content printed.Map what = what ≡ asked.Map
+IsAskedOf content printed.Tree what = what ≡ asked.Tree
+IsAskedOf content printed.AsCeph what = what ≡ asked.AsCeph
+IsAskedOf content (printed.Since name) (asked.Since m) = IfSome (content name.bytes.items) (IsTextOf m)
+IsAskedOf content (printed.Since name) what = ⊥
+
+-- why the bytes of a map since which changes are asked for give none: they have this flaw, or are more than a job may have
+abbrev pub IsSinceFault : List ℕ → SinceFault → Type 0
+IsSinceFault bytes (since.Text fault) = (length bytes ≤ LONGEST_JOB) × IsMapFlaw bytes fault
+IsSinceFault bytes since.TooLong = LONGEST_JOB < length bytes
+IsSinceFault bytes since.Read = Unit {0}
+
+-- what may fail while such a map is read
+abbrev pub IsMapFault : Option (List ℕ) → RunFault → Type 0
+IsMapFault all (run.Since fault) = IfSome all (λ bytes. IsSinceFault bytes fault)
+IsMapFault all run.Memory = Unit {0}
+IsMapFault all fault = ⊥
+
+-- and while what the words ask for is made: that alone, and only where they ask for one
+abbrev pub IsAskedFault : (List ℕ → Option (List ℕ)) → Printed → RunFault → Type 0
+IsAskedFault content (printed.Since name) fault = IsMapFault (content name.bytes.items) fault
+IsAskedFault content what fault = ⊥
+
+-- when each fault is told: one of another map only where a job was read, and else as of any run
+abbrev pub IsOptionsFault : (List ℕ → Option (List ℕ)) → Options → Option (List ℕ) → RunFault → Type 0
+IsOptionsFault content options all (run.Since fault) = IfSome all HasJob × IsAskedFault content options.printed (run.Since fault)
+IsOptionsFault content options all fault = IsRunFault options.mode all fault
+
+-- what the words ask for was there, and the run is one with it
+pub record EndsAsked (content : List ℕ → Option (List ℕ)) (options : Options) (job : JobData) (result : Result Summary RunFault) (old new : Option (List ℕ)) (notes : List ℕ) : Type 0 where
+  pub what : Asked
+  pub asked : IsAskedOf content options.printed what
+  pub ends : Ends options.mode what job result old new notes
+
+-- ENDS AS ASKED: said of a run that was done, that failed to write, or that was strict and met refusals; any other came to no
+-- output
+abbrev pub EndsAsAsked : (List ℕ → Option (List ℕ)) → Options → JobData → Result Summary RunFault → Option (List ℕ) → Option (List ℕ) → List ℕ → Type 0
+EndsAsAsked content options job (Ok s) old new notes = EndsAsked content options job (Ok s) old new notes
+EndsAsAsked content options job (Err run.Write) old new notes = EndsAsked content options job (Err run.Write) old new notes
+EndsAsAsked content options job (Err (run.Refused n)) old new notes = EndsAsked content options job (Err (run.Refused n)) old new notes
+EndsAsAsked content options job (Err fault) old new notes = Unit {0}

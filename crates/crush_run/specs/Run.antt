@@ -3,9 +3,11 @@ use Rattle.std.specs.Prelude.{◌≡◌, ◌<◌, ◌≤◌, ◌+◌, ℕ, Optio
 use Rattle.std.specs.Io.KnownBytes.{Consumes}
 use Rattle.crush_units.specs.declared.limits.TheConstants.{LONGEST_JOB}
 use Rattle.crush_bytes.specs.Writes.{Writes}
+use Rattle.crush_table.specs.Forest.{rows_of}
 use Rattle.crush_table.specs.Table.{Row}
 use Rattle.crush_edits.specs.Setting.{SettingData}
 use Rattle.crush_print.specs.MapText.{map_text}
+use Rattle.crush_view.specs.Since.{told, since_text}
 use Rattle.crush_view.specs.TreeText.{tree_text}
 use Rattle.crush_reasons.specs.Ceph.{ceph_text}
 use Rattle.crush_calls.specs.History.{EntryData, IsLegal, of_operator, table_after, changes, turns}
@@ -33,11 +35,12 @@ pub record IsRunOf (in_turn : Bool) (job : JobData) (h : List EntryData) : Type 
 abbrev pub lines_asked : Bool → List (List ℕ) → List EntryData → List ℕ
 lines_asked history names h = if history then entries_text names 1 h else []
 
--- what is asked for of a map with this setting and this table, which it has after a history: its text, its tree, or the commands
--- that changed it
+-- what is asked for of a map with this setting and this table, which it has after a history: its text, its tree, what has
+-- changed in it since another map, or the commands that changed it
 abbrev pub main_text : Asked → SettingData → List Row → List EntryData → List ℕ
 main_text asked.Map s t h = map_text s t
 main_text asked.Tree s t h = tree_text s t
+main_text (asked.Since m) s t h = since_text (told m.setting (rows_of m.forest)) (told s t)
 main_text asked.AsCeph s t h = ceph_text h
 
 -- OUTPUT: what is asked for of the map after the history, and behind it the lines that are asked for
@@ -80,7 +83,7 @@ abbrev pub IsRefusal : Option (List ℕ) → JobFault → Type 0
 IsRefusal all fault = (lacks_memory fault ≡ false) × IfSome all (λ bytes. IsJobFault bytes fault)
 
 -- when each fault is told: Job of bytes that are no job, Write, Thread and Refused only of bytes that are one, Thread never in
--- turn, and Refused of strict runs alone
+-- turn, Refused of strict runs alone, and none of another map, which no run of a job reads
 abbrev pub IsRunFault : Mode → Option (List ℕ) → RunFault → Type 0
 IsRunFault mode all (run.Job fault) = IsRefusal all fault
 IsRunFault mode all run.Write = IfSome all HasJob
@@ -88,3 +91,4 @@ IsRunFault mode all run.Read = Unit {0}
 IsRunFault mode all run.Memory = Unit {0}
 IsRunFault mode all run.Thread = (mode.in_turn ≡ false) × IfSome all HasJob
 IsRunFault mode all (run.Refused n) = (mode.strict ≡ true) × IfSome all HasJob
+IsRunFault mode all (run.Since fault) = ⊥

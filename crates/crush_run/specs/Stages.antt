@@ -1,5 +1,5 @@
 -- The stages of a run: what comes of each, and which faults may come at which.
-use Rattle.std.specs.Prelude.{◌≡◌, List, Bool, false, true}
+use Rattle.std.specs.Prelude.{◌≡◌, ℕ, List, Bool, false, true, Option}
 use Rattle.crush_map.specs.MapData.{MapData, MapStands}
 use Rattle.crush_calls.specs.History.{EntryData, table_after}
 use Rattle.crush_calls.specs.Script.{ScriptData}
@@ -7,13 +7,24 @@ use Rattle.crush_script.specs.Job.{JobData}
 use Rattle.crush_options.specs.declared.asked.Mode.{Mode}
 use Rattle.crush_run.specs.declared.fault.RunFault.{RunFault}
 use Rattle.crush_run.specs.declared.fault.RunFault.TheVariants as run
-use Rattle.crush_run.specs.Run.{IsRunOf}
+use Rattle.crush_run.specs.Run.{IsRefusal, IsRunOf}
 
 -- what may fail while the bytes are read
 abbrev pub IsInputFault : RunFault → Type 0
 IsInputFault run.Read = Unit {0}
 IsInputFault run.Memory = Unit {0}
 IsInputFault fault = ⊥
+
+-- what may fail while the bytes read are taken for a job: they are none, or memory lacks
+abbrev pub IsNoJob : Option (List ℕ) → RunFault → Type 0
+IsNoJob all (run.Job fault) = IsRefusal all fault
+IsNoJob all run.Memory = Unit {0}
+IsNoJob all fault = ⊥
+
+-- what may fail up to that
+abbrev pub IsReadFault : Option (List ℕ) → RunFault → Type 0
+IsReadFault all run.Read = Unit {0}
+IsReadFault all fault = IsNoJob all fault
 
 -- what may fail while operators are at work at once
 abbrev pub IsAtOnceFault : RunFault → Type 0

@@ -2,8 +2,24 @@
 
 use crush_bytes::WriteFault;
 use crush_script::JobFault;
+use crush_text::TextFault;
 use std::alloc::{AllocError, AllocFailed};
 use thiserror::Error;
+
+/// Why the map since which changes are asked for was not read.
+#[derive(Clone, Copy, Debug, PartialEq, Eq, Error)]
+pub enum SinceFault {
+    /// Its text has this flaw, whose place is that of a byte of its file. Want of memory is never
+    /// told here, but as [`RunFault::Memory`].
+    #[error("{0}")]
+    Text(TextFault),
+    /// Its file has more than 16,777,216 bytes, as no job may.
+    #[error("TooLong")]
+    TooLong,
+    /// Its file couldn't be opened, or a read answered an error.
+    #[error("read fault")]
+    Read,
+}
 
 /// Why a run was not done.
 #[derive(Clone, Copy, Debug, PartialEq, Eq, Error)]
@@ -27,6 +43,10 @@ pub enum RunFault {
     /// In a strict run so many calls were refused. Nothing was written.
     #[error("refused {0}")]
     Refused(u32),
+    /// A job was read, and then the map since which changes are asked for was not. Nothing was
+    /// written.
+    #[error("since: {0}")]
+    Since(SinceFault),
 }
 
 impl<T: Drop> From<AllocFailed<T>> for RunFault {

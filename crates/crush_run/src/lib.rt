@@ -11,13 +11,14 @@ mod input;
 mod joined;
 mod options;
 mod run;
+mod since;
 mod strict;
 mod summary;
 mod worker;
 mod workers;
 
 pub use asked::Asked;
-pub use fault::RunFault;
+pub use fault::{RunFault, SinceFault};
 pub use files::{Opens, SystemFiles};
 pub use gate::{Gate, NoGate};
 pub use options::run_options;

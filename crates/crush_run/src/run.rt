@@ -11,7 +11,7 @@ ghost use Rattle.crush_script.specs.Job.{HasJob, IsJob, JobData, JobStands};
 ghost use Rattle.crush_calls.specs.Script.{scripts_data};
 ghost use Rattle.crush_run.specs.Run.{Ends, IsQuiet, IsRunFault, IsStrict, TakesFew, lines_asked, main_text};
 ghost use Rattle.crush_reasons.specs.Ceph.{ceph_text};
-ghost use Rattle.crush_run.specs.Stages.{IsOutcomeFault, IsScriptsFault, RunsScripts};
+ghost use Rattle.crush_run.specs.Stages.{IsNoJob, IsOutcomeFault, IsScriptsFault, RunsScripts};
 ghost use Rattle.crush_units.specs.declared.limits.TheConstants.{MOST_ENTRIES, MOST_OPERATORS};
 
 use crate::asked::Asked;
@@ -30,7 +30,7 @@ use crush_options::Mode;
 use crush_print::write_map;
 use crush_reasons::ceph_text;
 use crush_script::{Job, read_job};
-use crush_view::write_tree;
+use crush_view::{write_since, write_tree};
 use std::alloc::{AllocError, Global};
 use std::hash::RandomState;
 use std::io::{Read, Write};
@@ -73,7 +73,7 @@ fn write_ceph<W: Write>(alloc: Global, entries: &[Entry], writer: &mut W) -> Res
 /// Writes what is asked for of the map.
 fn write_asked<W: Write>(
     alloc: Global,
-    asked: Asked,
+    asked: &Asked,
     map: &CrushMap<Global>,
     entries: &[Entry],
     writer: &mut W,
@@ -81,13 +81,17 @@ fn write_asked<W: Write>(
     requires { length entries.now ≤ MOST_ENTRIES }
     ensures writes { (t : List Row) → Stands map.now.forest t
         → Writes result (W.contents writer.old) (W.contents writer.new)
-        (main_text asked map.now.setting t entries.now) }
+        (main_text asked.now map.now.setting t entries.now) }
     ensures none { result ≡ Err WriteFault.OutOfMemory
         → Keeps (W.contents writer.old) (W.contents writer.new) }
 {
     match asked {
         Asked::Map => write_map(alloc, map, writer),
         Asked::Tree => write_tree(alloc, map, writer),
+        Asked::Since(old) => {
+            old.forest().recall_invariant();
+            write_since(alloc, old, map, writer)
+        }
         Asked::AsCeph => write_ceph(alloc, entries, writer),
     }
 }
@@ -97,7 +101,7 @@ fn write_asked<W: Write>(
 fn write_outcome<W: Write>(
     alloc: Global,
     mode: Mode,
-    asked: Asked,
+    asked: &Asked,
     map: &CrushMap<Global>,
     scripts: &[Script],
     entries: &[Entry],
@@ -109,7 +113,7 @@ fn write_outcome<W: Write>(
     requires fresh { notes.old.items ≡ [] }
     ensures writes { (t : List Row) → Stands map.now.forest t
         → Writes result (W.contents writer.old) (W.contents writer.new)
-        (main_text asked map.now.setting t entries.now
+        (main_text asked.now map.now.setting t entries.now
         ++ lines_asked mode.history (names_of (scripts_data scripts.now)) entries.now) }
     ensures nothing { IfErr result (λ fault. fault ≢ RunFault.Write
         → Keeps (W.contents writer.old) (W.contents writer.new)) }
@@ -146,11 +150,11 @@ fn run_scripts<H: AllocGlobal + Threads + Wait + Sync, G: Gate + Sync>(
 }
 
 /// Runs the scripts of a job that was read, and writes what comes of them.
-fn run_read<H: AllocGlobal + Threads + Wait + Sync, G: Gate + Sync, W: Write>(
+pub(crate) fn run_read<H: AllocGlobal + Threads + Wait + Sync, G: Gate + Sync, W: Write>(
     rt: &H,
     gate: &G,
     mode: Mode,
-    asked: Asked,
+    asked: &Asked,
     job: Job,
     writer: &mut W,
     notes: &mut Vec<u8>,
@@ -158,7 +162,7 @@ fn run_read<H: AllocGlobal + Threads + Wait + Sync, G: Gate + Sync, W: Write>(
     requires few { length job.scripts.items ≤ MOST_OPERATORS }
     requires fresh { notes.old.items ≡ [] }
     ensures ends { (read : JobData) → JobStands job read
-        → Ends mode asked read result (W.contents writer.old) (W.contents writer.new)
+        → Ends mode asked.now read result (W.contents writer.old) (W.contents writer.new)
         notes.new.items }
     ensures nothing { IfErr result (λ fault. fault ≢ RunFault.Write
         → Keeps (W.contents writer.old) (W.contents writer.new)) }
@@ -197,19 +201,33 @@ fn run_read<H: AllocGlobal + Threads + Wait + Sync, G: Gate + Sync, W: Write>(
 }
 
 /// Hashing with keys that the system draws. It hashes without keys where none can be drawn.
-fn drawn_hashing<H: RandomSource>(rt: &H) -> Hashing {
+pub(crate) fn drawn_hashing<H: RandomSource>(rt: &H) -> Hashing {
     match RandomState::new(rt) {
         Ok(keys) => Hashing::keyed(keys),
         Err(_) => Hashing::plain(),
     }
 }
 
+/// Reads the job that these bytes are.
+pub(crate) fn job_of<H: AllocGlobal + RandomSource>(rt: &H, bytes: Vec<u8>) -> Result<Job, RunFault>
+    ensures job { IfOk result (λ _. HasJob bytes.items) }
+    ensures only { (job : JobData) → IsJob bytes.items job
+        → IfOk result (λ read. JobStands read job) }
+    ensures fault { IfErr result (IsNoJob (Some bytes.items)) }
+    ensures few { IfOk result (λ read. length read.scripts.items ≤ MOST_OPERATORS) }
+{
+    match read_job(rt.alloc(), drawn_hashing(rt), bytes.as_slice()) {
+        Ok(job) => Ok(job),
+        Err(fault) => Err(RunFault::from(fault)),
+    }
+}
+
 /// Runs a job of which these are the bytes, as [`run_job`] runs one that it reads.
-pub(crate) fn run_bytes<H, G, W>(
+fn run_bytes<H, G, W>(
     rt: &H,
     gate: &G,
     mode: Mode,
-    asked: Asked,
+    asked: &Asked,
     bytes: Vec<u8>,
     writer: &mut W,
     notes: &mut Vec<u8>,
@@ -221,19 +239,15 @@ where
     requires fresh { notes.old.items ≡ [] }
     ensures job { IfOk result (λ _. HasJob bytes.items) }
     ensures output { (job : JobData) → IsJob bytes.items job
-        → Ends mode asked job result (W.contents writer.old) (W.contents writer.new)
+        → Ends mode asked.now job result (W.contents writer.old) (W.contents writer.new)
         notes.new.items }
     ensures quiet { IsQuiet result notes.new.items }
     ensures nothing { IfErr result (λ fault. fault ≢ RunFault.Write
         → Keeps (W.contents writer.old) (W.contents writer.new)) }
     ensures fault { IfErr result (IsRunFault mode (Some bytes.items)) }
 {
-    let read = read_job(rt.alloc(), drawn_hashing(rt), bytes.as_slice());
-    drop(bytes);
-    match read {
-        Ok(job) => run_read(rt, gate, mode, asked, job, writer, notes),
-        Err(fault) => Err(RunFault::from(fault)),
-    }
+    let job = job_of(rt, bytes)?;
+    run_read(rt, gate, mode, asked, job, writer, notes)
 }
 
 /// Reads a job, runs the scripts of its operators, and writes what is asked for of the map after
@@ -297,5 +311,5 @@ where
     ensures fault { IfErr result (IsRunFault mode (R.remaining reader.old)) }
 {
     let bytes = read_bytes(rt.alloc(), reader)?;
-    run_bytes(rt, gate, mode, asked, bytes, writer, notes)
+    run_bytes(rt, gate, mode, &asked, bytes, writer, notes)
 }

@@ -17,6 +17,7 @@ mod limits;
 mod prefixes;
 mod reporting;
 mod scripts;
+mod since;
 mod strict;
 
 /// The plain example map, with nothing behind it.

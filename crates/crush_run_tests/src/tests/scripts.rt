@@ -33,7 +33,7 @@ impl<'a> Opens for Shelf<'a> {
 }
 
 /// Whether a run of these words, with these files and nothing on standard input, comes to this outcome and writes this.
-fn ends_so(
+pub(super) fn ends_so(
     rt: &(impl Abort + AllocGlobal + RandomSource + Threads + Wait + Sync),
     words: &[&str],
     files: &[(&str, &[u8])],

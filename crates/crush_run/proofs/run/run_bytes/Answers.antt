@@ -1,45 +1,31 @@
-use Rattle.std.proofs.Common.{◌≡◌, sym, subst, List, ℕ, Option, Some, None, refl}
-use Rattle.std.specs.Io.KnownBytes.{Keeps}
-use Rattle.crush_script.specs.Job.{HasJob, IsJob, IsJobFault, JobData}
-use Rattle.crush_script.specs.declared.fault.JobFault.{JobFault}
-use Rattle.crush_run.specs.Run.{IsRunFault}
-use Rattle.crush_run.specs.declared.summary.Summary.{Summary}
-use Rattle.crush_run.specs.Stages.{IsEarlyFault}
+use Rattle.std.proofs.Common.{Some}
+use Rattle.std.proofs.lemmas.Result.{err_from_is_err_and}
 use Rattle.crush_run.proofs.Runs.{ended_early}
-use Rattle.crush_run.proofs.Strictly.{early_of_job, quiet_of_early}
-use Rattle.crush_run.proofs.Told.{is_job, is_run_fault, run_fault_of_job}
+use Rattle.crush_run.proofs.Strictly.{early_of_no_job, early_quiet}
+use Rattle.crush_run.proofs.Told.{is_job, run_fault_of_job, run_fault_of_no_job}
 use Rattle.crush_run.proofs.run.run_bytes.Goals as goal
 
 -- where there is no job, nothing was written, and the fault is one of the bytes
-pub returns-in-Err-clause-output : goal.returns-in-Err-clause-output
-returns-in-Err-clause-output g c = λ job is. ended_early c.args.mode c.args.asked job _ c.from.result _ _ refl (subst IsEarlyFault (sym c.from.ensures) (early_of_job _)) c.requires.fresh
+pub returns-in_err-job-clause-output : goal.returns-in_err-job-clause-output
+returns-in_err-job-clause-output g c = λ job is.
+    let p = err_from_is_err_and c.from_residual.result c.from_residual.ensures.1 in
+    ended_early c.args.mode c.args.asked.now job _ _ _ _ p.1 (rw p.2 (early_of_no_job (Some c.args.bytes.items) _ c.in_err-job.ensures.fault)) c.requires.fresh
 
-pub returns-in-Err-clause-quiet : goal.returns-in-Err-clause-quiet
-returns-in-Err-clause-quiet g c = quiet_of_early Summary _ _ (subst IsEarlyFault (sym c.from.ensures) (early_of_job _)) c.requires.fresh
+pub returns-in_err-job-clause-quiet : goal.returns-in_err-job-clause-quiet
+returns-in_err-job-clause-quiet g c =
+    let p = err_from_is_err_and c.from_residual.result c.from_residual.ensures.1 in
+    early_quiet _ _ _ p.1 (rw p.2 (early_of_no_job (Some c.args.bytes.items) _ c.in_err-job.ensures.fault)) c.requires.fresh
 
-kept : (bytes : Option (List ℕ)) → Keeps bytes bytes
-kept None = tt
-kept (Some xs) = refl
+pub returns-in_err-job-clause-fault : goal.returns-in_err-job-clause-fault
+returns-in_err-job-clause-fault g c =
+    let p = err_from_is_err_and c.from_residual.result c.from_residual.ensures.1 in
+    rw (p.1, p.2) (run_fault_of_no_job c.args.mode _ (Some c.args.bytes.items) c.in_err-job.ensures.fault)
 
-pub returns-in-Err-clause-nothing : goal.returns-in-Err-clause-nothing
-returns-in-Err-clause-nothing g c = λ told. kept (g.W.Write.contents c.args.writer.now)
+pub returns-clause-job : goal.returns-clause-job
+returns-clause-job g c = is_job c.run_read.result _ c.in_ok-job.ensures.job
 
-pub returns-in-Err-clause-fault : goal.returns-in-Err-clause-fault
-returns-in-Err-clause-fault g c =
-    let own = subst (λ (z : List ℕ). IsJobFault z c.in-Err.fault) c.as_slice.ensures.value c.in-Err.ensures.fault in
-    subst (IsRunFault c.args.mode (Some c.args.bytes.items)) (sym c.from.ensures) (is_run_fault c.args.mode c.args.bytes.items c.in-Err.fault own)
+pub returns-clause-output : goal.returns-clause-output
+returns-clause-output g c = λ job is. c.run_read.ensures.ends job (c.in_ok-job.ensures.only job is)
 
-pub returns-in-Ok-clause-job : goal.returns-in-Ok-clause-job
-returns-in-Ok-clause-job g c =
-    let own = subst (λ (z : List ℕ). IsJob z c.in-Ok.ensures.job.0) c.as_slice.ensures.value c.in-Ok.ensures.job.1 in
-    is_job c.run_read.result _ (c.in-Ok.ensures.job.0, own)
-
-pub returns-in-Ok-clause-output : goal.returns-in-Ok-clause-output
-returns-in-Ok-clause-output g c = λ job is.
-    let own = subst (λ (z : List ℕ). IsJob z job) (sym c.as_slice.ensures.value) is in
-    c.run_read.ensures.ends job (c.in-Ok.ensures.only job own)
-
-pub returns-in-Ok-clause-fault : goal.returns-in-Ok-clause-fault
-returns-in-Ok-clause-fault g c =
-    let own = subst (λ (z : List ℕ). IsJob z c.in-Ok.ensures.job.0) c.as_slice.ensures.value c.in-Ok.ensures.job.1 in
-    run_fault_of_job c.args.mode c.run_read.result (Some c.args.bytes.items) (c.in-Ok.ensures.job.0, own) c.run_read.ensures.fault
+pub returns-clause-fault : goal.returns-clause-fault
+returns-clause-fault g c = run_fault_of_job c.args.mode c.run_read.result (Some c.args.bytes.items) c.in_ok-job.ensures.job c.run_read.ensures.fault

@@ -15,7 +15,7 @@ use Rattle.crush_run.proofs.run.run_read.Goals as goal
 pub returns-in_err-closed-clause-ends : goal.returns-in_err-closed-clause-ends
 returns-in_err-closed-clause-ends g c = λ read stands.
     let p = err_from_is_err_and c.from_residual.result c.from_residual.ensures.1 in
-    ended_early c.args.mode c.args.asked read _ _ _ _ p.1 (rw p.2 (early_of_scripts _ _ c.in_err-closed.ensures.fault)) c.requires.fresh
+    ended_early c.args.mode c.args.asked.now read _ _ _ _ p.1 (rw p.2 (early_of_scripts _ _ c.in_err-closed.ensures.fault)) c.requires.fresh
 
 pub returns-in_err-closed-clause-quiet : goal.returns-in_err-closed-clause-quiet
 returns-in_err-closed-clause-quiet g c =
@@ -34,9 +34,9 @@ returns-in_err-write_outcome-clause-ends g c = λ read stands.
     let ran = c.in_ok-closed.ensures.runs read stands.map same in
     let h = c.in_ok-closed.closed.history.items in
     let own = c.as_slice-entries.ensures.value in
-    let text = outcome_text c.args.asked c.args.mode.history read c.in_ok-closed.closed.map.setting _ h c.as_slice-entries.result.now ran.stands.setting same own in
+    let text = outcome_text c.args.asked.now c.args.mode.history read c.in_ok-closed.closed.map.setting _ h c.as_slice-entries.result.now ran.stands.setting same own in
     let told = strict_where (Unit {0}) Summary _ _ _ _ _ _ _ (ap names_of same) own c.in_err-write_outcome.ensures.strict in
-    ended_by c.args.mode c.args.asked read _ _ _ _ _ h p.1 ran.run (subst (AppendsLess _ _) text (c.in_err-write_outcome.ensures.writes _ ran.stands.forest)) (rw (p.1, p.2) told)
+    ended_by c.args.mode c.args.asked.now read _ _ _ _ _ h p.1 ran.run (subst (AppendsLess _ _) text (c.in_err-write_outcome.ensures.writes _ ran.stands.forest)) (rw (p.1, p.2) told)
 
 pub returns-in_err-write_outcome-clause-nothing : goal.returns-in_err-write_outcome-clause-nothing
 returns-in_err-write_outcome-clause-nothing g c =
@@ -59,7 +59,7 @@ returns-clause-ends g c = λ read stands.
     let ran = c.in_ok-closed.ensures.runs read stands.map same in
     let h = c.in_ok-closed.closed.history.items in
     let own = c.as_slice-entries.ensures.value in
-    let text = outcome_text c.args.asked c.args.mode.history read c.in_ok-closed.closed.map.setting _ h c.as_slice-entries.result.now ran.stands.setting same own in
+    let text = outcome_text c.args.asked.now c.args.mode.history read c.in_ok-closed.closed.map.setting _ h c.as_slice-entries.result.now ran.stands.setting same own in
     let told = c.in_ok-write_outcome.ensures.strict in
     record {
       history = h;

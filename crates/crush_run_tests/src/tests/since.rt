@@ -1,0 +1,43 @@
+//! What has changed since another map.
+
+use super::scripts::ends_so;
+use super::{PLAIN, is_told, joined, summary};
+use crush_run::{RunFault, SinceFault};
+use crush_script::JobFault;
+use crush_text::{TextFault, TextFaultKind};
+
+/// What has changed where osd.0 was moved from the first host to the second.
+const MOVED: &[u8] =
+    b"h1 (-2): weight 2.00000 to 1.00000\nh2 (-3): weight 0.50000 to 1.50000\nosd.0 (0): from h1 (-2) to h2 (-3)\ntotal 2.50000 to 2.50000\n0 made, 0 removed, 0 renamed, 1 moved, 2 of other weight, 0 of other class\n";
+
+#[test]
+fn a_moved_device_is_told_since_the_map(rt: HostRuntime) {
+    let script = b"%operator a\ncreate-or-move osd.0 5.0 host=h2\n";
+    let job = joined(&rt, PLAIN, script);
+    let files: &[(&str, &[u8])] = &[("m", PLAIN), ("j", job.as_slice())];
+    let words = ["--since", "m", "--no-history", "j"];
+    assert!(rt; ends_so(&rt, &words, files, Ok(summary(0, 1, 1)), MOVED));
+}
+
+/// A text with a flaw at byte 12.
+const FLAWED: &[u8] = b"# a comment\nhots h2 {\n";
+
+const UNKNOWN: TextFault = TextFault {
+    kind: TextFaultKind::UnknownType,
+    place: 12,
+};
+
+#[test]
+fn the_other_map_is_refused_behind_the_job(rt: HostRuntime) {
+    let files: &[(&str, &[u8])] = &[("m", PLAIN), ("x", FLAWED)];
+    let flaw = Err(RunFault::Since(SinceFault::Text(UNKNOWN)));
+    let read = Err(RunFault::Since(SinceFault::Read));
+    let job = Err(RunFault::Job(JobFault::Text(UNKNOWN)));
+    assert!(rt;
+        ends_so(&rt, &["--since", "x", "m"], files, flaw, b"")
+            && ends_so(&rt, &["--since", "none", "m"], files, read, b"")
+            && ends_so(&rt, &["--since", "none", "x"], files, job, b"")
+            && is_told(&rt, &flaw, b"crushedit: since: byte 12: UnknownType\n", 1)
+            && is_told(&rt, &read, b"crushedit: since: read fault\n", 3)
+    );
+}
