@@ -35,7 +35,7 @@ impl Gate for Watch {
     }
 
     fn after<R: Wait>(&self, _rt: &R, operator: usize, number: usize) {
-        self.note(digit(operator, number) + 1);
+        self.note(digit(operator, number).wrapping_add(1));
     }
 }
 
