@@ -87,7 +87,10 @@ check_map "$folder/new.txt" "crushedit printed a part"
 grep -q '^# 1 ' "$folder/new.txt" || stop "no command was run"
 
 # 5. What changes, to be read.
-diff "$folder/before.txt" "$folder/new.txt" >"$folder/changes" || [ $? -eq 1 ] || stop "diff failed"
+$CRUSHEDIT --in-turn --since "$folder/map.txt" "$folder/job.txt" >"$folder/changes" 2>"$folder/errors" || {
+    cat "$folder/errors" >&2
+    stop "what changes couldn't be told"
+}
 cat "$folder/changes"
 grep -v '^# [0-9]' "$folder/new.txt" >"$folder/plain.txt"
 diff -u "$folder/before.txt" "$folder/plain.txt" >"$folder/edit.diff" || [ $? -eq 1 ] || stop "diff failed"

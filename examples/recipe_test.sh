@@ -67,8 +67,8 @@ cat "$map" >"$work/cluster"
 try "a weight is set" 0 "setcrushmap -i $work/folder/new.bin 42" "reweight osd.2 1.0\n"
 try "the old map is kept" 0 "setcrushmap -i $work/folder/map.bin$" "reweight osd.2 1.0\n"
 cmp -s "$map" "$work/folder/map.bin" || { echo "FAILED: the kept map is another"; failed=1; }
-try "only the edit shows" 0 "^> 	item osd.2 weight 1.00000" "reweight osd.2 1.0\n"
-[ "$(grep -c '^[<>]' "$work/folder/changes")" -eq 9 ] || { echo "FAILED: more than the edit shows"; failed=1; }
+try "only the edit shows" 0 "^osd.2 (2): weight 0.50000 to 1.00000$" "reweight osd.2 1.0\n"
+[ "$(grep -c ': ' "$work/folder/changes")" -eq 3 ] || { echo "FAILED: more than the edit shows"; failed=1; }
 cp "$work/folder/plain.txt" "$work/today" && patch -sR "$work/today" "$work/folder/edit.diff" && cmp -s "$map" "$work/today" ||
     { echo "FAILED: the kept edit isn't taken back"; failed=1; }
 try "new buckets are told of" 0 "Are all their names" "add osd.3 1 host=h3 root=default\n"
@@ -79,7 +79,7 @@ try "its line is that of the commands" 1 "commands, line 2: NoSuchCommand: fly h
 try "also below a section's line" 1 "commands, line 4: BadLine: rm" "# today\n\n%operator alice\nrm\n"
 try "a batch that stays open" 1 "commands, line 2: OpenBatch: begin" "rm osd.2\nbegin\nrm osd.1\n"
 try "commands before a section's line" 0 " recipe rm osd.1" "rm osd.1\n%operator alice\nrm osd.2\n"
-try "a device of a class in one batch" 0 "^> device 3 osd.3 class hdd" \
+try "a device of a class in one batch" 0 "^osd.3 (3): made as osd in h1 (-2), weight 1.00000, class hdd$" \
     "begin\nadd osd.3 1 host=h1\nset-device-class hdd osd.3\ncommit\n"
 try "every device is removed" 0 "No device is left" "rm osd.0\nrm osd.1\nrm osd.2\n"
 if grep -q "nothing was printed" "$work/told"; then echo "FAILED: what was printed is called nothing"; failed=1; fi
