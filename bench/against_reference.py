@@ -7,8 +7,9 @@ The model (`model.py`, and `reading.py`, which reads jobs) is written from docs/
 scripts, of sixteen operators, and those of examples/, the refused ones too, as crush_examples has them: these have
 tunables, rules and classes. In turn all bytes are compared. At once the history may be another each time: the model
 makes the calls in its order (`at_once.py`). Where the program has the words `--tree`, `--since MAP`, `--as-ceph`,
-`--strict` and `--script`, half of the runs have some of them (`looking.py` says what comes then); else that is told. The seed may be any word; without one it is drawn. It is printed, and the
-same seed makes the same jobs.
+`--strict`, `--explain` and `--script`, half of the runs have some of them (`looking.py` and `explained.py` say what
+comes then, reasons of refused calls in turn); else that is told. The seed may be any word; without one it is drawn.
+It is printed, and the same seed makes the same jobs.
 """
 
 import collections
@@ -109,14 +110,14 @@ def run(program, flags, text):
 
 def words_of(program):
     """Which words the program has that print something else than a map, or make a run strict."""
-    asked = {"--tree": [], "--since": [os.devnull], "--as-ceph": [], "--strict": [], "--script": [os.devnull]}
+    asked = {"--tree": [], "--since": [os.devnull], "--as-ceph": [], "--strict": [], "--explain": [], "--script": [os.devnull]}
     return {word for word, more in asked.items() if run(program, [word, *more], "")[0] == 0}
 
 
 def any_words(dice, there):
     """Words of the command line, of those that are there; of those that print something else than a map at most one."""
     shown = dice.choice([[], ["--tree"], ["--tree"], ["--since"], ["--since"], ["--as-ceph"]])
-    words = [word for word in ["--no-history", "--strict", "--script"] if dice.randint(0, 2) == 0] + shown
+    words = [word for word in ["--no-history", "--strict", "--explain", "--script"] if dice.randint(0, 2) == 0] + shown
     return [word for word in words if word in there | {"--no-history"}]
 
 
@@ -157,6 +158,12 @@ def parted(text, folder):
     return front, files
 
 
+def named(ran, file):
+    """How a run ended, where the file of `--since` is called MAP."""
+    status, printed, told = ran
+    return status, printed, told.replace(f"  {file} line ", "  MAP line ")
+
+
 def difference(program, text, due, words, since):
     """What the program does otherwise than the model, which says what is due in turn, or nothing."""
     with tempfile.TemporaryDirectory() as folder:
@@ -169,11 +176,12 @@ def difference(program, text, due, words, since):
                 flags += [part for name in files for part in ("--script", name)]
             else:
                 flags += [word, str(file)] if word == "--since" else [word]
-        got = run(program, ["--in-turn", *flags], given)
+        got = named(run(program, ["--in-turn", *flags], given), file)
         if got != due:
             return f"in turn: {got}\n--- and not {due}"
-        flags = [flag for flag in flags if flag != "--no-history"]
-        status, printed, told = run(program, flags, given)
+        kept = {"--explain"} if due[0] == 1 else set()
+        flags = [flag for flag in flags if flag in kept or flag not in {"--no-history", "--explain"}]
+        status, printed, told = named(run(program, flags, given), file)
     if due[0] == 1:
         return f"at once: status {status}, {told}, {printed}" if (status, printed, told) != due else None
     read, adjusted, scripts = read_job(text)
@@ -188,7 +196,7 @@ def difference(program, text, due, words, since):
 
 def compare(program, count, seed):
     there = words_of(program)
-    missing = sorted({"--tree", "--since", "--as-ceph", "--strict", "--script"} - there)
+    missing = sorted({"--tree", "--since", "--as-ceph", "--strict", "--explain", "--script"} - there)
     if missing:
         print(f"this program has no {', '.join(missing)}: without these")
     examples = [path.read_bytes().decode("latin-1") for path in sorted(DATA.glob("*.job"))]
@@ -206,7 +214,7 @@ def compare(program, count, seed):
                 sys.stdout.reconfigure(errors="backslashreplace")
                 print(f"{text}\n--- {' '.join(words)}, since\n{since}\n--- {wrong}")
                 sys.exit(f"{name} {index} of seed {seed} differs")
-            told[{0: "done", 5: "strict and refused"}.get(due[0]) or due[2].split()[-1]] += 1
+            told[{0: "done", 5: "strict and refused"}.get(due[0]) or due[2].splitlines()[0].split()[-1]] += 1
             told.update(words)
             refusals.update(re.findall(r" = refused (?:at \d+ )?(\w+) \d+(?: changes \d+)?\n", due[1]))
     print(f"{count} jobs of seed {seed}, a mutation and a prefix of each, in turn and at once, end as the model says:",

@@ -148,8 +148,25 @@ def moves_at_the_foot_of_far_ids(size):
     return moves_at_the_foot(size, FAR)
 
 
-def weights_at_the_foot(size):
-    lines = filled(nest() + [OPERATOR, "begin"], size - 7, lambda n: f"reweight osd.0 {n % 7}.5", 65536)
+def weights_at_the_foot(size, first_id=1):
+    lines = filled(nest(first_id=first_id) + [OPERATOR, "begin"], size - 7, lambda n: f"reweight osd.0 {n % 7}.5", 65536)
+    return lines + ["commit"]
+
+
+def weights_at_the_foot_of_far_ids(size):
+    return weights_at_the_foot(size, FAR)
+
+
+def swaps_at_the_foot_of_far_ids(size):
+    """One batch of exchanges of the two buckets at the foot of a nest, each of which finds four ways up."""
+    lines = filled(fork_at_the_foot(FAR) + [OPERATOR, "begin"], size - 7, lambda n: "swap-bucket left right", 65536)
+    return lines + ["commit"]
+
+
+def classes_at_the_foot(size):
+    """One batch of classes for the device at the foot of a nest."""
+    lines = filled(nest() + [OPERATOR, "begin"], size - 7,
+                   lambda n: ["set-device-class c osd.0", "rm-device-class osd.0"][n % 2], 65536)
     return lines + ["commit"]
 
 
@@ -395,7 +412,8 @@ INPUTS = {function.__name__: function for function in (
     moves_from_the_front, moves_there_and_back, subtrees, large_swaps, take_steps, pairs_over_types,
     routes_without_room, class_ids, new_buckets_of_class_ids, sixteen_operators, a_comment, a_word, blank_lines,
     comments_in_a_section, blanks_in_a_line, spaces_of_operators, moves_at_the_foot, moves_at_the_foot_of_far_ids,
-    weights_at_the_foot, batches_of_a_far_device, full_swaps, swaps_of_far_ids, the_end_of_a_bucket,
+    weights_at_the_foot, weights_at_the_foot_of_far_ids, swaps_at_the_foot_of_far_ids, classes_at_the_foot,
+    batches_of_a_far_device, full_swaps, swaps_of_far_ids, the_end_of_a_bucket,
     batches_of_long_names, a_wide_level_over_a_nest, batches_of_sixteen_operators)}
 
 

@@ -3,6 +3,7 @@ and how a strict run ends."""
 
 import re
 
+from explained import refused_text
 from model import is_change, run_call, shown, text_of
 
 
@@ -159,10 +160,12 @@ def ending(words, since, read, adjusted, scripts):
     """Status, standard output and standard error of a run in turn."""
     map, made = run_in_turn(read, scripts)
     refused = [line for _, line in made if is_refusal(line)]
+    told = refused_text(refused) if "--explain" in words else "".join(refused) if "--strict" in words else ""
     if "--strict" in words and refused:
-        return 5, "", f"crushedit: refused {len(refused)}\n" + "".join(refused)
+        return 5, "", f"crushedit: refused {len(refused)}\n" + told
     history = "" if "--no-history" in words else "".join(line for _, line in made)
-    return 0, body(words, since, map, made) + history, f"crushedit: adjusted {adjusted}\n" if adjusted else ""
+    line = f"crushedit: adjusted {adjusted}\n" if adjusted else ""
+    return 0, body(words, since, map, made) + history, line + told
 
 
 def history_of(printed, count):

@@ -6,6 +6,7 @@ word the fault of least number among those that the word has.
 
 import re
 
+from explained import fault_text
 from looking import ending
 from model import MOST, Map, number_of, units_of
 
@@ -316,15 +317,16 @@ def read_job(text):
 
 def outcome(text, words=(), since=None):
     """The status of a job that is run in turn, what is printed, and what standard error is told, with these words of
-    the command line and the bytes of the file of `--since`."""
+    the command line and the bytes of the file of `--since`, which is called MAP."""
+    explain = "--explain" in words
     try:
         read, adjusted, scripts = read_job(text)
     except Fault as fault:
-        return 1, "", f"crushedit: {fault}\n"
+        return 1, "", f"crushedit: {fault}\n" + (fault_text(text, str(fault)) if explain else "")
     try:
         old = read_since(since) if "--since" in words else None
     except Fault as fault:
-        return 1, "", f"crushedit: since: {fault}\n"
+        return 1, "", f"crushedit: since: {fault}\n" + (fault_text(since, str(fault), "MAP") if explain else "")
     return ending(words, old, read, adjusted, scripts)
 
 

@@ -19,7 +19,7 @@ CRATE = "crush_editor"
 # A file, the line before which the lock is tried, how it is tried, and what the compiler has to say.
 NO_FIELD = "no field `desk` on type `Dial<N>`"
 PRIVATE = "field `desk` of struct `Door` is private"
-NO_METHOD = "no method named `try_lock` found for type `Door<N>`"
+NO_METHOD = "no method named `try_lock` found for type `Door<N, O>`"
 TRIES = [
     ("dial.rt", "        self.gauge.read(&mut seat.reader)", "self.desk.try_lock()", NO_FIELD),
     ("dial.rt", "        let note = self.gauge.note(&mut seat.reader);", "self.desk.try_lock()", NO_FIELD),

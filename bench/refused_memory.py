@@ -7,10 +7,15 @@ such run has to end with status 4, nothing on standard output and its one line o
 the run without a refusal. Each job runs at once and with --in-turn. Where several operators run at once the
 history may be another in each run: there the same calls of each operator, in order, count as the same ending.
 A worker that is out of memory lets the others finish: the run waits for them all, so it has to end by itself, and
-at its end the library looks whether a thread is left: in `_exit`, since the program ends by that. With words only jobs whose names have one of them are
-run. As many jobs are run side by side as there are processors. Needs a C compiler, `cc`, `gcc` or what CC names,
-and the /proc of Linux. Prints how many requests were refused, and ends with status 1 where a run ends otherwise
-or a job asks for no memory.
+at its end the library looks whether a thread is left: in `_exit`, since the program ends by that.
+
+Then the requests are counted that the thread of an operator makes for calls which take no memory of a map, and for
+as many calls that are as long and are refused by a name that isn't there. Each is copied and kept alike, so that
+there have to be as many.
+
+With words only jobs whose names have one of them are run. As many are run side by side as there are processors.
+Needs a C compiler, `cc`, `gcc` or what CC names, and the /proc of Linux. Prints how many requests were refused, and
+ends with status 1 where a run ends otherwise, a job asks for no memory, or such calls ask for more.
 """
 
 import concurrent.futures
@@ -30,6 +35,7 @@ LIBRARY = r"""
 #include <errno.h>
 #include <fcntl.h>
 #include <stdatomic.h>
+#include <stdio.h>
 #include <stdlib.h>
 #include <sys/syscall.h>
 #include <unistd.h>
@@ -41,17 +47,24 @@ extern void *__libc_memalign(size_t align, size_t size);
 
 static atomic_long asked;
 static long refused;
-static const char *told, *left;
+static const char *told, *left, *counted;
 
 __attribute__((constructor)) static void begin(void) {
     told = getenv("REFUSED_FILE");
     left = getenv("LEFT_FILE");
+    counted = getenv("COUNTED_FILE");
     const char *number = getenv("REFUSED_NUMBER");
     atomic_store(&asked, 0);
     refused = number ? atol(number) : 0;
 }
 
 static void tell(const char *name) { close(open(name, O_CREAT | O_WRONLY, 0600)); }
+
+static void tell_number(const char *name, long number) {
+    int file = open(name, O_CREAT | O_TRUNC | O_WRONLY, 0600);
+    dprintf(file, "%ld", number);
+    close(file);
+}
 
 /* Where the program ends otherwise, this is told: else nothing would be looked at. */
 __attribute__((destructor)) static void end(void) { tell(left); }
@@ -70,6 +83,7 @@ static int threads(void) {
 /* The program's end, where it is told if a thread is left. One that was joined may be there for a moment more. */
 void _exit(int status) {
     refused = 0;
+    tell_number(counted, atomic_load(&asked));
     int wait = 0;
     while (threads() != 1 && wait++ < 1000)
         usleep(1000);
@@ -79,9 +93,12 @@ void _exit(int status) {
     __builtin_unreachable();
 }
 
-/* Whether this request is the one to be refused; then the file is made by which that is told. */
+/* Whether this request is the one to be refused; then the file is made by which that is told. Where none is to be,
+   those of other threads than the first are counted. */
 static int is_refused(void) {
-    if (refused == 0 || atomic_fetch_add(&asked, 1) + 1 != refused)
+    if (refused == 0 || (refused < 0 && syscall(SYS_gettid) == getpid()))
+        return 0;
+    if (atomic_fetch_add(&asked, 1) + 1 != refused)
         return 0;
     tell(told);
     errno = ENOMEM;
@@ -127,6 +144,18 @@ class Ending(Exception):
     """How a run ended that may not end so."""
 
 
+def files_in(folder):
+    """By which the library tells what it did: a request refused, a thread left, how many requests there were."""
+    return {name: pathlib.Path(folder, name) for name in ("REFUSED_FILE", "LEFT_FILE", "COUNTED_FILE")}
+
+
+def preloaded(command, library, files, job, number):
+    """A run in which this request is refused. 0 refuses none; -1 neither, and counts those of the operators."""
+    environment = {"LD_PRELOAD": library, "REFUSED_NUMBER": number, **files}
+    environment = {name: str(value) for name, value in environment.items()}
+    return subprocess.run(command, input=job, capture_output=True, env=environment, timeout=60)
+
+
 class Refuser:
     """Runs a job in one mode, and refuses a request. What the library tells goes into a folder of its own."""
 
@@ -134,14 +163,13 @@ class Refuser:
         self.command, self.library = [program, *flags], library
         self.name, self.job = " ".join([job.name, *flags]), job.read_bytes()
         self.is_at_once = self.job.count(b"\n%operator") > 1 and not flags
-        self.told, self.left = pathlib.Path(folder, "told"), pathlib.Path(folder, "left")
+        self.files = files_in(folder)
+        self.told, self.left, _ = self.files.values()
 
     def run(self, number):
         """The run in which this request is refused, and whether there was such a request; 0 refuses none."""
         self.told.unlink(missing_ok=True)
-        files = {"REFUSED_FILE": str(self.told), "LEFT_FILE": str(self.left)}
-        environment = {"LD_PRELOAD": str(self.library), "REFUSED_NUMBER": str(number), **files}
-        run = subprocess.run(self.command, input=self.job, capture_output=True, env=environment, timeout=60)
+        run = preloaded(self.command, self.library, self.files, self.job, number)
         return run, self.told.exists()
 
     def wants(self, run, number, whole):
@@ -175,6 +203,69 @@ def refuse_each(program, library, job, flags):
         return Refuser(program, library, folder, job, flags).refuse_each()
 
 
+# Hosts with a device each in one root, and as many that are empty.
+NUMBERS = range(10, 18)
+MAP = "\n".join([
+    *(f"device {number} osd.{number} class ssd" for number in NUMBERS),
+    "type 0 osd", "type 1 host", "type 11 root",
+    *(f"host h{number} {{ id -{number} alg straw2 item osd.{number} weight 1.0 }}" for number in NUMBERS),
+    *(f"host e{number} {{ id -{10 + number} alg straw2 }}" for number in NUMBERS),
+    "root default { id -1 alg straw2 " + " ".join(f"item h{number} weight 1.0" for number in NUMBERS) + " }",
+])
+CHANGED, SAME = "done changed 1 made 0", "done changed 0 made 0"
+# Calls that take no memory of a map, each with its reply and beside one as long that is refused by a name that isn't
+# there. N is one of the numbers, M one of 60 more.
+NO_MEMORY_TAKEN = [
+    ("reweight osd.N 2.0", CHANGED, "reweight osd.M 2.0"),
+    ("reweight osd.N 1.0", SAME, "reweight osd.M 1.0"),
+    ("reweight-subtree hN 2.0", CHANGED, "reweight-subtree hM 2.0"),
+    ("swap-bucket hN eN", CHANGED, "swap-bucket hM eM"),
+    ("swap-bucket hN hN", "refused Nested 22", "swap-bucket hM hM"),
+    ("rm osd.N", CHANGED, "rm osd.M"),
+    ("rm eN", CHANGED, "rm eM"),
+    ("rm hN", "refused NotEmpty 39", "rm hM"),
+    ("rm-device-class osd.N", CHANGED, "rm-device-class osd.M"),
+    ("set osd.N 2.0 host=hN", CHANGED, "set osd.N 2.0 hose=hN"),
+    ("create-or-move osd.N 5.0 host=hN", SAME, "create-or-move osd.N 5.0 hose=hN"),
+]
+# Where both hosts have room for the device, since it was in both.
+TO, FRO = "move osd.10 host=h11", "move osd.10 host=h10"
+TO_AND_FRO = ([TO, FRO], [TO, FRO] * 3, CHANGED, [TO.replace("host", "hose")] * 6)
+
+
+class Counter:
+    """Counts the requests of an operator's calls. What the library tells goes into a folder of its own."""
+
+    def __init__(self, program, library, folder):
+        self.command, self.library, self.files = [program], library, files_in(folder)
+
+    def count(self, before, calls, reply):
+        """How many requests there are, where each call but those before has to get this reply."""
+        job = "\n".join([MAP, "%operator a", *before, *calls, ""]).encode()
+        run = preloaded(self.command, self.library, self.files, job, -1)
+        replies = [line.partition(" = ")[2] for line in run.stdout.decode().splitlines() if " = " in line]
+        asked = [told for told in replies[len(before):] if told.startswith(reply)]
+        if run.returncode or len(asked) != len(calls) or len(replies) != len(before) + len(calls):
+            raise Ending(f"{calls}: status {run.returncode}, {replies}")
+        return int(self.files["COUNTED_FILE"].read_text())
+
+
+def take_none(program, library):
+    """How many kinds of call take no memory of a map."""
+    kinds = [
+        ([], [line.replace("N", str(number)) for number in NUMBERS], reply,
+         [beside.replace("N", str(number)).replace("M", str(60 + number)) for number in NUMBERS])
+        for line, reply, beside in NO_MEMORY_TAKEN
+    ]
+    with tempfile.TemporaryDirectory() as folder:
+        counter = Counter(program, library, folder)
+        for before, calls, reply, beside in [*kinds, TO_AND_FRO]:
+            made, refused = counter.count(before, calls, reply), counter.count(before, beside, "refused NoSuch")
+            if made != refused or made == 0:
+                raise Ending(f"{calls}: {made} requests for memory, and {refused} where they are refused")
+    return len(kinds) + 1
+
+
 def main():
     program, words = os.path.abspath(sys.argv[1]), sys.argv[2:]
     jobs = [job for job in EXAMPLES.rglob("*.job") if not words or any(word in job.stem for word in words)]
@@ -190,6 +281,7 @@ def main():
                 refused, wanting = (sum(column) for column in zip(*(case.result() for case in cases)))
                 print(f"{len(jobs)} jobs {mode}: {refused} requests refused; {wanting} runs ended with status 4, "
                       f"{refused - wanting} as without a refusal", flush=True)
+            print(f"{take_none(program, library)} kinds of call that take no memory of a map: none asks for any")
         except Ending as ending:
             pool.shutdown(cancel_futures=True)
             sys.exit(str(ending))

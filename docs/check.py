@@ -3,13 +3,12 @@
 
 Each name in backticks has to stand in the crates: a function, a type, a definition, a clause, a file or
 an edit that must fail, or be a job of examples/; but of the pages of WORDS_OF_TEXTS, which name words of jobs and of Ceph beside them.
-In a table whose head has a column of must-fail edits, each name of that column has to be the file of one; and
-each such file has to be named by a page. Each link leads to a file, and to a heading of it. ADDING.md lists
+Where the must-fail edits of each crate lie is told as docs/tables.py writes it. Each link leads to a file, and to a heading of it. ADDING.md lists
 the files that an addition touches: each has to be there, and each file of src/, specs/ and proofs/ that names all
 variants of an enum of ADDED, or all words of a row of NAMED, has to stand in its section. RULES.md has a row for each variant of the enums of
-ROWS, and for each limit, and a sentence for each, which is the one of SENTENCES. Each public function is named by a page, but for those of INSIDE; and PROVED.md has a
-row for each that may answer one of several faults, or fails and is lent what it changes, with clauses that its
-contract has. The index of examples/ names each job. In the drawing of crates/README.md each crate has
+ROWS, and for each limit, and a sentence for each, which is the one of SENTENCES. Each public function is named by a page, but for those of INSIDE; and
+each that may answer one of several faults, or fails and is lent what it changes, has a clause that says which and what
+is left, by the names that PROVED.md tells, or is told there to have none. The index of examples/ names each job. In the drawing of crates/README.md each crate has
 a place, and code calls downward. The version of the command line stands in VERSIONS, the
 manual page is that of the help (docs/manual.py), and `--version` and PROVED.md name the toolchain, where `rt` is
 there to tell its line. Prints what is missing, and ends with status 1 where anything is.
@@ -46,9 +45,11 @@ ROWS = {
     "Faults of a text": ("crush_text/src/fault.rt", "TextFaultKind"),
     "Faults of a job": ("crush_script/src/fault.rt", "JobFault"),
 }
-# Where the sentences of these enums stand, each by the word that its definition begins with; RULES.md has the same.
+# Where the sentences of these enums stand, by the words that their definitions begin with; RULES.md has the same.
 SENTENCES = "crush_reasons/specs/Sentences.antt"
-SAID = {"text": "Faults of a text", "job": "Faults of a job", "refusal": "Refusals"}
+SAID = {("text",): "Faults of a text", ("job",): "Faults of a job", ("refusal", "stale"): "Refusals"}
+# A fault of the text that a job has, whose sentence is the text's.
+NO_SENTENCE = {"Text"}
 # Where the version stands that the command line tells.
 COMMAND_LINE = "crates/crush_options/src/command_line.rt"
 VERSIONS = {
@@ -56,9 +57,14 @@ VERSIONS = {
     "docs/FORMATS.md": "`crushedit {}`", "README.md": "`out/crushedit-{}-linux-x86_64.tar.gz`",
 }
 TO_COME = "To come"
+# The clauses that say which of several faults is told, and those that say what is left of what a call was lent.
+TOLD = {"refused", "fault", "flaw", "full", "none", "memory"}
+LEFT = {"unchanged", "err", "nothing", "writes"}
 # Crates whose functions are public for the tree alone, and those of which nobody calls a function.
 INSIDE = {"crush_nodes", "crush_changes"}
 PROGRAMS = {"crush_examples", "crush_growths", "crush_one_edit", "crush_two_operators", "crushedit"}
+# What a function answers in the place of a Result, and the fault in it.
+ENDINGS = {"Ending": "RunFault"}
 # Pages that name words of jobs and of Ceph beside names of the code.
 WORDS_OF_TEXTS = {"FORMATS.md", "OPERATING.md", "DECISIONS.md", "README.md"}
 
@@ -103,7 +109,12 @@ def tables(text):
 
 
 def quoted(text):
-    return re.findall(r"`([^`]+)`", text)
+    """What stands in backticks; of `a/{b,c}.rt` each of the files."""
+    names = []
+    for name in re.findall(r"`([^`]+)`", text):
+        files = re.fullmatch(r"([\w./]+/)\{([\w/,]+)\}([\w./]+)", name)
+        names += [files[1] + file + files[3] for file in files[2].split(",")] if files else [name]
+    return names
 
 
 def variants(name, enum):
@@ -136,6 +147,7 @@ def rule_faults():
     for title, names in wanted.items():
         rows = [row for _, rows in tables(sections.get(title, "")) for row in rows]
         there = {name for row in rows for cell in row[:2] for name in quoted(cell)}
+        there.update(name for line in re.findall(r"(?m)^- .*$", sections.get(title, "")) for name in quoted(line))
         for name in names:
             if name not in there:
                 yield f"{title} has no row for {name}"
@@ -143,21 +155,18 @@ def rule_faults():
 
 def sentence_faults():
     """Which faults and refusals have no sentence, or another one in RULES.md."""
-    specs = (TOP / "crates" / SENTENCES).read_text()
+    specs, sections = (TOP / "crates" / SENTENCES).read_text(), sections_of("RULES.md")
     said = re.findall(r'(?m)^(\w+)_sentence (?:\(?\w+\.(\w+)[^=\n]*)?= codes "(.*)"$', specs)
-    told = [(cell(row[1]), row[2]) for _, rows in tables(sections_of("RULES.md").get("Sentences", "")) for row in rows]
-    if told != [(name or word.capitalize(), sentence) for word, name, sentence in said]:
-        yield f"the sentences aren't those of {SENTENCES}"
     for word, title in SAID.items():
-        there = {name for other, name, _ in said if other == word} | {"Text"}
+        wanted = {name or other.capitalize(): sentence for other, name, sentence in said if other in word}
+        for head, rows in tables(sections.get(title, "")):
+            told = {quoted(row[head.index(title.split(" ")[0].rstrip("s"))])[0]: row[head.index("Sentence")] for row in rows}
+            for name in sorted(wanted | told):
+                if name not in NO_SENTENCE and wanted.get(name) != told.get(name):
+                    yield f"{title} has another sentence of {name} than {SENTENCES}"
         for name in variants(*ROWS[title]):
-            if name not in there:
+            if name not in wanted and name not in NO_SENTENCE:
                 yield f"{SENTENCES} has no sentence for {name}"
-
-
-def cell(text):
-    """What a cell has without its backticks."""
-    return text.strip("`")
 
 
 def anchors(text):
@@ -201,11 +210,12 @@ def version_faults():
             yield f"PROVED.md doesn't name the toolchain's {line}"
 
 
-def manual_faults():
-    """Whether the manual page is the one that docs/manual.py makes of the help."""
-    command = [sys.executable, "-B", str(TOP / "docs/manual.py"), "--check"]
-    told = subprocess.run(command, capture_output=True, text=True, check=False).stderr
-    yield from told.splitlines()
+def made_faults():
+    """Whether the manual page is the one that docs/manual.py makes of the help, and each line of edits that of docs/tables.py."""
+    for script in ("manual.py", "tables.py"):
+        command = [sys.executable, "-B", str(TOP / "docs" / script), "--check"]
+        told = subprocess.run(command, capture_output=True, text=True, check=False).stderr
+        yield from told.splitlines()
 
 
 def contracts():
@@ -242,34 +252,26 @@ def listing_faults():
 def told_of(head):
     """The fault type that a function's head answers, if any."""
     found = re.search(r"-> Result<.*?(\w+)(?:<\w+>)?>\s*(?:where|requires|ensures|//|$)", head, re.S)
-    return found and found[1]
+    return found[1] if found else next((ENDINGS[name] for name in ENDINGS if re.search(rf"-> {name}\b", head)), None)
 
 
 def call_faults():
-    """What is wrong with the section of PROVED.md on public calls."""
+    """Which calls have no clause that says which of several faults is told, or what is left, and aren't told of in PROVED.md."""
     section = sections_of("PROVED.md")["Each public call"]
-    functions, several, waiting = {}, set(), set()
-    sources = "".join(path.read_text() for path in crate_files())
+    sources, named, waiting = "".join(path.read_text() for path in crate_files()), set(quoted(section)), set()
+    without = set(quoted(re.search(r"(?m)^Without such a clause.*$", section)[0]))
     for _, name, text in contracts():
-        functions.setdefault(name, []).append(text)
         fault, head = told_of(text), re.split(r"\bensures\b|\brequires\b", text)[0]
         body = re.search(rf"pub enum {fault}(?:Kind)?\b[^{{]*\{{(.*?)\n\}}", sources, re.S) if fault else None
-        if fault and ("&mut" in head or body and len(re.findall(r"(?m)^    [A-Z]", body[1])) > 1):
-            several.add(name)
+        several = body and len(re.findall(r"(?m)^    [A-Z]", body[1])) > 1
+        clauses = set(re.findall(r"\bensures (\w+) \{", text))
+        for wanted, asked in ((TOLD, several), (LEFT, fault and "&mut" in head)):
+            if asked and not clauses & wanted and not {name, name.split("::")[0]} & without:
+                yield f"{name} has no clause of {', '.join(sorted(wanted))}"
         if re.search(r"\bWait\b", head):
             waiting.add(name)
-    named = set()
-    for row in (row for _, rows in tables(section) for row in rows):
-        owner = ""
-        for call in quoted(row[0]):
-            owner = call.split("::")[0] if "::" in call else owner if f"{owner}::{call}" in functions else ""
-            call = f"{owner}::{call.split('::')[-1]}" if owner else call
-            named.add(call)
-            for clause in (clause for cell in row[2:] for clause in quoted(cell)):
-                if not all(re.search(rf"ensures {clause} \{{", text) for text in functions.get(call, [""])):
-                    yield f"{call} has no clause {clause}"
-    for call in sorted(several ^ named):
-        yield f"{call} has {'no row' if call in several else 'a row, and no fault to order'}"
+    for clause in sorted((TOLD | LEFT) - named):
+        yield f"Each public call doesn't tell of the clause {clause}"
     told = {call for line in section.splitlines() if "`Wait`" in line for call in quoted(line) if call != "Wait"}
     for call in sorted(waiting ^ told):
         yield f"{call} {'may wait' if call in waiting else 'does not wait'}"
@@ -313,18 +315,10 @@ def room_faults():
 
 def main():
     words = known_words()
-    edits = {path.stem for path in crate_files() if path.suffix == ".edit"}
     files = {str(path.relative_to(TOP)) for path in files_below(TOP)}
-    faults, named = [], set()
+    faults = []
     for page in PAGES:
         text = re.sub(r"```.*?```", "", page.read_text(), flags=re.S)
-        for head, rows in tables(text):
-            columns = [i for i, cell in enumerate(head) if "ust-fail" in cell]
-            for row in rows:
-                for name in (n for i in columns if i < len(row) for n in quoted(row[i])):
-                    named.add(name)
-                    if name not in edits:
-                        faults.append(f"{page.name}: no must-fail edit {name}")
         if page.name in WORDS_OF_TEXTS:
             continue
         for name in quoted(text):
@@ -345,8 +339,7 @@ def main():
     faults += [f"ADDING.md: {fault}" for fault in adding_faults()]
     faults += [f"PROVED.md: {fault}" for fault in call_faults()]
     faults += [f"examples/README.md: {fault}" for fault in example_faults()]
-    faults += [*version_faults(), *manual_faults(), *listing_faults()]
-    faults += [f"no page names the must-fail edit {edit}" for edit in sorted(edits - named)]
+    faults += [*version_faults(), *made_faults(), *listing_faults()]
     for fault in faults:
         print(fault)
     sys.exit(1 if faults else 0)

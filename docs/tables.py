@@ -1,9 +1,11 @@
 #!/usr/bin/env python3
-"""Writes the columns of must-fail edits into the pages of docs/, out of the files of the edits.
+"""Writes into the pages where the must-fail edits of each crate lie, out of the folders that there are.
 
-An edit stays in the rows that name it, is taken out of them where its file is gone, and a new one comes into the
-first row of the function that its name begins with, behind the name of its module or its type. With --check nothing
-is written, and the status is 1 where a page would be another.
+The line of a page that begins with `Must-fail edits: ` names these folders, in the order of their names, each in one
+page. One that is gone is taken out; a new one comes into the line of its room's page, by the table of
+crates/README.md, of several into the one that is called by the crate, else the first. An edit is called by module
+and function, so that it is found there by the function: each has to have a function of its crate in its name. With
+--check nothing is written, and the status is 1 where a page would be another.
 """
 import pathlib
 import re
@@ -11,110 +13,66 @@ import sys
 
 TOP = pathlib.Path(__file__).resolve().parent.parent
 PAGES = sorted([*(TOP / "docs").glob("*.md"), TOP / "bench/README.md"])
+HEAD = "Must-fail edits: "
 
 
-def quoted(text):
-    return re.findall(r"`([^`]+)`", text)
+def homes():
+    """The crates of each room with the pages of that room."""
+    for line in (TOP / "crates/README.md").read_text().splitlines():
+        cells = line.split("|")
+        if len(cells) == 6:
+            pages = [(TOP / "crates" / link).resolve() for link in re.findall(r"\]\(([^)#]*\.md)", cells[4])]
+            for crate in re.findall(r"`(crush\w+)`", cells[2]):
+                yield crate, sorted(pages, key=lambda page: f"crush_{page.stem}" != crate)
 
 
-def cells_of(line):
-    return re.split(r"(?<!\\)\|", line.strip())[1:-1]
+def folders():
+    """The folders of edits, as pages name them, each with its crate."""
+    for path in sorted(TOP.glob("crates/*/must-fail")):
+        yield f"{path.parts[-2]}/must-fail", path.parts[-2]
 
 
-def snake(name):
-    return re.sub(r"(?<=[a-z])(?=[A-Z])", "_", name).lower()
+def named_in(text):
+    """The folders that the line of a page names, or None where it has no such line."""
+    line = re.search(rf"(?m)^{HEAD}(.*)$", text)
+    return None if line is None else re.findall(r"`([^`]+)`", line[1])
 
 
-def rows_of(lines):
-    """The rows of a page's tables that have the column: the line, its cells, the column, and what the row is about;
-    a row with an empty first cell is about what the one above is about."""
-    column = about = None
-    for number, line in enumerate(lines):
-        if not line.startswith("|"):
-            column = None
-        elif column is None:
-            heads = [at for at, cell in enumerate(cells_of(line)) if "ust-fail" in cell]
-            column = heads[0] if heads else -1
-        elif column >= 0 and not re.match(r"^\|[\s:|-]+\|$", line):
-            cells = cells_of(line)
-            about = quoted(cells[0]) or about
-            yield number, cells, column, about
-
-
-def functions_of(about):
-    """The functions that a row is about, each as its name and, of a method, its type's."""
-    owner = ""
-    for name in about or []:
-        parts = re.sub(r"\(.*", "", name).split("::")
-        owner = parts[-2] if len(parts) > 1 else owner
-        yield parts[-1], snake(owner)
-
-
-def match(edit, module, crate, function, owner):
-    """How well an edit's name fits a function: the length of what of it is the function's."""
-    fronts = {"", f"{module}_", f"{owner}_", f"{crate.removeprefix('crush_')}_"}
-    return max((len(front + function) for front in fronts if edit.startswith(f"{front}{function}_")), default=0)
-
-
-def edits():
-    """The names of the edits, with their crates and the modules that they change."""
-    for path in sorted(TOP.glob("crates/*/must-fail/*.edit")):
-        changed = re.search(r"(?m)^file: (\S+)", path.read_text())[1]
-        yield path.stem, path.parts[-3], pathlib.Path(changed).stem
-
-
-def homes(pages, known):
-    """Of each crate the pages that name edits of it, or that are called by it."""
-    crates, found = {name: crate for name, crate, _ in known}, {}
-    for page, lines in pages.items():
-        found.setdefault(f"crush_{page.stem}", set()).add(page)
-        for _, cells, column, _ in rows_of(lines):
-            for name in quoted(cells[column]):
-                found.setdefault(crates.get(name), set()).add(page)
-    return found
-
-
-def filled(pages):
-    """The pages with their columns, and the edits that no row is about."""
-    known = list(edits())
-    names, named, best, home = {name for name, _, _ in known}, set(), {}, homes(pages, known)
-    for page, lines in pages.items():
-        for number, cells, column, about in rows_of(lines):
-            there = quoted(cells[column])
-            named.update(there)
-            kept = [name for name in there if name in names]
-            if kept != there:
-                cells[column] = f" {', '.join(f'`{name}`' for name in kept)} " if kept else " "
-                lines[number] = f"|{'|'.join(cells)}|"
-            for edit, crate, module in known:
-                fit = max((match(edit, module, crate, *function) for function in functions_of(about)), default=0)
-                if page in home.get(crate, set()) and fit > best.get(edit, (0,))[0]:
-                    best[edit] = fit, page, number
+def filled(texts):
+    """The pages with their lines, and the folders that have no page."""
+    there, home = dict(folders()), dict(homes())
+    named = {page: [name for name in named_in(text) if name in there] for page, text in texts.items() if named_in(text) is not None}
     lost = []
-    for edit in sorted(names - named):
-        if edit not in best:
-            lost.append(edit)
-            continue
-        _, page, number = best[edit]
-        column = next(column for at, _, column, _ in rows_of(pages[page]) if at == number)
-        cells = cells_of(pages[page][number])
-        cells[column] = f" {', '.join([*([cells[column].strip()] if cells[column].strip() else []), f'`{edit}`'])} "
-        pages[page][number] = f"|{'|'.join(cells)}|"
-    return pages, lost
+    for folder, crate in there.items():
+        if not any(folder in names for names in named.values()):
+            page = next((page for page in home.get(crate, []) if page in named), None)
+            (named[page] if page else lost).append(folder)
+    lines = {page: HEAD + ", ".join(f"`{name}`" for name in sorted(names)) + "." for page, names in named.items()}
+    return {page: re.sub(rf"(?m)^{HEAD}.*$", lines[page], text) if page in lines else text for page, text in texts.items()}, lost
+
+
+def nameless():
+    """The edits whose names have no function of their crate, but for those of `{}`, which has none."""
+    for folder, crate in folders():
+        sources = "".join(path.read_text() for path in (TOP / "crates" / crate / "src").rglob("*.rt"))
+        functions = set(re.findall(r"\bfn (\w+)", sources))
+        for path in sorted((TOP / "crates" / folder).glob("*.edit")):
+            if not path.stem.startswith("display_") and not any(f"_{name}_" in f"_{path.stem}" for name in functions):
+                yield path.stem
 
 
 def main():
     texts = {page: page.read_text() for page in PAGES}
-    pages, lost = filled({page: text.split("\n") for page, text in texts.items()})
-    for edit in lost:
-        print(f"no row is about what the must-fail edit {edit} changes", file=sys.stderr)
-    others = [page for page, lines in pages.items() if "\n".join(lines) != texts[page]]
-    for page in others:
+    pages, lost = filled(texts)
+    faults = [f"no page has a line of must-fail edits for {folder}" for folder in lost]
+    faults += [f"the must-fail edit {name} is called by no function of its crate" for name in nameless()]
+    for page in (page for page in PAGES if pages[page] != texts[page]):
         if "--check" in sys.argv:
-            print(f"{page.name}: a column of must-fail edits is old: run docs/tables.py", file=sys.stderr)
+            faults.append(f"{page.name}: the line of must-fail edits is old: run docs/tables.py")
         else:
-            page.write_text("\n".join(pages[page]))
-    sys.exit(bool(lost or (others and "--check" in sys.argv)))
+            page.write_text(pages[page])
+    print("".join(fault + "\n" for fault in faults), end="", file=sys.stderr)
+    sys.exit(bool(faults))
 
 
 if __name__ == "__main__":

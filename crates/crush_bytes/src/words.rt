@@ -5,6 +5,7 @@
 //! letters, digits, `-`, `_` and `.`, of at most as many bytes as a name.
 
 ghost use Rattle.std.specs.Prelude.{◌≡◌, if◌then◌else◌, ◌+◌, ◌<◌, ◌≤◌, length, drop, IsTrue};
+ghost use Rattle.crush_units.specs.Name.{is_name_byte};
 ghost use Rattle.crush_bytes.specs.Words.{Text, words, begins, past, is_blank, is_brace, run_length, IsClear};
 
 use crush_units::is_name_byte;
@@ -42,13 +43,21 @@ fn is_brace(byte: u8) -> bool
     byte == b'{' || byte == b'}'
 }
 
+/// Whether a name may have the byte. Most bytes of a text are digits and small letters, so these
+/// are asked for first.
+fn is_word_byte(byte: u8) -> bool
+    ensures { result ≡ is_name_byte byte }
+{
+    matches!(byte, b'0'..=b'9' | b'a'..=b'z') || is_name_byte(byte)
+}
+
 /// How many name bytes stand at the front.
 fn run_length(bytes: &[u8]) -> usize
     ensures count { result ≡ run_length bytes.now }
     ensures within { result ≤ length bytes.now }
 {
     let mut len = 0;
-    while len < bytes.len() && is_name_byte(bytes[len]) {
+    while len < bytes.len() && is_word_byte(bytes[len]) {
         len += 1;
     }
     len

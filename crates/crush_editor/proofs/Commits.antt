@@ -1,12 +1,13 @@
 -- A commit keeps the book.
-use Rattle.std.proofs.Common.{◌≡◌, ◌≢◌, ℕ, ◌+◌, ◌<◌, ◌≤◌, Bool, true, false, List, [], ◌∷◌, ◌++◌, length, refl, sym, ap, ◌∙◌, subst, arith, length-append}
-use Rattle.std.specs.Prelude.{if◌then◌else◌}
+use Rattle.std.proofs.Common.{◌≡◌, ◌≢◌, ℕ, ◌+◌, ◌<◌, ◌≤◌, Bool, true, false, Option, Some, None, List, [], ◌∷◌, ◌++◌, length, refl, sym, ap, ◌∙◌, subst, arith, length-append}
+use Rattle.std.specs.Prelude.{if◌then◌else◌, IfSome}
 use Rattle.std.proofs.lemmas.List.Elements.{All-push, All-nil}
 use Rattle.crush_units.specs.declared.limits.TheConstants.{MOST_ENTRIES, MOST_OPERATORS}
 use Rattle.crush_table.specs.Table.{Row, total}
 use Rattle.crush_table.specs.Forest.{IsSound, rows_of}
 use Rattle.crush_table.specs.Stands.{Stands}
 use Rattle.crush_table.proofs.Stands.{stands_for_rows}
+use Rattle.crush_tree.specs.Sameness.{IsSameForest}
 use Rattle.crush_edits.specs.Setting.{SettingData}
 use Rattle.crush_map.specs.MapData.{MapData, MapStands}
 use Rattle.crush_calls.specs.declared.call.Call.{Call}
@@ -20,7 +21,7 @@ use Rattle.crush_gauge.specs.declared.view.View.{View}
 use Rattle.crush_gauge.specs.declared.view.View.TheVariants.{Book}
 use Rattle.crush_gauge.specs.Rule.{known, Follows, grown}
 use Rattle.crush_editor.specs.History.{entry, IsLegalFrom, table_from, weight_from, OpensGauge}
-use Rattle.crush_editor.specs.Book.{IsKept, MakesAll, StandsAfter, StandsAsBefore}
+use Rattle.crush_editor.specs.Book.{opening_of, IsKept, IsParted, IsSameMap, MakesAll, StandsAfter, StandsAsBefore}
 
 change-le : (b : Bool) → (if b then 1 else 0) ≤ 1
 change-le true = omega arith
@@ -32,10 +33,15 @@ unfolding changes
 changes-le [] = omega arith
 changes-le (e ∷ h) = let c = change-le (is_change e.reply) in let r = changes-le h in omega arith
 
-pub counts : (o m : MapData) (h : List EntryData) (n : ℕ) (v : View MapData EntryData) (r : Reply) → IsKept o m h n v → n + change_of r ≤ MOST_ENTRIES + 1
-counts o m h n v r kept = let c = change-le (is_change r) in let l = changes-le h in let a = kept.room in let b = kept.counted in omega arith
+pub counts : (p : Option MapData) (o m : MapData) (h : List EntryData) (n : ℕ) (v : View MapData EntryData) (r : Reply) → IsKept p o m h n v → n + change_of r ≤ MOST_ENTRIES + 1
+counts p o m h n v r kept = let c = change-le (is_change r) in let l = changes-le h in let a = kept.room in let b = kept.counted in omega arith
 
-module _ (o m n : MapData) (h : List EntryData) (c : ℕ) (v : View MapData EntryData) (k : ℕ) (call : Call) (r : Reply) (kept : IsKept o m h c v) (made : Makes c m n call r) where
+-- a history with an entry isn't empty
+not_empty : (h : List EntryData) (e : EntryData) → h ++ e ∷ [] ≢ []
+not_empty [] e is = absurd cc
+not_empty (x ∷ h) e is = absurd cc
+
+module _ (p : Option MapData) (o m n : MapData) (h : List EntryData) (c : ℕ) (v : View MapData EntryData) (k : ℕ) (call : Call) (r : Reply) (kept : IsKept p o m h c v) (made : Makes c m n call r) where
   abbrev e : EntryData
   e = entry k call r
 
@@ -71,8 +77,10 @@ module _ (o m n : MapData) (h : List EntryData) (c : ℕ) (v : View MapData Entr
       subst (λ (x : View MapData EntryData). Follows IsLegalFrom (λ _. changes) weight_from x (e ∷ []) (c + change_of r) w) (sym kept.shown)
       ((legal_push, few, omega arith), changes_push, sym is)
 
-  pub kept_push : k < MOST_OPERATORS → length h ≢ MOST_ENTRIES → IsKept o n (h ++ e ∷ []) (c + change_of r) (grown (e ∷ []) v)
-  kept_push below room = record {
+  kept_more : k < MOST_OPERATORS → length h ≢ MOST_ENTRIES → IsKept p o n (h ++ e ∷ []) (c + change_of r) (grown (e ∷ []) v)
+  kept_more below room = record {
+    opening = kept.opening;
+    parted = λ none. absurd (not_empty h e none);
     legal = legal_push;
     stands = stands_push;
     all = all_push;
@@ -82,7 +90,12 @@ module _ (o m n : MapData) (h : List EntryData) (c : ℕ) (v : View MapData Entr
     shown = ap (grown (e ∷ [])) kept.shown;
   }
 
--- a new book
+  pub kept_push : k < MOST_OPERATORS → length h ≢ MOST_ENTRIES → IsKept p (opening_of (grown (e ∷ []) v)) n (h ++ e ∷ []) (c + change_of r) (grown (e ∷ []) v)
+  kept_push below room =
+      let is : opening_of (grown (e ∷ []) v) ≡ o = ap (λ (x : View MapData EntryData). opening_of (grown (e ∷ []) x)) kept.shown in
+      subst (λ (x : MapData). IsKept p x n (h ++ e ∷ []) (c + change_of r) (grown (e ∷ []) v)) (sym is) (kept_more below room)
+
+-- without an entry
 no_changes : ◌≡◌ {A = ℕ} 0 (changes [])
 unfolding changes
 no_changes = refl
@@ -96,27 +109,55 @@ nothing_asked : (s : SettingData) (t : List Row) → (IsLegal s t []) × (t ≡ 
 unfolding IsLegalBehind counted_after
 nothing_asked s t = (tt, refl)
 
-all_new : (o m : MapData) → m.setting ≡ o.setting → ((t : List Row) → Stands o.forest t → Stands m.forest t) → MakesAll o m []
-all_new o m setting stands s t of =
+-- an opening and the map that calls are to change stand for the same tables, and are the same but for their room
+pub parted_stands : (p : Option MapData) (m o : MapData) → IsParted p m o → StandsAsBefore o m
+parted_stands (Some k) m o parted = parted.stands
+parted_stands None m o parted = λ s t stands. subst (λ (x : MapData). MapStands x s t) (sym parted) stands
+
+pub parted_same : (p : Option MapData) (m o : MapData) → IsParted p m o → IsSameMap m o
+parted_same (Some k) m o parted = parted.same
+parted_same None m o parted = subst (λ (x : MapData). IsSameMap x o) (sym parted) record { setting = refl; forest = refl }
+
+-- what is kept of the opening is the opening
+parted_kept : (p : Option MapData) (m o : MapData) → IsParted p m o → IfSome p (λ (k : MapData). k ≡ o)
+parted_kept (Some k) m o parted = parted.kept
+parted_kept None m o parted = tt
+
+all_new : (o m : MapData) → StandsAsBefore o m → MakesAll o m []
+all_new o m before s t of =
     let none = nothing_asked s t in
-    (none.0, record { setting = setting ∙ of.setting; forest = subst (Stands m.forest) none.1 (stands t of.forest) })
+    let now = before s t of in
+    (none.0, record { setting = now.setting; forest = subst (Stands m.forest) none.1 now.forest })
 
--- a copy stands as the map stands
-pub stands_copied : (o m : MapData) → m.setting ≡ o.setting → ((t : List Row) → Stands o.forest t → Stands m.forest t) → StandsAsBefore o m
-stands_copied o m setting stands s t of = record { setting = setting ∙ of.setting; forest = stands t of.forest }
-
-pub kept_new : (o m : MapData) (h : List EntryData) (v : View MapData EntryData) → IsSound o.forest → m.setting ≡ o.setting → ((t : List Row) → Stands o.forest t → Stands m.forest t) → h ≡ [] → v ≡ Book (known o []) → IsKept o m h 0 v
-kept_new o m h v sound setting stands none shown =
+-- a new book
+first_kept : (p : Option MapData) (o m : MapData) → IsSound o.forest → IsParted p m o → IsKept p o m [] 0 (Book (known o []))
+first_kept p o m sound parted =
     let first = no_entry o in
-    subst (λ (x : List EntryData). IsKept o m x 0 v) (sym none) record {
+    let before = parted_stands p m o parted in
+    let now : MapStands m o.setting (rows_of o.forest) = before o.setting (rows_of o.forest) record { setting = refl; forest = stands_for_rows o.forest sound } in
+    record {
+      opening = parted_kept p m o parted;
+      parted = λ _. parted;
       legal = first.0;
-      stands = record { setting = setting; forest = subst (Stands m.forest) (sym first.1) (stands (rows_of o.forest) (stands_for_rows o.forest sound)) };
-      all = all_new o m setting stands;
+      stands = record { setting = now.setting; forest = subst (Stands m.forest) (sym first.1) now.forest };
+      all = all_new o m before;
       operators = All-nil (λ (e : EntryData). e.operator < MOST_OPERATORS);
       room = omega arith;
       counted = no_changes;
-      shown = shown;
+      shown = refl;
     }
+
+pub kept_new : (p : Option MapData) (o m : MapData) (h : List EntryData) (v : View MapData EntryData) → IsSound o.forest → IsParted p m o → h ≡ [] → v ≡ Book (known o []) → IsKept p (opening_of v) m h 0 v
+kept_new p o m h v sound parted none shown =
+    subst (λ (x : List EntryData × View MapData EntryData). IsKept p (opening_of x.1) m x.0 0 x.1) (λ i. (sym none i, sym shown i)) (first_kept p o m sound parted)
+
+-- a copy of an opening
+pub copied : (o m : MapData) → m.setting ≡ o.setting → IsSameForest m.forest o.forest → ((t : List Row) → Stands o.forest t → Stands m.forest t) → IsParted (Some o) m o
+copied o m setting same stands = record {
+  kept = refl;
+  same = record { setting = setting; forest = same };
+  stands = λ s t of. record { setting = setting ∙ of.setting; forest = stands t of.forest };
+}
 
 -- what a gauge asks of an opening
 pub opens : (o : MapData) (w : ℕ) → IsSound o.forest → ((t : List Row) → Stands o.forest t → w ≡ total t) → OpensGauge o w

@@ -3,7 +3,7 @@ use denote.RattleType.{RattleType}
 use denote.Hole.{as_row}
 use denote.Param.Send.{IsSend, view_send, sendable}
 use denote.Param.SendFields.{declared_send, as_row_send}
-use denote.Struct.Field.{u32-field, u64-field}
+use denote.Struct.Field.{row_field, u32-field, u64-field}
 use Rattle.std.proofs.Crossing.{crosses, Vec-send, Box-send}
 use Rattle.std.specs.contracts.alloc.Global as Global
 use Rattle.std.specs.contracts.impls.GlobalAllocator.TheImpl as GlobalImpl
@@ -36,6 +36,7 @@ use Rattle.crush_editor.specs.contracts.book.Book as Book
 use Rattle.crush_editor.specs.contracts.locked.Locked as Locked
 use Rattle.crush_editor.specs.contracts.locked.Locked.TheInside as LockedInside
 use Rattle.crush_editor.specs.declared.locked.Desk as Desk
+use Rattle.crush_editor.specs.declared.opening.Opening as Opening
 use Rattle.std.specs.declared.sync.ledger.Ledger as Ledger
 use Rattle.std.specs.contracts.sync.ledger.Book as Count
 use Rattle.std.specs.contracts.sync.ledger.Share as Share
@@ -86,7 +87,7 @@ hierarchy_sent : IsSend (Hierarchy.the_row Global.the_row GlobalImpl.ghosts)
 hierarchy_sent = view_send _ _ _ _ _ (declared_send (HierarchyInside.the_type Global.the_row GlobalImpl.ghosts)
     (machine_sent, (hashing_sent, (as_row_send (Forest.the_field Global.the_row GlobalImpl.ghosts) forest_sent, (index_sent, (counts_sent, (number_sent, tt)))))))
 
-map_sent : IsSend (CrushMap.the_row Global.the_row GlobalImpl.ghosts)
+pub map_sent : IsSend (CrushMap.the_row Global.the_row GlobalImpl.ghosts)
 map_sent = view_send _ _ _ _ _ (declared_send (MapInside.the_type Global.the_row GlobalImpl.ghosts) (as_row_send Setting.the_field setting_send, (as_row_send (Hierarchy.the_field Global.the_row GlobalImpl.ghosts) hierarchy_sent, tt)))
 
 entry_sent : IsSend Entry.the_row
@@ -98,17 +99,21 @@ history_sent = search (entry_sent, sendable, crosses) depth 20
 seat_sent : IsSend (BookSeat.the_row (CrushMap.the_row Global.the_row GlobalImpl.ghosts) Entry.the_row)
 seat_sent = search (table_seat_send, sendable, crosses) depth 20
 
-pub book_send : IsSend (Book.the_row Global.the_row GlobalImpl.ghosts)
-book_send = view_send _ _ _ _ _ (declared_send (Inside.the_type Global.the_row GlobalImpl.ghosts)
-    (as_row_send (CrushMap.the_field Global.the_row GlobalImpl.ghosts) map_sent, (as_row_send (CrushMap.the_field Global.the_row GlobalImpl.ghosts) map_sent, (history_sent, (changes_sent, (as_row_send (BookSeat.the_field (CrushMap.the_row Global.the_row GlobalImpl.ghosts) Entry.the_row) seat_sent, tt))))))
+module _ (O : RattleType) (o : Opening.Ghosts O.Denot) (opening : IsSend O) where
+  opening_field : IsSend (as_row (row_field O))
+  opening_field = search (opening, sendable)
 
-module _ (N : RattleType) (g : Desk.Ghosts N.Denot) (g' : Ledger.Ghosts N.Denot) where
+  pub book_send : IsSend (Book.the_row Global.the_row O GlobalImpl.ghosts o)
+  book_send = view_send _ _ _ _ _ (declared_send (Inside.the_type Global.the_row O GlobalImpl.ghosts o)
+      (opening_field, (as_row_send (CrushMap.the_field Global.the_row GlobalImpl.ghosts) map_sent, (history_sent, (changes_sent, (as_row_send (BookSeat.the_field (CrushMap.the_row Global.the_row GlobalImpl.ghosts) Entry.the_row) seat_sent, tt))))))
+
+module _ (N O : RattleType) (g : Desk.Ghosts N.Denot) (g' : Ledger.Ghosts N.Denot) (o : Opening.Ghosts O.Denot) (opening : IsSend O) where
   count_sent : IsSend (as_row (Count.the_field N g'))
   count_sent = search (count_send, sendable)
 
   share_sent : IsSend (as_row (Share.the_field N g'))
   share_sent = search (share_send, sendable)
 
-  pub locked_send : IsSend (Locked.the_row N g g')
-  locked_send = view_send _ _ _ _ _ (declared_send (LockedInside.the_type N g g')
-      (as_row_send (Book.the_field Global.the_row GlobalImpl.ghosts) book_send, (count_sent, (share_sent, tt))))
+  pub locked_send : IsSend (Locked.the_row N O g g' o)
+  locked_send = view_send _ _ _ _ _ (declared_send (LockedInside.the_type N O g g' o)
+      (as_row_send (Book.the_field Global.the_row O GlobalImpl.ghosts o) (book_send O o opening), (count_sent, (share_sent, tt))))

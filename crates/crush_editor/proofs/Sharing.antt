@@ -1,7 +1,7 @@
 -- An editor may be shared by threads: its gauge may, and what stands under its lock crosses them.
 use denote.RattleType.{RattleType}
 use denote.Hole.{as_row}
-use denote.Param.Send.{IsSync, sendable}
+use denote.Param.Send.{IsSend, IsSync, sendable}
 use denote.Param.SendFields.{declared_sync}
 use Rattle.std.proofs.Crossing.{crosses}
 use Rattle.std.specs.declared.sync.ledger.Ledger as Ledger
@@ -19,26 +19,42 @@ use Rattle.crush_editor.specs.contracts.editor.Editor as Editor
 use Rattle.crush_editor.specs.contracts.dial.Dial as Dial
 use Rattle.crush_editor.specs.contracts.door.Door as Door
 use Rattle.crush_editor.specs.declared.locked.Desk as Desk
-use Rattle.crush_editor.proofs.Crossing.{locked_send}
+use Rattle.crush_editor.specs.declared.opening.Opening as Opening
+use Rattle.crush_editor.specs.contracts.opening.Unkept as Unkept
+use Rattle.crush_editor.proofs.Crossing.{locked_send, map_sent}
 
 gauge_sync : IsSync (as_row (Gauge.the_field (CrushMap.the_row Global.the_row GlobalImpl.ghosts) Entry.the_row OfMap.the_row OfMapImpl.ghosts))
 gauge_sync = search (any_gauge_sync, sendable, crosses) depth 20
 
-module _ (N : RattleType) (g : Desk.Ghosts N.Denot) (g' : Ledger.Ghosts N.Denot) where
-  desk_sync : IsSync (as_row (Mutex.the_field (Locked.the_row N g g')))
-  desk_sync = search (locked_send, sendable, crosses) depth 20
+module _ (N O : RattleType) (g : Desk.Ghosts N.Denot) (g' : Ledger.Ghosts N.Denot) (o : Opening.Ghosts O.Denot) (opening : IsSend O) where
+  locked : IsSend (Locked.the_row N O g g' o)
+  locked = locked_send N O g g' o opening
+
+  desk_sync : IsSync (as_row (Mutex.the_field (Locked.the_row N O g g' o)))
+  desk_sync = search (locked, sendable, crosses) depth 20
 
   dial_sync : IsSync (Dial.the_row N g g')
   dial_sync = declared_sync (Dial.the_type N g g') (gauge_sync, (search (sendable, crosses) depth 10, tt))
 
-  door_sync : IsSync (Door.the_row N g g')
-  door_sync = declared_sync (Door.the_type N g g') (desk_sync, tt)
+  door_sync : IsSync (Door.the_row N O g g' o)
+  door_sync = declared_sync (Door.the_type N O g g' o) (desk_sync, tt)
 
   dial_field : IsSync (as_row (Dial.the_field N g g'))
   dial_field = search (dial_sync, sendable, crosses) depth 20
 
-  door_field : IsSync (as_row (Door.the_field N g g'))
+  door_field : IsSync (as_row (Door.the_field N O g g' o))
   door_field = search (door_sync, sendable, crosses) depth 20
 
-  pub editor_sync : IsSync (Editor.the_row N g g')
-  editor_sync = declared_sync (Editor.the_type N g g') (dial_field, (door_field, tt))
+  any_editor_sync : IsSync (Editor.the_row N O g g' o)
+  any_editor_sync = declared_sync (Editor.the_type N O g g' o) (dial_field, (door_field, tt))
+
+unkept_sent : IsSend Unkept.the_row
+unkept_sent = search (sendable, crosses) depth 10
+
+-- with its opening, and without
+module _ (N : RattleType) (g : Desk.Ghosts N.Denot) (g' : Ledger.Ghosts N.Denot) where
+  pub editor_sync : (o : Opening.Ghosts (CrushMap.the_row Global.the_row GlobalImpl.ghosts).Denot) → IsSync (Editor.the_row N (CrushMap.the_row Global.the_row GlobalImpl.ghosts) g g' o)
+  editor_sync o = any_editor_sync N (CrushMap.the_row Global.the_row GlobalImpl.ghosts) g g' o map_sent
+
+  pub unkept_editor_sync : (o : Opening.Ghosts Unkept.the_row.Denot) → IsSync (Editor.the_row N Unkept.the_row g g' o)
+  unkept_editor_sync o = any_editor_sync N Unkept.the_row g g' o unkept_sent

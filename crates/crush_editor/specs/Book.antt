@@ -1,15 +1,16 @@
 -- What contracts see of a book, and what it keeps.
-use Rattle.std.specs.Prelude.{ℕ, ◌≡◌, ◌<◌, ◌≤◌, List, length}
+use Rattle.std.specs.Prelude.{ℕ, ◌≡◌, ◌<◌, ◌≤◌, Option, Some, None, IfSome, List, [], length}
 use Rattle.std.specs.List.{All}
 use Rattle.crush_units.specs.declared.limits.TheConstants.{MOST_ENTRIES, MOST_OPERATORS}
 use Rattle.atomic_table.specs.Seated.{TableId}
+use Rattle.crush_table.specs.Items.{none}
 use Rattle.crush_table.specs.Table.{Row}
 use Rattle.crush_edits.specs.Setting.{SettingData}
 use Rattle.crush_map.specs.MapData.{MapData, MapStands}
 use Rattle.crush_calls.specs.History.{EntryData, changes, table_after, IsLegal}
 use Rattle.crush_tree.specs.Sameness.{IsSameForest}
 use Rattle.crush_gauge.specs.declared.view.View.{View}
-use Rattle.crush_gauge.specs.declared.view.View.TheVariants.{Book}
+use Rattle.crush_gauge.specs.declared.view.View.TheVariants.{Fresh, Spent, Book, Reader}
 use Rattle.crush_gauge.specs.Rule.{known}
 use Rattle.crush_editor.specs.History.{IsLegalFrom, table_from}
 
@@ -22,6 +23,20 @@ pub record BookData : Type 0 where
 
 abbrev pub book_data : TableId → MapData → MapData → List EntryData → BookData
 book_data z o m h = record { table = z; opening = o; map = m; history = h }
+
+-- the opening map of a name that nobody picked
+abbrev pub no_map : MapData
+no_map = record {
+  setting = record { kinds = []; tunables = []; rules = [] };
+  forest = record { roots = none; unplaced = none; root_capacity = 0; unplaced_capacity = 0 };
+}
+
+-- the opening that a seat of the gauge knows
+abbrev pub opening_of : View MapData EntryData → MapData
+opening_of Fresh = no_map
+opening_of Spent = no_map
+opening_of (Book k) = k.opening
+opening_of (Reader k) = k.opening
 
 -- the map stands for the table after the history
 abbrev pub StandsAfter : MapData → MapData → List EntryData → Type 0
@@ -40,8 +55,20 @@ pub record IsSameMap (new old : MapData) : Type 0 where
 abbrev pub StandsAsBefore : MapData → MapData → Type 0
 StandsAsBefore old new = (s : SettingData) (t : List Row) → MapStands old s t → MapStands new s t
 
--- what each book keeps
-pub record IsKept (o m : MapData) (h : List EntryData) (count : ℕ) (view : View MapData EntryData) : Type 0 where
+-- PARTED: an opening and the map that calls are to change: where the opening is kept, the map is a copy of it, else it is the opening itself
+pub record IsCopied (k m o : MapData) : Type 0 where
+  pub kept : k ≡ o
+  pub same : IsSameMap m o
+  pub stands : StandsAsBefore o m
+
+abbrev pub IsParted : Option MapData → MapData → MapData → Type 0
+IsParted (Some k) m o = IsCopied k m o
+IsParted None m o = m ≡ o
+
+-- what each book keeps: what it has of its opening is the opening, where it is a map
+pub record IsKept (kept : Option MapData) (o m : MapData) (h : List EntryData) (count : ℕ) (view : View MapData EntryData) : Type 0 where
+  pub opening : IfSome kept (λ (k : MapData). k ≡ o)
+  pub parted : h ≡ [] → IsParted kept m o
   pub legal : IsLegalFrom o h
   pub stands : StandsAfter o m h
   pub all : MakesAll o m h

@@ -1,7 +1,7 @@
 //! The book of a map: its opening, the map now, and the history between them.
 
 ghost use Rattle.std.specs.List.{All};
-ghost use Rattle.std.specs.Prelude.{◌≡◌, ◌<◌, ◌≤◌, ◌++◌, ◌∷◌, [], length, IfOk, IfErr, OnOk, OnErr};
+ghost use Rattle.std.specs.Prelude.{◌≡◌, ◌<◌, ◌≤◌, ◌++◌, ◌∷◌, [], length, IfOk, IfErr, IfSome, OnOk, OnErr};
 ghost use mathlib.Core.Logic.{◌↔◌};
 ghost use Rattle.crush_units.specs.declared.limits.TheConstants.{MOST_ENTRIES, MOST_OPERATORS};
 ghost use Rattle.crush_calls.specs.History.{EntryData, change_of, changes};
@@ -15,6 +15,7 @@ ghost use Rattle.crush_editor.specs.Seat.{seen_of, reads};
 ghost use mathlib.Core.List.{IsPrefix};
 
 use crate::law::{MapBookSeat, MapGauge, MapNote, Reader};
+use crate::opening::{Opening, Unkept};
 use crush_calls::{Call, Entry, Reply, is_change, make_call};
 use crush_map::CrushMap;
 use crush_units::limits::MOST_ENTRIES;
@@ -33,24 +34,27 @@ pub enum SubmitFault {
     OutOfMemory,
 }
 
-/// A map, with the opening that it came from and the history of what was asked of it since.
+/// A map, with the history of what was asked of it since its opening.
 ///
 /// The type keeps, of every book: its history is legal from the opening, has at most 65,536 entries,
 /// each of an operator below 16, and the map stands for the table after it, with the opening's
 /// setting; and the gauge was told of the whole history.
 ///
-/// `A` is where its two maps live. Calls and entries are in the machine's memory.
+/// `A` is where its maps live. Calls and entries are in the machine's memory. `O` is what it has of
+/// the opening: a map beside its own, or nothing, where contracts alone see it.
 #[derive(Drop)]
-pub struct Book<A: Allocator> {
-    opening: CrushMap<A>,
+pub struct Book<A: Allocator, O: Opening = CrushMap<A>> {
+    opening: O,
     map: CrushMap<A>,
     history: Vec<Entry>,
     changes: u32,
     seat: MapBookSeat,
 }
 
-impl<A: Allocator> Model for Book<A> {
-    ghost use Rattle.crush_editor.specs.Book.{BookData, book_data, IsKept};
+impl<A: Allocator, O: Opening> Model for Book<A, O> {
+    ghost use Rattle.std.specs.Prelude.{Option};
+    ghost use Rattle.crush_map.specs.MapData.{MapData};
+    ghost use Rattle.crush_editor.specs.Book.{BookData, book_data, opening_of, IsKept};
     ghost use Rattle.std.specs.Coded.{codes};
     ghost use Rattle.crush_map.specs.Codes.{coded_map};
 
@@ -58,9 +62,9 @@ impl<A: Allocator> Model for Book<A> {
 
     ghost coded = { Prim.hlevel (codes, coded_map) };
 
-    ghost view = { λ b. book_data b.seat.table b.opening b.map b.history.items };
+    ghost view = { λ b. book_data b.seat.table (opening_of b.seat.view) b.map b.history.items };
 
-    ghost invariant = { λ b. IsKept b.opening b.map b.history.items b.changes b.seat.view };
+    ghost invariant = { λ b. IsKept (O.kept b.opening) (opening_of b.seat.view) b.map b.history.items b.changes b.seat.view };
 }
 
 impl<A: Allocator + Clone> Book<A> {
@@ -87,7 +91,45 @@ impl<A: Allocator + Clone> Book<A> {
             seat,
         })
     }
+}
 
+impl<A: Allocator> Book<A, Unkept> {
+    /// [`Book::new`] of a map of which no copy is kept: the map itself is the one that calls change.
+    /// It takes no memory.
+    pub fn without_opening(map: CrushMap<A>, seat: MapBookSeat, alloc: Global) -> Book<A, Unkept>
+        requires { seat.view ≡ BookSees (known map []) }
+        ensures opening { result.opening ≡ map }
+        ensures map { result.map ≡ map }
+        ensures history { result.history ≡ [] }
+        ensures table { result.table ≡ seat.table }
+    {
+        map.forest().recall_invariant();
+        Book {
+            opening: Unkept,
+            map,
+            history: Vec::new(alloc),
+            changes: 0,
+            seat,
+        }
+    }
+
+    /// The map that the book was made of, in place of a book without an entry.
+    pub(crate) fn into_map(self) -> CrushMap<A>
+        requires { self.history ≡ [] }
+        ensures { result ≡ self.opening }
+    {
+        let Book {
+            opening: Unkept,
+            map,
+            history: _,
+            changes: _,
+            seat: _,
+        } = self;
+        map
+    }
+}
+
+impl<A: Allocator + Clone, O: Opening> Book<A, O> {
     /// Makes a call of operator k, counted from 0 and below 16, records it with its reply behind the
     /// other entries, and publishes the new number of changes and the new weight: once, also where
     /// the call is refused. The gauge is the book's. A guarded batch is judged by the number of
@@ -265,6 +307,22 @@ impl<A: Allocator> Book<A> {
         &self.opening
     }
 
+    /// The map that the book was made of, in place of the book.
+    pub(crate) fn into_opening(self) -> CrushMap<A>
+        ensures { result ≡ self.opening }
+    {
+        let Book {
+            opening,
+            map: _,
+            history: _,
+            changes: _,
+            seat: _,
+        } = self;
+        opening
+    }
+}
+
+impl<A: Allocator, O: Opening> Book<A, O> {
     /// The map after the history.
     pub fn map(&self) -> &CrushMap<A>
         ensures { result.now ≡ self.now.map }
@@ -290,23 +348,10 @@ impl<A: Allocator> Book<A> {
         let _changes = &self.changes;
     }
 
-    /// The map that the book was made of, in place of the book.
-    pub(crate) fn into_opening(self) -> CrushMap<A>
-        ensures { result ≡ self.opening }
-    {
-        let Book {
-            opening,
-            map: _,
-            history: _,
-            changes: _,
-            seat: _,
-        } = self;
-        opening
-    }
-
-    /// Opening, map and history, in place of the book. It takes no memory.
-    pub fn into_closed(self) -> Closed<A>
-        ensures opening { result.opening ≡ self.opening }
+    /// What the book has of its opening, with map and history, in place of the book. It takes no
+    /// memory. What it has of the opening is the map that the book was made of, where it is one.
+    pub fn into_closed(self) -> Closed<A, O>
+        ensures opening { IfSome (O.kept result.opening) (λ m. m ≡ self.opening) }
         ensures map { result.map ≡ self.map }
         ensures history { result.history.items ≡ self.history }
         ensures legal { IsLegalFrom self.opening self.history }
@@ -332,9 +377,9 @@ impl<A: Allocator> Book<A> {
 
 /// What an editor hands out when it is closed, or a book in place of itself.
 #[derive(Drop)]
-pub struct Closed<A: Allocator> {
-    /// The map before the first call.
-    pub opening: CrushMap<A>,
+pub struct Closed<A: Allocator, O: Opening = CrushMap<A>> {
+    /// The map before the first call, or nothing, of a book or an editor that keeps none.
+    pub opening: O,
     /// The map after the history.
     pub map: CrushMap<A>,
     /// What was asked and answered, in the order in which the calls were made.

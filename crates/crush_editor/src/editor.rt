@@ -20,6 +20,7 @@ use crate::dial::{Dial, Note};
 use crate::door::Door;
 use crate::law::{MapBookSeat, MapGauge, Reader};
 use crate::locked::{Desk, Locked, Seat};
+use crate::opening::{Opening, Unkept};
 use crush_calls::{Call, Reply, Slip};
 use crush_gauge::Reading;
 use crush_map::CrushMap;
@@ -34,16 +35,16 @@ use std::sync::ledger::Blank;
 /// there only once this is made. So a caller makes it first, and then calls a function that is generic
 /// in `N` at [`Brand`].
 ///
-/// `A` is where the maps of its book live.
+/// `A` is where the maps of its book live, and `O` what the book has of its opening.
 #[derive(Drop)]
-pub struct Started<A: Allocator = Global> {
+pub struct Started<A: Allocator = Global, O: Opening = CrushMap<A>> {
     gauge: MapGauge,
-    book: Book<A>,
+    book: Book<A, O>,
     readers: Vec<Reader>,
     blank: Blank,
 }
 
-impl<A: Allocator> Model for Started<A> {
+impl<A: Allocator, O: Opening> Model for Started<A, O> {
     ghost use Rattle.std.specs.Prelude.{◌≡◌, ◌≤◌, [], vec_len};
     ghost use Rattle.std.specs.List.{All};
     ghost use Rattle.std.specs.Coded.{codes};
@@ -96,9 +97,37 @@ impl<A: Allocator + Clone> Started<A> {
     }
 }
 
-impl<A: Allocator> Started<A> {
+impl<A: Allocator> Started<A, Unkept> {
+    /// [`Started::new`] of a map of which no copy is kept: the map itself is the one that calls change,
+    /// and the close hands out no opening. What holds of the opening holds of the map as it was given.
+    pub fn without_opening(
+        map: CrushMap<A>,
+        operators: usize,
+        alloc: Global,
+    ) -> Result<Started<A, Unkept>, CrushMap<A>>
+        requires some { 0 < operators }
+        requires few { operators ≤ MOST_OPERATORS }
+        ensures opening { IfOk result (λ s. s.opening ≡ map) }
+        ensures operators { IfOk result (λ s. s.parts ≡ operators) }
+        ensures err { OnErr result (result ≡ Err map) }
+    {
+        let Ok((gauge, seat, readers)) = make_gauge::<Brand, A>(&map, operators, alloc) else {
+            return Err(map);
+        };
+        let book = Book::without_opening(map, seat, alloc);
+        let parts = operators as u64;
+        Ok(Started {
+            gauge,
+            book,
+            readers,
+            blank: Blank::new(parts),
+        })
+    }
+}
+
+impl<A: Allocator, O: Opening> Started<A, O> {
     /// The gauge and the book, for one thread that needs no lock.
-    pub fn into_book(self) -> (MapGauge, Book<A>)
+    pub fn into_book(self) -> (MapGauge, Book<A, O>)
         ensures table { result.1.table ≡ result.0.table.shared.table_id }
         ensures opening { result.1.opening ≡ self.opening }
         ensures map { IsSameMap result.1.map self.opening }
@@ -116,20 +145,20 @@ impl<A: Allocator> Started<A> {
 }
 
 /// The opening of a gauge, which contracts alone see. Each call picks it.
-trait Opening {
+trait Opened {
     ghost use Rattle.crush_map.specs.MapData.{MapData};
 
     ghost map: { MapData };
 }
 
-impl Opening for Brand {
-    ghost use Rattle.crush_editor.specs.Seat.{no_map};
+impl Opened for Brand {
+    ghost use Rattle.crush_editor.specs.Book.{no_map};
 
     ghost map = { no_map };
 }
 
 /// The gauge of a map, with as many readers as there are operators.
-fn make_gauge<M: Opening, A: Allocator>(
+fn make_gauge<M: Opened, A: Allocator>(
     map: &CrushMap<A>,
     operators: usize,
     alloc: Global,
@@ -146,7 +175,7 @@ fn make_gauge<M: Opening, A: Allocator>(
 }
 
 /// The gauge of an opening of this weight.
-fn new_gauge<M: Opening>(
+fn new_gauge<M: Opened>(
     weight: u64,
     operators: usize,
     alloc: Global,
@@ -161,33 +190,26 @@ fn new_gauge<M: Opening>(
     MapGauge::new(alloc, weight, operators)
 }
 
-/// All memory that a seat takes for a call: a copy for its entry, one for its slip, and room for the
-/// slip.
-fn ready(alloc: Global, slips: &mut Vec<Slip>, call: &Call) -> Option<(Call, Call)>
+/// What a seat takes of memory for a call that is moved into its entry: a copy for its slip, and room
+/// for the slip.
+fn ready(alloc: Global, slips: &mut Vec<Slip>, call: &Call) -> Result<Call, AllocError>
     ensures slips { slips.new.items ≡ slips.old.items }
-    ensures copies { IfSome result (λ c. (c.0 ≡ call.now) × (c.1 ≡ call.now)) }
-    ensures room { IfSome result (λ _. vec_len slips.new < vec_capacity slips.new) }
+    ensures copy { IfOk result (λ copy. copy ≡ call.now) }
+    ensures room { OnOk result (vec_len slips.new < vec_capacity slips.new) }
 {
-    let Ok(()) = slips.reserve(1) else {
-        return None;
-    };
-    let Ok(first) = call.try_copy(alloc) else {
-        return None;
-    };
-    let Ok(second) = call.try_copy(alloc) else {
-        return None;
-    };
-    Some((first, second))
+    slips.reserve(1)?;
+    call.try_copy(alloc)
 }
 
-/// The editor of a name: a book under one lock, and a gauge that is read without it.
+/// The editor of a name: a book under one lock, and a gauge that is read without it. `O` is what the
+/// book has of its opening.
 #[derive(Drop)]
-pub struct Editor<N: Desk> {
+pub struct Editor<N: Desk, O: Opening = CrushMap<Global>> {
     dial: Dial<N>,
-    door: Door<N>,
+    door: Door<N, O>,
 }
 
-impl<N: Desk> Editor<N> {
+impl<N: Desk, O: Opening> Editor<N, O> {
     /// Makes a call of the seat's operator, under the lock.
     ///
     /// Where it is answered, the seat's slips have the call with its reply behind the others, and the
@@ -217,28 +239,62 @@ impl<N: Desk> Editor<N> {
         ensures few { length seat.new.seen ≤ MOST_ENTRIES }
         ensures more { OnOk result (length seat.old.seen < MOST_ENTRIES) }
     {
+        let Ok(copy) = call.try_copy(alloc) else {
+            return Err(self.refuse(rt, seat));
+        };
+        match self.submit_copied(rt, alloc, seat, copy) {
+            Ok(reply) => Ok(reply),
+            Err((fault, _copy)) => Err(fault),
+        }
+    }
+
+    /// [`Editor::submit`] of a call that is moved into its entry, so that it is copied once, for its
+    /// slip. After a fault the call comes back.
+    pub fn submit_copied(
+        &self,
+        rt: &impl Wait,
+        alloc: Global,
+        seat: &mut Seat<N>,
+        call: Call,
+    ) -> Result<Reply, (SubmitFault, Call)>
+        ensures ok { IfOk result (λ r. Answered N.opening seat.old call r seat.new) }
+        ensures guarded { IfOk result (λ r. Guards N.opening seat.old call r seat.new) }
+        ensures err { OnErr result (Sees N.opening seat.old seat.new) }
+        ensures full { IfErr result (λ e.
+            (e.0 ≡ SubmitFault.Full) ↔ (length seat.new.seen ≡ MOST_ENTRIES)) }
+        ensures back { IfErr result (λ e. e.1 ≡ call) }
+        ensures few { length seat.new.seen ≤ MOST_ENTRIES }
+        ensures more { OnOk result (length seat.old.seen < MOST_ENTRIES) }
+    {
+        let Ok(for_slip) = ready(alloc, &mut seat.slips, &call) else {
+            return Err((self.refuse(rt, seat), call));
+        };
         let operator = seat.operator;
         let gauge = self.dial.gauge();
-        let Some(copies) = ready(alloc, &mut seat.slips, call) else {
-            return Err(self.door.lock(rt).refuse(gauge, &mut seat.reader));
-        };
-        let (for_entry, for_slip) = copies;
-        let outcome = self.door.lock(rt).submit(
-            gauge,
-            &mut seat.reader,
-            &mut seat.share,
-            operator,
-            for_entry,
-        );
+        let outcome = self
+            .door
+            .lock(rt)
+            .submit(gauge, &mut seat.reader, &mut seat.share, operator, call);
         let reply = match outcome {
             Ok(answer) => answer,
-            Err((fault, _call)) => return Err(fault),
+            Err(unanswered) => return Err(unanswered),
         };
         seat.slips.push_reserved(Slip {
             call: for_slip,
             reply,
         });
         Ok(reply)
+    }
+
+    /// The fault of a call for whose copies there was no memory. Its seat has then seen the history
+    /// that the lock held.
+    fn refuse(&self, rt: &impl Wait, seat: &mut Seat<N>) -> SubmitFault
+        ensures seat { Sees N.opening seat.old seat.new }
+        ensures full { (result ≡ SubmitFault.Full) ↔ (length seat.new.seen ≡ MOST_ENTRIES) }
+        ensures few { length seat.new.seen ≤ MOST_ENTRIES }
+    {
+        let gauge = self.dial.gauge();
+        self.door.lock(rt).refuse(gauge, &mut seat.reader)
     }
 
     /// The part of the editor that readings need. It holds no lock.
@@ -290,6 +346,51 @@ impl<N: Desk> Editor<N> {
             → slice_index_or r.1.items k (seat_data 0 [] []) ≡ seat_data k [] []) }
         ensures err { OnErr result (result ≡ Err started.opening) }
     {
+        match Editor::<N, CrushMap<Global>>::begin(started, alloc) {
+            Ok(opened) => Ok(opened),
+            Err(book) => Err(book.into_opening()),
+        }
+    }
+}
+
+impl<N: Desk> Editor<N, Unkept> {
+    /// [`Editor::open`] of an editor that keeps nothing of its opening.
+    pub fn open_unkept(
+        started: Started<Global, Unkept>,
+        alloc: Global,
+    ) -> Result<(Editor<N, Unkept>, Vec<Seat<N>>), CrushMap<Global>>
+        requires gauge { started.table ≡ N.gauge }
+        requires opening { started.opening ≡ N.opening }
+        requires name { started.name ≡ N.name }
+        requires parts { started.parts ≡ N.parts }
+        ensures count { IfOk result (λ r. vec_len r.1 ≡ N.parts) }
+        ensures seats { IfOk result (λ r. (k : ℕ) → k < vec_len r.1
+            → slice_index_or r.1.items k (seat_data 0 [] []) ≡ seat_data k [] []) }
+        ensures err { OnErr result (result ≡ Err started.opening) }
+    {
+        match Editor::<N, Unkept>::begin(started, alloc) {
+            Ok(opened) => Ok(opened),
+            Err(book) => Err(book.into_map()),
+        }
+    }
+}
+
+impl<N: Desk, O: Opening> Editor<N, O> {
+    /// The editor of a name with its seats, or for want of memory its book, without an entry.
+    fn begin(
+        started: Started<Global, O>,
+        alloc: Global,
+    ) -> Result<(Editor<N, O>, Vec<Seat<N>>), Book<Global, O>>
+        requires gauge { started.table ≡ N.gauge }
+        requires opening { started.opening ≡ N.opening }
+        requires name { started.name ≡ N.name }
+        requires parts { started.parts ≡ N.parts }
+        ensures count { IfOk result (λ r. vec_len r.1 ≡ N.parts) }
+        ensures seats { IfOk result (λ r. (k : ℕ) → k < vec_len r.1
+            → slice_index_or r.1.items k (seat_data 0 [] []) ≡ seat_data k [] []) }
+        ensures opening { IfErr result (λ b. b.opening ≡ started.opening) }
+        ensures history { IfErr result (λ b. b.history ≡ []) }
+    {
         let Started {
             gauge,
             book,
@@ -307,7 +408,7 @@ impl<N: Desk> Editor<N> {
                 reader,
                 share,
             }) else {
-                return Err(book.into_opening());
+                return Err(book);
             };
         }
         let locked = Locked {
@@ -324,16 +425,17 @@ impl<N: Desk> Editor<N> {
         ))
     }
 
-    /// Opening, map and history, once all seats are given back, in the order of `open`.
+    /// What the editor has of its opening, with map and history, once all seats are given back, in the
+    /// order of `open`.
     ///
     /// The history is one of one thread: it holds exactly the answered calls of all seats, each once
     /// and in its operator's order, and every reply is what the plain table replies at that point; and
-    /// the map is the one after all of them. The opening is the map that the editor was made of. It has
-    /// no fault and takes no memory.
-    pub fn close(self, seats: Vec<Seat<N>>) -> Closed<Global>
+    /// the map is the one after all of them. What it has of the opening is the map that the editor was
+    /// made of, where it is one. It has no fault and takes no memory.
+    pub fn close(self, seats: Vec<Seat<N>>) -> Closed<Global, O>
         requires count { vec_len seats ≡ N.parts }
         requires order { InOrder seats.items }
-        ensures opening { result.opening ≡ N.opening }
+        ensures opening { IfSome (O.kept result.opening) (λ m. m ≡ N.opening) }
         ensures history { IsHistoryOfSeats N.opening result.map result.history.items seats.items }
         ensures all { MakesAll N.opening result.map result.history.items }
         ensures few { length result.history.items ≤ MOST_ENTRIES }

@@ -10,6 +10,7 @@ ghost use Rattle.crush_editor.specs.Seat.{reads, seen_of};
 
 use crate::book::{Book, SubmitFault};
 use crate::law::{MapGauge, Reader};
+use crate::opening::Opening;
 use crush_calls::{Call, Reply, Slip};
 use std::alloc::Global;
 use std::marker::{Brand, Model};
@@ -27,7 +28,8 @@ pub trait Desk: Ledger {
 }
 
 impl Desk for Brand {
-    ghost use Rattle.crush_editor.specs.Seat.{no_table, no_map};
+    ghost use Rattle.crush_editor.specs.Book.{no_map};
+    ghost use Rattle.crush_editor.specs.Seat.{no_table};
 
     ghost gauge = { no_table };
 
@@ -63,13 +65,13 @@ impl<N: Desk> Model for Seat<N> {
 
 /// What lies under the lock: the book, and the count of all slips, which is the length of its history.
 #[derive(Drop)]
-pub(crate) struct Locked<N: Desk> {
-    pub(crate) book: Book<Global>,
+pub(crate) struct Locked<N: Desk, O: Opening> {
+    pub(crate) book: Book<Global, O>,
     pub(crate) count: ledger::Book<N>,
     pub(crate) spare: Share<N>,
 }
 
-impl<N: Desk> Model for Locked<N> {
+impl<N: Desk, O: Opening> Model for Locked<N, O> {
     ghost use Rattle.std.specs.Prelude.{◌≡◌, length};
     ghost use Rattle.std.specs.Coded.{codes};
     ghost use Rattle.crush_map.specs.Codes.{coded_map};
@@ -86,7 +88,7 @@ impl<N: Desk> Model for Locked<N> {
         × (l.spare.amount ≡ 0) };
 }
 
-impl<N: Desk> Locked<N> {
+impl<N: Desk, O: Opening> Locked<N, O> {
     /// Makes a call of operator k, whose reader and share these are. The reader has then seen the
     /// history with it.
     pub(crate) fn submit(

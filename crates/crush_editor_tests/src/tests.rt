@@ -22,6 +22,7 @@ use std::sync::Wait;
 mod closing;
 mod full;
 mod guarded;
+mod unkept;
 
 const PLAIN_EXAMPLE_MAP: &[u8] = b"\
     # begin crush map\n\
@@ -182,6 +183,7 @@ fn one_operator_of<N: Desk>(rt: &(impl Abort + AllocGlobal + Wait), started: Sta
     assert!(rt; answered && reads(read, 1, 229376));
     let closed = editor.close(seats);
     assert!(rt; closed.history.len() == 1 && closed.map.total() == 229376);
+    assert!(rt; closed.opening.total() == 163840);
 }
 
 #[test]

@@ -3,11 +3,9 @@
 //! then those of the file `records`.
 #![tactic(auto)]
 
-ghost use Rattle.std.specs.Prelude.{◌≡◌, []};
-
 use crush_options::{Mode, options};
 use crush_report::report;
-use crush_run::{Asked, NoGate, RunFault, Summary, SystemFiles, run_job, run_options};
+use crush_run::{Asked, Ending, NoGate, Plan, RunFault, SystemFiles, run_job, run_options};
 use std::random::RandomSource;
 use std::sync::Wait;
 use std::thread::Threads;
@@ -36,9 +34,8 @@ fn run_records(
     let jobs = records.split(|byte| *byte == RECORD_SEPARATOR);
     for (number, job) in jobs.enumerate() {
         println!(rt; "> record {number}")?;
-        let mut notes = Vec::new(rt.alloc());
-        let outcome = run_record(rt, workers, job, &mut notes);
-        print_end(rt, &outcome, notes.as_slice())?;
+        let ending = run_record(rt, workers, job);
+        print_end(rt, &ending, false)?;
     }
     Ok(())
 }
@@ -48,25 +45,18 @@ fn run_record(
     rt: &HostRuntime,
     workers: &(impl AllocGlobal + RandomSource + Threads + Wait + Sync),
     job: &[u8],
-    notes: &mut Vec<u8>,
-) -> Result<Summary, RunFault>
-    requires { notes.old.items ≡ [] }
-{
-    let mode = Mode {
-        in_turn: true,
-        history: true,
-        strict: false,
+) -> Ending {
+    let plan = Plan {
+        mode: Mode {
+            in_turn: true,
+            history: true,
+            strict: false,
+            explain: false,
+        },
+        asked: Asked::Map,
     };
     let (mut reader, mut output) = (job, rt.stdout());
-    run_job(
-        workers,
-        &NoGate,
-        mode,
-        Asked::Map,
-        &mut reader,
-        &mut output,
-        notes,
-    )
+    run_job(workers, &NoGate, &plan, &mut reader, &mut output)
 }
 
 /// Runs each line, which has the words of a command line behind the program's name.
@@ -77,54 +67,50 @@ fn run_lines(
 ) -> io::Result<()> {
     for line in lines.lines() {
         println!(rt; "> {line}")?;
-        let mut notes = Vec::new(rt.alloc());
-        let outcome = run_line(rt, workers, line, &mut notes);
-        print_end(rt, &outcome, notes.as_slice())?;
+        run_line(rt, workers, line)?;
     }
     Ok(())
 }
 
-/// Runs the job of a command line. One that is refused is told as a fault of reading.
+/// Runs the job of a command line, and prints how it ends. One that is refused is told as a fault of
+/// reading.
 fn run_line(
     rt: &HostRuntime,
     workers: &(impl AllocGlobal + RandomSource + Threads + Wait + Sync),
     line: &str,
-    notes: &mut Vec<u8>,
-) -> Result<Summary, RunFault>
-    requires { notes.old.items ≡ [] }
-{
+) -> io::Result<()> {
     let words: Vec<&str> = line.split_whitespace().collect(rt.alloc())?;
     let read = options(rt.alloc(), words.as_slice());
     drop(words);
     let (mut input, mut output) = (rt.stdin(), rt.stdout());
-    let outcome = match &read {
-        Ok(options) => run_options(
-            workers,
-            &SystemFiles(rt),
-            options,
-            &mut input,
-            &mut output,
-            notes,
-        ),
-        Err(_) => Err(RunFault::Read),
+    let (ending, explain) = match &read {
+        Ok(options) => {
+            let files = SystemFiles(rt);
+            let ending = run_options(workers, &files, options, &mut input, &mut output);
+            (ending, options.mode.explain)
+        }
+        Err(_) => {
+            let ending = Ending {
+                outcome: Err(RunFault::Read),
+                notes: Vec::new(rt.alloc()),
+            };
+            (ending, false)
+        }
     };
     drop(read);
-    outcome
+    print_end(rt, &ending, explain)
 }
 
 /// Prints what a run comes to, what standard error is told of it, and the status.
-fn print_end(
-    rt: &HostRuntime,
-    outcome: &Result<Summary, RunFault>,
-    notes: &[u8],
-) -> io::Result<()> {
-    match outcome {
+fn print_end(rt: &HostRuntime, ending: &Ending, explain: bool) -> io::Result<()> {
+    match &ending.outcome {
         Ok(done) => println!(rt;
             "< adjusted {} calls {} changes {}",
             done.adjusted, done.calls, done.changes
         )?,
         Err(_) => println!(rt; "< not done")?,
     }
-    let status = report(outcome, notes, &mut rt.stdout());
+    let notes = ending.notes.as_slice();
+    let status = report(&ending.outcome, explain, notes, &mut rt.stdout());
     println!(rt; "< status {status}")
 }

@@ -5,7 +5,7 @@ ghost use Rattle.std.specs.Prelude.{◌≡◌, ◌<◌, IfOk};
 ghost use Rattle.crush_units.specs.declared.limits.TheConstants.{MOST_OPERATORS};
 
 use crate::job::Parts;
-use crate::map::{is_written, items, text_of};
+use crate::map::{fewest_requests, is_written, text_of};
 use anyhow::{Context, ensure};
 use crush_calls::{Call, Entry, Script, write_entry};
 use crush_editor::{Book, MapGauge, Started, SubmitFault};
@@ -13,8 +13,8 @@ use crush_map::CrushMap;
 use crush_units::limits::MOST_OPERATORS;
 use std::alloc::{Allocator, Global};
 
-/// Makes the calls of all scripts in order by a book of the map, and answers how many items its map
-/// then has. Map and history are then written as the output.
+/// Makes the calls of all scripts in order by a book of the map, and answers the fewest requests that
+/// its map can then make. Map and history are then written as the output.
 pub fn run_by_book<A: Allocator + Clone>(
     alloc: Global,
     map: CrushMap<A>,
@@ -28,7 +28,7 @@ pub fn run_by_book<A: Allocator + Clone>(
         is_book_written(alloc, &book, scripts, parts.output)?,
         "another output of a book"
     );
-    Ok(items(book.map()))
+    Ok(fewest_requests(book.map()))
 }
 
 /// A book of the map with its gauge, made once more where memory lacked. The map that comes back is

@@ -41,11 +41,11 @@ fn run_records(rt: &HostRuntime, records: &[u8]) -> anyhow::Result<()> {
     Ok(())
 }
 
-/// Runs a job with each request refused. Want of memory is told in no fewer runs than there are
-/// items, since each has a name.
+/// Runs a job with each request refused. Want of memory is told in no fewer runs than the fewest
+/// requests that its map can make.
 fn run_record(rt: &HostRuntime, parts: &Parts, maker: Maker) -> anyhow::Result<()> {
     let memory = Refusing::new(rt.alloc());
-    let (told, items) = run_each(rt.alloc(), &memory, parts, maker)?;
-    ensure!(told >= items, "want of memory is told too seldom");
+    let (told, fewest) = run_each(rt.alloc(), &memory, parts, maker)?;
+    ensure!(told >= fewest, "want of memory is told too seldom");
     Ok(())
 }

@@ -8,8 +8,8 @@ use crush_print::write_map;
 use crush_text::{TextFaultKind, read_map_in};
 use std::alloc::{Allocator, Global};
 
-/// Makes the calls of all scripts in order, and answers how many items the map then has. Map and
-/// history are then written as this.
+/// Makes the calls of all scripts in order, and answers the fewest requests that the map then there
+/// can make. Map and history are then written as this.
 pub fn run_on_map<A: Allocator + Clone>(
     alloc: Global,
     map: CrushMap<A>,
@@ -23,13 +23,14 @@ pub fn run_on_map<A: Allocator + Clone>(
         is_written(alloc, &map, lines.as_slice(), output)?,
         "another output"
     );
-    Ok(items(&map))
+    Ok(fewest_requests(&map))
 }
 
-/// How many items the map has.
-pub fn items<A: Allocator>(map: &CrushMap<A>) -> usize {
+/// The fewest requests for memory that such a map can make: one for each bucket, whose items are a
+/// list of its own, and one for the table in which devices stand. Short names make none.
+pub fn fewest_requests<A: Allocator>(map: &CrushMap<A>) -> usize {
     let counts = map.counts();
-    counts.devices as usize + counts.buckets as usize
+    counts.buckets as usize + usize::from(counts.devices > 0)
 }
 
 /// The map of the text, which is read once more where memory lacked.

@@ -19,8 +19,8 @@ pub enum Maker {
     Book,
 }
 
-/// In how many runs it was told that memory lacked, and how many items the map then has. In each run
-/// one request more was refused; where a list asked for a smaller block that is told to nobody.
+/// In how many runs it was told that memory lacked, and the fewest requests that the map can make. In
+/// each run a later request was refused; where a list asked for a smaller block that is told to nobody.
 pub fn run_each(
     alloc: Global,
     memory: &Refusing<Global>,
@@ -31,19 +31,19 @@ pub fn run_each(
     let mut told = 0usize;
     for number in 1..usize::MAX {
         memory.refuse(number);
-        let (answers, items) = run_refused(alloc, memory, parts, scripts.as_slice(), maker)?;
+        let (answers, fewest) = run_refused(alloc, memory, parts, scripts.as_slice(), maker)?;
         let refused = memory.has_refused();
         ensure!(answers <= usize::from(refused), "memory lacked once more");
         told = told.saturating_add(answers);
         if !refused {
-            return Ok((told, items));
+            return Ok((told, fewest));
         }
     }
     bail!("no end of requests")
 }
 
-/// Runs the scripts once, and answers how often it was told that memory lacked, and how many items
-/// the map then has. Its output is the known one.
+/// Runs the scripts once, and answers how often it was told that memory lacked, and the fewest
+/// requests that the map then there can make. Its output is the known one.
 fn run_refused(
     alloc: Global,
     memory: &Refusing<Global>,
@@ -53,9 +53,9 @@ fn run_refused(
 ) -> anyhow::Result<(usize, usize)> {
     let mut answers = 0;
     let map = read_again(alloc, memory, parts.map, &mut answers)?;
-    let items = match maker {
+    let fewest = match maker {
         Maker::Map => run_on_map(alloc, map, scripts, parts.output, &mut answers)?,
         Maker::Book => run_by_book(alloc, map, scripts, parts, &mut answers)?,
     };
-    Ok((answers, items))
+    Ok((answers, fewest))
 }

@@ -1,5 +1,6 @@
 pub mod ClassLemmas
 pub mod FrontLemmas
+pub mod GivenLemmas
 pub mod GuideLemmas
 pub mod IndexLemmas
 pub mod MoveLemmas

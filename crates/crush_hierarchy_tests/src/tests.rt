@@ -2,6 +2,7 @@
 
 mod asked;
 mod asked_changes;
+mod asked_weights;
 mod asks;
 mod calls;
 mod items;

@@ -7,3 +7,5 @@ pub mod ToldLaws
 pub mod UsedBits
 pub mod WordBits
 pub mod Exchanged
+pub mod PlaceSlots
+pub mod SlotLaws

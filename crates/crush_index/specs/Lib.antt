@@ -1,10 +1,14 @@
 pub mod Hashed
+pub mod Hashings
 pub mod IndexLaw
 pub mod IndexTold
 pub mod NamesLaw
 pub mod NamesTold
+pub mod NumberedTold
+pub mod PlacesKept
 pub mod PlacesLaw
 pub mod PlacesTold
-pub mod SpotsTold
+pub mod SlotsKept
+pub mod SlotsTold
 pub mod UsedLaw
 pub mod UsedTold

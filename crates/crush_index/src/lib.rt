@@ -19,8 +19,10 @@ mod index;
 mod key;
 pub mod law;
 mod names;
+mod numbered;
 mod places;
-mod spots;
+mod slot;
+mod slots;
 mod used;
 mod word;
 

@@ -2,6 +2,7 @@
 
 ghost use Rattle.std.specs.Prelude.{◌≡◌, true, false, Some, None, OnOk, OnErr, List, ℕ, ◌++◌, ◌∷◌, [], bytes_eq};
 ghost use Rattle.crush_table.specs.Table.{Row, is_named, name_of};
+ghost use Rattle.crush_index.specs.Hashings.{names_hashing};
 ghost use Rattle.crush_index.specs.NamesTold.{id_told, TellsSame, TellsOne, TellsTwo};
 
 use crate::hashing::Hashing;
@@ -17,9 +18,10 @@ pub struct Names {
 }
 
 impl Names {
-    /// No names. It takes no memory.
+    /// No names. It takes no memory yet, and later hashes so.
     pub fn new(alloc: Global, hashing: Hashing) -> Names
-        ensures { (n : List ℕ) → id_told result n ≡ None }
+        ensures none { (n : List ℕ) → id_told result n ≡ None }
+        ensures hashing { names_hashing result ≡ hashing }
     {
         Names {
             ids: IndexMap::with_hasher(alloc, hashing),
@@ -40,6 +42,7 @@ impl Names {
     pub fn insert(&mut self, name: Name<Global>, id: ItemId) -> Result<(), AllocError>
         ensures ok { OnOk result (TellsOne self.old self.new name (Some id)) }
         ensures err { OnErr result (TellsSame self.old self.new) }
+        ensures hashing { names_hashing self.new ≡ names_hashing self.old }
     {
         self.ids.insert(Key::of(name), id)?;
         Ok(())
@@ -47,7 +50,8 @@ impl Names {
 
     /// The name of an item that has gone. Where it isn't there nothing changes.
     pub fn remove(&mut self, name: &[u8])
-        ensures { TellsOne self.old self.new name.now None }
+        ensures told { TellsOne self.old self.new name.now None }
+        ensures hashing { names_hashing self.new ≡ names_hashing self.old }
     {
         self.ids.swap_remove(Asked { bytes: name });
     }
@@ -59,6 +63,7 @@ impl Names {
         requires free { id_told self.old to ≡ None }
         ensures ok { OnOk result (TellsTwo self.old self.new to (Some id) from.now None) }
         ensures err { OnErr result (TellsSame self.old self.new) }
+        ensures hashing { names_hashing self.new ≡ names_hashing self.old }
     {
         self.ids.insert(Key::of(to), id)?;
         self.ids.swap_remove(Asked { bytes: from });
@@ -69,7 +74,8 @@ impl Names {
     pub fn exchange(&mut self, a: &[u8], b: &[u8], first: ItemId, second: ItemId)
         requires first { id_told self.old a.now ≡ Some first }
         requires second { id_told self.old b.now ≡ Some second }
-        ensures { TellsTwo self.old self.new a.now (Some second) b.now (Some first) }
+        ensures told { TellsTwo self.old self.new a.now (Some second) b.now (Some first) }
+        ensures hashing { names_hashing self.new ≡ names_hashing self.old }
     {
         if let Some(id) = self.ids.get_mut(Asked { bytes: b }) {
             *id = first;

@@ -25,11 +25,13 @@ pub struct UsedIds {
 }
 
 impl UsedIds {
+    ghost use Rattle.crush_index.specs.Hashings.{used_hashing};
     ghost use Rattle.crush_index.specs.UsedTold.{used_told, UsesSame, UsesOne, AreAllUsed, IsFirstFree};
 
     /// No ids. It takes no memory.
     pub fn new(alloc: Global, hashing: Hashing) -> UsedIds
-        ensures { (k : ℕ) → used_told result k ≡ false }
+        ensures none { (k : ℕ) → used_told result k ≡ false }
+        ensures hashing { used_hashing result ≡ hashing }
     {
         UsedIds {
             words: Vec::new(alloc),
@@ -52,6 +54,7 @@ impl UsedIds {
     pub fn insert(&mut self, id: u32) -> Result<(), AllocError>
         ensures ok { OnOk result (UsesOne self.old self.new id true) }
         ensures err { OnErr result (UsesSame self.old self.new) }
+        ensures hashing { used_hashing self.new ≡ used_hashing self.old }
     {
         if id < NEAR {
             let place = id as usize / 64;
@@ -65,7 +68,8 @@ impl UsedIds {
 
     /// An id that is free again.
     pub fn remove(&mut self, id: u32)
-        ensures { UsesOne self.old self.new id false }
+        ensures told { UsesOne self.old self.new id false }
+        ensures hashing { used_hashing self.new ≡ used_hashing self.old }
     {
         if id < NEAR {
             let place = id as usize / 64;

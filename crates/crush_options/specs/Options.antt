@@ -38,9 +38,9 @@ with_modes = with_rule (with_rule (with_rule named (flag (codes "in-turn"))) (fl
 abbrev pub with_printed : App
 with_printed = with_rule (with_rule (with_rule with_modes (flag (codes "tree"))) (option (codes "since"))) (flag (codes "as-ceph"))
 
--- THE COMMAND LINE: `[--in-turn] [--no-history] [--strict] [--tree] [--since MAP] [--as-ceph] [-s SCRIPT].. [FILE]`
+-- THE COMMAND LINE: `[--in-turn] [--no-history] [--strict] [--tree] [--since MAP] [--as-ceph] [--explain] [-s SCRIPT].. [FILE]`
 abbrev pub program : App
-program = with_rule (with_rule with_printed scripts) file
+program = with_rule (with_rule (with_rule with_printed (flag (codes "explain"))) scripts) file
 
 -- a flag is set where the words have it, and else not, also where nothing tells of it
 pub record IsFlag (text : Option Text) (flag : Bool) : Type 0 where
@@ -93,6 +93,7 @@ pub record AreRead (rows : List Row) (options : Options) : Type 0 where
   pub in_turn : IsFlag (one_of (codes "in-turn") rows) options.mode.in_turn
   pub history : IsFlag (one_of (codes "no-history") rows) (not options.mode.history)
   pub strict : IsFlag (one_of (codes "strict") rows) options.mode.strict
+  pub explain : IsFlag (one_of (codes "explain") rows) options.mode.explain
   pub printed : IsPrinted rows options.printed
   pub scripts : names_text options.scripts.items ≡ all_named (codes "script") rows
   pub few : length options.scripts.items ≤ MOST_SCRIPTS

@@ -13,6 +13,8 @@ pub struct Mode {
     pub history: bool,
     /// Whether a run in which anything is refused writes nothing.
     pub strict: bool,
+    /// Whether standard error tells where and why, below its one line.
+    pub explain: bool,
 }
 
 /// What is printed of the map after the scripts.

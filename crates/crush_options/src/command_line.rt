@@ -77,7 +77,9 @@ for a shell; at most one of the three.
 Standard error gets `crushedit: adjusted N` where N buckets were written with
 another weight than the sum of their devices, and got the sum. With `--strict`
 it gets `crushedit: refused N` where N commands or batches were refused, and
-their lines.
+their lines. With `--explain` it tells more below: where a fault of the input
+stands and what was wanted there, and of each refused command or batch its line
+and what was wanted.
 
 Exit status:
     0    the run was done, also where commands were refused, without --strict
@@ -177,7 +179,11 @@ fn with_printed<'a>(alloc: Global) -> Result<Command<'a>, AllocError>
 fn command<'a>(alloc: Global) -> Result<Command<'a>, AllocError>
     ensures { IfOk result (λ command. app_of command ≡ program) }
 {
-    with_printed(alloc)?.arg(scripts(alloc))?.arg(file(alloc))
+    let explain = "Tell where and why, below the one line on standard error";
+    with_printed(alloc)?
+        .arg(flag(alloc, "explain", explain))?
+        .arg(scripts(alloc))?
+        .arg(file(alloc))
 }
 
 /// Whether the words have a flag.
@@ -261,6 +267,7 @@ fn options_of(alloc: Global, matches: &ArgMatches<'_>) -> Result<Options, Option
         in_turn: is_set(matches, "in-turn"),
         history: !is_set(matches, "no-history"),
         strict: is_set(matches, "strict"),
+        explain: is_set(matches, "explain"),
     };
     let printed = printed_of(alloc, matches)?;
     let scripts = scripts_of(alloc, matches)?;
@@ -288,8 +295,8 @@ fn fault_of(alloc: Global, error: &Error) -> OptionsFault
 }
 
 /// Reads the words of a command line behind the program's name: `[--in-turn] [--no-history]
-/// [--strict] [--tree | --since MAP | --as-ceph] [-s SCRIPT].. [FILE]`, in any order, with up to 16
-/// scripts. Each word is one of these or refused: none is ignored.
+/// [--strict] [--tree | --since MAP | --as-ceph] [--explain] [-s SCRIPT].. [FILE]`, in any order,
+/// with up to 16 scripts. Each word is one of these or refused: none is ignored.
 pub fn options<S: AsStr>(alloc: Global, words: &[S]) -> Result<Options, OptionsFault>
     ensures asked { IfOk result (IsAsked (map S.text words.now)) }
     ensures fault { IfErr result (IsFaultIn (map S.text words.now)) }

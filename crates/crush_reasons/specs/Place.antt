@@ -64,7 +64,7 @@ number_line name line = codes "  " ++ name_front name ++ codes "line " ++ decima
 abbrev pub at_line : List ℕ → List ℕ → ℕ → List ℕ → List ℕ
 at_line name bytes line sentence = number_line name line ++ shown_line (from_line (line - 1) bytes) ++ reason_line sentence
 
--- FAULT TEXT: where a fault stands, and what was wanted; of a fault without a place nothing
+-- FAULT TEXT: where a fault stands, and what was wanted; of a fault without a place that alone
 abbrev pub fault_text : List ℕ → List ℕ → JobFault → List ℕ
 fault_text name bytes (BadLine line) = at_line name bytes line (job_sentence (BadLine line))
 fault_text name bytes (NoSuchCommand line) = at_line name bytes line (job_sentence (NoSuchCommand line))
@@ -73,5 +73,5 @@ fault_text name bytes (TooManyOperators line) = at_line name bytes line (job_sen
 fault_text name bytes (DuplicateOperator line) = at_line name bytes line (job_sentence (DuplicateOperator line))
 fault_text name bytes (TooManyCalls line) = at_line name bytes line (job_sentence (TooManyCalls line))
 fault_text name bytes (Text fault) = place_text name bytes fault.place ++ reason_line (job_sentence (Text fault))
-fault_text name bytes TooLong = []
-fault_text name bytes OutOfMemory = []
+fault_text name bytes TooLong = reason_line (job_sentence TooLong)
+fault_text name bytes OutOfMemory = reason_line (job_sentence OutOfMemory)

@@ -270,13 +270,13 @@ fn push_fault(
         | JobFault::DuplicateOperator(line)
         | JobFault::TooManyCalls(line) => push_at_line(name, bytes, line, sentence, text),
         JobFault::Text(fault) => push_at_place(name, bytes, fault.place, sentence, text),
-        JobFault::TooLong | JobFault::OutOfMemory => Ok(()),
+        JobFault::TooLong | JobFault::OutOfMemory => push_reason(sentence, text),
     }
 }
 
 /// Where a fault of a job stands, and below it what was wanted: of a flaw of the map's text the
 /// line, the column, what the line has there and `^` below the place, of another fault the line
-/// alone. Of a fault without a place it is empty.
+/// alone. Of a fault without a place, as of bytes that are too many, it is what was wanted alone.
 ///
 /// Lines and columns count from 1. A line is shown from its beginning, or from 40 bytes before the
 /// place, and 72 bytes of it at most; a tab shows as a space, a byte that isn't from 32 to 126 as

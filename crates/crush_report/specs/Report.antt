@@ -1,5 +1,5 @@
 -- What a run tells on standard error, and its status.
-use Rattle.std.specs.Prelude.{ℕ, ◌==◌, List, [], ◌++◌, Result, Ok, Err, codes, decimal, if◌then◌else◌}
+use Rattle.std.specs.Prelude.{ℕ, ◌==◌, Bool, List, [], ◌++◌, Result, Ok, Err, codes, decimal, if◌then◌else◌}
 use Rattle.crush_text.specs.declared.fault.TextFault.{TextFault}
 use Rattle.crush_text.specs.Fault.{fault_name}
 use Rattle.crush_script.specs.declared.fault.JobFault.{JobFault}
@@ -68,9 +68,36 @@ abbrev pub report_line : Result Summary RunFault → List ℕ
 report_line (Ok s) = if s.adjusted == 0 then [] else adjusted_line s.adjusted
 report_line (Err f) = run_fault f
 
--- the line, and behind it what the run notes
-abbrev pub report_text : Result Summary RunFault → List ℕ → List ℕ
-report_text outcome notes = report_line outcome ++ notes
+-- what is told of a fault of the map since which changes are asked for, and of a run that was not done: what was wanted, unless the
+-- run notes it
+abbrev pub memory_reason : List ℕ
+memory_reason = codes "  there is less memory than the job wants\n"
+
+abbrev pub since_reason : SinceFault → List ℕ
+since_reason (since.Text f) = if is_want f.kind then memory_reason else []
+since_reason since.TooLong = codes "  the file of --since has at most 16777216 bytes\n"
+since_reason since.Read = codes "  the file of --since is to be there, and to be read to its end\n"
+
+abbrev pub fault_reason : RunFault → List ℕ
+fault_reason (run.Job f) = if lacks_memory f then memory_reason else []
+fault_reason run.Read = codes "  each file, or standard input, is to be there, and to be read to its end\n"
+fault_reason run.Write = codes "  standard output took less than the whole: what stands there is no map\n"
+fault_reason run.Memory = memory_reason
+fault_reason run.Thread = codes "  the system started no thread for an operator: --in-turn wants none\n"
+fault_reason (run.Refused count) = []
+fault_reason (run.Since f) = since_reason f
+
+abbrev pub outcome_reason : Result Summary RunFault → List ℕ
+outcome_reason (Ok s) = []
+outcome_reason (Err f) = fault_reason f
+
+-- the line, and below it what was wanted, where that is asked for
+abbrev pub report_lines : Bool → Result Summary RunFault → List ℕ
+report_lines explain outcome = report_line outcome ++ (if explain then outcome_reason outcome else [])
+
+-- and behind them what the run notes
+abbrev pub report_text : Bool → Result Summary RunFault → List ℕ → List ℕ
+report_text explain outcome notes = report_lines explain outcome ++ notes
 
 abbrev pub since_status : SinceFault → ℕ
 since_status (since.Text f) = if is_want f.kind then 4 else 1

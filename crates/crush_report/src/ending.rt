@@ -1,9 +1,9 @@
 //! What a run tells on standard error, and the status with which the program ends.
 
-ghost use Rattle.std.specs.Prelude.{◌≡◌, IfOk};
+ghost use Rattle.std.specs.Prelude.{◌≡◌, [], IfOk, if◌then◌else◌};
 ghost use Rattle.crush_bytes.specs.Writes.{Writes, AppendsFront};
 ghost use Rattle.crush_report.specs.OptionsReport.{IsHelpWhole, IsOptionsStatus, options_error, options_output};
-ghost use Rattle.crush_report.specs.Report.{adjusted_line, line_fault, text_fault, job_fault, run_fault, refused_line, report_line, report_text, since_fault, since_status, since_text_fault, status};
+ghost use Rattle.crush_report.specs.Report.{adjusted_line, fault_reason, line_fault, text_fault, job_fault, outcome_reason, run_fault, refused_line, report_line, report_lines, report_text, since_fault, since_reason, since_status, since_text_fault, status};
 
 use crush_bytes::{WriteFault, put, put_all};
 use crush_options::OptionsFault;
@@ -16,6 +16,9 @@ use std::io::Write;
 
 /// The line of want of memory, wherever it comes.
 const OUT_OF_MEMORY: &[u8] = b"crushedit: out of memory\n";
+
+/// What is told of it where reasons are asked for.
+const MEMORY_REASON: &[u8] = b"  there is less memory than the job wants\n";
 
 /// Writes the line of a fault in a line of the job.
 fn write_line_fault<E: Write>(number: usize, name: &str, err: &mut E) -> Result<(), WriteFault>
@@ -173,25 +176,92 @@ fn put_report<E: Write>(outcome: &Result<Summary, RunFault>, err: &mut E)
     let _ = write_report(outcome, err);
 }
 
-/// Writes the one line, or nothing, and behind it the notes.
+/// What was wanted where the map since which changes are asked for was not read.
+fn since_reason(fault: SinceFault) -> &'static [u8]
+    ensures { result.now ≡ since_reason fault }
+{
+    match fault {
+        SinceFault::Text(fault) if JobFault::Text(fault).lacks_memory() => MEMORY_REASON,
+        SinceFault::Text(_) => b"",
+        SinceFault::TooLong => b"  the file of --since has at most 16777216 bytes\n",
+        SinceFault::Read => b"  the file of --since is to be there, and to be read to its end\n",
+    }
+}
+
+/// What was wanted where a run was not done, unless the run notes it.
+fn fault_reason(fault: RunFault) -> &'static [u8]
+    ensures { result.now ≡ fault_reason fault }
+{
+    match fault {
+        RunFault::Job(fault) if fault.lacks_memory() => MEMORY_REASON,
+        RunFault::Job(_) => b"",
+        RunFault::Read => {
+            b"  each file, or standard input, is to be there, and to be read to its end\n"
+        }
+        RunFault::Write =>
+            b"  standard output took less than the whole: what stands there is no map\n",
+        RunFault::Memory => MEMORY_REASON,
+        RunFault::Thread =>
+            b"  the system started no thread for an operator: --in-turn wants none\n",
+        RunFault::Refused(_) => b"",
+        RunFault::Since(fault) => since_reason(fault),
+    }
+}
+
+/// What was wanted of an outcome.
+fn outcome_reason(outcome: &Result<Summary, RunFault>) -> &'static [u8]
+    ensures { result.now ≡ outcome_reason outcome.now }
+{
+    match outcome {
+        Ok(_) => b"",
+        Err(fault) => fault_reason(*fault),
+    }
+}
+
+/// What was wanted, where that is asked for.
+fn reason_asked(explain: bool, outcome: &Result<Summary, RunFault>) -> &'static [u8]
+    ensures { result.now ≡ (if explain then outcome_reason outcome.now else []) }
+{
+    if explain {
+        outcome_reason(outcome)
+    } else {
+        b""
+    }
+}
+
+/// Writes the one line, or nothing, and below it what was wanted, where that is asked for.
+fn write_lines<E: Write>(
+    outcome: &Result<Summary, RunFault>,
+    explain: bool,
+    err: &mut E,
+) -> Result<(), WriteFault>
+    ensures { Writes result (E.contents err.old) (E.contents err.new)
+        (report_lines explain outcome.now) }
+{
+    write_report(outcome, err)?;
+    put(err, reason_asked(explain, outcome))
+}
+
+/// Writes those, and behind them the notes.
 fn write_told<E: Write>(
     outcome: &Result<Summary, RunFault>,
+    explain: bool,
     notes: &[u8],
     err: &mut E,
 ) -> Result<(), WriteFault>
     ensures { Writes result (E.contents err.old) (E.contents err.new)
-        (report_text outcome.now notes.now) }
+        (report_text explain outcome.now notes.now) }
 {
-    write_report(outcome, err)?;
+    write_lines(outcome, explain, err)?;
     put(err, notes)
 }
 
-/// Puts the one line and the notes, or what of them standard error takes.
-fn put_told<E: Write>(outcome: &Result<Summary, RunFault>, notes: &[u8], err: &mut E)
+/// Puts all that is told, or what of it standard error takes.
+fn put_told<E: Write>(outcome: &Result<Summary, RunFault>, explain: bool, notes: &[u8], err: &mut E)
     ensures { AppendsFront (E.contents err.old) (E.contents err.new)
-        (report_text outcome.now notes.now) }
+        (report_text explain outcome.now notes.now) }
 {
-    let _ = write_told(outcome, notes, err);
+    let _ = write_told(outcome, explain, notes, err);
 }
 
 /// Puts the bytes, or what of them standard error takes.
@@ -226,7 +296,8 @@ fn since_status(fault: SinceFault) -> u8
     }
 }
 
-/// Writes the one line of standard error, and behind it the notes of the run, and answers the status.
+/// Writes the one line of standard error, below it, where reasons are asked for, what was wanted of
+/// an outcome without notes, and then the notes of the run, and answers the status.
 ///
 /// | Status | When | Line |
 /// |---|---|---|
@@ -238,13 +309,18 @@ fn since_status(fault: SinceFault) -> u8
 /// | 4 | a worker couldn't be started | `crushedit: no thread` |
 /// | 5 | calls of a strict run were refused | `crushedit: refused N`, and their lines in the notes |
 ///
-/// Where writing fails, a front of the line and the notes stands there, and the status is the same.
-pub fn report<E: Write>(outcome: &Result<Summary, RunFault>, notes: &[u8], err: &mut E) -> u8
+/// Where writing fails, a front of all that stands there, and the status is the same.
+pub fn report<E: Write>(
+    outcome: &Result<Summary, RunFault>,
+    explain: bool,
+    notes: &[u8],
+    err: &mut E,
+) -> u8
     ensures status { result ≡ status outcome.now }
     ensures text { AppendsFront (E.contents err.old) (E.contents err.new)
-        (report_text outcome.now notes.now) }
+        (report_text explain outcome.now notes.now) }
 {
-    put_told(outcome, notes, err);
+    put_told(outcome, explain, notes, err);
     match outcome {
         Ok(_) => 0,
         Err(RunFault::Memory | RunFault::Thread) => 4,

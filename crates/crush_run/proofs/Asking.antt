@@ -1,11 +1,11 @@
 -- What is asked for of a run by its options.
-use Rattle.std.proofs.Common.{◌≡◌, ℕ, ◌≤◌, Bool, true, false, cond, List, Option, Some, None, Result, Ok, Err, inl, inr, length, ap, subst, arith}
+use Rattle.std.proofs.Common.{◌≡◌, ℕ, ◌≤◌, Bool, true, false, List, [], Option, Some, None, Result, Ok, Err, inl, inr, length, ap, subst, ◌∙◌, arith}
 use Rattle.std.specs.Prelude.{IfOk, IfErr, IfSome}
 use mathlib.Core.Logic.{dite}
 use native.Mathlib.Decide.{dec_le}
 use Rattle.crush_map.specs.MapData.{MapData}
 use Rattle.crush_text.specs.declared.fault.TextFault.{TextFault}
-use Rattle.crush_text.specs.Flaw.{IsFlawOrWant}
+use Rattle.crush_text.specs.Flaw.{IsFlawOrWant, IsMapFlaw}
 use Rattle.crush_script.specs.Fault.{is_want}
 use Rattle.crush_script.specs.Job.{HasJob, JobData}
 use Rattle.crush_options.specs.declared.asked.Options.{Options}
@@ -18,27 +18,44 @@ use Rattle.crush_run.specs.declared.fault.RunFault.TheVariants as run
 use Rattle.crush_run.specs.declared.fault.SinceFault.{SinceFault}
 use Rattle.crush_run.specs.declared.fault.SinceFault.TheVariants as since
 use Rattle.crush_run.specs.declared.summary.Summary.{Summary}
-use Rattle.crush_run.specs.Faults.{of_text}
 use Rattle.crush_run.specs.Input.{IsInput}
-use Rattle.crush_run.specs.Options.{EndsAsAsked, IsAskedFault, IsAskedOf, IsMapFault, IsOptionsFault, IsSinceFault, IsTextOf}
+use Rattle.crush_run.specs.Options.{EndsAsAsked, IsAskedFault, IsAskedNoted, IsAskedOf, IsMapFault, IsNotedAsAsked, IsOptionsFault, IsSinceFault, IsTextOf}
+use Rattle.crush_run.specs.Notes.{IsFaultNoted, IsMapNoted, IsNoted, flaw_notes, since_notes}
 use Rattle.crush_run.specs.Run.{Ends}
 use Rattle.crush_run.specs.Stages.{IsEarlyFault, IsOutcomeFault, IsReadFault}
 
--- a flaw of a text, or want of memory, as a fault of the run
-pub map_fault_of_text : (bytes : List ℕ) (f : TextFault) → length bytes ≤ LONGEST_JOB → IsFlawOrWant bytes f → IsMapFault (Some bytes) (of_text f)
-map_fault_of_text bytes f short (inl want) = rw (ap is_want want) tt
-map_fault_of_text bytes f short (inr flaw) = at (is_want f.kind)
-  where
-    at : (b : Bool) → IsMapFault (Some bytes) (cond b run.Memory (run.Since (since.Text f)))
-    at true = tt
-    at false = (short, flaw)
+-- a fault of a text that isn't want of memory is a flaw of it
+pub flaw_where : (bytes : List ℕ) (f : TextFault) → is_want f.kind ≡ false → IsFlawOrWant bytes f → IsMapFlaw bytes f
+flaw_where bytes f room (inl want) = let e = ap is_want want in absurd cc
+flaw_where bytes f room (inr flaw) = flaw
+
+-- what is told of one is its place, and nothing where no reasons are asked for
+pub flaw_noted : (explain : Bool) (name bytes : List ℕ) (f : TextFault) (notes : List ℕ) → notes ≡ flaw_notes explain name bytes f → IsMapNoted explain name (Some bytes) (run.Since (since.Text f)) notes
+flaw_noted explain name bytes f notes is = (λ quiet. is ∙ ap (λ e. flaw_notes e name bytes f) quiet, is)
+
+-- what is noted of bytes read is noted of all bytes of a file
+since_of_all : (explain : Bool) (name : List ℕ) (all : Option (List ℕ)) (bytes : List ℕ) (f : SinceFault) (notes : List ℕ) → IfSome all (IsInput bytes) → IsSinceFault bytes f → notes ≡ since_notes explain name bytes f
+    → IfSome all (λ xs. notes ≡ since_notes explain name xs f)
+since_of_all explain name None bytes f notes input h is = tt
+since_of_all explain name (Some xs) bytes (since.Text f) notes input h is = is ∙ ap (λ z. flaw_notes explain name z f) (input.read h.0)
+since_of_all explain name (Some xs) bytes since.TooLong notes input h is = is
+since_of_all explain name (Some xs) bytes since.Read notes input h is = is
+
+pub map_noted_of_all : (explain : Bool) (name : List ℕ) (all : Option (List ℕ)) (bytes : List ℕ) (f : RunFault) (notes : List ℕ) → IfSome all (IsInput bytes) → IsMapFault (Some bytes) f → IsMapNoted explain name (Some bytes) f notes → IsMapNoted explain name all f notes
+map_noted_of_all explain name all bytes (run.Job j) notes input h told = told
+map_noted_of_all explain name all bytes run.Read notes input h told = told
+map_noted_of_all explain name all bytes run.Write notes input h told = told
+map_noted_of_all explain name all bytes run.Memory notes input h told = told
+map_noted_of_all explain name all bytes run.Thread notes input h told = told
+map_noted_of_all explain name all bytes (run.Refused n) notes input h told = told
+map_noted_of_all explain name all bytes (run.Since f) notes input h told = (told.0, since_of_all explain name all bytes f notes input h told.1)
 
 -- what is known of the bytes read is known of all bytes of a file
 text_of_all : (m : MapData) (all : Option (List ℕ)) (bytes : List ℕ) → IfSome all (IsInput bytes) → IsTextOf m bytes → IfSome all (IsTextOf m)
 text_of_all m None bytes input is = tt
 text_of_all m (Some xs) bytes input is = subst (IsTextOf m) (input.read is.short) is
 
-pub map_of_all : (r : Result MapData RunFault) (all : Option (List ℕ)) (bytes : List ℕ) → IfSome all (IsInput bytes) → IfOk r (λ m. IsTextOf m bytes) → IfOk r (λ m. IfSome all (IsTextOf m))
+pub map_of_all : {E : Type 0} (r : Result MapData E) (all : Option (List ℕ)) (bytes : List ℕ) → IfSome all (IsInput bytes) → IfOk r (λ m. IsTextOf m bytes) → IfOk r (λ m. IfSome all (IsTextOf m))
 map_of_all (Ok m) all bytes input is = text_of_all m all bytes input is
 map_of_all (Err f) all bytes input is = tt
 
@@ -48,20 +65,23 @@ since_fault_of_all (Some xs) bytes (since.Text f) input h = subst (λ (z : List 
 since_fault_of_all (Some xs) bytes since.TooLong input h = dite (dec_le (length xs) LONGEST_JOB) (λ few. let same = ap length (input.whole few) in absurd (omega (arith, same, h, few))) (λ many. omega (arith, many))
 since_fault_of_all (Some xs) bytes since.Read input h = tt
 
-pub map_fault_of_all : (r : Result MapData RunFault) (all : Option (List ℕ)) (bytes : List ℕ) → IfSome all (IsInput bytes) → IfErr r (IsMapFault (Some bytes)) → IfErr r (IsMapFault all)
-map_fault_of_all (Ok m) all bytes input h = tt
-map_fault_of_all (Err (run.Job j)) all bytes input h = absurd h
-map_fault_of_all (Err run.Read) all bytes input h = absurd h
-map_fault_of_all (Err run.Write) all bytes input h = absurd h
-map_fault_of_all (Err run.Memory) all bytes input h = tt
-map_fault_of_all (Err run.Thread) all bytes input h = absurd h
-map_fault_of_all (Err (run.Refused n)) all bytes input h = absurd h
-map_fault_of_all (Err (run.Since s)) all bytes input h = since_fault_of_all all bytes s input h
+pub map_fault_of_all : (all : Option (List ℕ)) (bytes : List ℕ) (f : RunFault) → IfSome all (IsInput bytes) → IsMapFault (Some bytes) f → IsMapFault all f
+map_fault_of_all all bytes (run.Job j) input h = absurd h
+map_fault_of_all all bytes run.Read input h = absurd h
+map_fault_of_all all bytes run.Write input h = absurd h
+map_fault_of_all all bytes run.Memory input h = tt
+map_fault_of_all all bytes run.Thread input h = absurd h
+map_fault_of_all all bytes (run.Refused n) input h = absurd h
+map_fault_of_all all bytes (run.Since s) input h = since_fault_of_all all bytes s input h
 
 -- a file that couldn't be read is a fault of the map, whatever it has
 pub unread_map : (all : Option (List ℕ)) → IsMapFault all (run.Since since.Read)
 unread_map None = tt
 unread_map (Some xs) = tt
+
+pub unread_noted : (explain : Bool) (name : List ℕ) (all : Option (List ℕ)) (notes : List ℕ) → notes ≡ [] → IsMapNoted explain name all (run.Since since.Read) notes
+unread_noted explain name None notes none = (λ quiet. none, tt)
+unread_noted explain name (Some xs) notes none = (λ quiet. none, none)
 
 -- a fault of what is asked for comes before there is a history
 early_of_map : (all : Option (List ℕ)) (f : RunFault) → IsMapFault all f → IsEarlyFault f
@@ -151,3 +171,47 @@ options_fault_of_outcome content options all (Err (run.Since s)) has h = absurd 
 pub job_where_done : {X : Type 0} (r : Result X RunFault) (all : Option (List ℕ)) → IfSome all HasJob → IfOk r (λ _. IfSome all HasJob)
 job_where_done (Ok x) all has = has
 job_where_done (Err f) all has = tt
+
+-- what is noted of a fault of reading, and of the ending of a run, is noted as asked
+pub read_as_asked : (content : List ℕ → Option (List ℕ)) (options : Options) (all : Option (List ℕ)) (f : RunFault) (notes : List ℕ) → IsReadFault all f → IsFaultNoted options.mode.explain all f notes → IsNotedAsAsked content options all (Err f) notes
+read_as_asked content options all (run.Job j) notes h told = told
+read_as_asked content options all run.Read notes h told = told
+read_as_asked content options all run.Write notes h told = told
+read_as_asked content options all run.Memory notes h told = told
+read_as_asked content options all run.Thread notes h told = told
+read_as_asked content options all (run.Refused n) notes h told = told
+read_as_asked content options all (run.Since s) notes h told = absurd h
+
+pub ending_as_asked : (content : List ℕ → Option (List ℕ)) (options : Options) (all : Option (List ℕ)) (r : Result Summary RunFault) (notes : List ℕ) → IfErr r (IsOutcomeFault options.mode) → IsNoted options.mode.explain all r notes → IsNotedAsAsked content options all r notes
+ending_as_asked content options all (Ok s) notes h told = told
+ending_as_asked content options all (Err (run.Job j)) notes h told = told
+ending_as_asked content options all (Err run.Read) notes h told = told
+ending_as_asked content options all (Err run.Write) notes h told = told
+ending_as_asked content options all (Err run.Memory) notes h told = told
+ending_as_asked content options all (Err run.Thread) notes h told = told
+ending_as_asked content options all (Err (run.Refused n)) notes h told = told
+ending_as_asked content options all (Err (run.Since s)) notes h told = absurd h
+
+-- and so is one of what the words ask for, which is another map alone
+noted_of_map : (content : List ℕ → Option (List ℕ)) (options : Options) (all own : Option (List ℕ)) (name : List ℕ) (f : RunFault) (notes : List ℕ) → IsMapFault own f → IsMapNoted options.mode.explain name own f notes
+    → IsAskedNoted content options.mode.explain options.printed f notes → IsNotedAsAsked content options all (Err f) notes
+noted_of_map content options all own name (run.Job j) notes may told asked = absurd may
+noted_of_map content options all own name run.Read notes may told asked = absurd may
+noted_of_map content options all own name run.Write notes may told asked = absurd may
+noted_of_map content options all own name run.Memory notes may told asked = told
+noted_of_map content options all own name run.Thread notes may told asked = absurd may
+noted_of_map content options all own name (run.Refused n) notes may told asked = absurd may
+noted_of_map content options all own name (run.Since s) notes may told asked = asked
+
+asked_is_noted : (content : List ℕ → Option (List ℕ)) (explain : Bool) (what : Printed) (f : RunFault) (notes : List ℕ) → IsAskedFault content what f → IsAskedNoted content explain what f notes
+    → (own : Option (List ℕ)) × (name : List ℕ) × IsMapFault own f × IsMapNoted explain name own f notes
+asked_is_noted content explain printed.Map f notes h told = absurd h
+asked_is_noted content explain printed.Tree f notes h told = absurd h
+asked_is_noted content explain (printed.Since name) f notes h told = (content name.bytes.items, name.bytes.items, h, told)
+asked_is_noted content explain printed.AsCeph f notes h told = absurd h
+
+pub noted_as_asked : (content : List ℕ → Option (List ℕ)) (options : Options) (all : Option (List ℕ)) (f : RunFault) (notes : List ℕ) → IsAskedFault content options.printed f → IsAskedNoted content options.mode.explain options.printed f notes
+    → IsNotedAsAsked content options all (Err f) notes
+noted_as_asked content options all f notes h told =
+    let own = asked_is_noted content options.mode.explain options.printed f notes h told in
+    noted_of_map content options all own.0 own.1 f notes own.2 own.3 told

@@ -4,35 +4,45 @@ use denote.Param.{param}
 use denote.Param.Send.{IsSend, IsSync, sendable}
 use denote.Param.SendFields.{FieldsHave, declared_send}
 use denote.Ref.{NamedLft}
-use denote.Struct.Field.{shr_ref_field, shr_slice_field, u64-field}
+use denote.Struct.Field.{shr_ref_field}
 use denote.Struct.Tuple.{TupleAt, type_at, parts}
 use mathlib.Core.List.{List, [], ◌∷◌}
 use mir.Syntax.{Sym}
 use Rattle.std.proofs.Crossing.{crosses}
 use Rattle.std.specs.contracts.alloc.Global as Global
+use Rattle.std.specs.contracts.impls.GlobalAllocator.TheImpl as GlobalImpl
 use Rattle.std.specs.declared.sync.ledger.Ledger as Ledger
 use Rattle.crush_calls.specs.contracts.call.Call as Call
-use Rattle.crush_calls.proofs.call.Call.TheSendSync.{the_sync as call_sync}
+use Rattle.std.specs.contracts.vec.Vec as Vec
+use Rattle.crush_calls.proofs.call.Call.TheSendSync.{the_send as call_send}
 use Rattle.crush_editor.specs.declared.locked.Desk as Desk
 use Rattle.crush_editor.specs.contracts.locked.Seat as Seat
 use Rattle.crush_editor.specs.contracts.editor.Editor as Editor
 use Rattle.crush_editor.proofs.locked.Seat.TheSendSync.{the_send as seat_send}
-use Rattle.crush_editor.proofs.Sharing.{editor_sync}
+use Rattle.crush_editor.specs.contracts.opening.Unkept as Unkept
+use Rattle.crush_editor.specs.declared.opening.Opening as Opening
+use Rattle.crush_editor.proofs.Sharing.{unkept_editor_sync}
 
 -- memory crosses threads
 alloc_sent : IsSend Global.the_row
 alloc_sent = search (sendable, crosses) depth 20
 
-module _ (R G N : RattleType) (g : Desk.Ghosts N.Denot) (l : Ledger.Ghosts N.Denot) (a b c d : NamedLft) where
-  -- what a worker's closure owns: the handle, memory, the editor, the gate, the seat, the operator's number and its calls
+module _ (R G N : RattleType) (g : Desk.Ghosts N.Denot) (l : Ledger.Ghosts N.Denot) (o : Opening.Ghosts Unkept.the_row.Denot) (a b c : NamedLft) where
+  -- what a worker's closure owns: the handle, memory, the editor, the gate, the seat and the calls
   abbrev pub owned : List RattleType
-  owned = (shr_ref_field a (param 3 R) tt).row ∷ Global.the_row ∷ (shr_ref_field b (Editor.the_row (param 1 N) g l) tt).row
-      ∷ (shr_ref_field c (param 2 G) tt).row ∷ Seat.the_row (param 1 N) g l ∷ u64-field.row ∷ (shr_slice_field d Call.the_row tt).row ∷ []
+  owned = (shr_ref_field a (param 3 R) tt).row ∷ Global.the_row ∷ (shr_ref_field b (Editor.the_row (param 1 N) Unkept.the_row g l o) tt).row
+      ∷ (shr_ref_field c (param 2 G) tt).row ∷ Seat.the_row (param 1 N) g l ∷ Vec.the_row Call.the_row Global.the_row GlobalImpl.ghosts ∷ []
+
+  editor_shared : IsSync (Editor.the_row (param 1 N) Unkept.the_row g l o)
+  editor_shared = unkept_editor_sync (param 1 N) g l o
+
+  calls_sent : IsSend (Vec.the_row Call.the_row Global.the_row GlobalImpl.ghosts)
+  calls_sent = search (call_send, sendable, crosses) depth 20
 
   module _ (rt : IsSync (param 3 R)) (gate : IsSync (param 2 G)) where
     -- each of them crosses threads
     owned_send : FieldsHave IsSend (parts owned)
-    owned_send = (search (rt, sendable), (search (alloc_sent, sendable), (search (editor_sync, sendable), (search (gate, sendable), (search (seat_send, sendable), (search sendable, (search (call_sync, sendable), tt)))))))
+    owned_send = (search (rt, sendable), (search (alloc_sent, sendable), (search (editor_shared, sendable), (search (gate, sendable), (search (seat_send, sendable), (search (calls_sent, sendable), tt))))))
 
     -- so the closure does
     pub worker_send : (name : Sym) → IsSend (TupleAt name owned)

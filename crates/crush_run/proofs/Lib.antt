@@ -2,8 +2,10 @@ pub mod Asking
 pub mod Carry
 pub mod Consuming
 pub mod Crossing
+pub mod Early
+pub mod Headings
 pub mod Joins
 pub mod Lists
+pub mod Noted
 pub mod Runs
-pub mod Strictly
 pub mod Told

@@ -3,7 +3,7 @@ use Rattle.std.proofs.Common.{◌≡◌, ℕ, zero, suc, ◌<◌, ◌≤◌, ◌
 use Rattle.std.specs.Prelude.{IfOk}
 use Rattle.std.proofs.lemmas.List.{length-append, length-map}
 use Rattle.std.proofs.lemmas.List.Elements.{All-nil, All-cons}
-use Rattle.crush_bytes.specs.Writes.{AppendsLess}
+use Rattle.crush_bytes.specs.Writes.{Writes}
 use Rattle.crush_table.specs.Forest.{rows_of}
 use Rattle.crush_table.specs.Table.{Row}
 use Rattle.crush_edits.specs.Setting.{SettingData}
@@ -27,9 +27,9 @@ use Rattle.crush_run.specs.declared.asked.Asked.TheVariants as asked
 use Rattle.crush_run.specs.declared.fault.RunFault.{RunFault}
 use Rattle.crush_run.specs.declared.summary.Summary.{Summary}
 use Rattle.crush_script.specs.Job.{JobData}
-use Rattle.crush_run.specs.Run.{Ends, IsRunOf, IsStrict, lines_asked, main_text, output_of}
-use Rattle.crush_run.specs.Stages.{IsEarlyFault, RunsScripts}
-use Rattle.crush_run.proofs.Strictly.{early_strict}
+use Rattle.crush_run.specs.Run.{Ends, IsRunOf, lines_asked, main_text, output_of}
+use Rattle.crush_run.specs.Stages.{EndsLeft, HaveRun, IsEarlyFault, RunsScripts}
+use Rattle.crush_run.proofs.Early.{early_refused, early_strict}
 use Rattle.crush_run.proofs.Told.{nothing_written}
 
 -- the turns of the scripts are a run, in turn and at once
@@ -101,11 +101,6 @@ entries_below n (e ∷ h) none =
 pub entries_of_scripts : (scripts : List Script) (h : List EntryData) → ((k : ℕ) → calls_of (of_operator k h) ≡ calls_at (scripts_data scripts) k) → AreOf (length scripts) h
 entries_of_scripts scripts h calls = entries_below (length scripts) h (λ k past. calls k ∙ no_calls (scripts_data scripts) k (omega (arith, past, length-map scripts script_data)))
 
--- what was laid out is the output
-pub outcome_text : (asked : Asked) (history : Bool) (job : JobData) (s : SettingData) (scripts : List ScriptData) (h es : List EntryData) → s ≡ job.setting → scripts ≡ job.scripts → es ≡ h
-    → main_text asked s (table_after job.setting job.table h) es ++ lines_asked history (names_of scripts) es ≡ output_of asked history job h
-outcome_text asked history job s scripts h es setting same entries = λ i. main_text asked (setting i) (table_after job.setting job.table h) (entries i) ++ lines_asked history (names_of (same i)) (entries i)
-
 -- the commands of a history have a heading
 pub ceph_text_is_some : (h : List EntryData) → 0 < length (ceph_text h)
 unfolding ceph_text ceph_heading
@@ -124,22 +119,34 @@ output_is_some asked history job h =
     let some = main_text_is_some asked job.setting (table_after job.setting job.table h) h in
     simp length-append (omega (arith, some))
 
--- a run of which a front was written, and not the whole
-pub ended_by : (mode : Mode) (asked : Asked) (job : JobData) (r : Result Summary RunFault) (f : RunFault) (old new : Option (List ℕ)) (notes : List ℕ) (h : List EntryData) → r ≡ Err f
-    → IsRunOf mode.in_turn job h → AppendsLess old new (output_of asked mode.history job h) → IsStrict mode.strict (names_of job.scripts) h r notes → Ends mode asked job r old new notes
-ended_by mode asked job r f old new notes h is run less strict = record { history = h; run = run; writes = rw is less; summary = rw is tt; strict = strict }
-
 -- where nothing was written of a job, nothing is a front of what its turns would have had written
-pub ended_early : (mode : Mode) (asked : Asked) (job : JobData) (r : Result Summary RunFault) (f : RunFault) (old : Option (List ℕ)) (notes : List ℕ) → r ≡ Err f → IsEarlyFault f → notes ≡ []
+pub ended_early : (mode : Mode) (asked : Asked) (job : JobData) (r : Result Summary RunFault) (f : RunFault) (old : Option (List ℕ)) (notes : List ℕ) → r ≡ Err f → IsEarlyFault f
     → Ends mode asked job r old old notes
-ended_early mode asked job r f old notes is early none =
+ended_early mode asked job r f old notes is early =
     let h = turns job.setting job.table job.scripts in
     record {
       history = h;
       run = turns_run mode.in_turn job;
       writes = nothing_written r f old (output_of asked mode.history job h) (output_is_some asked mode.history job h) is;
       summary = rw is tt;
-      strict = early_strict mode.strict (names_of job.scripts) h r f notes is early none;
+      strict = early_strict mode.strict h r f is early;
+      noted = early_refused mode (names_of job.scripts) h r f notes is early;
+    }
+
+-- a run that left a map and a history ends with it
+pub left_ends : (mode : Mode) (what : Asked) (job : JobData) (adjusted : ℕ) (m : MapData) (names : List (List ℕ)) (h es : List EntryData) (r : Result Summary RunFault) (old new : Option (List ℕ)) (notes : List ℕ)
+    → EndsLeft mode what adjusted m names es r old new notes → HaveRun mode.in_turn job m h → names ≡ names_of job.scripts → es ≡ h → adjusted ≡ job.adjusted → Ends mode what job r old new notes
+left_ends mode what job adjusted m names h es r old new notes left ran same entries weights =
+    let own = subst (λ (e : List EntryData). EndsLeft mode what adjusted m names e r old new notes) entries left in
+    let named = subst (λ (n : List (List ℕ)). EndsLeft mode what adjusted m n h r old new notes) same own in
+    let ends = subst (λ (a : ℕ). EndsLeft mode what a m (names_of job.scripts) h r old new notes) weights named in
+    record {
+      history = h;
+      run = ran.run;
+      writes = subst (λ (s : SettingData). Writes r old new (main_text what s (table_after job.setting job.table h) h ++ lines_asked mode.history (names_of job.scripts) h)) ran.stands.setting (ends.writes _ ran.stands.forest);
+      summary = ends.summary;
+      strict = ends.strict;
+      noted = ends.refused;
     }
 
 -- what follows of one promise of a run that was done, and of two

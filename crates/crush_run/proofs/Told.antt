@@ -19,7 +19,7 @@ use Rattle.crush_run.specs.declared.fault.RunFault.{RunFault}
 use Rattle.crush_run.specs.declared.summary.Summary.{Summary}
 use Rattle.crush_run.specs.Input.{IsInput}
 use Rattle.crush_run.specs.Run.{IsRefusal, IsRunFault}
-use Rattle.crush_run.specs.Stages.{IsInputFault, IsNoJob, IsOutcomeFault, IsReadFault, IsScriptsFault}
+use Rattle.crush_run.specs.Stages.{IsInputFault, IsNoJob, IsOutcomeFault, IsReadFault, IsScriptsFault, IsWritingFault}
 
 -- what a reader gives, up to one byte too many, is all that it has, where either is no longer than a job
 input_of_take : (bytes all : List ℕ) → bytes ≡ take MOST_BYTES all → IsInput bytes all
@@ -42,7 +42,7 @@ has_job : (all : Option (List ℕ)) (bytes : List ℕ) → IfSome all (IsInput b
 has_job None bytes input has = tt
 has_job (Some xs) bytes input has = (has.0, subst (λ (z : List ℕ). IsJob z has.0) (input.read has.1.short) has.1)
 
-pub has_job_where_done : {X : Type 0} (r : Result X RunFault) (all : Option (List ℕ)) (bytes : List ℕ) → IfSome all (IsInput bytes) → IfOk r (λ _. HasJob bytes) → IfOk r (λ _. IfSome all HasJob)
+pub has_job_where_done : {X E : Type 0} (r : Result X E) (all : Option (List ℕ)) (bytes : List ℕ) → IfSome all (IsInput bytes) → IfOk r (λ _. HasJob bytes) → IfOk r (λ _. IfSome all HasJob)
 has_job_where_done (Ok x) all bytes input has = has_job all bytes input has
 has_job_where_done (Err f) all bytes input has = tt
 
@@ -104,6 +104,17 @@ outcome_fault_of_scripts mode run.Thread h = h
 outcome_fault_of_scripts mode (run.Refused n) h = absurd h
 outcome_fault_of_scripts mode (run.Since s) h = h
 
+-- and so is one of what is written
+pub outcome_fault_of_writing : (mode : Mode) (r : Result Summary RunFault) → IfErr r (IsWritingFault mode.strict) → IfErr r (IsOutcomeFault mode)
+outcome_fault_of_writing mode (Ok s) h = tt
+outcome_fault_of_writing mode (Err (run.Job f)) h = h
+outcome_fault_of_writing mode (Err run.Read) h = h
+outcome_fault_of_writing mode (Err run.Write) h = h
+outcome_fault_of_writing mode (Err run.Memory) h = h
+outcome_fault_of_writing mode (Err run.Thread) h = absurd h
+outcome_fault_of_writing mode (Err (run.Refused n)) h = h
+outcome_fault_of_writing mode (Err (run.Since s)) h = h
+
 -- after a fault before anything was written, nothing is a front of the output, which isn't empty
 pub nothing_written : (r : Result Summary RunFault) (f : RunFault) (old : Option (List ℕ)) (text : List ℕ) → 0 < length text → r ≡ Err f → Writes r old old text
 nothing_written r f old text some e = rw e (nothing_is_less old text some)
@@ -145,7 +156,7 @@ run_fault_of_no_job mode (run.Refused n) all h = absurd h
 run_fault_of_no_job mode (run.Since s) all h = absurd h
 
 -- nor of what was read and is no job
-no_job_of_all : (f : RunFault) (all : Option (List ℕ)) (bytes : List ℕ) → IfSome all (IsInput bytes) → IsNoJob (Some bytes) f → IsReadFault all f
+pub no_job_of_all : (f : RunFault) (all : Option (List ℕ)) (bytes : List ℕ) → IfSome all (IsInput bytes) → IsNoJob (Some bytes) f → IsReadFault all f
 no_job_of_all (run.Job f) all bytes input h = refusal_of_all all bytes f input h
 no_job_of_all run.Read all bytes input h = tt
 no_job_of_all run.Write all bytes input h = absurd h
@@ -153,10 +164,6 @@ no_job_of_all run.Memory all bytes input h = tt
 no_job_of_all run.Thread all bytes input h = absurd h
 no_job_of_all (run.Refused n) all bytes input h = absurd h
 no_job_of_all (run.Since s) all bytes input h = absurd h
-
-pub read_fault_of_all : {X : Type 0} (r : Result X RunFault) (all : Option (List ℕ)) (bytes : List ℕ) → IfSome all (IsInput bytes) → IfErr r (IsNoJob (Some bytes)) → IfErr r (IsReadFault all)
-read_fault_of_all (Ok x) all bytes input h = tt
-read_fault_of_all (Err f) all bytes input h = no_job_of_all f all bytes input h
 
 pub read_fault_of_input : (f : RunFault) (all : Option (List ℕ)) → IsInputFault f → IsReadFault all f
 read_fault_of_input (run.Job f) all h = absurd h

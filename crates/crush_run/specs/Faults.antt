@@ -2,20 +2,14 @@
 use Rattle.std.specs.Prelude.{if◌then◌else◌}
 use Rattle.crush_bytes.specs.declared.write.WriteFault.{WriteFault}
 use Rattle.crush_bytes.specs.declared.write.WriteFault.TheVariants as write
-use Rattle.crush_text.specs.declared.fault.TextFault.{TextFault}
-use Rattle.crush_script.specs.Fault.{is_want, lacks_memory}
+use Rattle.crush_script.specs.Fault.{lacks_memory}
 use Rattle.crush_script.specs.declared.fault.JobFault.{JobFault}
 use Rattle.crush_run.specs.declared.fault.RunFault.{RunFault}
 use Rattle.crush_run.specs.declared.fault.RunFault.TheVariants as run
-use Rattle.crush_run.specs.declared.fault.SinceFault.TheVariants as since
 
 -- a fault of the job
 abbrev pub of_job : JobFault → RunFault
 of_job fault = if lacks_memory fault then run.Memory else run.Job fault
-
--- a fault of the text of a map since which changes are asked for
-abbrev pub of_text : TextFault → RunFault
-of_text fault = if is_want fault.kind then run.Memory else run.Since (since.Text fault)
 
 -- a fault of a writer
 abbrev pub of_write : WriteFault → RunFault

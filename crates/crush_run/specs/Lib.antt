@@ -2,6 +2,7 @@ pub mod Faults
 pub mod Input
 pub mod Joined
 pub mod Options
+pub mod Notes
 pub mod Run
 pub mod Script
 pub mod Stages

@@ -1,5 +1,5 @@
 -- What a command line asks a run for.
-use Rattle.std.specs.Prelude.{◌≡◌, ℕ, ◌<◌, ◌≤◌, List, Option, Result, Ok, Err, IfSome, length}
+use Rattle.std.specs.Prelude.{◌≡◌, ℕ, ◌<◌, ◌≤◌, Bool, List, Option, Result, Ok, Err, IfSome, length}
 use Rattle.crush_table.specs.Table.{Row}
 use Rattle.crush_table.specs.Stands.{Stands}
 use Rattle.crush_map.specs.MapData.{MapData}
@@ -17,6 +17,7 @@ use Rattle.crush_run.specs.declared.fault.RunFault.TheVariants as run
 use Rattle.crush_run.specs.declared.fault.SinceFault.{SinceFault}
 use Rattle.crush_run.specs.declared.fault.SinceFault.TheVariants as since
 use Rattle.crush_run.specs.declared.summary.Summary.{Summary}
+use Rattle.crush_run.specs.Notes.{IsMapNoted, IsNoted}
 use Rattle.crush_run.specs.Run.{Ends, IsRunFault}
 
 -- the map is one whose text the bytes are, no more than a job may have
@@ -70,3 +71,13 @@ EndsAsAsked content options job (Ok s) old new notes = EndsAsked content options
 EndsAsAsked content options job (Err run.Write) old new notes = EndsAsked content options job (Err run.Write) old new notes
 EndsAsAsked content options job (Err (run.Refused n)) old new notes = EndsAsked content options job (Err (run.Refused n)) old new notes
 EndsAsAsked content options job (Err fault) old new notes = Unit {0}
+
+-- what is noted of a fault of what the words ask for
+abbrev pub IsAskedNoted : (List ℕ → Option (List ℕ)) → Bool → Printed → RunFault → List ℕ → Type 0
+IsAskedNoted content explain (printed.Since name) fault notes = IsMapNoted explain name.bytes.items (content name.bytes.items) fault notes
+IsAskedNoted content explain what fault notes = ⊥
+
+-- NOTED AS ASKED: a fault of another map by its place there, and else as of any run
+abbrev pub IsNotedAsAsked : (List ℕ → Option (List ℕ)) → Options → Option (List ℕ) → Result Summary RunFault → List ℕ → Type 0
+IsNotedAsAsked content options all (Err (run.Since fault)) notes = IsAskedNoted content options.mode.explain options.printed (run.Since fault) notes
+IsNotedAsAsked content options all result notes = IsNoted options.mode.explain all result notes

@@ -13,7 +13,7 @@ use Rattle.crush_reasons.specs.Ceph.{ceph_text}
 use Rattle.crush_calls.specs.History.{EntryData, IsLegal, of_operator, table_after, changes, turns}
 use Rattle.crush_calls.specs.Turns.{calls_at, calls_of}
 use Rattle.crush_calls.specs.HistoryText.{entries_text, names_of}
-use Rattle.crush_calls.specs.Refused.{refusals, refused_text}
+use Rattle.crush_calls.specs.Refused.{refusals}
 use Rattle.crush_script.specs.Fault.{lacks_memory}
 use Rattle.crush_script.specs.Job.{JobData, HasJob, IsJobFault}
 use Rattle.crush_script.specs.declared.fault.JobFault.{JobFault}
@@ -23,6 +23,7 @@ use Rattle.crush_run.specs.declared.asked.Asked.TheVariants as asked
 use Rattle.crush_run.specs.declared.fault.RunFault.{RunFault}
 use Rattle.crush_run.specs.declared.fault.RunFault.TheVariants as run
 use Rattle.crush_run.specs.declared.summary.Summary.{Summary}
+use Rattle.crush_run.specs.Notes.{NotesRefused}
 
 -- RUN: a history of a job. Each reply is the table's at that point; the calls of each operator are its script's, in order, and
 -- there are no others; in turn the scripts run one after the other
@@ -49,30 +50,28 @@ output_of what history job h =
     main_text what job.setting (table_after job.setting job.table h) h ++ lines_asked history (names_of job.scripts) h
 
 -- SUMMARY: the written weights that were replaced, the calls, and those that changed the map
+abbrev pub summed : ℕ → List EntryData → Summary
+summed adjusted h = record { adjusted = adjusted; calls = length h; changes = changes h }
+
 abbrev pub summary_of : JobData → List EntryData → Summary
-summary_of job h = record { adjusted = job.adjusted; calls = length h; changes = changes h }
+summary_of job h = summed job.adjusted h
 
--- STRICT: a strict run that comes to its output has no refused entry, and one that ends by refusals hands out how many there
--- are and their lines; nothing else is noted
-abbrev pub IsStrict : {X : Type 0} → Bool → List (List ℕ) → List EntryData → Result X RunFault → List ℕ → Type 0
-IsStrict strict names h (Ok x) notes = (notes ≡ []) × (strict ≡ true → refusals h ≡ 0)
-IsStrict strict names h (Err run.Write) notes = (notes ≡ []) × (strict ≡ true → refusals h ≡ 0)
-IsStrict strict names h (Err (run.Refused n)) notes = (strict ≡ true) × (n ≡ refusals h) × (0 < n) × (notes ≡ refused_text names 1 h)
-IsStrict strict names h (Err fault) notes = notes ≡ []
-
--- nothing is noted but of refused entries
-abbrev pub IsQuiet : {X : Type 0} → Result X RunFault → List ℕ → Type 0
-IsQuiet (Err (run.Refused n)) notes = Unit {0}
-IsQuiet result notes = notes ≡ []
+-- STRICT: a strict run that comes to its output has no refused entry, and one that ends by refusals tells how many there are
+abbrev pub IsStrict : {X : Type 0} → Bool → List EntryData → Result X RunFault → Type 0
+IsStrict strict h (Ok x) = strict ≡ true → refusals h ≡ 0
+IsStrict strict h (Err run.Write) = strict ≡ true → refusals h ≡ 0
+IsStrict strict h (Err (run.Refused n)) = (strict ≡ true) × (n ≡ refusals h) × (0 < n)
+IsStrict strict h (Err fault) = Unit {0}
 
 -- ENDS: there is a run of the job whose output is written, or after a fault a front of it that isn't the whole, which the
--- summary sums up, and whose refused entries end it where it is strict
+-- summary sums up, whose refused entries end it where it is strict, and are noted
 pub record Ends (mode : Mode) (what : Asked) (job : JobData) (result : Result Summary RunFault) (old new : Option (List ℕ)) (notes : List ℕ) : Type 0 where
   pub history : List EntryData
   pub run : IsRunOf mode.in_turn job history
   pub writes : Writes result old new (output_of what mode.history job history)
   pub summary : IfOk result (λ (s : Summary). s ≡ summary_of job history)
-  pub strict : IsStrict mode.strict (names_of job.scripts) history result notes
+  pub strict : IsStrict mode.strict history result
+  pub noted : NotesRefused mode (names_of job.scripts) history result notes
 
 -- TAKEN: of the reader's bytes no more are taken than the longest job has and one more, its first
 abbrev pub TakesFew : Option (List ℕ) → Option (List ℕ) → Type 0

@@ -1,5 +1,9 @@
 -- The stages of a run: what comes of each, and which faults may come at which.
-use Rattle.std.specs.Prelude.{◌≡◌, ℕ, List, Bool, false, true, Option}
+use Rattle.std.specs.Prelude.{◌≡◌, ◌≢◌, ℕ, List, ◌++◌, Bool, false, true, Option, Result, IfOk, IfErr}
+use Rattle.std.specs.Io.KnownBytes.{Keeps}
+use Rattle.crush_bytes.specs.Writes.{Writes}
+use Rattle.crush_table.specs.Stands.{Stands}
+use Rattle.crush_table.specs.Table.{Row}
 use Rattle.crush_map.specs.MapData.{MapData, MapStands}
 use Rattle.crush_calls.specs.History.{EntryData, table_after}
 use Rattle.crush_calls.specs.Script.{ScriptData}
@@ -7,7 +11,10 @@ use Rattle.crush_script.specs.Job.{JobData}
 use Rattle.crush_options.specs.declared.asked.Mode.{Mode}
 use Rattle.crush_run.specs.declared.fault.RunFault.{RunFault}
 use Rattle.crush_run.specs.declared.fault.RunFault.TheVariants as run
-use Rattle.crush_run.specs.Run.{IsRefusal, IsRunOf}
+use Rattle.crush_run.specs.declared.asked.Asked.{Asked}
+use Rattle.crush_run.specs.declared.summary.Summary.{Summary}
+use Rattle.crush_run.specs.Notes.{IsNoted, NotesRefused}
+use Rattle.crush_run.specs.Run.{IsRefusal, IsRunOf, IsStrict, lines_asked, main_text, summed}
 
 -- what may fail while the bytes are read
 abbrev pub IsInputFault : RunFault → Type 0
@@ -54,9 +61,15 @@ IsEarlyFault fault = Unit {0}
 
 -- what the check of a strict run may answer
 abbrev pub IsStrictFault : RunFault → Type 0
-IsStrictFault run.Memory = Unit {0}
 IsStrictFault (run.Refused n) = Unit {0}
 IsStrictFault fault = ⊥
+
+-- what may fail once there is a history
+abbrev pub IsWritingFault : Bool → RunFault → Type 0
+IsWritingFault strict run.Write = Unit {0}
+IsWritingFault strict run.Memory = Unit {0}
+IsWritingFault strict (run.Refused n) = strict ≡ true
+IsWritingFault strict fault = ⊥
 
 -- what scripts leave of a map, whatever job they and the map stand for: a run of the job, and the map after its history
 pub record HaveRun (in_turn : Bool) (job : JobData) (after : MapData) (h : List EntryData) : Type 0 where
@@ -65,3 +78,14 @@ pub record HaveRun (in_turn : Bool) (job : JobData) (after : MapData) (h : List 
 
 abbrev pub RunsScripts : Bool → MapData → List ScriptData → MapData → List EntryData → Type 0
 RunsScripts in_turn map scripts after h = (job : JobData) → MapStands map job.setting job.table → scripts ≡ job.scripts → HaveRun in_turn job after h
+
+-- how a run ends that left a map and a history: what is asked for is written, or a front of it, the summary is of the history, its
+-- refused entries end it where it is strict, and are noted
+pub record EndsLeft (mode : Mode) (what : Asked) (adjusted : ℕ) (m : MapData) (names : List (List ℕ)) (h : List EntryData) (result : Result Summary RunFault) (old new : Option (List ℕ)) (notes : List ℕ) : Type 0 where
+  pub writes : (t : List Row) → Stands m.forest t → Writes result old new (main_text what m.setting t h ++ lines_asked mode.history names h)
+  pub summary : IfOk result (λ (s : Summary). s ≡ summed adjusted h)
+  pub nothing : IfErr result (λ fault. fault ≢ run.Write → Keeps old new)
+  pub fault : IfErr result (IsWritingFault mode.strict)
+  pub strict : IsStrict mode.strict h result
+  pub refused : NotesRefused mode names h result notes
+  pub noted : (all : Option (List ℕ)) → IsNoted mode.explain all result notes

@@ -1,6 +1,7 @@
-//! What is printed of a run.
+//! What a run is asked for.
 
 use crush_map::CrushMap;
+use crush_options::Mode;
 use std::alloc::Global;
 
 /// What is printed of the map after the scripts.
@@ -14,4 +15,13 @@ pub enum Asked {
     Since(CrushMap<Global>),
     /// The commands that changed it, as Ceph's own.
     AsCeph,
+}
+
+/// What a run is asked for.
+#[derive(Drop)]
+pub struct Plan {
+    /// How the job is run, and what is told of it.
+    pub mode: Mode,
+    /// What is printed of the map after the scripts.
+    pub asked: Asked,
 }

@@ -11,15 +11,15 @@ use crate::gate::Gate;
 use crate::worker::Finished;
 use crate::workers::run_all;
 use crush_calls::Script;
-use crush_editor::{Closed, Desk, Editor, Seat, Started};
+use crush_editor::{Closed, Desk, Editor, Seat, Started, Unkept};
 use crush_map::CrushMap;
 use std::alloc::Global;
 use std::marker::Brand;
 use std::sync::Wait;
 use std::thread::Threads;
 
-/// Runs the scripts of 1 to 16 operators at once from a map, and hands out that map, the map after
-/// all calls, and the history in which they were made.
+/// Runs the scripts of 1 to 16 operators at once from a map, and hands out the map after all calls, and
+/// the history in which they were made. Of the map before them nothing is kept.
 ///
 /// [`RunFault::Thread`] where a worker can't be started; those that run finish. Else
 /// [`RunFault::Memory`] where memory lacked, for a worker or before.
@@ -28,16 +28,16 @@ pub(crate) fn run_at_once<G: Gate + Sync, R: Threads + Wait + Sync>(
     alloc: Global,
     gate: &G,
     map: CrushMap<Global>,
-    scripts: &[Script],
-) -> Result<Closed<Global>, RunFault>
-    requires some { 0 < length scripts.now }
-    requires few { length scripts.now ≤ MOST_OPERATORS }
-    ensures run { IfOk result (λ c. Carries map scripts.now c.map c.history.items) }
+    scripts: Vec<Script>,
+) -> Result<Closed<Global, Unkept>, RunFault>
+    requires some { 0 < length scripts.items }
+    requires few { length scripts.items ≤ MOST_OPERATORS }
+    ensures run { IfOk result (λ c. Carries map scripts.items c.map c.history.items) }
     ensures all { IfOk result (λ c. MakesAll map c.map c.history.items) }
     ensures few { IfOk result (λ c. length c.history.items ≤ MOST_ENTRIES) }
     ensures fault { IfErr result IsAtOnceFault }
 {
-    match Started::new(map, scripts.len(), alloc) {
+    match Started::without_opening(map, scripts.len(), alloc) {
         Ok(started) => operate::<Brand, G, R>(rt, alloc, gate, started, scripts),
         Err(_) => Err(RunFault::Memory),
     }
@@ -48,20 +48,20 @@ fn operate<N: Desk + Send + Sync, G: Gate + Sync, R: Threads + Wait + Sync>(
     rt: &R,
     alloc: Global,
     gate: &G,
-    started: Started,
-    scripts: &[Script],
-) -> Result<Closed<Global>, RunFault>
+    started: Started<Global, Unkept>,
+    scripts: Vec<Script>,
+) -> Result<Closed<Global, Unkept>, RunFault>
     requires gauge { started.table ≡ N.gauge }
     requires opening { started.opening ≡ N.opening }
     requires ledger { (started.name ≡ N.name) × (started.parts ≡ N.parts) }
-    requires operators { (started.parts ≡ length scripts.now)
-        × (length scripts.now ≤ MOST_OPERATORS) }
-    ensures run { IfOk result (λ c. Carries N.opening scripts.now c.map c.history.items) }
+    requires operators { (started.parts ≡ length scripts.items)
+        × (length scripts.items ≤ MOST_OPERATORS) }
+    ensures run { IfOk result (λ c. Carries N.opening scripts.items c.map c.history.items) }
     ensures all { IfOk result (λ c. MakesAll N.opening c.map c.history.items) }
     ensures few { IfOk result (λ c. length c.history.items ≤ MOST_ENTRIES) }
     ensures fault { IfErr result IsAtOnceFault }
 {
-    let Ok((editor, seats)) = Editor::<N>::open(started, alloc) else {
+    let Ok((editor, seats)) = Editor::<N, Unkept>::open_unkept(started, alloc) else {
         return Err(RunFault::Memory);
     };
     let finished = run_all(rt, alloc, &editor, gate, seats, scripts)?;

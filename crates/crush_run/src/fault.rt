@@ -49,6 +49,18 @@ pub enum RunFault {
     Since(SinceFault),
 }
 
+impl RunFault {
+    ghost use Rattle.crush_run.specs.Notes.{has_history};
+    ghost use Rattle.std.specs.Prelude.{◌≡◌};
+
+    /// Whether a run that ends so has a history, whose refused calls are told.
+    pub(crate) fn has_history(self) -> bool
+        ensures { result ≡ has_history self }
+    {
+        matches!(self, RunFault::Write | RunFault::Refused(_))
+    }
+}
+
 impl<T: Drop> From<AllocFailed<T>> for RunFault {
     ghost use Rattle.crush_run.specs.declared.fault.RunFault.TheVariants.{Memory};
     ghost use Rattle.std.specs.Prelude.{◌≡◌};

@@ -12,21 +12,20 @@ ghost use Rattle.crush_calls.specs.Entries.{AreOf};
 use crate::fault::RunFault;
 use crate::gate::Gate;
 use crush_calls::{Call, Script};
-use crush_editor::{Book, Closed, MapGauge, Started};
+use crush_editor::{Book, Closed, MapGauge, Started, Unkept};
 use crush_map::CrushMap;
 use std::alloc::Global;
 use std::sync::Wait;
 
 /// Makes the calls of one operator in order, each between the two calls of the gate, up to one for
-/// which memory lacks.
+/// which memory lacks. Each is moved into its entry.
 fn run_script<G: Gate, R: Wait>(
     rt: &R,
-    alloc: Global,
     gauge: &MapGauge,
     gate: &G,
-    book: &mut Book<Global>,
+    book: &mut Book<Global, Unkept>,
     operator: usize,
-    calls: &[Call],
+    calls: Vec<Call>,
 ) -> Result<(), RunFault>
     requires operator { operator < MOST_OPERATORS }
     requires gauge { book.old.table ≡ gauge.now.table.shared.table_id }
@@ -34,23 +33,26 @@ fn run_script<G: Gate, R: Wait>(
     ensures operators { OnOk result ((n : ℕ) → operator < n → AreOf n book.old.history
         → AreOf n book.new.history) }
     ensures entries { OnOk result ((s : SettingData) (t : List Row) → MapStands book.old.map s t
-        → let h = turn s (behind t book.old.history) operator calls.now in
+        → let h = turn s (behind t book.old.history) operator calls.items in
         (book.new.history ≡ book.old.history ++ h)
         × MapStands book.new.map s (counted_after s (behind t book.old.history) h).table) }
     ensures fault { IfErr result (λ fault. fault ≡ RunFault.Memory) }
 {
-    for (number, call) in calls.iter().enumerate() {
+    let mut number = 0;
+    for call in calls {
         gate.before(rt, operator, number);
-        let outcome = book.commit(alloc, gauge, operator, call);
+        let outcome = book.commit_copied(gauge, operator, call);
         gate.after(rt, operator, number);
         let Ok(_reply) = outcome else {
             return Err(RunFault::Memory);
         };
+        number += 1;
     }
     Ok(())
 }
 
-/// Runs the scripts one after the other on one book, which no lock holds.
+/// Runs the scripts one after the other on one book, which no lock holds and which keeps nothing of
+/// its opening.
 ///
 /// A job has no more calls than a history has room for, so that a call is refused for want of
 /// memory alone.
@@ -59,28 +61,30 @@ pub(crate) fn run_in_turn<G: Gate, R: Wait>(
     alloc: Global,
     gate: &G,
     map: CrushMap<Global>,
-    scripts: &[Script],
-) -> Result<Closed<Global>, RunFault>
-    requires few { length scripts.now ≤ MOST_OPERATORS }
+    scripts: Vec<Script>,
+) -> Result<Closed<Global, Unkept>, RunFault>
+    requires few { length scripts.items ≤ MOST_OPERATORS }
 
     // Each entry is of one of the scripts, whatever the map stands for.
-    ensures operators { IfOk result (λ c. AreOf (length scripts.now) c.history.items) }
+    ensures operators { IfOk result (λ c. AreOf (length scripts.items) c.history.items) }
 
     // The entries are the turns of the scripts, and the map stands for the table after them.
     ensures turns { IfOk result (λ c. (s : SettingData) (t : List Row) → MapStands map s t
-        → (c.history.items ≡ turns s t (scripts_data scripts.now))
-        × MapStands c.map s (table_after s t (turns s t (scripts_data scripts.now)))) }
+        → (c.history.items ≡ turns s t (scripts_data scripts.items))
+        × MapStands c.map s (table_after s t (turns s t (scripts_data scripts.items)))) }
 
     ensures few { IfOk result (λ c. length c.history.items ≤ MOST_ENTRIES) }
     ensures fault { IfErr result (λ fault. fault ≡ RunFault.Memory) }
 {
-    let Ok(started) = Started::new(map, 1, alloc) else {
+    let Ok(started) = Started::without_opening(map, 1, alloc) else {
         return Err(RunFault::Memory);
     };
     let (gauge, mut book) = started.into_book();
-    for (operator, script) in scripts.iter().enumerate() {
-        let calls = script.calls.as_slice();
-        run_script(rt, alloc, &gauge, gate, &mut book, operator, calls)?;
+    let mut operator = 0;
+    for script in scripts {
+        let Script { name: _, calls } = script;
+        run_script(rt, &gauge, gate, &mut book, operator, calls)?;
+        operator += 1;
     }
     Ok(book.into_closed())
 }

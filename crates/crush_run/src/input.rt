@@ -54,6 +54,7 @@ pub(crate) fn read_bytes<R: Read>(alloc: Global, reader: &mut R) -> Result<Vec<u
 
 /// Reads the file of this name. One that can't be opened is one that can't be read.
 pub(crate) fn read_file<F: Opens>(alloc: Global, files: &F, name: &str) -> Result<Vec<u8>, RunFault>
+    ensures few { IfOk result (λ bytes. length bytes.items ≤ MOST_BYTES) }
     ensures bytes { IfOk result (λ bytes. IfSome (F.content files.now name.now)
         (IsInput bytes.items)) }
     ensures fault { IfErr result IsInputFault }

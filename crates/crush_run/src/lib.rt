@@ -3,21 +3,23 @@
 
 mod asked;
 mod at_once;
+mod ending;
 mod fault;
 mod files;
 mod gate;
 mod in_turn;
 mod input;
 mod joined;
+mod notes;
 mod options;
 mod run;
 mod since;
-mod strict;
 mod summary;
 mod worker;
 mod workers;
 
-pub use asked::Asked;
+pub use asked::{Asked, Plan};
+pub use ending::Ending;
 pub use fault::{RunFault, SinceFault};
 pub use files::{Opens, SystemFiles};
 pub use gate::{Gate, NoGate};

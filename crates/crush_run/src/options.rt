@@ -1,22 +1,22 @@
 //! The run that a command line asks for.
 
-ghost use Rattle.std.specs.Prelude.{◌≡◌, ◌≢◌, ◌≤◌, ℕ, List, [], None, Some, IfOk, IfErr, IfSome, length};
+ghost use Rattle.std.specs.Prelude.{◌≡◌, ◌≢◌, ◌≤◌, ℕ, List, None, Some, IfOk, IfErr, IfSome, length};
 ghost use Rattle.std.specs.Io.KnownBytes.{Keeps};
 ghost use Rattle.crush_script.specs.Job.{HasJob, IsJob, JobData, JobStands};
 ghost use Rattle.crush_run.specs.Input.{job_bytes};
-ghost use Rattle.crush_run.specs.Options.{EndsAsAsked, IsAskedFault, IsAskedOf, IsOptionsFault};
-ghost use Rattle.crush_run.specs.Run.{IsQuiet};
+ghost use Rattle.crush_run.specs.Notes.{IsFaultNoted};
+ghost use Rattle.crush_run.specs.Options.{EndsAsAsked, IsAskedFault, IsAskedNoted, IsAskedOf, IsNotedAsAsked, IsOptionsFault};
 ghost use Rattle.crush_run.specs.Stages.{IsReadFault};
 ghost use Rattle.crush_units.specs.declared.limits.TheConstants.{MOST_OPERATORS};
 
-use crate::asked::Asked;
+use crate::asked::{Asked, Plan};
+use crate::ending::{Ending, Stopped};
 use crate::fault::RunFault;
 use crate::files::Opens;
 use crate::gate::NoGate;
 use crate::input::read_all;
 use crate::run::{job_of, run_read};
 use crate::since::read_since;
-use crate::summary::Summary;
 use crush_options::{Options, Printed};
 use crush_script::Job;
 use std::io::{Read, Write};
@@ -29,17 +29,21 @@ use std::thread::Threads;
 fn asked_of<H: AllocGlobal + RandomSource, F: Opens>(
     rt: &H,
     files: &F,
+    explain: bool,
     printed: &Printed,
-) -> Result<Asked, RunFault>
+) -> Result<Asked, Stopped>
     ensures asked { IfOk result (IsAskedOf (F.content files.now) printed.now) }
-    ensures fault { IfErr result (IsAskedFault (F.content files.now) printed.now) }
+    ensures fault { IfErr result (λ stopped.
+        IsAskedFault (F.content files.now) printed.now stopped.fault) }
+    ensures noted { IfErr result (λ stopped.
+        IsAskedNoted (F.content files.now) explain printed.now stopped.fault stopped.notes.items) }
 {
     match printed {
         Printed::Map => Ok(Asked::Map),
         Printed::Tree => Ok(Asked::Tree),
-        Printed::Since(name) => match read_since(rt, files, name.as_str()) {
+        Printed::Since(name) => match read_since(rt, files, explain, name.as_str()) {
             Ok(map) => Ok(Asked::Since(map)),
-            Err(fault) => Err(fault),
+            Err(stopped) => Err(stopped),
         },
         Printed::AsCeph => Ok(Asked::AsCeph),
     }
@@ -51,7 +55,7 @@ fn read_whole<H: AllocGlobal + RandomSource, F: Opens, R: Read>(
     files: &F,
     options: &Options,
     input: &mut R,
-) -> Result<Job, RunFault>
+) -> Result<Job, Stopped>
     ensures job { IfOk result (λ _.
         IfSome (job_bytes (F.content files.now) options.now (R.remaining input.old)) HasJob) }
     ensures only { (bytes : List ℕ) (job : JobData)
@@ -59,11 +63,16 @@ fn read_whole<H: AllocGlobal + RandomSource, F: Opens, R: Read>(
         → IsJob bytes job → IfOk result (λ read. JobStands read job) }
     ensures few { IfOk result (λ read. length read.scripts.items ≤ MOST_OPERATORS) }
     ensures input { options.now.file ≢ None → R.remaining input.new ≡ R.remaining input.old }
-    ensures fault { IfErr result (IsReadFault
-        (job_bytes (F.content files.now) options.now (R.remaining input.old))) }
+    ensures fault { IfErr result (λ stopped. IsReadFault
+        (job_bytes (F.content files.now) options.now (R.remaining input.old)) stopped.fault) }
+    ensures noted { IfErr result (λ stopped. IsFaultNoted options.now.mode.explain
+        (job_bytes (F.content files.now) options.now (R.remaining input.old)) stopped.fault
+        stopped.notes.items) }
 {
-    let bytes = read_all(rt.alloc(), files, options, input)?;
-    job_of(rt, bytes)
+    match read_all(rt.alloc(), files, options, input) {
+        Ok(bytes) => job_of(rt, options.mode.explain, bytes),
+        Err(fault) => Err(Stopped::quietly(rt.alloc(), fault)),
+    }
 }
 
 /// Runs the job of the file that the options name, or else of standard input, with the scripts of
@@ -71,7 +80,8 @@ fn read_whole<H: AllocGlobal + RandomSource, F: Opens, R: Read>(
 /// opened is one that can't be read, and is told as [`RunFault::Read`].
 ///
 /// A map since which changes are asked for is read once the job is, and told of as
-/// [`RunFault::Since`]; its file may have as many bytes as a job.
+/// [`RunFault::Since`]; its file may have as many bytes as a job. Of a flaw of its text the notes
+/// are the place, with the name of the file, where reasons are asked for.
 ///
 /// Behind a job that doesn't end in a line feed comes one, and before a script whose first line with
 /// a word begins no section the line `%operator NAME`, NAME being the last part of the file's name
@@ -82,41 +92,45 @@ pub fn run_options<H, F, R, W>(
     options: &Options,
     input: &mut R,
     output: &mut W,
-    notes: &mut Vec<u8>,
-) -> Result<Summary, RunFault>
+) -> Ending
 where
     H: AllocGlobal + RandomSource + Threads + Wait + Sync,
     F: Opens,
     R: Read,
     W: Write,
-    // The caller hands in no notes.
-    requires fresh { notes.old.items ≡ [] }
-
     // Where the run is done, what was read is a job.
-    ensures job { IfOk result (λ _.
+    ensures job { IfOk result.outcome (λ _.
         IfSome (job_bytes (F.content files.now) options.now (R.remaining input.old)) HasJob) }
 
     // It is the run of what there is, in the mode that is asked for, with what is asked for.
     ensures output { (bytes : List ℕ) (job : JobData)
         → job_bytes (F.content files.now) options.now (R.remaining input.old) ≡ Some bytes
         → IsJob bytes job
-        → EndsAsAsked (F.content files.now) options.now job result
-        (W.contents output.old) (W.contents output.new) notes.new.items }
-    ensures fault { IfErr result (IsOptionsFault (F.content files.now) options.now
+        → EndsAsAsked (F.content files.now) options.now job result.outcome
+        (W.contents output.old) (W.contents output.new) result.notes.items }
+    ensures fault { IfErr result.outcome (IsOptionsFault (F.content files.now) options.now
         (job_bytes (F.content files.now) options.now (R.remaining input.old))) }
 
     // With a file, standard input is left alone.
     ensures input { options.now.file ≢ None → R.remaining input.new ≡ R.remaining input.old }
 
     // Only a failed write leaves anything.
-    ensures nothing { IfErr result (λ fault. fault ≢ RunFault.Write
+    ensures nothing { IfErr result.outcome (λ fault. fault ≢ RunFault.Write
         → Keeps (W.contents output.old) (W.contents output.new)) }
 
-    // Notes are of refused calls alone.
-    ensures quiet { IsQuiet result notes.new.items }
+    // A fault of bytes is noted with its place, and without reasons refused calls alone are.
+    ensures noted { IsNotedAsAsked (F.content files.now) options.now
+        (job_bytes (F.content files.now) options.now (R.remaining input.old))
+        result.outcome result.notes.items }
 {
+    let job = match read_whole(rt, files, options, input) {
+        Ok(job) => job,
+        Err(stopped) => return stopped.end(),
+    };
     let mode = options.mode;
-    let job = read_whole(rt, files, options, input)?;
-    let asked = asked_of(rt, files, &options.printed)?;
-    run_read(rt, &NoGate, mode, &asked, job, output, notes)
+    let asked = match asked_of(rt, files, mode.explain, &options.printed) {
+        Ok(asked) => asked,
+        Err(stopped) => return stopped.end(),
+    };
+    run_read(rt, &NoGate, &Plan { mode, asked }, job, output)
 }

@@ -1,6 +1,6 @@
 //! A job, from the bytes read to the bytes written.
 
-ghost use Rattle.std.specs.Prelude.{◌≡◌, ◌≢◌, ◌≤◌, ◌++◌, ℕ, List, [], Some, IfOk, IfErr, IfSome, length};
+ghost use Rattle.std.specs.Prelude.{◌≡◌, ◌≢◌, ◌≤◌, ◌++◌, ℕ, List, [], Option, Err, Some, IfOk, IfErr, IfSome, if◌then◌else◌, length};
 ghost use Rattle.std.specs.Io.KnownBytes.{Keeps};
 ghost use Rattle.crush_table.specs.Stands.{Stands};
 ghost use Rattle.crush_table.specs.Table.{Row};
@@ -9,24 +9,25 @@ ghost use Rattle.crush_calls.specs.Entries.{AreOf};
 ghost use Rattle.crush_calls.specs.HistoryText.{names_of};
 ghost use Rattle.crush_script.specs.Job.{HasJob, IsJob, JobData, JobStands};
 ghost use Rattle.crush_calls.specs.Script.{scripts_data};
-ghost use Rattle.crush_run.specs.Run.{Ends, IsQuiet, IsRunFault, IsStrict, TakesFew, lines_asked, main_text};
+ghost use Rattle.crush_run.specs.Notes.{IsFaultNoted, IsNoted, has_history};
+ghost use Rattle.crush_run.specs.Run.{Ends, IsRunFault, IsStrict, TakesFew, lines_asked, main_text, summed};
 ghost use Rattle.crush_reasons.specs.Ceph.{ceph_text};
-ghost use Rattle.crush_run.specs.Stages.{IsNoJob, IsOutcomeFault, IsScriptsFault, RunsScripts};
+ghost use Rattle.crush_run.specs.Stages.{EndsLeft, IsNoJob, IsOutcomeFault, IsScriptsFault, IsWritingFault, RunsScripts};
 ghost use Rattle.crush_units.specs.declared.limits.TheConstants.{MOST_ENTRIES, MOST_OPERATORS};
 
-use crate::asked::Asked;
+use crate::asked::{Asked, Plan};
 use crate::at_once::run_at_once;
+use crate::ending::{Ending, Stopped};
 use crate::fault::RunFault;
 use crate::gate::Gate;
 use crate::in_turn::run_in_turn;
 use crate::input::read_bytes;
-use crate::strict::check_strict;
+use crate::notes::{check_strict, refused_notes, stopped_by};
 use crate::summary::Summary;
 use crush_bytes::{WriteFault, put};
 use crush_calls::{Entry, Script, count_changes, history_text};
-use crush_editor::Closed;
+use crush_editor::{Closed, Unkept};
 use crush_map::{CrushMap, Hashing};
-use crush_options::Mode;
 use crush_print::write_map;
 use crush_reasons::ceph_text;
 use crush_script::{Job, read_job};
@@ -96,35 +97,106 @@ fn write_asked<W: Write>(
     }
 }
 
+/// What scripts left of a job.
+#[derive(Drop)]
+struct Left<'a> {
+    /// How many written weights of its text were replaced.
+    adjusted: u32,
+    /// The map after the history.
+    map: &'a CrushMap<Global>,
+    scripts: &'a [Script],
+    /// The history.
+    entries: &'a [Entry],
+}
+
 /// Writes what is asked for of the map, and behind it the history where it is asked for, unless the
 /// run is strict and calls were refused. Both are laid out before anything is written.
 fn write_outcome<W: Write>(
     alloc: Global,
-    mode: Mode,
-    asked: &Asked,
-    map: &CrushMap<Global>,
-    scripts: &[Script],
-    entries: &[Entry],
+    plan: &Plan,
+    left: &Left<'_>,
     writer: &mut W,
-    notes: &mut Vec<u8>,
 ) -> Result<(), RunFault>
-    requires few { length entries.now ≤ MOST_ENTRIES }
-    requires operators { AreOf (length scripts.now) entries.now }
-    requires fresh { notes.old.items ≡ [] }
-    ensures writes { (t : List Row) → Stands map.now.forest t
+    requires few { length left.now.entries.now ≤ MOST_ENTRIES }
+    requires operators { AreOf (length left.now.scripts.now) left.now.entries.now }
+    ensures writes { (t : List Row) → Stands left.now.map.now.forest t
         → Writes result (W.contents writer.old) (W.contents writer.new)
-        (main_text asked.now map.now.setting t entries.now
-        ++ lines_asked mode.history (names_of (scripts_data scripts.now)) entries.now) }
+        (main_text plan.now.asked left.now.map.now.setting t left.now.entries.now
+        ++ lines_asked plan.now.mode.history (names_of (scripts_data left.now.scripts.now)) left.now.entries.now) }
     ensures nothing { IfErr result (λ fault. fault ≢ RunFault.Write
         → Keeps (W.contents writer.old) (W.contents writer.new)) }
-    ensures fault { IfErr result (IsOutcomeFault mode) }
-    ensures strict { IsStrict mode.strict (names_of (scripts_data scripts.now)) entries.now result notes.new.items }
+    ensures fault { IfErr result (IsWritingFault plan.now.mode.strict) }
+    ensures strict { IsStrict plan.now.mode.strict left.now.entries.now result }
 {
-    check_strict(alloc, mode.strict, scripts, entries, notes)?;
-    let lines = lines_asked(alloc, mode.history, scripts, entries)?;
-    write_asked(alloc, asked, map, entries, writer)?;
+    check_strict(plan.mode.strict, left.entries)?;
+    let lines = lines_asked(alloc, plan.mode.history, left.scripts, left.entries)?;
+    write_asked(alloc, &plan.asked, left.map, left.entries, writer)?;
     put(writer, lines.as_slice())?;
     Ok(())
+}
+
+/// What a run did of which this is left.
+fn summary_of(left: &Left<'_>) -> Summary
+    requires { length left.now.entries.now ≤ MOST_ENTRIES }
+    ensures { result ≡ summed left.now.adjusted left.now.entries.now }
+{
+    Summary {
+        adjusted: left.adjusted,
+        calls: left.entries.len() as u32,
+        changes: count_changes(left.entries),
+    }
+}
+
+/// The end of a run by a fault: what was refused is told where there is a history.
+fn end_by(alloc: Global, fault: RunFault, notes: Vec<u8>) -> Ending
+    ensures outcome { result.outcome ≡ Err fault }
+    ensures notes { result.notes.items ≡ (if has_history fault then notes.items else []) }
+{
+    if fault.has_history() {
+        return Ending {
+            outcome: Err(fault),
+            notes,
+        };
+    }
+    Ending::quietly(alloc, fault)
+}
+
+/// Writes what is asked for, and tells of the calls that were refused, where that is asked for.
+fn end_run<W: Write>(alloc: Global, plan: &Plan, left: &Left<'_>, writer: &mut W) -> Ending
+    requires few { length left.now.entries.now ≤ MOST_ENTRIES }
+    requires operators { AreOf (length left.now.scripts.now) left.now.entries.now }
+    ensures { EndsLeft plan.now.mode plan.now.asked left.now.adjusted left.now.map.now
+        (names_of (scripts_data left.now.scripts.now)) left.now.entries.now result.outcome
+        (W.contents writer.old) (W.contents writer.new) result.notes.items }
+{
+    let Ok(notes) = refused_notes(alloc, plan.mode, left.scripts, left.entries) else {
+        return Ending::quietly(alloc, RunFault::Memory);
+    };
+    match write_outcome(alloc, plan, left, writer) {
+        Ok(()) => Ending {
+            outcome: Ok(summary_of(left)),
+            notes,
+        },
+        Err(fault) => end_by(alloc, fault, notes),
+    }
+}
+
+/// The scripts without their calls, which a run moves into its history: their names are left to be
+/// written of.
+fn headings(alloc: Global, scripts: &[Script]) -> Result<Vec<Script>, AllocError>
+    ensures count { IfOk result (λ left. length left.items ≡ length scripts.now) }
+    ensures names { IfOk result (λ left. names_of (scripts_data left.items)
+        ≡ names_of (scripts_data scripts.now)) }
+{
+    let mut left = Vec::new(alloc);
+    for script in scripts {
+        let name = script.name.try_copy(alloc)?;
+        left.push(Script {
+            name,
+            calls: Vec::new(alloc),
+        })?;
+    }
+    Ok(left)
 }
 
 /// Runs the scripts, at once where that is asked for and there are any.
@@ -133,12 +205,12 @@ fn run_scripts<H: AllocGlobal + Threads + Wait + Sync, G: Gate + Sync>(
     gate: &G,
     in_turn: bool,
     map: CrushMap<Global>,
-    scripts: &[Script],
-) -> Result<Closed<Global>, RunFault>
-    requires few { length scripts.now ≤ MOST_OPERATORS }
+    scripts: Vec<Script>,
+) -> Result<Closed<Global, Unkept>, RunFault>
+    requires few { length scripts.items ≤ MOST_OPERATORS }
     ensures runs { IfOk result (λ c.
-        RunsScripts in_turn map (scripts_data scripts.now) c.map c.history.items) }
-    ensures operators { IfOk result (λ c. AreOf (length scripts.now) c.history.items) }
+        RunsScripts in_turn map (scripts_data scripts.items) c.map c.history.items) }
+    ensures operators { IfOk result (λ c. AreOf (length scripts.items) c.history.items) }
     ensures few { IfOk result (λ c. length c.history.items ≤ MOST_ENTRIES) }
     ensures fault { IfErr result (IsScriptsFault in_turn) }
 {
@@ -153,51 +225,45 @@ fn run_scripts<H: AllocGlobal + Threads + Wait + Sync, G: Gate + Sync>(
 pub(crate) fn run_read<H: AllocGlobal + Threads + Wait + Sync, G: Gate + Sync, W: Write>(
     rt: &H,
     gate: &G,
-    mode: Mode,
-    asked: &Asked,
+    plan: &Plan,
     job: Job,
     writer: &mut W,
-    notes: &mut Vec<u8>,
-) -> Result<Summary, RunFault>
+) -> Ending
     requires few { length job.scripts.items ≤ MOST_OPERATORS }
-    requires fresh { notes.old.items ≡ [] }
     ensures ends { (read : JobData) → JobStands job read
-        → Ends mode asked.now read result (W.contents writer.old) (W.contents writer.new)
-        notes.new.items }
-    ensures nothing { IfErr result (λ fault. fault ≢ RunFault.Write
+        → Ends plan.now.mode plan.now.asked read result.outcome (W.contents writer.old) (W.contents writer.new)
+        result.notes.items }
+    ensures nothing { IfErr result.outcome (λ fault. fault ≢ RunFault.Write
         → Keeps (W.contents writer.old) (W.contents writer.new)) }
-    ensures fault { IfErr result (IsOutcomeFault mode) }
-    ensures quiet { IsQuiet result notes.new.items }
+    ensures fault { IfErr result.outcome (IsOutcomeFault plan.now.mode) }
+    ensures noted { (all : Option (List ℕ)) → IsNoted plan.now.mode.explain all result.outcome result.notes.items }
 {
+    let alloc = rt.alloc();
     let Job {
         map,
         adjusted,
         scripts,
     } = job;
-    let scripts = scripts.as_slice();
-    let closed = run_scripts(rt, gate, mode.in_turn, map, scripts)?;
+    let Ok(named) = headings(alloc, scripts.as_slice()) else {
+        return Ending::quietly(alloc, RunFault::Memory);
+    };
+    let closed = match run_scripts(rt, gate, plan.mode.in_turn, map, scripts) {
+        Ok(closed) => closed,
+        Err(fault) => return Ending::quietly(alloc, fault),
+    };
     let Closed {
-        opening,
+        opening: Unkept,
         map,
         history,
     } = closed;
-    drop(opening);
     let entries = history.as_slice();
-    write_outcome(
-        rt.alloc(),
-        mode,
-        asked,
-        &map,
-        scripts,
-        entries,
-        writer,
-        notes,
-    )?;
-    Ok(Summary {
+    let left = Left {
         adjusted,
-        calls: entries.len() as u32,
-        changes: count_changes(entries),
-    })
+        map: &map,
+        scripts: named.as_slice(),
+        entries,
+    };
+    end_run(alloc, plan, &left, writer)
 }
 
 /// Hashing with keys that the system draws. It hashes without keys where none can be drawn.
@@ -209,45 +275,45 @@ pub(crate) fn drawn_hashing<H: RandomSource>(rt: &H) -> Hashing {
 }
 
 /// Reads the job that these bytes are.
-pub(crate) fn job_of<H: AllocGlobal + RandomSource>(rt: &H, bytes: Vec<u8>) -> Result<Job, RunFault>
+pub(crate) fn job_of<H: AllocGlobal + RandomSource>(
+    rt: &H,
+    explain: bool,
+    bytes: Vec<u8>,
+) -> Result<Job, Stopped>
     ensures job { IfOk result (λ _. HasJob bytes.items) }
     ensures only { (job : JobData) → IsJob bytes.items job
         → IfOk result (λ read. JobStands read job) }
-    ensures fault { IfErr result (IsNoJob (Some bytes.items)) }
+    ensures fault { IfErr result (λ stopped. IsNoJob (Some bytes.items) stopped.fault) }
+    ensures noted { IfErr result (λ stopped.
+        IsFaultNoted explain (Some bytes.items) stopped.fault stopped.notes.items) }
     ensures few { IfOk result (λ read. length read.scripts.items ≤ MOST_OPERATORS) }
 {
-    match read_job(rt.alloc(), drawn_hashing(rt), bytes.as_slice()) {
+    let alloc = rt.alloc();
+    match read_job(alloc, drawn_hashing(rt), bytes.as_slice()) {
         Ok(job) => Ok(job),
-        Err(fault) => Err(RunFault::from(fault)),
+        Err(fault) => Err(stopped_by(alloc, explain, bytes.as_slice(), fault)),
     }
 }
 
 /// Runs a job of which these are the bytes, as [`run_job`] runs one that it reads.
-fn run_bytes<H, G, W>(
-    rt: &H,
-    gate: &G,
-    mode: Mode,
-    asked: &Asked,
-    bytes: Vec<u8>,
-    writer: &mut W,
-    notes: &mut Vec<u8>,
-) -> Result<Summary, RunFault>
+fn run_bytes<H, G, W>(rt: &H, gate: &G, plan: &Plan, bytes: Vec<u8>, writer: &mut W) -> Ending
 where
     H: AllocGlobal + RandomSource + Threads + Wait + Sync,
     G: Gate + Sync,
     W: Write,
-    requires fresh { notes.old.items ≡ [] }
-    ensures job { IfOk result (λ _. HasJob bytes.items) }
+    ensures job { IfOk result.outcome (λ _. HasJob bytes.items) }
     ensures output { (job : JobData) → IsJob bytes.items job
-        → Ends mode asked.now job result (W.contents writer.old) (W.contents writer.new)
-        notes.new.items }
-    ensures quiet { IsQuiet result notes.new.items }
-    ensures nothing { IfErr result (λ fault. fault ≢ RunFault.Write
+        → Ends plan.now.mode plan.now.asked job result.outcome (W.contents writer.old) (W.contents writer.new)
+        result.notes.items }
+    ensures noted { IsNoted plan.now.mode.explain (Some bytes.items) result.outcome result.notes.items }
+    ensures nothing { IfErr result.outcome (λ fault. fault ≢ RunFault.Write
         → Keeps (W.contents writer.old) (W.contents writer.new)) }
-    ensures fault { IfErr result (IsRunFault mode (Some bytes.items)) }
+    ensures fault { IfErr result.outcome (IsRunFault plan.now.mode (Some bytes.items)) }
 {
-    let job = job_of(rt, bytes)?;
-    run_read(rt, gate, mode, asked, job, writer, notes)
+    match job_of(rt, plan.mode.explain, bytes) {
+        Ok(job) => run_read(rt, gate, plan, job, writer),
+        Err(stopped) => stopped.end(),
+    }
 }
 
 /// Reads a job, runs the scripts of its operators, and writes what is asked for of the map after
@@ -258,58 +324,53 @@ where
 /// the calls come in an order that nothing but their scripts orders. The gate is called before and
 /// after each call.
 ///
-/// A strict run in which calls were refused ends with [`RunFault::Refused`], and hands out their
-/// lines in `notes`, which is else left empty: all calls were made and judged, and nothing is written.
+/// A strict run in which calls were refused ends with [`RunFault::Refused`], and their lines are
+/// its notes: all calls were made and judged, and nothing is written. Where the mode asks for
+/// reasons, the notes say of each call that was refused, in whatever run, what was wanted, and of a
+/// fault of the bytes where it stands.
 ///
 /// After [`RunFault::Write`] a front of the output was written, and never the whole, after any other
 /// fault nothing.
 /// [`RunFault::Job`] says what is wrong with the bytes, and never that memory lacked, which is
-/// [`RunFault::Memory`]; of bytes that are no job it is never told that a write failed, nor that a
-/// thread couldn't be started, which is [`RunFault::Thread`] and never told in turn. The reader is
-/// asked for at most 16,777,217 bytes, at most that many times.
+/// [`RunFault::Memory`], also where it lacked for the notes; of bytes that are no job it is never
+/// told that a write failed, nor that a thread couldn't be started, which is [`RunFault::Thread`]
+/// and never told in turn. The reader is asked for at most 16,777,217 bytes, at most that many
+/// times.
 ///
 /// The names of a job come from strangers; so they are hashed with keys that the system draws, or
 /// without, where it draws none. Nothing that is written depends on them.
-pub fn run_job<H, G, R, W>(
-    rt: &H,
-    gate: &G,
-    mode: Mode,
-    asked: Asked,
-    reader: &mut R,
-    writer: &mut W,
-    notes: &mut Vec<u8>,
-) -> Result<Summary, RunFault>
+pub fn run_job<H, G, R, W>(rt: &H, gate: &G, plan: &Plan, reader: &mut R, writer: &mut W) -> Ending
 where
     H: AllocGlobal + RandomSource + Threads + Wait + Sync,
     G: Gate + Sync,
     R: Read,
     W: Write,
-    // The caller hands in no notes.
-    requires fresh { notes.old.items ≡ [] }
-
     // Where the run is done, what was read is a job.
-    ensures job { IfOk result (λ _. IfSome (R.remaining reader.old) HasJob) }
+    ensures job { IfOk result.outcome (λ _. IfSome (R.remaining reader.old) HasJob) }
 
     // For whatever job the bytes are, there is a run of it whose output is written, or after a
-    // fault a front of that which isn't the whole, and which the summary sums up.
+    // fault a front of that which isn't the whole, which the summary sums up, and whose refused
+    // calls are noted.
     ensures output { (bytes : List ℕ) (job : JobData) → R.remaining reader.old ≡ Some bytes
         → IsJob bytes job
-        → Ends mode asked job result (W.contents writer.old) (W.contents writer.new)
-        notes.new.items }
+        → Ends plan.now.mode plan.now.asked job result.outcome (W.contents writer.old) (W.contents writer.new)
+        result.notes.items }
 
-    // Notes are of refused calls alone.
-    ensures quiet { IsQuiet result notes.new.items }
+    // A fault of the bytes is noted with its place, and without reasons refused calls alone are.
+    ensures noted { IsNoted plan.now.mode.explain (R.remaining reader.old) result.outcome result.notes.items }
 
     // Only a failed write leaves anything.
-    ensures nothing { IfErr result (λ fault. fault ≢ RunFault.Write
+    ensures nothing { IfErr result.outcome (λ fault. fault ≢ RunFault.Write
         → Keeps (W.contents writer.old) (W.contents writer.new)) }
 
     // However it ends, little more than the longest job is taken of the reader.
     ensures taken { TakesFew (R.remaining reader.old) (R.remaining reader.new) }
 
     // Bytes are refused for what is wrong with them, and only a job's are run and written of.
-    ensures fault { IfErr result (IsRunFault mode (R.remaining reader.old)) }
+    ensures fault { IfErr result.outcome (IsRunFault plan.now.mode (R.remaining reader.old)) }
 {
-    let bytes = read_bytes(rt.alloc(), reader)?;
-    run_bytes(rt, gate, mode, &asked, bytes, writer, notes)
+    match read_bytes(rt.alloc(), reader) {
+        Ok(bytes) => run_bytes(rt, gate, plan, bytes, writer),
+        Err(fault) => Ending::quietly(rt.alloc(), fault),
+    }
 }

@@ -1,41 +1,79 @@
 //! The map since which changes are asked for.
 
-ghost use Rattle.std.specs.Prelude.{◌≡◌, Some, IfOk, IfErr, IfSome};
-ghost use Rattle.crush_run.specs.Faults.{of_text};
+ghost use Rattle.std.specs.Prelude.{◌≡◌, ◌≤◌, Some, IfOk, IfErr, IfSome, length};
+ghost use Rattle.crush_text.specs.Flaw.{IsFlawOrWant};
+ghost use Rattle.crush_run.specs.Notes.{IsMapNoted, flaw_notes};
 ghost use Rattle.crush_run.specs.Options.{IsMapFault, IsTextOf};
+ghost use Rattle.crush_units.specs.declared.limits.TheConstants.{LONGEST_JOB};
 
+use crate::ending::Stopped;
 use crate::fault::{RunFault, SinceFault};
 use crate::files::Opens;
 use crate::input::read_file;
 use crate::run::drawn_hashing;
 use crush_map::CrushMap;
-use crush_text::{TextFault, TextFaultKind, read_map_in};
+use crush_reasons::fault_text;
+use crush_script::JobFault;
+use crush_text::{TextFault, read_map_in};
 use crush_units::limits::LONGEST_JOB;
-use std::alloc::Global;
+use std::alloc::{AllocError, Global};
 use std::random::RandomSource;
 
-/// A fault of the text, as one of the run: want of memory is one fault wherever it comes.
-fn of_text(fault: TextFault) -> RunFault
-    ensures { result ≡ of_text fault }
+/// Where a flaw of a text stands and what was wanted there, where that is asked for.
+fn flaw_notes(
+    alloc: Global,
+    explain: bool,
+    name: &str,
+    text: &[u8],
+    fault: TextFault,
+) -> Result<Vec<u8>, AllocError>
+    requires { length text.now ≤ LONGEST_JOB }
+    ensures { IfOk result (λ notes. notes.items ≡ flaw_notes explain name.now text.now fault) }
 {
-    match fault.kind {
-        TextFaultKind::OutOfMemory => RunFault::Memory,
-        _ => RunFault::Since(SinceFault::Text(fault)),
+    if !explain {
+        return Ok(Vec::new(alloc));
+    }
+    fault_text(alloc, name.as_bytes(), text, JobFault::Text(fault))
+}
+
+/// Why a text is no map, and where; or want of memory, also where there is none to tell it.
+fn stopped_at(alloc: Global, explain: bool, name: &str, text: &[u8], fault: TextFault) -> Stopped
+    requires few { length text.now ≤ LONGEST_JOB }
+    requires flaw { IsFlawOrWant text.now fault }
+    ensures fault { IsMapFault (Some text.now) result.fault }
+    ensures noted { IsMapNoted explain name.now (Some text.now) result.fault result.notes.items }
+{
+    if JobFault::Text(fault).lacks_memory() {
+        return Stopped::quietly(alloc, RunFault::Memory);
+    }
+    match flaw_notes(alloc, explain, name, text, fault) {
+        Ok(notes) => Stopped {
+            fault: RunFault::Since(SinceFault::Text(fault)),
+            notes,
+        },
+        Err(_) => Stopped::quietly(alloc, RunFault::Memory),
     }
 }
 
-/// The map of this text, which may be no longer than a job.
-fn map_of<H: AllocGlobal + RandomSource>(rt: &H, text: &[u8]) -> Result<CrushMap<Global>, RunFault>
+/// The map of this text of a file of this name, which may be no longer than a job.
+fn map_of<H: AllocGlobal + RandomSource>(
+    rt: &H,
+    explain: bool,
+    name: &str,
+    text: &[u8],
+) -> Result<CrushMap<Global>, Stopped>
     ensures map { IfOk result (λ m. IsTextOf m text.now) }
-    ensures fault { IfErr result (IsMapFault (Some text.now)) }
+    ensures fault { IfErr result (λ stopped. IsMapFault (Some text.now) stopped.fault) }
+    ensures noted { IfErr result (λ stopped.
+        IsMapNoted explain name.now (Some text.now) stopped.fault stopped.notes.items) }
 {
-    if text.len() > LONGEST_JOB {
-        return Err(RunFault::Since(SinceFault::TooLong));
-    }
     let alloc = rt.alloc();
+    if text.len() > LONGEST_JOB {
+        return Err(Stopped::quietly(alloc, RunFault::Since(SinceFault::TooLong)));
+    }
     match read_map_in(alloc, drawn_hashing(rt), alloc, text) {
         Ok((map, _)) => Ok(map),
-        Err(fault) => Err(of_text(fault)),
+        Err(fault) => Err(stopped_at(alloc, explain, name, text, fault)),
     }
 }
 
@@ -43,14 +81,20 @@ fn map_of<H: AllocGlobal + RandomSource>(rt: &H, text: &[u8]) -> Result<CrushMap
 pub(crate) fn read_since<H: AllocGlobal + RandomSource, F: Opens>(
     rt: &H,
     files: &F,
+    explain: bool,
     name: &str,
-) -> Result<CrushMap<Global>, RunFault>
+) -> Result<CrushMap<Global>, Stopped>
     ensures map { IfOk result (λ m. IfSome (F.content files.now name.now) (IsTextOf m)) }
-    ensures fault { IfErr result (IsMapFault (F.content files.now name.now)) }
+    ensures fault { IfErr result (λ stopped.
+        IsMapFault (F.content files.now name.now) stopped.fault) }
+    ensures noted { IfErr result (λ stopped.
+        IsMapNoted explain name.now (F.content files.now name.now) stopped.fault
+        stopped.notes.items) }
 {
-    match read_file(rt.alloc(), files, name) {
-        Ok(bytes) => map_of(rt, bytes.as_slice()),
-        Err(RunFault::Read) => Err(RunFault::Since(SinceFault::Read)),
-        Err(_) => Err(RunFault::Memory),
+    let alloc = rt.alloc();
+    match read_file(alloc, files, name) {
+        Ok(bytes) => map_of(rt, explain, name, bytes.as_slice()),
+        Err(RunFault::Read) => Err(Stopped::quietly(alloc, RunFault::Since(SinceFault::Read))),
+        Err(_) => Err(Stopped::quietly(alloc, RunFault::Memory)),
     }
 }

@@ -5,8 +5,9 @@ ghost use Rattle.crush_run.specs.Script.{HasRun};
 
 use crate::gate::Gate;
 use crush_calls::Call;
-use crush_editor::{Desk, Editor, Seat, SubmitFault};
+use crush_editor::{Desk, Editor, Seat, SubmitFault, Unkept};
 use std::alloc::Global;
+use std::snapshot::Snapshot;
 use std::sync::Wait;
 use std::thread::Promise;
 
@@ -18,42 +19,48 @@ pub(crate) struct Finished<N: Desk> {
     pub(crate) fault: Option<SubmitFault>,
 }
 
-/// What a worker is to do: the calls of an operator's script.
-#[derive(Clone, Copy)]
-pub(crate) struct Task<'a> {
+/// What a worker promises: the calls of an operator's script, made by its seat. They are the worker's
+/// own, and contracts alone see them here.
+#[derive(Drop)]
+pub(crate) struct Task {
     /// The operator's number, counted from 0.
     pub(crate) operator: usize,
-    pub(crate) calls: &'a [Call],
+    pub(crate) calls: Snapshot<Vec<Call>>,
 }
 
-impl<'a, N: Desk> Promise<Finished<N>> for Task<'a> {
+impl<N: Desk> Promise<Finished<N>> for Task {
     ghost use Rattle.crush_run.specs.Script.{HasRun};
 
-    ghost kept_by = { λ t r. HasRun t.operator t.calls.now r.seat r.fault };
+    ghost kept_by = { λ t r. HasRun t.operator t.calls.value.items r.seat r.fault };
 }
 
-/// Submits an operator's calls in order, up to the first that meets a fault.
+/// Submits an operator's calls in order, up to the first that meets a fault. Each is moved into its
+/// entry.
 pub(crate) fn work<N: Desk, G: Gate, R: Wait>(
     rt: &R,
     alloc: Global,
-    editor: &Editor<N>,
+    editor: &Editor<N, Unkept>,
     gate: &G,
     mut seat: Seat<N>,
-    operator: usize,
-    calls: &[Call],
+    calls: Vec<Call>,
 ) -> Finished<N>
-    requires seat { (seat.slips ≡ []) × (seat.operator ≡ operator) }
-    ensures { HasRun operator calls.now result.seat result.fault }
+    requires { seat.slips ≡ [] }
+    ensures { HasRun seat.operator calls.items result.seat result.fault }
 {
-    for number in 0..calls.len() {
+    let operator = seat.operator();
+    let mut number = 0;
+    for call in calls {
         gate.before(rt, operator, number);
-        let outcome = editor.submit(rt, alloc, &mut seat, &calls[number]);
+        let outcome = editor.submit_copied(rt, alloc, &mut seat, call);
         gate.after(rt, operator, number);
-        if let Err(fault) = outcome {
-            return Finished {
-                seat,
-                fault: Some(fault),
-            };
+        match outcome {
+            Ok(_reply) => number += 1,
+            Err((fault, _call)) => {
+                return Finished {
+                    seat,
+                    fault: Some(fault),
+                };
+            }
         }
     }
     Finished { seat, fault: None }

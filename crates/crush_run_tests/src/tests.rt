@@ -2,7 +2,7 @@
 
 use crush_options::Mode;
 use crush_report::report;
-use crush_run::{Asked, Gate, NoGate, RunFault, Summary, run_job};
+use crush_run::{Asked, Ending, Gate, NoGate, Plan, RunFault, Summary, run_job};
 use std::io::{Read, Write};
 use std::process::Abort;
 use std::random::RandomSource;
@@ -11,6 +11,7 @@ use std::thread::Threads;
 
 mod at_once;
 mod command_lines;
+mod explained;
 mod failing;
 mod gates;
 mod limits;
@@ -32,6 +33,7 @@ const MODE: Mode = Mode {
     in_turn: true,
     history: true,
     strict: false,
+    explain: false,
 };
 
 /// The same where operators are at work at once.
@@ -39,6 +41,7 @@ const AT_ONCE: Mode = Mode {
     in_turn: false,
     history: true,
     strict: false,
+    explain: false,
 };
 
 /// The bytes of both, one behind the other.
@@ -66,8 +69,13 @@ where
     R: Read,
     W: Write,
 {
-    let mut notes = Vec::new(rt.alloc());
-    run_job(rt, gate, mode, Asked::Map, reader, writer, &mut notes)
+    let plan = Plan {
+        mode,
+        asked: Asked::Map,
+    };
+    let Ending { outcome, notes } = run_job(rt, gate, &plan, reader, writer);
+    drop(notes);
+    outcome
 }
 
 /// Whether a job that is run in this mode writes this map and these lines behind it, and is summed
@@ -117,5 +125,5 @@ fn is_told(
     status: u8,
 ) -> bool {
     let mut err = Vec::new(rt.alloc());
-    report(outcome, b"", &mut err) == status && err.as_slice() == line
+    report(outcome, false, b"", &mut err) == status && err.as_slice() == line
 }

@@ -1,4 +1,5 @@
 pub mod Climbed
+pub mod Memory
 pub mod NewWeights
 pub mod OtherWeights
 pub mod Sameness

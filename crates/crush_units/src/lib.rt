@@ -16,7 +16,8 @@
 //!
 //! `{}` writes each as a map's text has it.
 //!
-//! No call allocates but [`Name::read`] and [`Name::try_copy`]. What a text says, and what a value
+//! No call allocates but [`Name::read`] and [`Name::try_copy`], and they only for a name of more than
+//! 30 bytes. What a text says, and what a value
 //! prints as, is defined in `specs/`, one file for each module here.
 #![tactic(auto)]
 
@@ -25,6 +26,7 @@ mod display;
 mod id;
 pub mod limits;
 mod name;
+mod text;
 mod weight;
 
 pub use alg::Alg;

@@ -29,6 +29,9 @@ pub const LAST_TYPE: u32 = 65535;
 /// How many bytes a name or a class has at most.
 pub const LONGEST_NAME: usize = 255;
 
+/// How many bytes a name or a class has at most that takes no memory: it stands inside its value.
+pub const LONGEST_SHORT_NAME: usize = 30;
+
 /// How many devices a map has at most.
 pub const MOST_DEVICES: u32 = 65536;
 

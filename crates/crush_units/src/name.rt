@@ -1,18 +1,19 @@
 //! Names of devices, buckets, types, tunables, rules and classes.
 
-ghost use Rattle.std.specs.Prelude.{◌≡◌, IsTrue, ◌↔◌, OnOk, IfOk, IfErr, MatchOption, bytes_eq, true};
+ghost use Rattle.std.specs.Prelude.{◌≡◌, ◌<◌, length, IsTrue, ◌↔◌, OnOk, IfOk, IfErr, MatchOption, bytes_eq, true};
 ghost use Rattle.std.specs.Cmp.Rules.{comparing, hashing};
 ghost use Rattle.std.specs.Cmp.Lexicographic.{bytes_decides, nat_list_eq_equiv};
 ghost use Rattle.std.specs.Hash as fed;
 ghost use Rattle.std.proofs.Common.{ap, rules};
 ghost use Rattle.crush_units.specs.Name.{IsName, is_name_byte, are_name_bytes, is_name, IsFirstBad, IsNameFault, name_fault_number};
+ghost use Rattle.crush_units.specs.declared.name.NameFault.TheVariants.{OutOfMemory};
 
-use crate::limits::LONGEST_NAME;
+use crate::limits::{LONGEST_NAME, LONGEST_SHORT_NAME};
+use crate::text::Text;
 use indexmap::Equivalent;
 use std::alloc::{AllocError, Allocator};
 use std::hash::{Hash, Hasher};
 use std::marker::Model;
-use std::str;
 use thiserror::Error;
 
 /// Why bytes are no name. Where several hold, the one of least number is told.
@@ -49,19 +50,20 @@ impl NameFault {
 /// A name: 1 to 255 bytes, each an ASCII letter, a digit, `-`, `_` or `.`. Contracts see its bytes.
 #[derive(Debug, Drop)]
 pub struct Name<A: Allocator> {
-    text: String<A>,
+    text: Text<A>,
 }
 
 impl<A: Allocator> Model for Name<A> {
-    ghost use Rattle.std.specs.Prelude.{List, ℕ, string_bytes};
+    ghost use Rattle.std.specs.Prelude.{List, ℕ};
 
     ghost Value = { List ℕ };
 
     ghost use Rattle.crush_units.specs.Name.{IsName};
+    ghost use Rattle.crush_units.specs.Text.{text_bytes};
 
-    ghost view = { λ name. string_bytes name.text };
+    ghost view = { λ name. text_bytes name.text };
 
-    ghost invariant = { λ name. IsName (string_bytes name.text) };
+    ghost invariant = { λ name. IsName (text_bytes name.text) };
 }
 
 impl<A: Allocator> Name<A> {
@@ -69,11 +71,13 @@ impl<A: Allocator> Name<A> {
     ///
     /// Refused where the bytes are none: [`NameFault::Empty`], then [`NameFault::BadByte`] with the
     /// place of the first bad byte, then [`NameFault::TooLong`]. [`NameFault::OutOfMemory`] is told
-    /// only of bytes that are a name.
+    /// only of bytes that are a name, and of more than [`LONGEST_SHORT_NAME`] of them: a name of at
+    /// most 30 bytes takes no memory.
     pub fn read(alloc: A, bytes: &[u8]) -> Result<Name<A>, NameFault>
         ensures value { IfOk result (λ name. name ≡ bytes.now) }
         ensures name { OnOk result (IsName bytes.now) }
         ensures fault { IfErr result (IsNameFault bytes.now) }
+        ensures inside { IfErr result (λ fault. fault ≡ OutOfMemory → LONGEST_SHORT_NAME < length bytes.now) }
     {
         if bytes.is_empty() {
             return Err(NameFault::Empty);
@@ -84,10 +88,7 @@ impl<A: Allocator> Name<A> {
         if bytes.len() > LONGEST_NAME {
             return Err(NameFault::TooLong);
         }
-        let Ok(text) = str::from_utf8(bytes) else {
-            unreachable!()
-        };
-        match String::from_str(alloc, text) {
+        match Text::new(alloc, bytes) {
             Ok(text) => Ok(Name { text }),
             Err(_) => Err(NameFault::OutOfMemory),
         }
@@ -110,11 +111,11 @@ impl<A: Allocator> Name<A> {
     }
 
     /// A copy in memory of the given allocator, which may be another than the name's own. An Err is
-    /// want of memory there.
+    /// want of memory there, and a name of at most 30 bytes takes none.
     pub fn try_copy<B: Allocator>(&self, alloc: B) -> Result<Name<B>, AllocError>
         ensures { IfOk result (λ copy. copy ≡ self.now) }
     {
-        let text = String::from_str(alloc, self.as_str())?;
+        let text = Text::new(alloc, self.as_bytes())?;
         Ok(Name { text })
     }
 

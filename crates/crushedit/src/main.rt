@@ -3,7 +3,7 @@
 
 use crush_options::{Options, OptionsFault, options};
 use crush_report::{report, tell};
-use crush_run::{RunFault, Summary, SystemFiles, run_options};
+use crush_run::{Ending, RunFault, Summary, SystemFiles, run_options};
 use std::fs;
 use std::fs::OpenOptions;
 use std::io::ErrorKind;
@@ -16,13 +16,20 @@ fn main(rt: HostRuntime) -> ExitCode {
     let status = match read_options(&rt) {
         Ok(options) => {
             let (mut input, mut output) = (rt.stdin(), rt.stdout());
-            let mut notes = Vec::new(rt.alloc());
             let files = SystemFiles(&rt);
-            let outcome = run_options(&rt, &files, &options, &mut input, &mut output, &mut notes);
-            report(&stored(&rt, outcome), notes.as_slice(), &mut rt.stderr())
+            let Ending { outcome, notes } = run_options(
+                &rt,
+                &files,
+                &options,
+                &mut input,
+                &mut output,
+            );
+            let outcome = stored(&rt, outcome);
+            let explain = options.mode.explain;
+            report(&outcome, explain, notes.as_slice(), &mut rt.stderr())
         }
         Err(fault) => match tell(&fault, &mut rt.stdout(), &mut rt.stderr()) {
-            0 if !is_stored(&rt) => report(&Err(RunFault::Write), b"", &mut rt.stderr()),
+            0 if !is_stored(&rt) => report(&Err(RunFault::Write), false, b"", &mut rt.stderr()),
             status => status,
         },
     };

@@ -9,6 +9,7 @@ ghost use Rattle.crush_table.specs.Table.{is_there, is_placed};
 ghost use Rattle.crush_nodes.specs.Guides.{place_in, place_under};
 
 use super::asked_changes::changes_ask;
+use super::asked_weights::weights_ask;
 use super::calls::example;
 use super::items::{bucket, bucket_item, device, device_item};
 use crush_tree::{Forest, Guide, Place, Spot};
@@ -197,7 +198,10 @@ fn asks_seldom(rt: &(impl Abort + AllocGlobal), forest: &Forest<Global>) -> bool
         forest,
         times: Cell::new(0),
     };
-    asks_for_a_device(rt, &guide) && asks_for_a_bucket(rt, &guide) && changes_ask(rt, &guide)
+    asks_for_a_device(rt, &guide)
+        && asks_for_a_bucket(rt, &guide)
+        && changes_ask(rt, &guide)
+        && weights_ask(rt, &guide)
 }
 
 #[test]

@@ -15,7 +15,7 @@ use std::alloc::Global;
 use std::process::Abort;
 
 /// A copy of the forest that the guide searches.
-fn copy_of(rt: &impl Abort, guide: &Asked<'_>) -> Forest<Global>
+pub(super) fn copy_of(rt: &impl Abort, guide: &Asked<'_>) -> Forest<Global>
     ensures { rows_of result ≡ rows_of guide.now.forest.now }
 {
     guide.forest.try_copy().expect(rt, "memory")

@@ -61,12 +61,18 @@ fn places_come_and_go(rt: HostRuntime) {
     drop(places);
 }
 
-/// Puts an item elsewhere, where it is there.
-fn put(places: &mut Places, id: &ItemId, spot: Spot) -> bool {
-    if places.spot(*id).is_none() {
+/// Puts an item into a bucket, where both are there.
+fn put(places: &mut Places, id: &ItemId, bucket: &BucketId, near: u32) -> bool {
+    if places.spot(*id).is_none() || places.spot(ItemId::Bucket(*bucket)).is_none() {
         return false;
     }
-    places.put(*id, spot);
+    places.put(
+        *id,
+        Spot {
+            place: Place::Bucket(*bucket),
+            near,
+        },
+    );
     true
 }
 
@@ -75,8 +81,8 @@ fn change(places: &mut Places) -> bool {
     if let Some(gone) = device(0) {
         places.remove(gone);
     }
-    match (device(2), below(1, 1)) {
-        (Some(moved), Some(spot)) => put(places, &moved, spot),
+    match (device(2), BucketId::below_zero(1)) {
+        (Some(moved), Some(root)) => put(places, &moved, &root, 1),
         _ => false,
     }
 }

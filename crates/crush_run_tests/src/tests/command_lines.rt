@@ -52,7 +52,8 @@ fn flags_and_a_file_are_read(rt: HostRuntime) {
     );
 }
 
-/// Whether the words ask for the changes since the map of a file, strictly, and for two scripts.
+/// Whether the words ask for the changes since the map of a file, strictly and with reasons, and for
+/// two scripts.
 fn asks_for_all(rt: &impl AllocGlobal, words: &[&str]) -> bool {
     let read = options(rt.alloc(), words);
     let asked = match &read {
@@ -63,13 +64,13 @@ fn asks_for_all(rt: &impl AllocGlobal, words: &[&str]) -> bool {
     asked
 }
 
-/// Whether the changes since the map of this file are asked for, strictly.
+/// Whether the changes since the map of this file are asked for, strictly and with reasons.
 fn asks_since(options: &Options, map: &str) -> bool {
     let since = match &options.printed {
         Printed::Since(name) => name.as_str() == map,
         _ => false,
     };
-    since && options.mode.strict
+    since && options.mode.strict && options.mode.explain
 }
 
 /// Whether these are the scripts.
@@ -85,7 +86,15 @@ fn further_words_are_read(rt: HostRuntime) {
     assert!(rt;
         asks_for_all(
             &rt,
-            &["--strict", "-s", "a", "--since", "m.txt", "--script=b.txt"]
+            &[
+                "--strict",
+                "-s",
+                "a",
+                "--since",
+                "m.txt",
+                "--script=b.txt",
+                "--explain"
+            ]
         )
     );
 }
@@ -132,6 +141,7 @@ const HELP: &[&str] = &[
     "--tree ",
     "--since <MAP> ",
     "--as-ceph ",
+    "--explain ",
     "-s, --script <SCRIPT> ",
     "\n    %operator alice\n    add osd.12 1.8 host=node3 rack=r2 root=default\n    reweight osd.2 1.0\n",
     "\n    add osd.N WEIGHT PAIR .. ",

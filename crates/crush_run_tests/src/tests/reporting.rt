@@ -57,11 +57,11 @@ impl Write for Closed {
 fn keeps_the_status_where_standard_error_fails(rt: HostRuntime) {
     let mut held = [0u8; 14];
     let mut room = held.as_mut_slice();
-    let status = report(&Err(RunFault::Read), b"", &mut room);
+    let status = report(&Err(RunFault::Read), false, b"", &mut room);
     assert!(rt;
         status == 3
             && held == *b"crushedit: rea"
-            && report(&Err(RunFault::Memory), b"", &mut Closed) == 4
+            && report(&Err(RunFault::Memory), false, b"", &mut Closed) == 4
     );
 }
 

@@ -40,16 +40,29 @@ pub(super) fn ends_so(
     outcome: Result<Summary, RunFault>,
     output: &[u8],
 ) -> bool {
+    ends_with(rt, words, files, outcome, output, b"")
+}
+
+/// Whether it does, and notes this.
+pub(super) fn ends_with(
+    rt: &(impl Abort + AllocGlobal + RandomSource + Threads + Wait + Sync),
+    words: &[&str],
+    files: &[(&str, &[u8])],
+    outcome: Result<Summary, RunFault>,
+    output: &[u8],
+    notes: &[u8],
+) -> bool {
     let Ok(options) = options(rt.alloc(), words) else {
         panic!(rt; "the words are refused")
     };
     let mut out = Vec::new(rt.alloc());
-    let mut notes = Vec::new(rt.alloc());
     let shelf = Shelf { files };
     let mut input: &[u8] = b"";
-    let came = run_options(rt, &shelf, &options, &mut input, &mut out, &mut notes);
+    let ending = run_options(rt, &shelf, &options, &mut input, &mut out);
     drop(options);
-    came == outcome && notes.is_empty() && out.as_slice() == output
+    let came = ending.outcome == outcome && ending.notes.as_slice() == notes;
+    drop(ending);
+    came && out.as_slice() == output
 }
 
 /// A script that names no operator, behind a comment and blanks.

@@ -3,7 +3,7 @@
 use super::{MODE, PLAIN, joined, summary};
 use crush_options::Mode;
 use crush_report::report;
-use crush_run::{Asked, NoGate, RunFault, Summary, run_job};
+use crush_run::{Asked, NoGate, Plan, RunFault, Summary, run_job};
 use std::random::RandomSource;
 use std::sync::Wait;
 use std::thread::Threads;
@@ -13,10 +13,11 @@ const STRICT: Mode = Mode {
     in_turn: true,
     history: true,
     strict: true,
+    explain: false,
 };
 
 /// Whether a run of the job comes to this outcome, writes this, and tells this with this status.
-fn ends_so(
+pub(super) fn ends_so(
     rt: &(impl AllocGlobal + RandomSource + Threads + Wait + Sync),
     mode: Mode,
     asked: Asked,
@@ -28,12 +29,18 @@ fn ends_so(
 ) -> bool {
     let mut out = Vec::new(rt.alloc());
     let mut err = Vec::new(rt.alloc());
-    let mut notes = Vec::new(rt.alloc());
-    let came = run_job(rt, &NoGate, mode, asked, &mut &*job, &mut out, &mut notes);
-    came == outcome
-        && report(&came, notes.as_slice(), &mut err) == status
-        && out.as_slice() == output
-        && err.as_slice() == told
+    let plan = Plan { mode, asked };
+    let ending = run_job(rt, &NoGate, &plan, &mut &*job, &mut out);
+    drop(plan);
+    let told_so = report(
+        &ending.outcome,
+        mode.explain,
+        ending.notes.as_slice(),
+        &mut err,
+    ) == status;
+    let came = ending.outcome == outcome;
+    drop(ending);
+    came && told_so && out.as_slice() == output && err.as_slice() == told
 }
 
 /// A bucket that isn't empty, a new weight, and an item that isn't there.
@@ -50,6 +57,7 @@ fn a_strict_run_tells_all_that_is_refused(rt: HostRuntime) {
         in_turn: false,
         history: false,
         strict: true,
+        explain: false,
     };
     assert!(rt;
         ends_so(

@@ -35,10 +35,10 @@ impl<'a, A: Allocator> MapReader<'a, A> {
         ensures { ReadsOn (λ d. arrive d self.old.text.words (rule_line d)) (λ _. second)
             self.old self.new result }
     {
-        let mut rule = self.rule_head()?;
-        let place = self.steps(&mut rule)?;
+        let mut draft = self.rule_head()?;
+        let place = self.steps(&mut draft)?;
         self.builder
-            .rule(&rule)
+            .rule(&draft)
             .map_err(|refused| want_at(place, refused.fault))
     }
 

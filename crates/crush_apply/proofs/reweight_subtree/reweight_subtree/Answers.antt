@@ -21,10 +21,6 @@ returns-in_err-bucket-clause-answers g c = λ s.
 pub returns-in_err-bucket-clause-memory : goal.returns-in_err-bucket-clause-memory
 returns-in_err-bucket-clause-memory g c = no_want _ _ c.from_residual.ensures.1
 
-pub changes_subtree-requires : goal.changes_subtree-requires
-changes_subtree-requires g c =
-    there_by_name (rows_of c.args.hierarchy.now) c.args.name.now (Bucket c.in_ok-bucket.bucket) (c.in_ok-bucket.ensures.can (rows_of c.args.hierarchy.now) (stands_for_rows c.args.hierarchy.now c.recall_invariant.ensures)).named
-
 pub replace_subtree-requires : goal.replace_subtree-requires
 replace_subtree-requires g c =
     let can = c.in_ok-bucket.ensures.can (rows_of c.args.hierarchy.now) (stands_for_rows c.args.hierarchy.now c.recall_invariant.ensures) in

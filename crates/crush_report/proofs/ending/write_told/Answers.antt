@@ -11,10 +11,10 @@ then_writes (Ok v) a b c x y first second = appends_both a b c x y first second
 then_writes (Err e) a b c x y first second = then_less a b c x y first second
 
 -- less than the line was written
-pub returns-in_err-write_report : goal.returns-in_err-write_report
-returns-in_err-write_report g c =
+pub returns-in_err-write_lines : goal.returns-in_err-write_lines
+returns-in_err-write_lines g c =
     let p = err_from_is_err_and c.from_residual.result c.from_residual.ensures.1 in
-    rw p.1 (less_of_both _ _ _ _ c.in_err-write_report.ensures)
+    rw p.1 (less_of_both _ _ _ _ c.in_err-write_lines.ensures)
 
 pub returns : goal.returns
-returns g c = then_writes c.put.result _ _ _ _ _ c.in_ok-write_report.ensures c.put.ensures.writes
+returns g c = then_writes c.put.result _ _ _ _ _ c.in_ok-write_lines.ensures c.put.ensures.writes

@@ -1,4 +1,5 @@
-use Rattle.std.proofs.Common.{◌≡◌, List, take, length}
+use Rattle.std.proofs.Common.{◌≡◌, ◌+◌, List, drop, take, length}
+use Rattle.std.specs.Vec.Iter.{into_iter_items, into_iter_len}
 use Rattle.crush_table.specs.Table.{Row}
 use Rattle.crush_edits.specs.Setting.{SettingData}
 use Rattle.crush_map.specs.MapData.{MapStands}
@@ -7,10 +8,12 @@ use Rattle.crush_calls.specs.History.{table_after, turns}
 use Rattle.crush_calls.specs.Entries.{AreOf}
 use Rattle.crush_run.proofs.in_turn.run_in_turn.Given as goal
 
-abbrev pub invariant-loop-operator : goal.invariant-loop-operator
-invariant-loop-operator g l = record {
+abbrev pub invariant-loop-script : goal.invariant-loop-script
+invariant-loop-script g l = record {
   table : l.book.table ≡ l.gauge.table.shared.table_id;
-  operators : AreOf (length l.scripts) l.book.history;
+  rest : into_iter_items l.script-iterator ≡ drop l.operator l.fn.scripts.items;
+  left : into_iter_len l.script-iterator + l.operator ≡ length l.fn.scripts.items;
+  operators : AreOf (length l.fn.scripts.items) l.book.history;
   entries : (s : SettingData) (t : List Row) → MapStands l.fn.map s t →
-      (l.book.history ≡ turns s t (scripts_data (take l.operator l.scripts))) × MapStands l.book.map s (table_after s t (turns s t (scripts_data (take l.operator l.scripts))));
+      (l.book.history ≡ turns s t (scripts_data (take l.operator l.fn.scripts.items))) × MapStands l.book.map s (table_after s t (turns s t (scripts_data (take l.operator l.fn.scripts.items))));
 }

@@ -1,45 +1,60 @@
-use Rattle.std.proofs.Common.{◌≡◌, ◌++◌, take, subst, ◌∙◌, refl, arith}
+use Rattle.std.proofs.Common.{◌≡◌, ◌++◌, take, subst, sym, ◌∙◌, refl, arith, rules}
 use Rattle.std.proofs.lemmas.List.{take_all}
 use Rattle.crush_map.specs.MapData.{MapStands}
 use Rattle.crush_calls.specs.History.{behind, counted_after, turn}
 use Rattle.crush_calls.proofs.InTurn.{call_made, table_made, no_call, no_table}
 use Rattle.crush_calls.proofs.EntryLines.{one_more}
+use Rattle.crush_run.proofs.Lists.{dropped}
 use Rattle.crush_run.proofs.in_turn.run_script.Goals as goal
 
-pub loop-number-init : goal.loop-number-init
-loop-number-init g c =
+pub loop-call-init : goal.loop-call-init
+loop-call-init g c =
     let start = c.args.book.now.history in
+    let ok = c.args.calls.ok in
     record {
       table = refl;
+      rest = search rules;
+      left = search rules;
       operators = λ n among before. before;
       entries = λ s t stands. (no_call s (behind t start) c.args.operator start, subst (MapStands c.args.book.now.map s) (no_table s (behind t start) c.args.operator) stands);
     }
 
-pub loop-number-preserved : goal.loop-number-preserved
-loop-number-preserved g c =
-    let i = c.loop-number.number in
-    let x = c.index-calls-number.result in
+pub loop-call-preserved : goal.loop-call-preserved
+loop-call-preserved g c =
+    let n = c.loop-call.number in
+    let calls = c.args.calls.items in
+    let x = c.in-Some.call in
+    let steps = c.in-Some.ensures.steps in
+    let one = steps.1 in
+    let left = c.loop-call.invariant.left in
+    let ok = c.args.calls.ok in
+    let at = dropped calls _ _ x x n c.loop-call.invariant.rest steps.0 (omega arith) in
     record {
-      table = c.commit-outcome.ensures.table ∙ c.loop-number.invariant.table;
-      operators = λ n among before. one_more n c.loop-number.book.history c.commit-outcome.new.self.history _ c.in-Ok.ensures.history (c.loop-number.invariant.operators n among before) among;
+      table = c.commit_copied-outcome.ensures.table ∙ c.loop-call.invariant.table;
+      rest = at.0;
+      left = omega arith;
+      operators = λ m among before. one_more m c.loop-call.book.history c.commit_copied-outcome.new.self.history _ c.in-Ok.ensures.history (c.loop-call.invariant.operators m among before) among;
       entries = λ s t stands.
-          let so_far = c.loop-number.invariant.entries s t stands in
+          let so_far = c.loop-call.invariant.entries s t stands in
           let start = c.args.book.now.history in
           let q = behind t start in
-          let made = c.in-Ok.ensures.made s (counted_after s q (turn s q c.args.operator (take i c.args.calls.now))).table so_far.1 in (
-            call_made s t c.args.operator c.args.calls.now i x start c.loop-number.book.history c.loop-number-test.true c.index-calls-number.is so_far.0 _ c.commit-outcome.new.self.history made.0 c.in-Ok.ensures.history,
-            subst (MapStands c.commit-outcome.new.self.map s) (table_made s t c.args.operator c.args.calls.now i x start c.loop-number.book.history c.loop-number-test.true c.index-calls-number.is so_far.0) made.1,
+          let made = c.in-Ok.ensures.made s (counted_after s q (turn s q c.args.operator (take n calls))).table so_far.1 in (
+            call_made s t c.args.operator calls n x start c.loop-call.book.history (omega arith) at.1 so_far.0 _ c.commit_copied-outcome.new.self.history made.0 c.in-Ok.ensures.history,
+            subst (MapStands c.commit_copied-outcome.new.self.map s) (table_made s t c.args.operator calls n x start c.loop-call.book.history (omega arith) at.1 so_far.0) made.1,
           );
     }
 
 pub returns : goal.returns
-returns g c = record {
-  table = c.loop-number.invariant.table;
-  operators = c.loop-number.invariant.operators;
-  entries = λ s t stands.
-      let all = take_all c.loop-number.number c.args.calls.now (omega arith) in
-      let start = c.args.book.now.history in
-      let q = behind t start in
-      subst (λ cs. (c.loop-number.book.history ≡ start ++ turn s q c.args.operator cs) × MapStands c.loop-number.book.map s (counted_after s q (turn s q c.args.operator cs)).table) all (c.loop-number.invariant.entries s t stands);
-  fault = tt;
-}
+returns g c =
+    let left = c.loop-call.invariant.left in
+    let none = c.in-None.ensures.steps.0 in
+    record {
+      table = c.loop-call.invariant.table;
+      operators = c.loop-call.invariant.operators;
+      entries = λ s t stands.
+          let all = take_all c.loop-call.number c.args.calls.items (omega arith) in
+          let start = c.args.book.now.history in
+          let q = behind t start in
+          subst (λ cs. (c.loop-call.book.history ≡ start ++ turn s q c.args.operator cs) × MapStands c.loop-call.book.map s (counted_after s q (turn s q c.args.operator cs)).table) all (c.loop-call.invariant.entries s t stands);
+      fault = tt;
+    }

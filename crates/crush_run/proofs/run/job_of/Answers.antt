@@ -1,7 +1,5 @@
-use Rattle.std.proofs.Common.{sym, subst, List, ℕ, Some}
-use Rattle.crush_script.specs.Job.{IsJob, IsJobFault}
-use Rattle.crush_run.specs.Stages.{IsNoJob}
-use Rattle.crush_run.proofs.Told.{is_no_job}
+use Rattle.std.proofs.Common.{sym, subst, List, ℕ}
+use Rattle.crush_script.specs.Job.{IsJob}
 use Rattle.crush_run.proofs.run.job_of.Goals as goal
 
 pub returns-in-Ok-clause-job : goal.returns-in-Ok-clause-job
@@ -9,9 +7,3 @@ returns-in-Ok-clause-job g c = (c.in-Ok.ensures.job.0, subst (λ (z : List ℕ).
 
 pub returns-in-Ok-clause-only : goal.returns-in-Ok-clause-only
 returns-in-Ok-clause-only g c = λ job is. c.in-Ok.ensures.only job (subst (λ (z : List ℕ). IsJob z job) (sym c.as_slice.ensures.value) is)
-
--- the fault is one of the bytes
-pub returns-clause-fault : goal.returns-clause-fault
-returns-clause-fault g c =
-    let own = subst (λ (z : List ℕ). IsJobFault z c.in-Err.fault) c.as_slice.ensures.value c.in-Err.ensures.fault in
-    subst (IsNoJob (Some c.args.bytes.items)) (sym c.from.ensures) (is_no_job c.args.bytes.items c.in-Err.fault own)

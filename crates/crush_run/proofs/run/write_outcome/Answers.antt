@@ -7,13 +7,13 @@ use Rattle.crush_run.proofs.run.write_outcome.Goals as goal
 pub returns-in_err-check_strict-clause-writes : goal.returns-in_err-check_strict-clause-writes
 returns-in_err-check_strict-clause-writes g c = λ t stands.
     let p = err_from_is_err_and c.from_residual.result c.from_residual.ensures.1 in
-    rw p.1 (less_of_both _ _ _ _ (nothing_is_less _ _ (main_text_is_some c.args.asked.now c.args.map.now.setting t c.args.entries.now)))
+    rw p.1 (less_of_both _ _ _ _ (nothing_is_less _ _ (main_text_is_some c.args.plan.now.asked c.args.left.now.map.now.setting t c.args.left.now.entries.now)))
 
 -- where there was no room for the lines, nothing was written of a text that isn't empty
 pub returns-in_err-lines-clause-writes : goal.returns-in_err-lines-clause-writes
 returns-in_err-lines-clause-writes g c = λ t stands.
     let p = err_from_is_err_and c.from_residual-in_err-lines.result c.from_residual-in_err-lines.ensures.1 in
-    rw p.1 (less_of_both _ _ _ _ (nothing_is_less _ _ (main_text_is_some c.args.asked.now c.args.map.now.setting t c.args.entries.now)))
+    rw p.1 (less_of_both _ _ _ _ (nothing_is_less _ _ (main_text_is_some c.args.plan.now.asked c.args.left.now.map.now.setting t c.args.left.now.entries.now)))
 
 pub returns-in_err-write_asked-clause-writes : goal.returns-in_err-write_asked-clause-writes
 returns-in_err-write_asked-clause-writes g c = λ t stands.

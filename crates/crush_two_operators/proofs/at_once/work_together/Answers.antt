@@ -6,7 +6,7 @@ use Rattle.crush_two_operators.proofs.Order.{of_ok, of_some, shorter, are_taken,
 use Rattle.crush_two_operators.proofs.at_once.work_together.Goals as goal
 
 pub join-one-requires-send-F : goal.join-one-requires-send-F
-join-one-requires-send-F g c κs within = param_send _ _ (arg_send _ no _ (worker_send g.row.N g.row.R g.N.Desk g.N.Ledger _ _ _ c.type_bounds.sync-R _))
+join-one-requires-send-F g c κs within = param_send _ _ (arg_send _ no _ (worker_send g.row.N g.row.R g.N.Desk g.N.Ledger _ _ _ _ c.type_bounds.sync-R _))
 
 pub close-requires-clause-count : goal.close-requires-clause-count
 close-requires-clause-count g c =

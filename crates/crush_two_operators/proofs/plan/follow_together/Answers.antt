@@ -7,7 +7,7 @@ use Rattle.crush_two_operators.proofs.Following.{followed_by_two}
 use Rattle.crush_two_operators.proofs.plan.follow_together.Goals as goal
 
 pub join-one-requires-send-F : goal.join-one-requires-send-F
-join-one-requires-send-F g c κs within = param_send _ _ (arg_send _ no _ (follower_send g.row.N g.row.R g.N.Desk g.N.Ledger _ _ _ c.type_bounds.sync-R _))
+join-one-requires-send-F g c κs within = param_send _ _ (arg_send _ no _ (follower_send g.row.N g.row.R g.N.Desk g.N.Ledger _ _ _ _ c.type_bounds.sync-R _))
 
 pub close-requires-clause-count : goal.close-requires-clause-count
 close-requires-clause-count g c =

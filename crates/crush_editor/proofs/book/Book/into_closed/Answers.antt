@@ -2,7 +2,7 @@ use Rattle.std.proofs.Common.{rules}
 use Rattle.crush_editor.proofs.book.Book.into_closed.Goals as goal
 
 pub returns-clause-opening : goal.returns-clause-opening
-returns-clause-opening g c = search rules
+returns-clause-opening g c = rw (← c.self.view_is) c.self.invariant.opening
 
 pub returns-clause-map : goal.returns-clause-map
 returns-clause-map g c = search rules

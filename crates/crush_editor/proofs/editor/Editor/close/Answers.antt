@@ -1,4 +1,4 @@
-use Rattle.std.proofs.Common.{◌≡◌, ◌∙◌, ◌+◌, ℕ, List, length, ap, sym, refl, subst, arith, rules}
+use Rattle.std.proofs.Common.{◌≡◌, ◌∙◌, ◌+◌, ℕ, List, IfSome, length, ap, sym, refl, subst, arith, rules}
 use Rattle.crush_calls.specs.History.{EntryData, of_operator}
 use Rattle.crush_map.specs.MapData.{MapData}
 use Rattle.crush_editor.specs.History.{IsLegalFrom}
@@ -26,6 +26,12 @@ loop-seat-preserved g c =
       c.meet.ensures.book ∙ i.0,
       rw c.meet.ensures.book (took-more c.args.seats.items h _ _ _ _ _ _ _ _ x c.requires.order i.1 c.in-Some.ensures.steps.0 c.in-Some.ensures.steps.1 next more stands begins),
     )
+
+pub returns-clause-opening : goal.returns-clause-opening
+returns-clause-opening g c =
+    let b = c.loop-seat.book in
+    let o : b.opening ≡ g.N.Desk.opening = ap (λ x. x.opening) c.loop-seat.invariant.0 ∙ c.book.invariant.1 in
+    subst (λ (x : MapData). IfSome (g.O.Opening.kept c.into_closed.result.opening) (λ (m : MapData). m ≡ x)) o c.into_closed.ensures.opening
 
 pub returns-clause-history : goal.returns-clause-history
 returns-clause-history g c =

@@ -1,5 +1,0 @@
-use Rattle.std.proofs.Common.{rules}
-use Rattle.crush_editor.proofs.book.Book.opening.Goals as goal
-
-pub returns : goal.returns
-returns g c = search rules

@@ -1,0 +1,101 @@
+//! How often the calls that read, test and set a weight by a guide ask the guide, each by itself.
+
+ghost use Rattle.std.specs.Prelude.{◌≡◌};
+ghost use Rattle.crush_table.specs.Forest.{rows_of};
+
+use super::asked::{Asked, has_item, is_held};
+use super::asked_changes::copy_of;
+use super::items::{bucket, bucket_item, device, device_item};
+use crush_tree::Forest;
+use crush_units::{BucketId, DeviceId, ItemId, Weight};
+use std::alloc::Global;
+use std::process::Abort;
+
+/// Whether the item weighs so much, with so many questions at most.
+fn weighs(guide: &Asked<'_>, id: &ItemId, weight: Weight, most: u32) -> bool {
+    guide.forest.weight_by(guide, *id) == Some(weight) && guide.was_asked(most)
+}
+
+/// Sets the weight of a placed device that fits. Whether that is done, with so many questions at
+/// most for the test and so many again for the change.
+fn set_one(
+    guide: &Asked<'_>,
+    forest: &mut Forest<Global>,
+    device: DeviceId,
+    weight: Weight,
+    most: u32,
+) -> bool
+    requires { rows_of forest.old ≡ rows_of guide.now.forest.now }
+{
+    forest.recall_invariant();
+    if !weight.is_device_weight() {
+        return false;
+    }
+    if !is_held(forest, &ItemId::Device(device)) {
+        return false;
+    }
+    let total = forest.total();
+    if !forest.fits_weight_by(guide, device, weight, total) {
+        return false;
+    }
+    if !guide.was_asked(most) {
+        return false;
+    }
+    forest.set_weight_by(guide, device, weight);
+    guide.was_asked(most)
+}
+
+/// Sets the weight of each device below a bucket, which fits. Whether that is done, with so many
+/// questions at most for the test and so many again for the change.
+fn set_all(
+    guide: &Asked<'_>,
+    forest: &mut Forest<Global>,
+    bucket: BucketId,
+    weight: Weight,
+    most: u32,
+) -> bool
+    requires { rows_of forest.old ≡ rows_of guide.now.forest.now }
+{
+    forest.recall_invariant();
+    if !weight.is_device_weight() {
+        return false;
+    }
+    if !has_item(forest, &ItemId::Bucket(bucket)) {
+        return false;
+    }
+    let total = forest.total();
+    if !forest.fits_subtree_by(guide, bucket, weight, total) {
+        return false;
+    }
+    if !guide.was_asked(most) {
+        return false;
+    }
+    forest.set_subtree_by(guide, bucket, weight);
+    guide.was_asked(most)
+}
+
+/// Whether a device gets a weight, and what is above it then weighs so much.
+fn sets_one(rt: &impl Abort, guide: &Asked<'_>, id: DeviceId, total: u64, most: u32) -> bool {
+    let mut forest = copy_of(rt, guide);
+    let is_set = set_one(guide, &mut forest, id, Weight::from_units(1), most);
+    let is_summed = forest.total() == total;
+    drop(forest);
+    is_set && is_summed
+}
+
+/// Whether all devices of a bucket get a weight, and what is above it then weighs so much.
+fn sets_all(rt: &impl Abort, guide: &Asked<'_>, id: BucketId, total: u64, most: u32) -> bool {
+    let mut forest = copy_of(rt, guide);
+    let is_set = set_all(guide, &mut forest, id, Weight::from_units(1), most);
+    let is_summed = forest.total() == total;
+    drop(forest);
+    is_set && is_summed
+}
+
+/// Whether osd.0, which is 2 deep, and h1, which is 1 deep, are asked for 3 and 2 times at most.
+pub(super) fn weights_ask(rt: &impl Abort, guide: &Asked<'_>) -> bool {
+    weighs(guide, &device_item(rt, 0), Weight::from_units(65536), 3)
+        && weighs(guide, &bucket_item(rt, 2), Weight::from_units(131072), 2)
+        && sets_one(rt, guide, device(rt, 0), 98305, 3)
+        && sets_all(rt, guide, bucket(rt, 2), 32770, 2)
+}

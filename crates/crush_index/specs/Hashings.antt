@@ -1,0 +1,42 @@
+-- How an index hashes: each of its tables by the hashing that it was made with.
+use Rattle.std.specs.Prelude.{◌≡◌}
+use Rattle.indexmap.specs.IndexMap.{hasher_of}
+use Rattle.indexmap.specs.IndexSet.{hasher_of as set_hasher_of}
+use Rattle.crush_index.specs.NumberedTold.{numbered_hashing}
+use Rattle.crush_index.specs.SlotsTold.{slots_hashing}
+use Rattle.crush_index.specs.declared.hashing.Hashing.{Hashing}
+use Rattle.crush_index.specs.declared.index.Index.{Index}
+use Rattle.crush_index.specs.declared.names.Names.{Names}
+use Rattle.crush_index.specs.declared.places.Places.{Places}
+use Rattle.crush_index.specs.declared.used.UsedIds.{UsedIds}
+
+-- how names and used ids are hashed
+abbrev pub names_hashing : Names → Hashing
+names_hashing names = hasher_of names.ids
+
+abbrev pub used_hashing : UsedIds → Hashing
+used_hashing used = set_hasher_of used.far
+
+-- how the numbers of devices and of buckets are
+pub record PlacesHashings : Type 0 where
+  pub devices : Hashing
+  pub buckets : Hashing
+
+abbrev pub places_hashings : Places → PlacesHashings
+places_hashings places = record { devices = numbered_hashing places.devices; buckets = slots_hashing places.slots }
+
+-- how all tables of an index are
+pub record Hashings : Type 0 where
+  pub names : Hashing
+  pub places : PlacesHashings
+  pub used : Hashing
+
+abbrev pub hashings : Index → Hashings
+hashings index = record { names = names_hashing index.names; places = places_hashings index.places; used = used_hashing index.used }
+
+-- HASHED: each table of an index hashes so
+abbrev pub ArePlacesHashed : Hashing → Places → Type 0
+ArePlacesHashed h places = places_hashings places ≡ record { devices = h; buckets = h }
+
+abbrev pub IsHashed : Hashing → Index → Type 0
+IsHashed h index = hashings index ≡ record { names = h; places = record { devices = h; buckets = h }; used = h }

@@ -1,0 +1,48 @@
+-- What is told of slots, and how they change.
+use Rattle.std.specs.Prelude.{◌≡◌, ◌<◌, ◌≤◌, ◌==◌, ℕ, Option, if◌then◌else◌, length}
+use Rattle.crush_table.specs.Columns.{exchange_id}
+use Rattle.crush_index.specs.NumberedTold.{told_at, numbered_hashing}
+use Rattle.crush_index.specs.SlotsKept.{slot_in, kept_of, IsWithin}
+use Rattle.crush_index.specs.declared.hashing.Hashing.{Hashing}
+use Rattle.crush_index.specs.declared.slot.Kept.{Kept}
+use Rattle.crush_index.specs.declared.slot.Slot.{Slot}
+use Rattle.crush_index.specs.declared.slots.Slots.{Slots}
+
+-- a slot, and how many there are
+abbrev pub slot_at : Slots → ℕ → Slot
+slot_at slots s = slot_in slots.slots.items s
+
+abbrev pub count : Slots → ℕ
+count slots = length slots.slots.items
+
+-- the slot of a bucket, and what is kept of the bucket
+abbrev pub slot_told : Slots → ℕ → Option ℕ
+slot_told slots b = told_at slots.numbers b
+
+abbrev pub kept_told : Slots → ℕ → Option Kept
+kept_told slots b = kept_of slots.slots.items (slot_told slots b)
+
+-- how buckets far from 0 are hashed
+abbrev pub slots_hashing : Slots → Hashing
+slots_hashing slots = numbered_hashing slots.numbers
+
+-- slots have come, of which nothing is kept; each that was there and each bucket is as before
+pub record Grows (old new : Slots) : Type 0 where
+  pub more : count old ≤ count new
+  pub bucket : (s : ℕ) → s < count old → (slot_at new s).bucket ≡ (slot_at old s).bucket
+  pub kept : (s : ℕ) → (slot_at new s).kept ≡ (slot_at old s).kept
+  pub told : (b : ℕ) → kept_told new b ≡ kept_told old b
+
+-- this is kept of the bucket of one slot; all else is as before
+pub record Keeps (slot : ℕ) (kept : Option Kept) (old new : Slots) : Type 0 where
+  pub same : count new ≡ count old
+  pub bucket : (s : ℕ) → (slot_at new s).bucket ≡ (slot_at old s).bucket
+  pub within : (n : ℕ) → IsWithin n kept → ((s : ℕ) → IsWithin n (slot_at old s).kept) → (s : ℕ) → IsWithin n (slot_at new s).kept
+  pub told : (b : ℕ) → kept_told new b ≡ (if (slot_at old slot).bucket == b then kept else kept_told old b)
+
+-- two slots have exchanged their buckets, of which the same is kept
+pub record Exchanges (a b : ℕ) (old new : Slots) : Type 0 where
+  pub same : count new ≡ count old
+  pub bucket : (s : ℕ) → s < count old → (slot_at new s).bucket ≡ exchange_id (slot_at old a).bucket (slot_at old b).bucket (slot_at old s).bucket
+  pub within : (n : ℕ) → ((s : ℕ) → IsWithin n (slot_at old s).kept) → (s : ℕ) → IsWithin n (slot_at new s).kept
+  pub told : (c : ℕ) → kept_told new c ≡ kept_told old c

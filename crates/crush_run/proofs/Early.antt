@@ -1,0 +1,100 @@
+-- Faults that come before there is a history, and what is noted of them.
+use Rattle.std.proofs.Common.{◌≡◌, ℕ, Bool, List, [], Option, Result, Ok, Err}
+use Rattle.crush_calls.specs.History.{EntryData}
+use Rattle.crush_options.specs.declared.asked.Mode.{Mode}
+use Rattle.crush_run.specs.declared.fault.RunFault.{RunFault}
+use Rattle.crush_run.specs.declared.fault.RunFault.TheVariants as run
+use Rattle.crush_run.specs.Notes.{IsFaultNoted, IsNoted, NotesRefused}
+use Rattle.crush_run.specs.Run.{IsStrict}
+use Rattle.crush_run.specs.Stages.{IsEarlyFault, IsInputFault, IsNoJob, IsReadFault, IsScriptsFault}
+
+-- such a fault is none of a strict run
+strict_of_early : (X : Type 0) (strict : Bool) (h : List EntryData) (f : RunFault) → IsEarlyFault f → IsStrict {X = X} strict h (Err f)
+strict_of_early X strict h (run.Job j) early = tt
+strict_of_early X strict h run.Read early = tt
+strict_of_early X strict h run.Write early = absurd early
+strict_of_early X strict h run.Memory early = tt
+strict_of_early X strict h run.Thread early = tt
+strict_of_early X strict h (run.Refused n) early = absurd early
+strict_of_early X strict h (run.Since s) early = tt
+
+pub early_strict : {X : Type 0} (strict : Bool) (h : List EntryData) (r : Result X RunFault) (f : RunFault) → r ≡ Err f → IsEarlyFault f → IsStrict strict h r
+early_strict {X = X} strict h r f is early = rw is (strict_of_early X strict h f early)
+
+-- nor are there refused entries to be noted
+refused_of_early : (X : Type 0) (mode : Mode) (names : List (List ℕ)) (h : List EntryData) (f : RunFault) (notes : List ℕ) → IsEarlyFault f → NotesRefused {X = X} mode names h (Err f) notes
+refused_of_early X mode names h (run.Job j) notes early = tt
+refused_of_early X mode names h run.Read notes early = tt
+refused_of_early X mode names h run.Write notes early = absurd early
+refused_of_early X mode names h run.Memory notes early = tt
+refused_of_early X mode names h run.Thread notes early = tt
+refused_of_early X mode names h (run.Refused n) notes early = absurd early
+refused_of_early X mode names h (run.Since s) notes early = tt
+
+pub early_refused : {X : Type 0} (mode : Mode) (names : List (List ℕ)) (h : List EntryData) (r : Result X RunFault) (f : RunFault) (notes : List ℕ) → r ≡ Err f → IsEarlyFault f → NotesRefused mode names h r notes
+early_refused {X = X} mode names h r f notes is early = rw is (refused_of_early X mode names h f notes early)
+
+-- of a reader's fault, and of the scripts', nothing is noted
+noted_of_input : (explain : Bool) (all : Option (List ℕ)) (f : RunFault) (notes : List ℕ) → IsInputFault f → notes ≡ [] → IsFaultNoted explain all f notes
+noted_of_input explain all (run.Job j) notes h none = absurd h
+noted_of_input explain all run.Read notes h none = none
+noted_of_input explain all run.Write notes h none = absurd h
+noted_of_input explain all run.Memory notes h none = none
+noted_of_input explain all run.Thread notes h none = absurd h
+noted_of_input explain all (run.Refused n) notes h none = absurd h
+noted_of_input explain all (run.Since s) notes h none = absurd h
+
+pub input_noted : {X : Type 0} (explain : Bool) (all : Option (List ℕ)) (r : Result X RunFault) (f : RunFault) (notes : List ℕ) → r ≡ Err f → IsInputFault f → notes ≡ [] → IsNoted explain all r notes
+input_noted explain all r f notes is h none = rw is (noted_of_input explain all f notes h none)
+
+pub stopped_of_input : (explain : Bool) (all : Option (List ℕ)) (stopped f : RunFault) (notes : List ℕ) → stopped ≡ f → IsInputFault f → notes ≡ [] → IsFaultNoted explain all stopped notes
+stopped_of_input explain all stopped f notes is h none = rw is (noted_of_input explain all f notes h none)
+
+noted_of_scripts : (explain in_turn : Bool) (all : Option (List ℕ)) (f : RunFault) (notes : List ℕ) → IsScriptsFault in_turn f → notes ≡ [] → IsFaultNoted explain all f notes
+noted_of_scripts explain in_turn all (run.Job j) notes h none = absurd h
+noted_of_scripts explain in_turn all run.Read notes h none = absurd h
+noted_of_scripts explain in_turn all run.Write notes h none = absurd h
+noted_of_scripts explain in_turn all run.Memory notes h none = none
+noted_of_scripts explain in_turn all run.Thread notes h none = none
+noted_of_scripts explain in_turn all (run.Refused n) notes h none = absurd h
+noted_of_scripts explain in_turn all (run.Since s) notes h none = absurd h
+
+pub scripts_noted : {X : Type 0} (explain in_turn : Bool) (all : Option (List ℕ)) (r : Result X RunFault) (f : RunFault) (notes : List ℕ) → r ≡ Err f → IsScriptsFault in_turn f → notes ≡ [] → IsNoted explain all r notes
+scripts_noted explain in_turn all r f notes is h none = rw is (noted_of_scripts explain in_turn all f notes h none)
+
+-- faults that come before there is a history
+pub early_of_input : (f : RunFault) → IsInputFault f → IsEarlyFault f
+early_of_input (run.Job j) h = absurd h
+early_of_input run.Read h = tt
+early_of_input run.Write h = absurd h
+early_of_input run.Memory h = tt
+early_of_input run.Thread h = absurd h
+early_of_input (run.Refused n) h = absurd h
+early_of_input (run.Since s) h = absurd h
+
+pub early_of_scripts : (in_turn : Bool) (f : RunFault) → IsScriptsFault in_turn f → IsEarlyFault f
+early_of_scripts in_turn (run.Job j) h = absurd h
+early_of_scripts in_turn run.Read h = absurd h
+early_of_scripts in_turn run.Write h = absurd h
+early_of_scripts in_turn run.Memory h = tt
+early_of_scripts in_turn run.Thread h = tt
+early_of_scripts in_turn (run.Refused n) h = absurd h
+early_of_scripts in_turn (run.Since s) h = absurd h
+
+pub early_of_no_job : (all : Option (List ℕ)) (f : RunFault) → IsNoJob all f → IsEarlyFault f
+early_of_no_job all (run.Job j) h = tt
+early_of_no_job all run.Read h = absurd h
+early_of_no_job all run.Write h = absurd h
+early_of_no_job all run.Memory h = tt
+early_of_no_job all run.Thread h = absurd h
+early_of_no_job all (run.Refused n) h = absurd h
+early_of_no_job all (run.Since s) h = absurd h
+
+pub early_of_read : (all : Option (List ℕ)) (f : RunFault) → IsReadFault all f → IsEarlyFault f
+early_of_read all (run.Job j) h = tt
+early_of_read all run.Read h = tt
+early_of_read all run.Write h = absurd h
+early_of_read all run.Memory h = tt
+early_of_read all run.Thread h = absurd h
+early_of_read all (run.Refused n) h = absurd h
+early_of_read all (run.Since s) h = absurd h

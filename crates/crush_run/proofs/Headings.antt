@@ -1,0 +1,18 @@
+-- Scripts without their calls.
+use Rattle.std.proofs.Common.{◌≡◌, ℕ, ◌+◌, ◌<◌, List, [], ◌∷◌, ◌++◌, length, take, get_or, sym, ap, ◌∙◌}
+use Rattle.std.proofs.lemmas.List.{map_push, take_more}
+use Rattle.crush_calls.specs.HistoryText.{names_of}
+use Rattle.crush_calls.specs.Script.{ScriptData, script_data, scripts_data}
+use Rattle.crush_calls.specs.declared.script.Script.{Script}
+
+-- one script more has one name more
+names-push : (ys : List Script) (y : Script) → names_of (scripts_data (ys ++ y ∷ [])) ≡ names_of (scripts_data ys) ++ y.name ∷ []
+names-push ys y = ap names_of (map_push script_data ys y) ∙ map_push (λ (x : ScriptData). x.name) (scripts_data ys) (script_data y)
+
+pub headings_push : (left xs : List Script) (i : ℕ) (s x : Script) → i < length xs → x ≡ get_or xs i x → s.name ≡ x.name
+    → names_of (scripts_data left) ≡ names_of (scripts_data (take i xs)) → names_of (scripts_data (left ++ s ∷ [])) ≡ names_of (scripts_data (take (i + 1) xs))
+headings_push left xs i s x below is named so_far =
+    names-push left s
+    ∙ (λ j. so_far j ++ (named ∙ ap (λ (y : Script). y.name) is) j ∷ [])
+    ∙ sym (names-push (take i xs) (get_or xs i x))
+    ∙ ap (λ ys. names_of (scripts_data ys)) (sym (take_more xs i x below))

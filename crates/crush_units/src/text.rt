@@ -1,0 +1,106 @@
+//! Text that stands inside its value while it is short, and in memory else.
+
+ghost use Rattle.std.specs.Prelude.{◌≡◌, ◌≤◌, ◌<◌, IfOk, IfErr, length};
+ghost use Rattle.std.specs.Str.{IsUtf8};
+ghost use Rattle.crush_units.specs.Text.{text_bytes};
+
+use crate::limits::LONGEST_SHORT_NAME;
+use std::alloc::{AllocError, Allocator};
+use std::marker::Model;
+use std::str;
+
+/// Up to [`LONGEST_SHORT_NAME`] bytes, with how many there are. Contracts see them.
+#[derive(Debug, Drop)]
+pub(crate) struct Short {
+    count: u8,
+    bytes: [u8; LONGEST_SHORT_NAME],
+}
+
+impl Model for Short {
+    ghost use Rattle.std.specs.Prelude.{List, ℕ, ◌≤◌, take};
+    ghost use Rattle.crush_units.specs.declared.limits.TheConstants.{LONGEST_SHORT_NAME};
+
+    ghost Value = { List ℕ };
+
+    ghost view = { λ short. take short.count short.bytes };
+
+    ghost invariant = { λ short. short.count ≤ LONGEST_SHORT_NAME };
+}
+
+impl Short {
+    /// These bytes, inside.
+    fn new(bytes: &[u8]) -> Short
+        requires { length bytes.now ≤ LONGEST_SHORT_NAME }
+        ensures { result ≡ bytes.now }
+    {
+        let count = bytes.len();
+        let mut inside = [0; LONGEST_SHORT_NAME];
+        inside[..count].copy_from_slice(bytes);
+        Short {
+            count: count as u8,
+            bytes: inside,
+        }
+    }
+
+    /// The bytes.
+    fn as_bytes(&self) -> &[u8]
+        ensures { result.now ≡ self.now }
+    {
+        &self.bytes[..self.count as usize]
+    }
+}
+
+/// A text: inside where it has up to [`LONGEST_SHORT_NAME`] bytes, and in memory where it has more.
+#[derive(Debug, Drop)]
+pub(crate) enum Text<A: Allocator> {
+    /// The bytes stand here.
+    Short(Short),
+    /// The bytes stand in memory.
+    Long(String<A>),
+}
+
+impl<A: Allocator> Text<A> {
+    /// The text of these bytes. An `Err` is want of memory for a text that doesn't stand inside.
+    pub(crate) fn new(alloc: A, bytes: &[u8]) -> Result<Text<A>, AllocError>
+        requires { IsUtf8 bytes.now }
+        ensures value { IfOk result (λ text. text_bytes text ≡ bytes.now) }
+        ensures inside { IfErr result (λ _. LONGEST_SHORT_NAME < length bytes.now) }
+    {
+        if bytes.len() <= LONGEST_SHORT_NAME {
+            return Ok(Text::Short(Short::new(bytes)));
+        }
+        Ok(Text::Long(String::from_str(alloc, utf8(bytes))?))
+    }
+
+    /// The text's bytes.
+    pub(crate) fn as_bytes(&self) -> &[u8]
+        ensures { result.now ≡ text_bytes self.now }
+    {
+        match self {
+            Text::Short(short) => short.as_bytes(),
+            Text::Long(text) => text.as_bytes(),
+        }
+    }
+
+    /// The text as `str`.
+    pub(crate) fn as_str(&self) -> &str
+        requires { IsUtf8 (text_bytes self.now) }
+        ensures { result.now ≡ text_bytes self.now }
+    {
+        match self {
+            Text::Short(short) => utf8(short.as_bytes()),
+            Text::Long(text) => text.as_str(),
+        }
+    }
+}
+
+/// Bytes that are known to be text, as `str`.
+fn utf8(bytes: &[u8]) -> &str
+    requires { IsUtf8 bytes.now }
+    ensures { result.now ≡ bytes.now }
+{
+    let Ok(text) = str::from_utf8(bytes) else {
+        unreachable!()
+    };
+    text
+}
