@@ -9,6 +9,11 @@ history may be another in each run: there the same calls of each operator, in or
 A worker that is out of memory lets the others finish: the run waits for them all, so it has to end by itself, and
 at its end the library looks whether a thread is left: in `_exit`, since the program ends by that.
 
+Which line it is is known, too: `no thread` where the request was one for a thread to be started, else `out of
+memory`. A request is for a thread if the first thread makes it in `pthread_create`, or behind the start of a thread
+and before that of the last, or before the start of the first as late as that. And each thread of a job is once not
+started: `pthread_create` fails.
+
 Then the requests are counted that the thread of an operator makes for calls which take no memory of a map, and for
 as many calls that are as long and are refused by a name that isn't there. Each is copied and kept alike, so that
 there have to be as many.
@@ -28,12 +33,14 @@ import sys
 import tempfile
 
 EXAMPLES = pathlib.Path(__file__).resolve().parent.parent / "examples"
-NO_MEMORY = {b"crushedit: out of memory\n", b"crushedit: no thread\n"}
+NO_MEMORY, NO_THREAD = b"crushedit: out of memory\n", b"crushedit: no thread\n"
 LIBRARY = r"""
 #define _GNU_SOURCE
 #include <dirent.h>
+#include <dlfcn.h>
 #include <errno.h>
 #include <fcntl.h>
+#include <pthread.h>
 #include <stdatomic.h>
 #include <stdio.h>
 #include <stdlib.h>
@@ -45,29 +52,51 @@ extern void *__libc_calloc(size_t count, size_t size);
 extern void *__libc_realloc(void *block, size_t size);
 extern void *__libc_memalign(size_t align, size_t size);
 
+typedef int create(pthread_t *, const pthread_attr_t *, void *(*)(void *), void *);
+
 static atomic_long asked;
-static long refused;
-static const char *told, *left, *counted;
+static long refused, not_started;
+static const char *told, *left, *counted, *starts;
+static create *create_thread;
+static pthread_t first;
+/* Of the first thread: how many requests it made but in `pthread_create`, whether it is there, how many threads it was
+   to start, and how many requests it had made before each. */
+static long own, started, before[64];
+static int is_starting;
+
+static long number_of(const char *name) {
+    const char *number = getenv(name);
+    return number ? atol(number) : 0;
+}
 
 __attribute__((constructor)) static void begin(void) {
     told = getenv("REFUSED_FILE");
     left = getenv("LEFT_FILE");
     counted = getenv("COUNTED_FILE");
-    const char *number = getenv("REFUSED_NUMBER");
+    starts = getenv("STARTS_FILE");
+    create_thread = (create *)dlsym(RTLD_NEXT, "pthread_create");
+    first = pthread_self();
+    own = 0;
     atomic_store(&asked, 0);
-    refused = number ? atol(number) : 0;
+    not_started = number_of("THREAD_NUMBER");
+    refused = number_of("REFUSED_NUMBER");
 }
 
-static void tell(const char *name) { close(open(name, O_CREAT | O_WRONLY, 0600)); }
-
-static void tell_number(const char *name, long number) {
+static void tell(const char *name, const char *what, long one, long other) {
     int file = open(name, O_CREAT | O_TRUNC | O_WRONLY, 0600);
-    dprintf(file, "%ld", number);
+    dprintf(file, "%s %ld %ld", what, one, other);
+    close(file);
+}
+
+static void tell_starts(void) {
+    int file = open(starts, O_CREAT | O_TRUNC | O_WRONLY, 0600);
+    for (long i = 0; i < started && i < 64; i++)
+        dprintf(file, "%ld ", before[i]);
     close(file);
 }
 
 /* Where the program ends otherwise, this is told: else nothing would be looked at. */
-__attribute__((destructor)) static void end(void) { tell(left); }
+__attribute__((destructor)) static void end(void) { tell(left, "other", 0, 0); }
 
 static int threads(void) {
     int count = 0;
@@ -83,26 +112,42 @@ static int threads(void) {
 /* The program's end, where it is told if a thread is left. One that was joined may be there for a moment more. */
 void _exit(int status) {
     refused = 0;
-    tell_number(counted, atomic_load(&asked));
+    tell(counted, "", atomic_load(&asked), 0);
+    tell_starts();
     int wait = 0;
     while (threads() != 1 && wait++ < 1000)
         usleep(1000);
     if (threads() != 1)
-        tell(left);
+        tell(left, "thread", 0, 0);
     syscall(SYS_exit_group, status);
     __builtin_unreachable();
 }
 
-/* Whether this request is the one to be refused; then the file is made by which that is told. Where none is to be,
+/* Whether this request is the one to be refused; then the file is made by which it is told whose it was. Where none is to be,
    those of other threads than the first are counted. */
 static int is_refused(void) {
-    if (refused == 0 || (refused < 0 && syscall(SYS_gettid) == getpid()))
+    int is_first = pthread_equal(pthread_self(), first);
+    own += is_first && !is_starting;
+    if (refused == 0 || (refused < 0 && is_first))
         return 0;
     if (atomic_fetch_add(&asked, 1) + 1 != refused)
         return 0;
-    tell(told);
+    tell(told, !is_first ? "operator" : is_starting ? "start" : "first", own, started);
     errno = ENOMEM;
     return 1;
+}
+
+int pthread_create(pthread_t *thread, const pthread_attr_t *with, void *(*run)(void *), void *of) {
+    if (started < 64)
+        before[started] = own;
+    if (++started == not_started) {
+        tell(told, "start", own, started);
+        return EAGAIN;
+    }
+    is_starting = 1;
+    int status = create_thread(thread, with, run, of);
+    is_starting = 0;
+    return status;
 }
 
 void *malloc(size_t size) { return is_refused() ? NULL : __libc_malloc(size); }
@@ -145,13 +190,16 @@ class Ending(Exception):
 
 
 def files_in(folder):
-    """By which the library tells what it did: a request refused, a thread left, how many requests there were."""
-    return {name: pathlib.Path(folder, name) for name in ("REFUSED_FILE", "LEFT_FILE", "COUNTED_FILE")}
+    """By which the library tells what it did: a request refused, a thread left, how many requests there were, and of
+    the first thread how many before each thread that it started."""
+    names = "REFUSED_FILE", "LEFT_FILE", "COUNTED_FILE", "STARTS_FILE"
+    return {name: pathlib.Path(folder, name) for name in names}
 
 
-def preloaded(command, library, files, job, number):
-    """A run in which this request is refused. 0 refuses none; -1 neither, and counts those of the operators."""
-    environment = {"LD_PRELOAD": library, "REFUSED_NUMBER": number, **files}
+def preloaded(command, library, files, job, number, thread=0):
+    """A run in which this request is refused. 0 refuses none; -1 neither, and counts those of the operators. And this
+    thread isn't started, of those from 1 on."""
+    environment = {"LD_PRELOAD": library, "REFUSED_NUMBER": number, "THREAD_NUMBER": thread, **files}
     environment = {name: str(value) for name, value in environment.items()}
     return subprocess.run(command, input=job, capture_output=True, env=environment, timeout=60)
 
@@ -164,38 +212,58 @@ class Refuser:
         self.name, self.job = " ".join([job.name, *flags]), job.read_bytes()
         self.is_at_once = self.job.count(b"\n%operator") > 1 and not flags
         self.files = files_in(folder)
-        self.told, self.left, _ = self.files.values()
+        self.told, self.left, _, self.starts = self.files.values()
+        self.whole, _ = self.run(0)
+        self.before = [int(number) for number in self.starts.read_text().split()]
 
-    def run(self, number):
-        """The run in which this request is refused, and whether there was such a request; 0 refuses none."""
+    def run(self, number, thread=0):
+        """The run in which this request is refused, or this thread not started, and whose the request was, if there
+        was one; 0 refuses none."""
         self.told.unlink(missing_ok=True)
-        run = preloaded(self.command, self.library, self.files, self.job, number)
-        return run, self.told.exists()
+        run = preloaded(self.command, self.library, self.files, self.job, number, thread)
+        return run, self.told.read_text().split() if self.told.exists() else None
 
-    def wants(self, run, number, whole):
-        """Whether the run in which this request was refused ended out of memory; else it has to be the whole."""
+    def lines(self, told):
+        """The lines that may be told of this request: of another's than a thread's `out of memory` alone. It is known
+        how many are for a thread before its start where there are two to be compared."""
+        who, own, started = told[0], int(told[1]), int(told[2])
+        if who == "operator" or who == "first" and started == len(self.before):
+            return [NO_MEMORY]
+        if who == "start" or started > 0:
+            return [NO_THREAD]
+        if len(self.before) == 1:
+            return [NO_MEMORY, NO_THREAD]
+        is_for_thread = own > 2 * self.before[0] - self.before[1]
+        return [NO_THREAD if is_for_thread else NO_MEMORY]
+
+    def wants(self, run, told, what):
+        """Whether the run in which this was refused ended for want of memory; else it has to be the whole."""
         if self.left.exists():
-            raise Ending(f"{self.name}: request {number} refused: a thread is left")
-        if run.returncode == 4 and not run.stdout and run.stderr in NO_MEMORY:
+            raise Ending(f"{self.name}: {what}: a thread is left")
+        if run.returncode == 4 and not run.stdout and run.stderr in self.lines(told):
             return True
-        if not is_same(run, whole, self.is_at_once):
-            raise Ending(f"{self.name}: request {number} refused: status {run.returncode}, "
+        if not is_same(run, self.whole, self.is_at_once):
+            raise Ending(f"{self.name}: {what}, of {' '.join(told)}: status {run.returncode}, "
                          f"{len(run.stdout)} bytes written, {run.stderr!r}")
         return False
 
     def refuse_each(self):
-        """How many requests were refused, and how many of these runs ended out of memory."""
-        whole, _ = self.run(0)
+        """How many requests were refused, how many of these runs ended for want of memory, and how many threads were
+        not started, whose runs all have to."""
         number = wanting = 0
         while True:
-            run, was_refused = self.run(number + 1)
-            if not was_refused:
+            run, told = self.run(number + 1)
+            if told is None:
                 break
             number += 1
-            wanting += self.wants(run, number, whole)
+            wanting += self.wants(run, told, f"request {number} refused")
         if number == 0:
             raise Ending(f"{self.name}: no request was refused")
-        return number, wanting
+        for thread in range(1, len(self.before) + 1):
+            run, told = self.run(0, thread)
+            if not self.wants(run, told, f"thread {thread} not started"):
+                raise Ending(f"{self.name}: thread {thread} not started: the run is the whole")
+        return number, wanting, len(self.before)
 
 
 def refuse_each(program, library, job, flags):
@@ -247,7 +315,7 @@ class Counter:
         asked = [told for told in replies[len(before):] if told.startswith(reply)]
         if run.returncode or len(asked) != len(calls) or len(replies) != len(before) + len(calls):
             raise Ending(f"{calls}: status {run.returncode}, {replies}")
-        return int(self.files["COUNTED_FILE"].read_text())
+        return int(self.files["COUNTED_FILE"].read_text().split()[0])
 
 
 def take_none(program, library):
@@ -278,9 +346,9 @@ def main():
         }
         try:
             for mode, cases in modes.items():
-                refused, wanting = (sum(column) for column in zip(*(case.result() for case in cases)))
+                refused, wanting, threads = (sum(column) for column in zip(*(case.result() for case in cases)))
                 print(f"{len(jobs)} jobs {mode}: {refused} requests refused; {wanting} runs ended with status 4, "
-                      f"{refused - wanting} as without a refusal", flush=True)
+                      f"{refused - wanting} as without a refusal; {threads} threads not started", flush=True)
             print(f"{take_none(program, library)} kinds of call that take no memory of a map: none asks for any")
         except Ending as ending:
             pool.shutdown(cancel_futures=True)
