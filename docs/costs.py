@@ -7,7 +7,7 @@
 With --watch, as long as that process lasts or until it is ended, LOG has a line for each crate, `NAME WHAT SECONDS`:
 the processor seconds of the provers that the process started, by what they are at: `proof`, `tests` or `edits`. They
 are looked at each second, so a prover's last second is missed. Without it the table between the two comments
-of docs/WORKING.md is made of LOG: a row for each crate that costs much, and one for all others.
+of docs/WORKING.md is made of LOG: a row for each crate, and one of sums.
 """
 import collections
 import itertools
@@ -20,8 +20,6 @@ import time
 PAGE = pathlib.Path(__file__).resolve().parent / "WORKING.md"
 BEGIN, END = "<!-- made by docs/costs.py -->\n", "<!-- end -->\n"
 WHATS = ("proof", "tests", "edits")
-# The share of all from which on a crate has a row of its own.
-LEAST = 0.05
 PROVER = "rattle"
 TICKS = os.sysconf("SC_CLK_TCK")
 
@@ -79,15 +77,9 @@ def table(log):
     total = collections.Counter()
     for row in sums.values():
         total.update(row)
-    rows, others, count = [], collections.Counter(), 0
-    for name, row in sorted(sums.items(), key=lambda row: -sum(row[1].values())):
-        if sum(row.values()) >= LEAST * sum(total.values()):
-            rows.append((name, row))
-        else:
-            others.update(row)
-            count += 1
+    rows = sorted(sums.items(), key=lambda row: -sum(row[1].values()))
     lines = [f"{'crate':<22}{'proof':>7}{'tests':>7}{'edits':>7}{'all':>7}"]
-    for name, row in [*rows, *([(f"{count}_others", others)] if count else []), ("all", total)]:
+    for name, row in [*rows, ("all", total)]:
         lines.append(f"{name:<22}" + "".join(f"{row[what] or '':>7}" for what in WHATS) + f"{sum(row.values()):>7}")
     return "```\n" + "".join(line + "\n" for line in lines) + "```\n"
 

@@ -21,7 +21,7 @@ use crush_bytes::{WriteFault, put};
 use crush_map::CrushMap;
 use crush_units::ItemId;
 use ids::ids_of_both;
-use parts::push_line;
+use parts::{Compared, push_line};
 use seen::{class_ids_of, look_up};
 use settings::push_settings;
 use std::alloc::{AllocError, Allocator, Global};
@@ -118,17 +118,12 @@ fn push_item<A: Allocator, B: Allocator>(
         → OnOk result (out.new.items ≡ out.old.items
         ++ id_line (told old.now.setting t) (told new.now.setting u) id.now) }
 {
-    let before = look_up(old, *id);
-    let after = look_up(new, *id);
-    let same = same_class_ids(class_ids_of(old, *id), class_ids_of(new, *id));
-    push_line(
-        alloc,
-        old.setting(),
-        new.setting(),
-        *id,
-        &before,
-        &after,
-        same,
-        out,
-    )
+    let item = Compared {
+        old: old.setting(),
+        new: new.setting(),
+        before: look_up(old, *id),
+        after: look_up(new, *id),
+        same_class_ids: same_class_ids(class_ids_of(old, *id), class_ids_of(new, *id)),
+    };
+    push_line(alloc, *id, &item, out)
 }

@@ -17,28 +17,44 @@ use crush_tree::View;
 use crush_units::ItemId;
 use std::alloc::{AllocError, Global};
 
-/// The line of an item, by what both maps say of its id. Nothing where they say the same.
+/// What two maps say of an id.
+#[derive(Clone, Copy)]
+pub(crate) struct Compared<'a> {
+    /// What surrounds the items of the map before.
+    pub old: &'a Setting,
+    /// What surrounds those of the map after.
+    pub new: &'a Setting,
+    /// The item before, if there is one.
+    pub before: Option<Seen<'a>>,
+    /// The item after, if there is one.
+    pub after: Option<Seen<'a>>,
+    /// Whether both maps give it the same class ids.
+    pub same_class_ids: bool,
+}
+
+/// The line of an item. Nothing where both maps say the same of its id.
 pub(crate) fn push_line(
     alloc: Global,
-    old: &Setting,
-    new: &Setting,
     id: ItemId,
-    before: &Option<Seen<'_>>,
-    after: &Option<Seen<'_>>,
-    same_class_ids: bool,
+    item: &Compared<'_>,
     out: &mut Vec<u8>,
 ) -> Result<(), AllocError>
     ensures { OnOk result (out.new.items ≡ out.old.items
-        ++ item_line old.now new.now id (option_map seen_data before.now)
-        (option_map seen_data after.now) same_class_ids) }
+        ++ item_line item.now.old.now item.now.new.now id (option_map seen_data item.now.before)
+        (option_map seen_data item.now.after) item.now.same_class_ids) }
 {
     let mut parts = Vec::new(alloc);
-    push_parts(alloc, old, new, before, after, same_class_ids, &mut parts)?;
+    push_parts(alloc, item, &mut parts)?;
     let told = parts.as_slice();
     if told.is_empty() {
         return Ok(());
     }
-    push_text(name_told(before, after), id, after_mark(told), out)?;
+    push_text(
+        name_told(&item.before, &item.after),
+        id,
+        after_mark(told),
+        out,
+    )?;
     Ok(())
 }
 
@@ -75,55 +91,51 @@ fn name_told<'a>(before: &'a Option<Seen<'_>>, after: &'a Option<Seen<'_>>) -> &
 /// What there is to tell of an item, each part behind a semicolon.
 fn push_parts(
     alloc: Global,
-    old: &Setting,
-    new: &Setting,
-    before: &Option<Seen<'_>>,
-    after: &Option<Seen<'_>>,
-    same_class_ids: bool,
+    item: &Compared<'_>,
     parts: &mut Vec<u8>,
 ) -> Result<(), AllocError>
     ensures { OnOk result (parts.new.items ≡ parts.old.items
-        ++ behind (all_parts old.now new.now (option_map seen_data before.now)
-        (option_map seen_data after.now) same_class_ids)) }
+        ++ behind (all_parts item.now.old.now item.now.new.now
+        (option_map seen_data item.now.before) (option_map seen_data item.now.after)
+        item.now.same_class_ids)) }
 {
-    match before {
-        None => match after {
+    match &item.before {
+        None => match &item.after {
             None => Ok(()),
             Some(after) => {
                 push_all(&[b"; made as ".as_slice()], parts)?;
-                push_whole(alloc, new, after, parts)
+                push_whole(alloc, item.new, after, parts)
             }
         },
-        Some(before) => match after {
+        Some(before) => match &item.after {
             None => {
                 push_all(&[b"; removed, was ".as_slice()], parts)?;
-                push_whole(alloc, old, before, parts)
+                push_whole(alloc, item.old, before, parts)
             }
-            Some(after) => { push_changes(alloc, old, new, before, after, same_class_ids, parts) }
+            Some(after) => push_changes(alloc, item, before, after, parts),
         },
     }
 }
 
-/// What is another of an item that both maps have.
+/// What is another of an item that both maps have, as this before and as that after.
 fn push_changes(
     alloc: Global,
-    old: &Setting,
-    new: &Setting,
+    item: &Compared<'_>,
     before: &Seen<'_>,
     after: &Seen<'_>,
-    same_class_ids: bool,
     parts: &mut Vec<u8>,
 ) -> Result<(), AllocError>
-    ensures { OnOk result (parts.new.items ≡ parts.old.items ++ behind
-        (changes old.now new.now (seen_data before.now) (seen_data after.now) same_class_ids)) }
+    ensures { OnOk result (parts.new.items ≡ parts.old.items
+        ++ behind (changes item.now.old.now item.now.new.now (seen_data before.now)
+        (seen_data after.now) item.now.same_class_ids)) }
 {
     push_name(&before.view, &after.view, parts)?;
-    push_type(old, new, &before.view, &after.view, parts)?;
+    push_type(item.old, item.new, &before.view, &after.view, parts)?;
     push_place(alloc, before, after, parts)?;
     push_weight(alloc, &before.view, &after.view, parts)?;
     push_class(&before.view, &after.view, parts)?;
     push_alg(&before.view, &after.view, parts)?;
-    push_class_ids(same_class_ids, parts)?;
+    push_class_ids(item.same_class_ids, parts)?;
     Ok(())
 }
 
