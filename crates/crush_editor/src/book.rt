@@ -104,11 +104,12 @@ impl<A: Allocator> Book<A, Unkept> {
         ensures table { result.table ≡ seat.table }
     {
         map.forest().recall_invariant();
+        let changes = 0;
         Book {
             opening: Unkept,
             map,
             history: Vec::new(alloc),
-            changes: 0,
+            changes,
             seat,
         }
     }
