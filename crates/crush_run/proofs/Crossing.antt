@@ -30,16 +30,16 @@ alloc_sent = search (sendable, crosses) depth 20
 module _ (R G N : RattleType) (g : Desk.Ghosts N.Denot) (l : Ledger.Ghosts N.Denot) (o : Opening.Ghosts Unkept.the_row.Denot) (a b c : NamedLft) where
   -- what a worker's closure owns: the handle, memory, the editor, the gate, the seat and the calls
   abbrev pub owned : List RattleType
-  owned = (shr_ref_field a (param 3 R) tt).row ∷ Global.the_row ∷ (shr_ref_field b (Editor.the_row (param 1 N) Unkept.the_row g l o) tt).row
-      ∷ (shr_ref_field c (param 2 G) tt).row ∷ Seat.the_row (param 1 N) g l ∷ Vec.the_row Call.the_row Global.the_row GlobalImpl.ghosts ∷ []
+  owned = (shr_ref_field a (param 2 R) tt).row ∷ Global.the_row ∷ (shr_ref_field b (Editor.the_row (param 0 N) Unkept.the_row g l o) tt).row
+      ∷ (shr_ref_field c (param 1 G) tt).row ∷ Seat.the_row (param 0 N) g l ∷ Vec.the_row Call.the_row Global.the_row GlobalImpl.ghosts ∷ []
 
-  editor_shared : IsSync (Editor.the_row (param 1 N) Unkept.the_row g l o)
-  editor_shared = unkept_editor_sync (param 1 N) g l o
+  editor_shared : IsSync (Editor.the_row (param 0 N) Unkept.the_row g l o)
+  editor_shared = unkept_editor_sync (param 0 N) g l o
 
   calls_sent : IsSend (Vec.the_row Call.the_row Global.the_row GlobalImpl.ghosts)
   calls_sent = search (call_send, sendable, crosses) depth 20
 
-  module _ (rt : IsSync (param 3 R)) (gate : IsSync (param 2 G)) where
+  module _ (rt : IsSync (param 2 R)) (gate : IsSync (param 1 G)) where
     -- each of them crosses threads
     owned_send : FieldsHave IsSend (parts owned)
     owned_send = (search (rt, sendable), (search (alloc_sent, sendable), (search (editor_shared, sendable), (search (gate, sendable), (search (seat_send, sendable), (search (calls_sent, sendable), tt))))))

@@ -8,8 +8,7 @@ ghost use Rattle.crush_run.specs.Stages.{IsAtOnceFault};
 
 use crate::fault::RunFault;
 use crate::gate::Gate;
-use crate::worker::Finished;
-use crate::workers::run_all;
+use crate::worker::{Crew, Finished};
 use crush_calls::Script;
 use crush_editor::{Closed, Desk, Editor, Seat, Started, Unkept};
 use crush_map::CrushMap;
@@ -64,7 +63,13 @@ fn operate<N: Desk + Send + Sync, G: Gate + Sync, R: Threads + Wait + Sync>(
     let Ok((editor, seats)) = Editor::<N, Unkept>::open_unkept(started, alloc) else {
         return Err(RunFault::Memory);
     };
-    let finished = run_all(rt, alloc, &editor, gate, seats, scripts)?;
+    let crew = Crew {
+        rt,
+        alloc,
+        editor: &editor,
+        gate,
+    };
+    let finished = crew.run_all(seats, scripts)?;
     let seats = gather(alloc, finished)?;
     Ok(editor.close(seats))
 }

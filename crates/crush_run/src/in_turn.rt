@@ -17,38 +17,50 @@ use crush_map::CrushMap;
 use std::alloc::Global;
 use std::sync::Wait;
 
-/// Makes the calls of one operator in order, each between the two calls of the gate, up to one for
-/// which memory lacks. Each is moved into its entry.
-fn run_script<G: Gate, R: Wait>(
-    rt: &R,
-    gauge: &MapGauge,
-    gate: &G,
-    book: &mut Book<Global, Unkept>,
-    operator: usize,
-    calls: Vec<Call>,
-) -> Result<(), RunFault>
-    requires operator { operator < MOST_OPERATORS }
-    requires gauge { book.old.table ≡ gauge.now.table.shared.table_id }
-    ensures table { book.new.table ≡ book.old.table }
-    ensures operators { OnOk result ((n : ℕ) → operator < n → AreOf n book.old.history
-        → AreOf n book.new.history) }
-    ensures entries { OnOk result ((s : SettingData) (t : List Row) → MapStands book.old.map s t
-        → let h = turn s (behind t book.old.history) operator calls.items in
-        (book.new.history ≡ book.old.history ++ h)
-        × MapStands book.new.map s (counted_after s (behind t book.old.history) h).table) }
-    ensures fault { IfErr result (λ fault. fault ≡ RunFault.Memory) }
-{
-    let mut number = 0;
-    for call in calls {
-        gate.before(rt, operator, number);
-        let outcome = book.commit_copied(gauge, operator, call);
-        gate.after(rt, operator, number);
-        let Ok(_reply) = outcome else {
-            return Err(RunFault::Memory);
-        };
-        number += 1;
+/// What the scripts of a run in turn share.
+#[derive(Drop)]
+struct InTurn<'t, G, R> {
+    /// By what the gate waits.
+    rt: &'t R,
+    /// What stands round each call.
+    gate: &'t G,
+    /// The gauge of the book.
+    gauge: &'t MapGauge,
+}
+
+impl<'t, G: Gate, R: Wait> InTurn<'t, G, R> {
+    /// Makes the calls of one operator in order, each between the two calls of the gate, up to one
+    /// for which there is no memory. Each is moved into its entry.
+    fn run_script(
+        &self,
+        book: &mut Book<Global, Unkept>,
+        operator: usize,
+        calls: Vec<Call>,
+    ) -> Result<(), RunFault>
+        requires operator { operator < MOST_OPERATORS }
+        requires gauge { book.old.table ≡ self.now.gauge.now.table.shared.table_id }
+        ensures table { book.new.table ≡ book.old.table }
+        ensures operators { OnOk result ((n : ℕ) → operator < n → AreOf n book.old.history
+            → AreOf n book.new.history) }
+        ensures entries { OnOk result ((s : SettingData) (t : List Row)
+            → MapStands book.old.map s t
+            → let h = turn s (behind t book.old.history) operator calls.items in
+            (book.new.history ≡ book.old.history ++ h)
+            × MapStands book.new.map s (counted_after s (behind t book.old.history) h).table) }
+        ensures fault { IfErr result (λ fault. fault ≡ RunFault.Memory) }
+    {
+        let mut number = 0;
+        for call in calls {
+            self.gate.before(self.rt, operator, number);
+            let outcome = book.commit_copied(self.gauge, operator, call);
+            self.gate.after(self.rt, operator, number);
+            let Ok(_reply) = outcome else {
+                return Err(RunFault::Memory);
+            };
+            number += 1;
+        }
+        Ok(())
     }
-    Ok(())
 }
 
 /// Runs the scripts one after the other on one book, which no lock holds and which keeps nothing of
@@ -80,10 +92,15 @@ pub(crate) fn run_in_turn<G: Gate, R: Wait>(
         return Err(RunFault::Memory);
     };
     let (gauge, mut book) = started.into_book();
+    let run = InTurn {
+        rt,
+        gate,
+        gauge: &gauge,
+    };
     let mut operator = 0;
     for script in scripts {
         let Script { name: _, calls } = script;
-        run_script(rt, &gauge, gate, &mut book, operator, calls)?;
+        run.run_script(&mut book, operator, calls)?;
         operator += 1;
     }
     Ok(book.into_closed())

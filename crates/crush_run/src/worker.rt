@@ -1,4 +1,4 @@
-//! One operator's calls, in order.
+//! What workers share, and what each does: one operator's calls, in order.
 
 ghost use Rattle.std.specs.Prelude.{◌≡◌, []};
 ghost use Rattle.crush_run.specs.Script.{HasRun};
@@ -34,34 +34,44 @@ impl<N: Desk> Promise<Finished<N>> for Task {
     ghost kept_by = { λ t r. HasRun t.operator t.calls.value.items r.seat r.fault };
 }
 
-/// Submits an operator's calls in order, up to the first that meets a fault. Each is moved into its
-/// entry.
-pub(crate) fn work<N: Desk, G: Gate, R: Wait>(
-    rt: &R,
-    alloc: Global,
-    editor: &Editor<N, Unkept>,
-    gate: &G,
-    mut seat: Seat<N>,
-    calls: Vec<Call>,
-) -> Finished<N>
-    requires { seat.slips ≡ [] }
-    ensures { HasRun seat.operator calls.items result.seat result.fault }
-{
-    let operator = seat.operator();
-    let mut number = 0;
-    for call in calls {
-        gate.before(rt, operator, number);
-        let outcome = editor.submit_copied(rt, alloc, &mut seat, call);
-        gate.after(rt, operator, number);
-        match outcome {
-            Ok(_reply) => number += 1,
-            Err((fault, _call)) => {
-                return Finished {
-                    seat,
-                    fault: Some(fault),
-                };
+/// What the workers of a run share.
+#[derive(Drop)]
+pub(crate) struct Crew<'s, N: Desk, G, R> {
+    /// By what they are started, and wait.
+    pub(crate) rt: &'s R,
+    /// Where their slips lie.
+    pub(crate) alloc: Global,
+    /// What they submit their calls to.
+    pub(crate) editor: &'s Editor<N, Unkept>,
+    /// What stands round each call.
+    pub(crate) gate: &'s G,
+}
+
+impl<'s, N: Desk, G: Gate, R: Wait> Crew<'s, N, G, R> {
+    /// Submits an operator's calls in order, up to the first that meets a fault. Each is moved into
+    /// its entry.
+    pub(crate) fn work(&self, mut seat: Seat<N>, calls: Vec<Call>) -> Finished<N>
+        requires { seat.slips ≡ [] }
+        ensures { HasRun seat.operator calls.items result.seat result.fault }
+    {
+        let operator = seat.operator();
+        let mut number = 0;
+        for call in calls {
+            self.gate.before(self.rt, operator, number);
+            let outcome = self
+                .editor
+                .submit_copied(self.rt, self.alloc, &mut seat, call);
+            self.gate.after(self.rt, operator, number);
+            match outcome {
+                Ok(_reply) => number += 1,
+                Err((fault, _call)) => {
+                    return Finished {
+                        seat,
+                        fault: Some(fault),
+                    };
+                }
             }
         }
+        Finished { seat, fault: None }
     }
-    Finished { seat, fault: None }
 }

@@ -7,74 +7,114 @@ ghost use Rattle.crush_run.specs.Stages.{IsAtOnceFault};
 
 use crate::fault::RunFault;
 use crate::gate::Gate;
-use crate::worker::{Finished, Task, work};
+use crate::worker::{Crew, Finished, Task};
 use crush_calls::{Call, Script};
-use crush_editor::{Desk, Editor, Seat, Unkept};
+use crush_editor::{Desk, Seat};
 use std::alloc::Global;
 use std::snapshot::Snapshot;
 use std::sync::Wait;
 use std::thread;
 use std::thread::{PromisedHandle, Scope, Threads};
 
-/// Starts one worker, which owns its seat and its calls. `None` where no thread can be made.
-fn start<'s, E, N: Desk + Send + Sync, G: Gate + Sync, R: Threads + Wait + Sync>(
-    scope: &Scope<'s, E>,
-    rt: &'s R,
-    alloc: Global,
-    editor: &'s Editor<N, Unkept>,
-    gate: &'s G,
-    seat: Seat<N>,
-    calls: Vec<Call>,
-) -> Option<PromisedHandle<Finished<N>, Task>>
-    requires { seat.slips ≡ [] }
-    ensures { IfSome result (λ handle. (handle.promise.operator ≡ seat.operator)
-        × (handle.promise.calls.value.items ≡ calls.items)) }
-{
-    let task = Task {
-        operator: seat.operator(),
-        calls: Snapshot::of(&calls),
-    };
-    let job = move || -> Finished<N>
+impl<'s, N: Desk + Send + Sync, G: Gate + Sync, R: Threads + Wait + Sync> Crew<'s, N, G, R> {
+    /// Starts one worker, which owns its seat and its calls. `None` where no thread can be made.
+    fn start<E>(
+        &self,
+        scope: &Scope<'s, E>,
+        seat: Seat<N>,
+        calls: Vec<Call>,
+    ) -> Option<PromisedHandle<Finished<N>, Task>>
         requires { seat.slips ≡ [] }
-        ensures { HasRun seat.operator calls.items result.seat result.fault }
-    { work(rt, alloc, editor, gate, seat, calls) };
-    scope.spawn_with(task, job).ok()
-}
-
-/// Starts a worker for each seat, with the calls of its operator's script. Where one can't be started,
-/// those that run go on.
-fn start_all<'s, E, N: Desk + Send + Sync, G: Gate + Sync, R: Threads + Wait + Sync>(
-    scope: &Scope<'s, E>,
-    rt: &'s R,
-    alloc: Global,
-    editor: &'s Editor<N, Unkept>,
-    gate: &'s G,
-    seats: Vec<Seat<N>>,
-    scripts: Vec<Script>,
-) -> Result<Vec<PromisedHandle<Finished<N>, Task>>, RunFault>
-    requires count { vec_len seats ≡ vec_len scripts }
-    requires fresh { AreFresh (vec_len seats) seats.items }
-    ensures count { IfOk result (λ handles. vec_len handles ≡ vec_len scripts) }
-    ensures each { IfOk result (λ handles. (k : ℕ) (d : _) (e : _) → k < vec_len handles
-        → IsTask scripts.items e k (slice_index_or handles.items k d).promise.operator
-        (slice_index_or handles.items k d).promise.calls.value.items) }
-    ensures fault { IfErr result IsAtOnceFault }
-{
-    let Ok(mut handles) = Vec::with_capacity(alloc, scripts.len()) else {
-        return Err(RunFault::Memory);
-    };
-    let mut rest = scripts.into_iter();
-    for seat in seats {
-        let Some(script) = rest.next() else {
-            unreachable!()
+        ensures { IfSome result (λ handle. (handle.promise.operator ≡ seat.operator)
+            × (handle.promise.calls.value.items ≡ calls.items)) }
+    {
+        let task = Task {
+            operator: seat.operator(),
+            calls: Snapshot::of(&calls),
         };
-        let Script { name: _, calls } = script;
-        let Some(handle) = start(scope, rt, alloc, editor, gate, seat, calls) else {
-            return Err(RunFault::Thread);
+        let (rt, alloc, editor, gate) = (self.rt, self.alloc, self.editor, self.gate);
+        let job = move || -> Finished<N>
+            requires { seat.slips ≡ [] }
+            ensures { HasRun seat.operator calls.items result.seat result.fault }
+        {
+            let crew = Crew {
+                rt,
+                alloc,
+                editor,
+                gate,
+            };
+            crew.work(seat, calls)
         };
-        handles.push_reserved(handle);
+        scope.spawn_with(task, job).ok()
     }
-    Ok(handles)
+
+    /// Starts a worker for each seat, with the calls of its operator's script. Where one can't be
+    /// started, those that run go on.
+    fn start_all<E>(
+        &self,
+        scope: &Scope<'s, E>,
+        seats: Vec<Seat<N>>,
+        scripts: Vec<Script>,
+    ) -> Result<Vec<PromisedHandle<Finished<N>, Task>>, RunFault>
+        requires count { vec_len seats ≡ vec_len scripts }
+        requires fresh { AreFresh (vec_len seats) seats.items }
+        ensures count { IfOk result (λ handles. vec_len handles ≡ vec_len scripts) }
+        ensures each { IfOk result (λ handles. (k : ℕ) (d : _) (e : _) → k < vec_len handles
+            → IsTask scripts.items e k (slice_index_or handles.items k d).promise.operator
+            (slice_index_or handles.items k d).promise.calls.value.items) }
+        ensures fault { IfErr result IsAtOnceFault }
+    {
+        let Ok(mut handles) = Vec::with_capacity(self.alloc, scripts.len()) else {
+            return Err(RunFault::Memory);
+        };
+        let mut rest = scripts.into_iter();
+        for seat in seats {
+            let Some(script) = rest.next() else {
+                unreachable!()
+            };
+            let Script { name: _, calls } = script;
+            let Some(handle) = self.start(scope, seat, calls) else {
+                return Err(RunFault::Thread);
+            };
+            handles.push_reserved(handle);
+        }
+        Ok(handles)
+    }
+
+    /// Runs a worker for each seat, and waits for all that were started, also where one couldn't be:
+    /// that is [`RunFault::Thread`], whatever the others met.
+    pub(crate) fn run_all(
+        &self,
+        seats: Vec<Seat<N>>,
+        scripts: Vec<Script>,
+    ) -> Result<Vec<Finished<N>>, RunFault>
+        requires count { vec_len seats ≡ vec_len scripts }
+        requires fresh { AreFresh (vec_len seats) seats.items }
+        ensures count { IfOk result (λ done. vec_len done ≡ vec_len scripts) }
+        ensures each { IfOk result (λ done. (k : ℕ) (d : _) (e : _) → k < vec_len scripts
+            → HasRunScript scripts.items e k (slice_index_or done.items k d).seat
+            (slice_index_or done.items k d).fault) }
+        ensures fault { IfErr result IsAtOnceFault }
+    {
+        thread::scope(
+            thread::scope_env(),
+            self.rt,
+            |scope| -> Result<Vec<Finished<N>>, RunFault>
+                requires { IsSend N.row × IsSync N.row × IsSync G.row × IsSync R.row
+                    × (vec_len seats ≡ vec_len scripts)
+                    × AreFresh (vec_len seats) seats.items }
+                ensures { IfOk result (λ done. (vec_len done ≡ vec_len scripts)
+                    × ((k : ℕ) (d : _) (e : _) → k < vec_len scripts
+                    → HasRunScript scripts.items e k (slice_index_or done.items k d).seat
+                    (slice_index_or done.items k d).fault))
+                    × IfErr result IsAtOnceFault }
+            {
+                let whole = Snapshot::of(&scripts);
+                let handles = self.start_all(scope, seats, scripts)?;
+                join_all(self.rt, handles, whole)
+            },
+        )
+    }
 }
 
 /// Waits for each worker, and takes what it hands back, in order.
@@ -98,42 +138,4 @@ fn join_all<N: Desk, R: Threads>(
         Ok(finished) => Ok(finished),
         Err(_) => Err(RunFault::Memory),
     }
-}
-
-/// Runs a worker for each seat, and waits for all that were started, also where one couldn't be:
-/// that is [`RunFault::Thread`], whatever the others met.
-pub(crate) fn run_all<N: Desk + Send + Sync, G: Gate + Sync, R: Threads + Wait + Sync>(
-    rt: &R,
-    alloc: Global,
-    editor: &Editor<N, Unkept>,
-    gate: &G,
-    seats: Vec<Seat<N>>,
-    scripts: Vec<Script>,
-) -> Result<Vec<Finished<N>>, RunFault>
-    requires count { vec_len seats ≡ vec_len scripts }
-    requires fresh { AreFresh (vec_len seats) seats.items }
-    ensures count { IfOk result (λ done. vec_len done ≡ vec_len scripts) }
-    ensures each { IfOk result (λ done. (k : ℕ) (d : _) (e : _) → k < vec_len scripts
-        → HasRunScript scripts.items e k (slice_index_or done.items k d).seat
-        (slice_index_or done.items k d).fault) }
-    ensures fault { IfErr result IsAtOnceFault }
-{
-    thread::scope(
-        thread::scope_env(),
-        rt,
-        |scope| -> Result<Vec<Finished<N>>, RunFault>
-            requires { IsSend N.row × IsSync N.row × IsSync G.row × IsSync R.row
-                × (vec_len seats ≡ vec_len scripts)
-                × AreFresh (vec_len seats) seats.items }
-            ensures { IfOk result (λ done. (vec_len done ≡ vec_len scripts)
-                × ((k : ℕ) (d : _) (e : _) → k < vec_len scripts
-                → HasRunScript scripts.items e k (slice_index_or done.items k d).seat
-                (slice_index_or done.items k d).fault))
-                × IfErr result IsAtOnceFault }
-        {
-            let whole = Snapshot::of(&scripts);
-            let handles = start_all(scope, rt, alloc, editor, gate, seats, scripts)?;
-            join_all(rt, handles, whole)
-        },
-    )
 }

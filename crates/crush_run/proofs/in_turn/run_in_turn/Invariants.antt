@@ -10,7 +10,7 @@ use Rattle.crush_run.proofs.in_turn.run_in_turn.Given as goal
 
 abbrev pub invariant-loop-script : goal.invariant-loop-script
 invariant-loop-script g l = record {
-  table : l.book.table ≡ l.gauge.table.shared.table_id;
+  table : l.book.table ≡ l.run.gauge.now.table.shared.table_id;
   rest : into_iter_items l.script-iterator ≡ drop l.operator l.fn.scripts.items;
   left : into_iter_len l.script-iterator + l.operator ≡ length l.fn.scripts.items;
   operators : AreOf (length l.fn.scripts.items) l.book.history;

@@ -1,5 +1,5 @@
 use Rattle.std.proofs.Common.{arith}
-use Rattle.crush_run.proofs.workers.fn.run_all.scope.Goals as goal
+use Rattle.crush_run.proofs.worker.fn.Crew.run_all.scope.Goals as goal
 
 pub join_all-requires : goal.join_all-requires
 join_all-requires g c =

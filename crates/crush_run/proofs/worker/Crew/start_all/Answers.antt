@@ -5,7 +5,7 @@ use Rattle.crush_run.specs.declared.worker.Task.{Task}
 use Rattle.crush_run.specs.declared.worker.Finished.{Finished}
 use Rattle.std.specs.declared.thread.PromisedHandle.{PromisedHandle}
 use Rattle.crush_run.proofs.Lists.{dropped, pushed}
-use Rattle.crush_run.proofs.workers.start_all.Goals as goal
+use Rattle.crush_run.proofs.worker.Crew.start_all.Goals as goal
 
 pub start-requires-after_bounds : goal.start-requires-after_bounds
 start-requires-after_bounds g c κs within =

@@ -5,7 +5,7 @@ use Rattle.crush_edits.specs.Setting.{SettingData}
 use Rattle.crush_map.specs.MapData.{MapStands}
 use Rattle.crush_calls.specs.History.{behind, counted_after, turn}
 use Rattle.crush_calls.specs.Entries.{AreOf}
-use Rattle.crush_run.proofs.in_turn.run_script.Given as goal
+use Rattle.crush_run.proofs.in_turn.InTurn.run_script.Given as goal
 
 abbrev pub invariant-loop-call : goal.invariant-loop-call
 invariant-loop-call g l = record {

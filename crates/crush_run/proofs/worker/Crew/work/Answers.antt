@@ -3,7 +3,7 @@ use Rattle.std.proofs.lemmas.List.{map_push, take_all, take_more}
 use Rattle.crush_calls.specs.History.{AnsweredData}
 use Rattle.crush_calls.specs.Turns.{calls_of}
 use Rattle.crush_run.proofs.Lists.{dropped}
-use Rattle.crush_run.proofs.worker.work.Goals as goal
+use Rattle.crush_run.proofs.worker.Crew.work.Goals as goal
 
 pub loop-call-preserved : goal.loop-call-preserved
 loop-call-preserved g c =

@@ -5,7 +5,7 @@ use Rattle.crush_calls.specs.History.{behind, counted_after, turn}
 use Rattle.crush_calls.proofs.InTurn.{call_made, table_made, no_call, no_table}
 use Rattle.crush_calls.proofs.EntryLines.{one_more}
 use Rattle.crush_run.proofs.Lists.{dropped}
-use Rattle.crush_run.proofs.in_turn.run_script.Goals as goal
+use Rattle.crush_run.proofs.in_turn.InTurn.run_script.Goals as goal
 
 pub loop-call-init : goal.loop-call-init
 loop-call-init g c =
