@@ -15,3 +15,4 @@ mod looked_up;
 mod memory;
 mod statements;
 mod whole;
+mod worked;

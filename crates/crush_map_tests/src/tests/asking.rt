@@ -1,6 +1,6 @@
 //! Edits as they are asked for, and what may be true of a map.
 
-use crush_map::{BatchFault, CrushMap, Dones, Edit, Location};
+use crush_map::{BatchFault, CrushMap, Done, Dones, Edit, EditFault, Location};
 use crush_tree::Node;
 use crush_units::limits::MOST_EDITS;
 use crush_units::{DeviceId, ItemId, Name, Weight};
@@ -244,3 +244,30 @@ pub(super) fn make_batch<A: Allocator + Clone>(
     assert!(rt; edits.len() <= MOST_EDITS);
     map.apply_batch(edits)
 }
+
+/// What a call is answered.
+#[derive(Clone, Copy, PartialEq)]
+pub(super) enum Told {
+    /// Of an edit by itself.
+    One(Result<Done, EditFault>),
+    /// Of a batch.
+    Batch(Result<Dones, BatchFault>),
+}
+
+/// What the map answers to a call of these edits: of one by itself, else of a batch.
+pub(super) fn answer<A: Allocator + Clone>(
+    rt: &impl Abort,
+    map: &mut CrushMap<A>,
+    edits: &[Edit],
+) -> Told {
+    if let [edit] = edits {
+        return Told::One(map.apply(edit));
+    }
+    Told::Batch(make_batch(rt, map, edits))
+}
+
+/// The edit is made, and the map is another; no bucket is made.
+pub(super) const CHANGED: Told = Told::One(Ok(Done {
+    changed: true,
+    made: 0,
+}));

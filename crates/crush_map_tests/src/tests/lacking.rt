@@ -2,7 +2,9 @@
 //! before, and the same call, made again where there is memory, answers and does as ever. And a
 //! batch of as many edits as there may be.
 
-use crate::tests::asking::{Asked, Fact, are_true_of, edit, edits, make_batch};
+use crate::tests::asking::{
+    Asked, CHANGED, Fact, Told, answer, are_true_of, edit, edits, make_batch,
+};
 use crate::tests::whole::{whole_example_map, whole_example_map_in};
 use crush_map::{BatchFault, CrushMap, Done, Dones, Edit, EditFault, Refusal};
 use linked_list_allocator::LocalHeap;
@@ -29,15 +31,6 @@ fn ballast<'h>(rt: &impl Abort, heap: &'h LocalHeap, size: usize) -> Vec<u8, &'h
     Vec::with_capacity(heap, size).expect(rt, "a piece")
 }
 
-/// What a call is answered.
-#[derive(Clone, Copy, PartialEq)]
-enum Told {
-    /// Of an edit by itself.
-    One(Result<Done, EditFault>),
-    /// Of a batch.
-    Batch(Result<Dones, BatchFault>),
-}
-
 /// A call on the example map, of one edit by itself or of several as a batch.
 struct Call {
     asked: &'static [Asked],
@@ -47,14 +40,6 @@ struct Call {
     then: &'static [Fact],
     /// How often memory lacks for it at least.
     least: usize,
-}
-
-/// What the map answers to the call.
-fn answer(rt: &impl Abort, map: &mut CrushMap<&LocalHeap>, edits: &[Edit]) -> Told {
-    if let [edit] = edits {
-        return Told::One(map.apply(edit));
-    }
-    Told::Batch(make_batch(rt, map, edits))
 }
 
 /// What the map answers to the call where the largest piece of its heap is `spare` bytes. The piece
@@ -159,13 +144,7 @@ fn lack_at_each_growth(rt: &impl Abort, alloc: Global, calls: &[Call]) {
     }
 }
 
-/// The edit is made, and the map is another; no bucket is made.
-const CHANGED: Told = Told::One(Ok(Done {
-    changed: true,
-    made: 0,
-}));
-
-/// The same with a bucket that is made.
+/// [`CHANGED`] with a bucket that is made.
 const ADDED: Told = Told::One(Ok(Done {
     changed: true,
     made: 1,

@@ -1,4 +1,5 @@
-//! What is looked up by name after each edit, beside what a search of the forest finds.
+//! What is looked up by name after each edit, beside what the plain table has and a search of the
+//! forest finds.
 
 use crate::tests::asking::{Asked, edit};
 use crate::tests::whole::whole_example_map;
@@ -7,9 +8,11 @@ use crush_units::{BucketId, ItemId, Weight};
 use std::alloc::Global;
 use std::process::Abort;
 
-/// Each name that an item has before or after one of the edits, and one that none has.
-const NAMES: &[&str] = &[
-    "osd.0", "osd.1", "osd.2", "osd.3", "h1", "h2", "h3", "h9", "hq", "r1", "default", "x",
+/// Each name that an item has before or after one of the edits, or that one of them asks for, and one
+/// that none has.
+pub(super) const NAMES: &[&str] = &[
+    "osd.0", "osd.1", "osd.2", "osd.3", "osd.10", "osd.11", "osd.12", "osd.13", "h1", "h2", "h3",
+    "h9", "hq", "hx", "hy", "r1", "r9", "rx", "default", "other", "x",
 ];
 
 /// Edits of each kind, made one after the other.
@@ -84,7 +87,7 @@ fn is_looked_up(map: &CrushMap<Global>, name: &str) -> bool {
 }
 
 /// Whether all names are.
-fn are_looked_up(map: &CrushMap<Global>) -> bool {
+pub(super) fn are_looked_up(map: &CrushMap<Global>) -> bool {
     NAMES.iter().all(|name| is_looked_up(map, name))
 }
 

@@ -1,11 +1,111 @@
 //! The example map in heaps of each size. Only its hierarchy is there: a setting is in the
 //! machine's memory, of which a test can refuse nothing.
 
-use crate::tests::whole::{has_the_setting, whole_example_map, whole_example_map_in};
-use crush_map::{BuildFault, CrushMap};
+use crate::tests::statements::make;
+use crate::tests::whole::{BEFORE_RULE, has_the_setting, whole_example_map, whole_example_map_in};
+use crush_map::{BuildFault, CrushMap, MapBuilder};
+use crush_units::{ItemId, Weight};
 use linked_list_allocator::LocalHeap;
 use std::alloc::Global;
 use std::process::Abort;
+
+/// An item of the example map: after how many of the statements it is there, and held by a bucket, and
+/// what it weighs then.
+struct Item {
+    name: &'static str,
+    there: usize,
+    held: usize,
+    units: u32,
+}
+
+/// The items of the example map. Its root is held by none.
+const ITEMS: &[Item] = &[
+    Item {
+        name: "osd.0",
+        there: 2,
+        held: 12,
+        units: 65536,
+    },
+    Item {
+        name: "osd.1",
+        there: 3,
+        held: 13,
+        units: 65536,
+    },
+    Item {
+        name: "osd.2",
+        there: 4,
+        held: 18,
+        units: 32768,
+    },
+    Item {
+        name: "h1",
+        there: 14,
+        held: 23,
+        units: 131072,
+    },
+    Item {
+        name: "h2",
+        there: 19,
+        held: 24,
+        units: 32768,
+    },
+    Item {
+        name: "default",
+        there: 25,
+        held: 26,
+        units: 163840,
+    },
+];
+
+/// What the item weighs after so many statements: a device nothing before a bucket holds it.
+fn units_after(taken: usize, item: &Item, id: &ItemId) -> u32 {
+    match id {
+        ItemId::Device(_) if taken < item.held => 0,
+        _ => item.units,
+    }
+}
+
+/// Whether the builder has the item of this id as after so many statements.
+fn is_made(builder: &MapBuilder<&LocalHeap>, taken: usize, item: &Item, id: &ItemId) -> bool {
+    taken >= item.there
+        && builder.is_placed(*id) == (taken >= item.held)
+        && builder.weight_of(*id) == Some(Weight::from_units(units_after(taken, item, id)))
+}
+
+/// Whether the builder has the item as after so many statements, which is none at first.
+fn is_there(builder: &MapBuilder<&LocalHeap>, taken: usize, item: &Item) -> bool {
+    match builder.item_named(item.name.as_bytes()) {
+        Ok(id) => is_made(builder, taken, item, &id),
+        Err(fault) => matches!(fault, BuildFault::UnknownItem) && taken < item.there,
+    }
+}
+
+/// Whether the builder has the items as after so many statements.
+fn are_there(builder: &MapBuilder<&LocalHeap>, taken: usize) -> bool {
+    ITEMS.iter().all(|item| is_there(builder, taken, item))
+}
+
+/// Makes the statements up to the first for which memory lacks. After each, and after the want, the
+/// builder has the items of those that were taken.
+fn make_and_look(rt: &impl Abort, builder: &mut MapBuilder<&LocalHeap>) {
+    for (taken, statement) in BEFORE_RULE.iter().enumerate() {
+        assert!(rt; are_there(builder, taken), "statement {taken}");
+        if make(rt, builder, *statement).is_err() {
+            assert!(rt; are_there(builder, taken), "statement {taken}");
+            return;
+        }
+    }
+    assert!(rt; are_there(builder, BEFORE_RULE.len()));
+}
+
+/// Makes as much of the map in the heap as it has memory for, and looks at it.
+fn look_at_what_is_made(rt: &impl Abort, alloc: Global, heap: &LocalHeap) {
+    if let Ok(mut builder) = MapBuilder::new(alloc, heap) {
+        make_and_look(rt, &mut builder);
+        drop(builder);
+    }
+}
 
 /// Whether the map has no memory for a copy.
 fn lacks_a_copy(map: &CrushMap<&LocalHeap>) -> bool {
@@ -43,10 +143,12 @@ fn holds_the_map(
     }
 }
 
-/// Asserts that a heap holds the map, after those that are too small.
+/// Asserts that a heap holds the map, after those that are too small, in each of which what was made
+/// before memory lacked is as the statements say.
 fn is_held(rt: &impl Abort, alloc: Global, whole: &CrushMap<Global>) {
     for i in 1..1024 {
         let heap = LocalHeap::new(alloc, 64 * i).expect(rt, "a heap");
+        look_at_what_is_made(rt, alloc, &heap);
         if holds_the_map(rt, alloc, &heap, whole) {
             return;
         }

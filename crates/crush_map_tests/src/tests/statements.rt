@@ -38,7 +38,7 @@ pub(super) fn empty(rt: &impl Abort, alloc: Global) -> MapBuilder<Global> {
 }
 
 /// Makes the statement.
-fn make<A: Allocator + Clone>(
+pub(super) fn make<A: Allocator + Clone>(
     rt: &impl Abort,
     builder: &mut MapBuilder<A>,
     statement: Statement,

@@ -79,7 +79,7 @@ fn add_rule<A: Allocator>(
 }
 
 /// The statements of the example map before its rule.
-const BEFORE_RULE: &[Statement] = &[
+pub(super) const BEFORE_RULE: &[Statement] = &[
     Statement::Tunable("choose_total_tries", 50),
     Statement::Device(0, "osd.0"),
     Statement::Device(1, "osd.1"),
