@@ -8,6 +8,7 @@ pub mod Refused
 pub mod Reserved
 pub mod Steps
 pub mod TheTable
+pub mod Unbegun
 pub mod Wants
 pub mod Weighed
 pub mod Whole

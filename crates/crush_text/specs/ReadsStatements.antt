@@ -1,18 +1,20 @@
 -- What the functions that read statements promise.
-use Rattle.std.specs.Prelude.{◌≡◌, ℕ, ◌<◌, List, Bool, Option, Some, None, Result, Ok, Err, IfOk, IfSome, OnOk, length, if◌then◌else◌}
+use Rattle.std.specs.Prelude.{◌≡◌, ◌⊎◌, ℕ, ◌<◌, List, Bool, Option, Some, None, Result, Ok, Err, IfOk, IfSome, OnOk, length, false, ◌||◌, bytes_eq, codes, if◌then◌else◌}
 use Rattle.crush_edits.specs.Setting.{kind_number}
-use Rattle.crush_map.specs.Built.{Draft}
+use Rattle.crush_map.specs.Built.{Draft, empty_draft}
 use Rattle.crush_map.specs.Building.{BuilderData, IsDraft}
 use Rattle.crush_text.specs.declared.fault.TextFault.{TextFault}
-use Rattle.crush_bytes.specs.Words.{Text}
+use Rattle.crush_bytes.specs.Words.{Text, stopped, ended}
 use Rattle.crush_text.specs.declared.reader.MapReader.{MapReader}
 use Rattle.crush_text.specs.declared.reader.word.PlacedWord.{PlacedWord}
 use Rattle.crush_text.specs.declared.opening.Opening.{Opening}
 use Rattle.crush_text.specs.declared.opening.Opening.TheVariants as openings
 use Rattle.crush_text.specs.Role.{opening}
 use Rattle.crush_text.specs.Form.{Mode, first, second, at}
-use Rattle.crush_text.specs.Tests.{word_for}
-use Rattle.crush_text.specs.Flow.{State, placed, between, outcome}
+use Rattle.crush_text.specs.Tests.{word_for, comes_first}
+use Rattle.crush_text.specs.Flow.{State, placed, between, outcome, Reaches}
+use Rattle.crush_text.specs.Document.{start}
+use Rattle.crush_text.specs.Flaw.{IsWant}
 use Rattle.crush_text.specs.Room.{HasRoom}
 use Rattle.crush_text.specs.Reads.{LeadsOn, Fails}
 use Rattle.crush_text.specs.ReadsLines.{IsIdle}
@@ -59,3 +61,15 @@ pub record Opens (w : PlacedWord) (late : Bool) (b : BuilderData) (x : Result Op
   pub opens : (d : Draft) → IsDraft b d → x ≡ placed w.place (word_for d (opening late) w.text.now)
   pub known : (d : Draft) → IsDraft b d → IfOk x (λ o. IsKnown d o w.text.now)
   pub room : IfOk x (λ o. (d : Draft) → IsDraft b d → HasRoom d o)
+
+-- whether a first word opens a statement where there is no type yet
+abbrev pub opens_alone : List ℕ → Bool
+opens_alone w = comes_first w || bytes_eq w (codes "rule")
+
+-- a first word has this fault, or memory was refused where it has none
+abbrev pub FailsFirst : TextFault → ℕ → List ℕ → Type 0
+FailsFirst f place w = (IsWant f × (f.place ≡ place) × ((o : Opening) × (word_for empty_draft (opening false) w ≡ Ok o))) ⊎ (placed place (word_for empty_draft (opening false) w) ≡ Err f)
+
+-- the fault of a text is that of reading, or memory was refused at a word that has none, or at the end of a text without words
+abbrev pub FailsText : TextFault → Text → Type 0
+FailsText f t = (IsWant f × (Reaches f.place start t.words ⊎ (t ≡ stopped (ended f.place)))) ⊎ (outcome start t ≡ Err f)

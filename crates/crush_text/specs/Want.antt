@@ -1,6 +1,6 @@
 -- Where it is told that memory was refused.
 use Rattle.std.specs.Prelude.{◌≡◌, ◌⊎◌, ℕ, List, [], ◌∷◌, ◌++◌}
-use Rattle.crush_bytes.specs.Words.{Word, Text, words}
+use Rattle.crush_bytes.specs.Words.{Word, Text, words, stopped, ended}
 use Rattle.crush_text.specs.declared.fault.TextFault.{TextFault}
 use Rattle.crush_text.specs.Flow.{State}
 use Rattle.crush_text.specs.Document.{Spell, start}
@@ -16,6 +16,6 @@ pub record IsRightUpTo (t : Text) (place : ℕ) : Type 0 where
   pub spelled : Spell start (before ++ last ∷ []) next so_far
   pub here : place ≡ last.place
 
--- memory that was refused is told at such a word, so before any flaw; or at 0, before a word was read
+-- memory that was refused is told at such a word, so before any flaw; or at the end of a text without words
 abbrev pub IsToldInTime : List ℕ → TextFault → Type 0
-IsToldInTime bytes f = IsWant f → (f.place ≡ 0) ⊎ IsRightUpTo (words 0 bytes) f.place
+IsToldInTime bytes f = IsWant f → IsRightUpTo (words 0 bytes) f.place ⊎ (words 0 bytes ≡ stopped (ended f.place))

@@ -18,9 +18,11 @@ mod statement;
 mod step;
 mod tunable;
 mod type_line;
+mod unbegun;
 mod word;
 
-use crate::fault::{TextFault, TextFaultKind};
+use crate::fault::TextFault;
+use crate::reader::unbegun::unbegun;
 use crush_bytes::Reader;
 use crush_map::{CrushMap, Hashing, MapBuilder};
 use std::alloc::{Allocator, Global};
@@ -57,7 +59,7 @@ pub fn read_map(alloc: Global, text: &[u8]) -> Result<(CrushMap<Global>, u32), T
     // Where none is read the text has a flaw, which is told.
     ensures flaw { IfErr result (IsFlawOrWant text.now) }
 
-    // Want of memory is told at a word that is right, as all before it, or at 0 before the first.
+    // Want of memory is told at a word that is right, as all before it, or where no word stands.
     ensures want { IfErr result (IsToldInTime text.now) }
 {
     read_map_in(alloc, Hashing::plain(), alloc, text)
@@ -87,17 +89,15 @@ pub fn read_map_in<A: Allocator + Clone>(
     // Where none is read the text has a flaw, which is told.
     ensures flaw { IfErr result (IsFlawOrWant text.now) }
 
-    // Want of memory is told at a word that is right, as all before it, or at 0 before the first.
+    // Want of memory is told at a word that is right, as all before it, or where no word stands.
     ensures want { IfErr result (IsToldInTime text.now) }
 {
+    let mut words = Reader::new(text);
     let Ok(builder) = MapBuilder::with_hashing(machine, hashing, alloc) else {
-        return Err(TextFault {
-            kind: TextFaultKind::OutOfMemory,
-            place: 0,
-        });
+        return Err(unbegun(&mut words));
     };
     let mut reader = MapReader {
-        text: Reader::new(text),
+        text: words,
         builder,
         machine,
     };

@@ -116,14 +116,14 @@ impl<'a, A: Allocator + Clone> MapReader<'a, A> {
 
 /// Whether a first word may not stand here: tunables, devices and types come before the buckets and
 /// the rules.
-fn is_out_of_place(word: PlacedWord<'_>, late: bool) -> bool
+pub(crate) fn is_out_of_place(word: PlacedWord<'_>, late: bool) -> bool
     ensures { result ≡ is_out_of_place late word.entry.text.now }
 {
     word.is(b"{") || word.is(b"}") || word.is(b"class") || (late && comes_first(word))
 }
 
 /// Whether a first word begins a tunable, a device or a type.
-fn comes_first(word: PlacedWord<'_>) -> bool
+pub(crate) fn comes_first(word: PlacedWord<'_>) -> bool
     ensures { result ≡ comes_first word.entry.text.now }
 {
     word.is(b"tunable") || word.is(b"device") || word.is(b"type")

@@ -1,0 +1,46 @@
+//! What is told of a text where memory lacks even for an empty map.
+
+ghost use Rattle.std.specs.Prelude.{◌≡◌};
+ghost use Rattle.crush_text.specs.ReadsStatements.{FailsText, FailsFirst, opens_alone};
+
+use crate::fault::{TextFault, TextFaultKind};
+use crate::reader::statement::{comes_first, is_out_of_place};
+use crate::reader::word::{PlacedWord, memory_at};
+use crush_bytes::{Reader, Token};
+
+/// The fault of the first word, or of the byte in its place; else that memory was refused, at that
+/// word, or at the end of a text without words.
+pub(crate) fn unbegun(reader: &mut Reader<'_>) -> TextFault
+    ensures { FailsText result reader.old }
+{
+    match reader.next() {
+        Token::Word { place, text } => unopened(PlacedWord { place, text }),
+        Token::End { place } => memory_at(place),
+        Token::Bad { place } => TextFault {
+            kind: TextFaultKind::BadWord,
+            place,
+        },
+    }
+}
+
+/// The fault of a first word, or want of memory there. Before the first type it opens no bucket.
+fn unopened(word: PlacedWord<'_>) -> TextFault
+    ensures { FailsFirst result word.entry.place word.entry.text.now }
+{
+    if is_out_of_place(word, false) {
+        word.fault(TextFaultKind::Unexpected)
+    } else if word.is(b"choose_args") {
+        word.fault(TextFaultKind::LeftOut)
+    } else if opens_alone(word) {
+        memory_at(word.place)
+    } else {
+        word.fault(TextFaultKind::UnknownType)
+    }
+}
+
+/// Whether a first word opens a statement where there is no type yet.
+fn opens_alone(word: PlacedWord<'_>) -> bool
+    ensures { result ≡ opens_alone word.entry.text.now }
+{
+    comes_first(word) || word.is(b"rule")
+}
