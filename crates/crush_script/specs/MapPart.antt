@@ -12,7 +12,7 @@ pub record IsNoMap (text : List ℕ) (fault : TextFault) : Type 0 where
   pub flaw : IsMapFlaw text fault
   pub none : (s : SettingData) (t : List Row) (adjusted : ℕ) → IsMapText text s t adjusted → ⊥
 
--- memory was refused, and told at a word that is right, as all before it, or at 0 before the first
+-- memory was refused, and told at a word that is right, as all before it, or where no word stands
 pub record IsTextWant (text : List ℕ) (fault : TextFault) : Type 0 where
   pub want : IsWant fault
   pub told : IsToldInTime text fault
