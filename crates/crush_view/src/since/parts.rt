@@ -89,11 +89,7 @@ fn name_told<'a>(before: &'a Option<Seen<'_>>, after: &'a Option<Seen<'_>>) -> &
 }
 
 /// What there is to tell of an item, each part behind a semicolon.
-fn push_parts(
-    alloc: Global,
-    item: &Compared<'_>,
-    parts: &mut Vec<u8>,
-) -> Result<(), AllocError>
+fn push_parts(alloc: Global, item: &Compared<'_>, parts: &mut Vec<u8>) -> Result<(), AllocError>
     ensures { OnOk result (parts.new.items ≡ parts.old.items
         ++ behind (all_parts item.now.old.now item.now.new.now
         (option_map seen_data item.now.before) (option_map seen_data item.now.after)
