@@ -2,3 +2,5 @@ pub mod Explaining
 pub mod CephLines
 pub mod Lines
 pub mod Examples
+pub mod Naming
+pub mod Scanning

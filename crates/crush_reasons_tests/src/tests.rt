@@ -7,7 +7,7 @@ ghost use Rattle.crush_calls.specs.Entries.{AreOf};
 
 use crush_calls::{Call, Entry, Script, is_change, make_call};
 use crush_map::{CrushMap, Hashing};
-use crush_reasons::{ceph_text, explained_text, fault_text};
+use crush_reasons::{ceph_text, explained_text, fault_text, written_text};
 use crush_script::{Job, JobFault, read_job};
 use std::alloc::Global;
 use std::process::Abort;
@@ -123,5 +123,19 @@ fn commands_and_reasons_are_told(rt: HostRuntime) {
             b"# 3 a rm default = refused NotEmpty 39\n  the bucket holds items: move or remove them first\n"
         )
     );
+    drop(job);
+}
+
+/// A host that was written with another weight than its sum.
+const WEIGHED: &[u8] =
+    b"device 0 osd.0\ntype 1 host\ntype 2 root\nhost h1 {\nid -2\nalg straw2\nitem osd.0 weight 554.62\n}\nroot default {\nid -1\nalg straw2\nitem h1 weight 554.6\n}\n%operator a\n";
+
+const WEIGHTS: &[u8] = b"h1: 554.6 was written, the sum is 554.62000\n";
+
+#[test]
+fn written_weights_are_told(rt: HostRuntime) {
+    let job = read_job(rt.alloc(), Hashing::plain(), WEIGHED).expect(&rt, "no job");
+    let told = written_text(rt.alloc(), &job.map, WEIGHED).expect(&rt, "no memory");
+    assert!(rt; told.as_slice() == WEIGHTS);
     drop(job);
 }

@@ -1,0 +1,8 @@
+use Rattle.std.proofs.Common.{ap, sym}
+use Rattle.crush_reasons.specs.Written.{bucket_sum}
+use Rattle.crush_reasons.proofs.Naming.{no_name}
+use Rattle.crush_reasons.proofs.written.bucket_sum.Goals as goal
+
+-- bytes that are no text name nothing
+pub returns-in_default : goal.returns-in_default
+returns-in_default c = λ t stands. ap (bucket_sum t) (sym (no_name t c.args.name.now stands.lawful.rows c.in_default.ensures.cases.0))

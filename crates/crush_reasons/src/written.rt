@@ -1,0 +1,246 @@
+//! Written weights of buckets that aren't their sums.
+
+ghost use Rattle.std.specs.Prelude.{◌≡◌, ◌<◌, ◌++◌, List, [], IfOk, IsTrue, MatchOption, OnOk, bytes_eq, if◌then◌else◌, length};
+ghost use Rattle.crush_units.specs.Weight.{weight_of_text};
+ghost use Rattle.crush_table.specs.Stands.{Stands};
+ghost use Rattle.crush_table.specs.Table.{Row, id_named};
+ghost use Rattle.crush_reasons.specs.Written.{IsNextWord, announces_weight, at_first, behind, behind_data, bucket_sum, is_inside, lines_left, line_of_sum, line_of_weight, sum_told, unequal_line, written_line, written_text};
+
+use crate::words::push_all;
+use crush_bytes::{Reader, Token};
+use crush_map::CrushMap;
+use crush_units::{ItemId, Weight};
+use std::alloc::{AllocError, Global};
+
+/// The three words before a word, and whether they stand between braces.
+#[derive(Clone, Copy)]
+struct Behind<'a> {
+    inside: bool,
+    item: &'a [u8],
+    name: &'a [u8],
+    key: &'a [u8],
+}
+
+/// Whether a word is this one.
+fn is(word: &[u8], key: &[u8]) -> bool
+    ensures { result ≡ bytes_eq word.now key.now }
+{
+    word == key
+}
+
+/// Whether what follows a word stands between braces.
+fn is_inside(inside: bool, word: &[u8]) -> bool
+    ensures { result ≡ is_inside inside word.now }
+{
+    if is(word, b"{") {
+        true
+    } else if is(word, b"}") {
+        false
+    } else {
+        inside
+    }
+}
+
+impl<'a> Behind<'a> {
+    /// What is before the first word.
+    fn at_first() -> Behind<'a>
+        ensures { behind_data result ≡ at_first }
+    {
+        Behind {
+            inside: false,
+            item: b"",
+            name: b"",
+            key: b"",
+        }
+    }
+
+    /// Whether they are `item`, a name and `weight`.
+    fn announces_weight(self) -> bool
+        ensures { result ≡ announces_weight (behind_data self.entry) }
+    {
+        self.inside && is(self.item, b"item") && is(self.key, b"weight")
+    }
+
+    /// The three before the next word.
+    fn with(self, word: &'a [u8]) -> Behind<'a>
+        ensures { behind_data result ≡ behind (behind_data self.entry) word.now }
+    {
+        Behind {
+            inside: is_inside(self.inside, word),
+            item: self.name,
+            name: self.key,
+            key: word,
+        }
+    }
+}
+
+/// What the bucket of this name weighs. `None` where no bucket has it.
+fn sum_named(map: &CrushMap<Global>, name: &str) -> Option<Weight>
+    ensures { (t : List Row) → Stands map.now.forest t
+        → result ≡ bucket_sum t (id_named t name.now) }
+{
+    match map.locate(name) {
+        Some(ItemId::Bucket(_)) => map.weight_of(name),
+        Some(ItemId::Device(_)) => None,
+        None => None,
+    }
+}
+
+/// The same of the bytes of a name.
+fn bucket_sum(map: &CrushMap<Global>, name: &[u8]) -> Option<Weight>
+    ensures { (t : List Row) → Stands map.now.forest t
+        → result ≡ bucket_sum t (id_named t name.now) }
+{
+    let Ok(name) = str::from_utf8(name) else {
+        return None;
+    };
+    sum_named(map, name)
+}
+
+/// What is told behind a weight that was written: the sum.
+fn push_sum(sum: Weight, text: &mut Vec<u8>) -> Result<(), AllocError>
+    ensures { OnOk result (text.new.items ≡ text.old.items ++ sum_told sum) }
+{
+    let mut room = [0; 16];
+    let len = sum.text(&mut room);
+    push_all(
+        &[
+            b" was written, the sum is ".as_slice(),
+            &room[..len],
+            b"\n".as_slice(),
+        ],
+        text,
+    )
+}
+
+/// The line of a bucket of which another weight was written than its sum.
+fn push_unequal(
+    name: &[u8],
+    written: &[u8],
+    sum: Weight,
+    text: &mut Vec<u8>,
+) -> Result<(), AllocError>
+    ensures { OnOk result (text.new.items
+        ≡ text.old.items ++ unequal_line name.now written.now sum) }
+{
+    push_all(&[name, b": ".as_slice(), written], text)?;
+    push_sum(sum, text)
+}
+
+/// That line, unless the sum was written.
+fn push_weighed(
+    name: &[u8],
+    written: &[u8],
+    sum: Weight,
+    text: &mut Vec<u8>,
+) -> Result<(), AllocError>
+    ensures { OnOk result (text.new.items ≡ text.old.items
+        ++ line_of_weight name.now written.now sum (weight_of_text written.now)) }
+{
+    let Ok(weight) = Weight::read_bytes(written) else {
+        return Ok(());
+    };
+    if weight.units() == sum.units() {
+        return Ok(());
+    }
+    push_unequal(name, written, sum, text)
+}
+
+/// That line of an item of this name, where it is a bucket.
+fn push_item(
+    map: &CrushMap<Global>,
+    name: &[u8],
+    written: &[u8],
+    text: &mut Vec<u8>,
+) -> Result<(), AllocError>
+    ensures { OnOk result ((t : List Row) → Stands map.now.forest t → text.new.items
+        ≡ text.old.items ++ line_of_sum name.now written.now (bucket_sum t (id_named t name.now))) }
+{
+    match bucket_sum(map, name) {
+        None => Ok(()),
+        Some(sum) => push_weighed(name, written, sum, text),
+    }
+}
+
+/// The line of a word, where it is such a weight.
+fn push_word(
+    map: &CrushMap<Global>,
+    behind: Behind<'_>,
+    word: &[u8],
+    text: &mut Vec<u8>,
+) -> Result<(), AllocError>
+    ensures { OnOk result ((t : List Row) → Stands map.now.forest t → text.new.items
+        ≡ text.old.items ++ written_line t (behind_data behind.entry) word.now) }
+{
+    if !behind.announces_weight() {
+        return Ok(());
+    }
+    push_item(map, behind.name, word, text)
+}
+
+/// The next word of a text, if there is one.
+fn next_word<'a>(reader: &mut Reader<'a>) -> Option<&'a [u8]>
+    ensures next { MatchOption result (reader.old.words ≡ [])
+        (λ word. IsNextWord word.now reader.old.words reader.new.words) }
+{
+    match reader.next() {
+        Token::Word { text, .. } => Some(text),
+        _ => None,
+    }
+}
+
+/// A text that is read for such weights.
+#[derive(Drop)]
+struct Scan<'a> {
+    reader: Reader<'a>,
+    behind: Behind<'a>,
+}
+
+impl<'a> Scan<'a> {
+    /// Puts the line of the next word, and says whether there is one.
+    fn push_next(&mut self, map: &CrushMap<Global>, text: &mut Vec<u8>) -> Result<bool, AllocError>
+        ensures goes { IfOk result (λ more. (t : List Row) → Stands map.now.forest t
+            → text.new.items ++ (if more then lines_left t self.new else [])
+            ≡ text.old.items ++ lines_left t self.old) }
+        ensures shorter { IfOk result (λ more. IsTrue more
+            → length self.new.reader.words < length self.old.reader.words) }
+    {
+        let Some(word) = next_word(&mut self.reader) else {
+            return Ok(false);
+        };
+        push_word(map, self.behind, word, text)?;
+        self.behind = self.behind.with(word);
+        Ok(true)
+    }
+
+    /// Puts the lines of all words that are left.
+    fn push_left(&mut self, map: &CrushMap<Global>, text: &mut Vec<u8>) -> Result<(), AllocError>
+        ensures { OnOk result ((t : List Row) → Stands map.now.forest t
+            → text.new.items ≡ text.old.items ++ lines_left t self.old) }
+    {
+        'words: while self.push_next(map, text)? {}
+        Ok(())
+    }
+}
+
+/// A line `NAME: W was written, the sum is W` for each `item NAME weight W` of a map's text where
+/// NAME is a bucket of the map that weighs something else, in the order of the text. The weight
+/// that was written stands there as in the text, the sum with five decimals.
+///
+/// The map is the one of that text, as it was read. An `Err` is want of memory.
+pub fn written_text(
+    alloc: Global,
+    map: &CrushMap<Global>,
+    bytes: &[u8],
+) -> Result<Vec<u8>, AllocError>
+    ensures { IfOk result (λ text. (t : List Row) → Stands map.now.forest t
+        → text.items ≡ written_text t bytes.now) }
+{
+    let mut text = Vec::new(alloc);
+    let mut scan = Scan {
+        reader: Reader::new(bytes),
+        behind: Behind::at_first(),
+    };
+    scan.push_left(map, &mut text)?;
+    Ok(text)
+}
