@@ -26,8 +26,10 @@ pub fn run_on_map<A: Allocator + Clone>(
     Ok(fewest_requests(&map))
 }
 
-/// The fewest requests for memory that such a map can make: one for each bucket, whose items are a
-/// list of its own, and one for the table in which devices stand. Short names make none.
+/// How many requests for memory a run has to make at least, by the map that it ends with: as many as
+/// there are buckets, and one for the table in which devices stand. A bucket's items are a list of
+/// its own, while short names and empty buckets ask for nothing: so this holds of the jobs that are
+/// run here, and not of every map.
 pub fn fewest_requests<A: Allocator>(map: &CrushMap<A>) -> usize {
     let counts = map.counts();
     counts.buckets as usize + usize::from(counts.devices > 0)
