@@ -33,7 +33,7 @@ SEPARATOR = "\x1e"
 # What stands between the parts of a job of crush_growths.
 PART_SEPARATOR = "\x1f"
 # What standard error is told first of a run that was not done, where the status is another than 1.
-STATUSES = {"crushedit: refused ": 5}
+STATUSES = {"crushedit: refused ": 5, "crushedit: read fault": 3}
 # How many jobs of chance there are, and of which seed.
 CHANCE, SEED = 200, 1
 # The words before a job's name, for each run of a job that has more than one.
@@ -66,7 +66,7 @@ def map_of(out):
 
 def summary(out, err):
     """How many weights were replaced, how many calls there were, and how many of them changed the map."""
-    adjusted = re.match(r"crushedit: adjusted (\d+)\n$", err)
+    adjusted = re.match(r"crushedit: adjusted (\d+)\n", err)
     history = out[len(map_of(out)) :].splitlines()
     changes = [re.search(r" = (?:done|dones \d+) changed (\d+) made (\d+)$", line) for line in history]
     changed = sum(counts is not None and counts.groups() != ("0", "0") for counts in changes)

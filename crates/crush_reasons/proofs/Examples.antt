@@ -1,5 +1,5 @@
 -- What is told of worked histories and texts.
-use Rattle.std.proofs.Common.{◌≡◌, true, false, [], ◌∷◌, refl}
+use Rattle.std.proofs.Common.{◌≡◌, true, false, [], ◌∷◌, ◌++◌, refl}
 use Rattle.std.specs.Fmt.{digits}
 use Rattle.std.specs.Prelude.{codes}
 use Rattle.crush_edits.specs.declared.edit.Edit.TheVariants.{Move, Reweight, Remove, SetClass, Swap}
@@ -10,8 +10,9 @@ use Rattle.crush_calls.specs.HistoryText.{line_front, line_end}
 use Rattle.crush_script.specs.declared.fault.JobFault.TheVariants as job
 use Rattle.crush_text.specs.declared.fault.TextFaultKind.TheVariants.{UnknownType}
 use Rattle.crush_reasons.specs.Ceph.{ceph_heading, ceph_line, ceph_text}
-use Rattle.crush_reasons.specs.Explained.{explained_text}
-use Rattle.crush_reasons.specs.Place.{column_line, fault_text, from_line, number_line}
+use Rattle.crush_reasons.specs.Explained.{explained_text, reason_line}
+use Rattle.crush_reasons.specs.Place.{column_line, fault_line, fault_text, from_line, number_line}
+use Rattle.crush_reasons.specs.Sentences.{job_sentence}
 
 -- of four commands two changed the map
 two_commands : ceph_text (
@@ -51,13 +52,28 @@ unfolding explained_text line_front line_end digits
 explained = refl
 
 -- a type that isn't declared, behind a tab in a second line
-unknown_type : fault_text [] (codes "type 0 osd\n\thots h2 {\n}\n") (job.Text (record { kind = UnknownType; place = 12 }))
+unknown_type : fault_text (record { name = []; before = 0 }) (codes "type 0 osd\n\thots h2 {\n}\n") (job.Text (record { kind = UnknownType; place = 12 }))
     ≡ codes "  line 2, column 2\n     hots h2 {\n     ^\n  no type of this name is declared above\n"
 unfolding column_line digits
 unknown_type = refl
 
 -- a line of a file that isn't a command
-no_command : fault_text (codes "alice.txt") (codes "%operator a\nfly x\nrm y\n") (job.NoSuchCommand 2)
+no_command : fault_text (record { name = codes "alice.txt"; before = 0 }) (codes "%operator a\nfly x\nrm y\n") (job.NoSuchCommand 2)
     ≡ codes "  alice.txt line 2\n    fly x\n  the first word of a line is to be a command: --help has all of them\n"
 unfolding number_line from_line digits
 no_command = refl
+
+-- a line of the second file of a job, and one that was put before that file's first
+second_file : fault_text (record { name = codes "b.txt"; before = 2 }) (codes "%operator a\n%operator b\nrm x\nfly y\n") (job.NoSuchCommand 4)
+    ≡ codes "  b.txt line 2\n    fly y\n  the first word of a line is to be a command: --help has all of them\n"
+unfolding number_line from_line digits
+second_file = refl
+
+line_before : fault_text (record { name = codes "b.txt"; before = 2 }) (codes "%operator a\n%operator a\nrm x\n") (job.DuplicateOperator 2)
+    ≡ codes "  b.txt line 0\n    %operator a\n" ++ reason_line (job_sentence (job.DuplicateOperator 2))
+unfolding number_line from_line digits
+line_before = refl
+
+-- the line at which a flaw of a text stands
+third_line : fault_line (codes "a\nb\nc\n") (job.Text (record { kind = UnknownType; place = 4 })) ≡ 3
+third_line = refl

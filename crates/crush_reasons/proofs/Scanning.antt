@@ -1,16 +1,37 @@
 -- The lines of written weights, one word further.
-use Rattle.std.proofs.Common.{◌≡◌, ℕ, List, [], ◌++◌, ap, sym, ◌∙◌, append_assoc}
-use Rattle.crush_bytes.specs.Words.{Word}
+use Rattle.std.proofs.Common.{◌≡◌, ℕ, Bool, true, false, List, [], ◌∷◌, ◌++◌, refl, ap, sym, ◌∙◌, append_assoc}
+use Rattle.std.specs.Prelude.{◌&&◌, bytes_eq, codes, if◌then◌else◌}
+use Rattle.crush_bytes.specs.Words.{Word, texts}
 use Rattle.crush_table.specs.Table.{Row}
-use Rattle.crush_reasons.specs.Written.{BehindData, IsNextWord, behind, written_line, written_lines}
+use Rattle.crush_reasons.specs.Written.{IsNextWord, is_inside, item_line, item_lines}
 
-pub lines_next : (t : List Row) (b : BehindData) (old new : List Word) (w : List ℕ) → IsNextWord w old new → written_lines t b old ≡ written_line t b w ++ written_lines t (behind b w) new
-unfolding written_lines
-lines_next t b old new w is = ap (λ ws. written_lines t b ws) is.1
+-- the line of the first of four words, and what is left behind it
+pub lines_next : (t : List Row) (inside : Bool) (item name key w : List ℕ) (old new : List Word) → IsNextWord w old new
+    → item_lines inside t (item ∷ name ∷ key ∷ texts old)
+    ≡ (if inside && bytes_eq item (codes "item") then item_line t (name ∷ key ∷ w ∷ []) else []) ++ item_lines (is_inside inside item) t (name ∷ key ∷ w ∷ texts new)
+unfolding item_lines
+lines_next t inside item name key w old new is = ap (λ ws. item_lines inside t (item ∷ name ∷ key ∷ texts ws)) is.1
 
-pub no_lines : (t : List Row) (b : BehindData) (old : List Word) → old ≡ [] → written_lines t b old ≡ []
-unfolding written_lines
-no_lines t b old none = ap (λ ws. written_lines t b ws) none
+-- where both branches are one list
+either_way : (b : Bool) (l : List ℕ) → (if b then l else l) ≡ l
+either_way true l = refl
+either_way false l = refl
+
+-- three words have no line
+pub no_lines : (t : List Row) (inside : Bool) (item name key : List ℕ) (old : List Word) → old ≡ [] → item_lines inside t (item ∷ name ∷ key ∷ texts old) ≡ []
+unfolding item_lines
+no_lines t inside item name key old none =
+    let one = is_inside inside item in
+    let two = is_inside one name in
+    ap (λ ws. item_lines inside t (item ∷ name ∷ key ∷ texts ws)) none
+    ∙ ap (λ l. l ++ item_lines one t (name ∷ key ∷ [])) (either_way (inside && bytes_eq item (codes "item")) [])
+    ∙ ap (λ l. l ++ item_lines two t (key ∷ [])) (either_way (one && bytes_eq name (codes "item")) [])
+    ∙ ap (λ l. l ++ []) (either_way (two && bytes_eq key (codes "item")) [])
+
+-- three empty words begin no item
+pub empty_first : (t : List Row) (ws : List (List ℕ)) → item_lines false t ([] ∷ [] ∷ [] ∷ ws) ≡ item_lines false t ws
+unfolding item_lines
+empty_first t ws = refl
 
 -- a line that was put, and the lines behind it
 pub then_left : (old new line rest whole : List ℕ) → new ≡ old ++ line → whole ≡ line ++ rest → new ++ rest ≡ old ++ whole

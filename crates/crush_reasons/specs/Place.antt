@@ -4,7 +4,24 @@ use Rattle.std.specs.List.{position_or_len}
 use Rattle.crush_script.specs.declared.fault.JobFault.{JobFault}
 use Rattle.crush_script.specs.declared.fault.JobFault.TheVariants.{BadLine, NoSuchCommand, OpenBatch, TooManyOperators, DuplicateOperator, Text, OutOfMemory, TooLong, TooManyCalls}
 use Rattle.crush_reasons.specs.Explained.{reason_line}
+use Rattle.crush_reasons.specs.declared.place.Origin.{Origin}
 use Rattle.crush_reasons.specs.Sentences.{job_sentence}
+
+-- where bytes of a job come from: the name of the file, empty where none is told, and how many lines of the job stand before the file's own
+pub record OriginData : Type 0 where
+  pub name : List ℕ
+  pub before : ℕ
+
+abbrev pub origin_data : Origin → OriginData
+origin_data o = record { name = o.name.now; before = o.before }
+
+-- the number of a line of the job in its own file: a line that was put before the first is 0
+abbrev pub own_line : OriginData → ℕ → ℕ
+own_line origin line = line - origin.before
+
+-- the line at which a prefix of a job ends, counted from 1
+abbrev pub last_line : List ℕ → ℕ
+last_line before = count_by (λ b. b == 10) before + 1
 
 -- how many bytes stand before the first line feed
 abbrev pub to_feed : List ℕ → ℕ
@@ -30,23 +47,23 @@ shown_before before = min (behind_feed before) 40
 abbrev pub name_front : List ℕ → List ℕ
 name_front name = if length name == 0 then [] else name ++ codes " "
 
--- the number of a line, and the column of a place in it
-unfoldable pub column_line : List ℕ → ℕ → ℕ → List ℕ
-column_line name line column = codes "  " ++ name_front name ++ codes "line " ++ decimal line ++ codes ", column " ++ decimal column ++ codes "\n"
+-- the number of a line in its own file, and the column of a place in it
+unfoldable pub column_line : OriginData → ℕ → ℕ → List ℕ
+column_line origin line column = codes "  " ++ name_front origin.name ++ codes "line " ++ decimal (own_line origin line) ++ codes ", column " ++ decimal column ++ codes "\n"
 
 -- the sign below a place, behind which so many bytes of the line are shown
 abbrev pub sign_line : ℕ → List ℕ
 sign_line shown = replicate (shown + 4) 32 ++ codes "^\n"
 
 -- A PLACE in a text: lines and columns count from 1; the line is shown from its beginning, or from 40 bytes before the place
-abbrev pub at_place : List ℕ → List ℕ → List ℕ → List ℕ
-at_place name bytes before =
-    column_line name (count_by (λ b. b == 10) before + 1) (behind_feed before + 1)
+abbrev pub at_place : OriginData → List ℕ → List ℕ → List ℕ
+at_place origin bytes before =
+    column_line origin (last_line before) (behind_feed before + 1)
     ++ shown_line (drop (length before - shown_before before) bytes)
     ++ sign_line (shown_before before)
 
-abbrev pub place_text : List ℕ → List ℕ → ℕ → List ℕ
-place_text name bytes place = at_place name bytes (take place bytes)
+abbrev pub place_text : OriginData → List ℕ → ℕ → List ℕ
+place_text origin bytes place = at_place origin bytes (take place bytes)
 
 -- what stands behind the first line, and from a line on, where lines count from 0
 abbrev pub behind_line : List ℕ → List ℕ
@@ -56,22 +73,34 @@ unfoldable pub from_line : ℕ → List ℕ → List ℕ
 from_line zero bytes = bytes
 from_line (suc n) bytes = behind_line (from_line n bytes)
 
--- the number of a line
-unfoldable pub number_line : List ℕ → ℕ → List ℕ
-number_line name line = codes "  " ++ name_front name ++ codes "line " ++ decimal line ++ codes "\n"
+-- the number of a line in its own file
+unfoldable pub number_line : OriginData → ℕ → List ℕ
+number_line origin line = codes "  " ++ name_front origin.name ++ codes "line " ++ decimal (own_line origin line) ++ codes "\n"
 
 -- A LINE of a job, counted from 1, and below it what was wanted
-abbrev pub at_line : List ℕ → List ℕ → ℕ → List ℕ → List ℕ
-at_line name bytes line sentence = number_line name line ++ shown_line (from_line (line - 1) bytes) ++ reason_line sentence
+abbrev pub at_line : OriginData → List ℕ → ℕ → List ℕ → List ℕ
+at_line origin bytes line sentence = number_line origin line ++ shown_line (from_line (line - 1) bytes) ++ reason_line sentence
+
+-- FAULT LINE: the line of a job at which a fault stands, counted from 1, or 0 where it has none
+abbrev pub fault_line : List ℕ → JobFault → ℕ
+fault_line bytes (BadLine line) = line
+fault_line bytes (NoSuchCommand line) = line
+fault_line bytes (OpenBatch line) = line
+fault_line bytes (TooManyOperators line) = line
+fault_line bytes (DuplicateOperator line) = line
+fault_line bytes (TooManyCalls line) = line
+fault_line bytes (Text fault) = last_line (take fault.place bytes)
+fault_line bytes TooLong = 0
+fault_line bytes OutOfMemory = 0
 
 -- FAULT TEXT: where a fault stands, and what was wanted; of a fault without a place that alone
-abbrev pub fault_text : List ℕ → List ℕ → JobFault → List ℕ
-fault_text name bytes (BadLine line) = at_line name bytes line (job_sentence (BadLine line))
-fault_text name bytes (NoSuchCommand line) = at_line name bytes line (job_sentence (NoSuchCommand line))
-fault_text name bytes (OpenBatch line) = at_line name bytes line (job_sentence (OpenBatch line))
-fault_text name bytes (TooManyOperators line) = at_line name bytes line (job_sentence (TooManyOperators line))
-fault_text name bytes (DuplicateOperator line) = at_line name bytes line (job_sentence (DuplicateOperator line))
-fault_text name bytes (TooManyCalls line) = at_line name bytes line (job_sentence (TooManyCalls line))
-fault_text name bytes (Text fault) = place_text name bytes fault.place ++ reason_line (job_sentence (Text fault))
-fault_text name bytes TooLong = reason_line (job_sentence TooLong)
-fault_text name bytes OutOfMemory = reason_line (job_sentence OutOfMemory)
+abbrev pub fault_text : OriginData → List ℕ → JobFault → List ℕ
+fault_text origin bytes (BadLine line) = at_line origin bytes line (job_sentence (BadLine line))
+fault_text origin bytes (NoSuchCommand line) = at_line origin bytes line (job_sentence (NoSuchCommand line))
+fault_text origin bytes (OpenBatch line) = at_line origin bytes line (job_sentence (OpenBatch line))
+fault_text origin bytes (TooManyOperators line) = at_line origin bytes line (job_sentence (TooManyOperators line))
+fault_text origin bytes (DuplicateOperator line) = at_line origin bytes line (job_sentence (DuplicateOperator line))
+fault_text origin bytes (TooManyCalls line) = at_line origin bytes line (job_sentence (TooManyCalls line))
+fault_text origin bytes (Text fault) = place_text origin bytes fault.place ++ reason_line (job_sentence (Text fault))
+fault_text origin bytes TooLong = reason_line (job_sentence TooLong)
+fault_text origin bytes OutOfMemory = reason_line (job_sentence OutOfMemory)

@@ -45,7 +45,7 @@ fn push_explained(
 /// and below each two spaces and what was wanted.
 ///
 /// There are fewer than 2^32 entries, so that each has a number; a job's are at most 65,536. An Err
-/// is want of memory.
+/// is out of memory.
 pub fn explained_text(
     alloc: Global,
     scripts: &[Script],

@@ -1,8 +1,8 @@
 //! Where a fault of a job stands, and what was wanted there.
 
-ghost use Rattle.std.specs.Prelude.{◌≡◌, ◌≤◌, ◌<◌, ◌^◌, ◌+◌, ◌-◌, ◌++◌, ◌==◌, IfOk, OnOk, count_by, if◌then◌else◌, length, map, replicate};
+ghost use Rattle.std.specs.Prelude.{◌≡◌, ◌≤◌, ◌<◌, ◌^◌, ◌+◌, ◌-◌, ◌++◌, ◌==◌, IfOk, OnOk, count_by, if◌then◌else◌, length, map, replicate, take};
 ghost use Rattle.crush_reasons.specs.Explained.{reason_line};
-ghost use Rattle.crush_reasons.specs.Place.{at_line, at_place, behind_feed, behind_line, column_line, fault_text, from_line, name_front, number_line, place_text, shown_before, shown_byte, shown_line, sign_line, to_feed};
+ghost use Rattle.crush_reasons.specs.Place.{at_line, at_place, behind_feed, behind_line, column_line, fault_line, fault_text, from_line, last_line, name_front, number_line, origin_data, own_line, place_text, shown_before, shown_byte, shown_line, sign_line, to_feed};
 
 use crate::sentences::job_sentence;
 use crate::words::{push_all, push_reason};
@@ -15,6 +15,25 @@ const MOST_SHOWN: usize = 72;
 
 /// How many of them stand before the place at most.
 const MOST_BEFORE: usize = 40;
+
+/// Where bytes of a job come from: the name of the file, empty where none is told, and how many
+/// lines of the job stand before the file's own.
+#[derive(Clone, Copy)]
+pub struct Origin<'a> {
+    /// The name of the file.
+    pub name: &'a [u8],
+    /// How many lines of the job stand before those of the file.
+    pub before: usize,
+}
+
+impl<'a> Origin<'a> {
+    /// The number of a line of the job in its own file. A line that was put before the first is 0.
+    fn own_line(self, line: usize) -> usize
+        ensures { result ≡ own_line (origin_data self.entry) line }
+    {
+        line.saturating_sub(self.before)
+    }
+}
 
 /// How many bytes stand before the first line feed.
 fn to_feed(bytes: &[u8]) -> usize
@@ -57,6 +76,26 @@ fn count_feeds(bytes: &[u8]) -> usize
     ensures within { result ≤ length bytes.now }
 {
     bytes.iter().filter(|byte| **byte == b'\n').count()
+}
+
+/// The line at which a prefix of a job ends, counted from 1.
+fn last_line(before: &[u8]) -> usize
+    requires { length before.now < 2 ^ 32 }
+    ensures { result ≡ last_line before.now }
+{
+    count_feeds(before) + 1
+}
+
+/// The bytes up to a place, all of them where it is beyond their end.
+fn up_to(place: usize, bytes: &[u8]) -> &[u8]
+    ensures value { result.now ≡ take place bytes.now }
+    ensures within { length result.now ≤ length bytes.now }
+{
+    if place < bytes.len() {
+        bytes.split_at(place).0
+    } else {
+        bytes
+    }
 }
 
 /// A byte as it is shown.
@@ -124,22 +163,23 @@ fn push_name(name: &[u8], text: &mut Vec<u8>) -> Result<(), AllocError>
     text.extend_from_slice(b" ")
 }
 
-/// The number of a line, and the column of a place in it.
+/// The number of a line in its own file, and the column of a place in it.
 #[tactic(auto, unfolding(crate::specs::Place::column_line))]
 fn push_column_line(
-    name: &[u8],
+    origin: Origin<'_>,
     line: usize,
     column: usize,
     text: &mut Vec<u8>,
 ) -> Result<(), AllocError>
-    ensures { OnOk result (text.new.items ≡ text.old.items ++ column_line name.now line column) }
+    ensures { OnOk result (text.new.items
+        ≡ text.old.items ++ column_line (origin_data origin.entry) line column) }
 {
     let mut line_buffer = Buffer::new();
-    let line = line_buffer.format(line).as_bytes();
+    let line = line_buffer.format(origin.own_line(line)).as_bytes();
     let mut column_buffer = Buffer::new();
     let column = column_buffer.format(column).as_bytes();
     text.extend_from_slice(b"  ")?;
-    push_name(name, text)?;
+    push_name(origin.name, text)?;
     push_all(
         &[
             b"line ".as_slice(),
@@ -152,21 +192,22 @@ fn push_column_line(
     )
 }
 
-/// The number of a line.
+/// The number of a line in its own file.
 #[tactic(auto, unfolding(crate::specs::Place::number_line))]
-fn push_number_line(name: &[u8], line: usize, text: &mut Vec<u8>) -> Result<(), AllocError>
-    ensures { OnOk result (text.new.items ≡ text.old.items ++ number_line name.now line) }
+fn push_number_line(origin: Origin<'_>, line: usize, text: &mut Vec<u8>) -> Result<(), AllocError>
+    ensures { OnOk result (text.new.items
+        ≡ text.old.items ++ number_line (origin_data origin.entry) line) }
 {
     let mut buffer = Buffer::new();
-    let line = buffer.format(line).as_bytes();
+    let line = buffer.format(origin.own_line(line)).as_bytes();
     text.extend_from_slice(b"  ")?;
-    push_name(name, text)?;
+    push_name(origin.name, text)?;
     push_all(&[b"line ".as_slice(), line, b"\n".as_slice()], text)
 }
 
-/// The place that a front of a text ends at: its line and column, what the line has, and the sign.
+/// The place that a prefix of a text ends at: its line and column, what the line has, and the sign.
 fn push_end_of(
-    name: &[u8],
+    origin: Origin<'_>,
     bytes: &[u8],
     before: &[u8],
     text: &mut Vec<u8>,
@@ -174,26 +215,28 @@ fn push_end_of(
     requires within { length before.now ≤ length bytes.now }
     requires short { length bytes.now < 2 ^ 32 }
     ensures { OnOk result (text.new.items
-        ≡ text.old.items ++ at_place name.now bytes.now before.now) }
+        ≡ text.old.items ++ at_place (origin_data origin.entry) bytes.now before.now) }
 {
     let behind = behind_feed(before);
     let shown = behind.min(MOST_BEFORE);
     let (_, rest) = bytes.split_at(before.len() - shown);
-    push_column_line(name, count_feeds(before) + 1, behind + 1, text)?;
+    push_column_line(origin, last_line(before), behind + 1, text)?;
     push_line(rest, text)?;
     push_sign(shown, text)
 }
 
 /// A place in a text.
-fn push_place(name: &[u8], bytes: &[u8], place: usize, text: &mut Vec<u8>) -> Result<(), AllocError>
+fn push_place(
+    origin: Origin<'_>,
+    bytes: &[u8],
+    place: usize,
+    text: &mut Vec<u8>,
+) -> Result<(), AllocError>
     requires { length bytes.now < 2 ^ 32 }
-    ensures { OnOk result (text.new.items ≡ text.old.items ++ place_text name.now bytes.now place) }
+    ensures { OnOk result (text.new.items
+        ≡ text.old.items ++ place_text (origin_data origin.entry) bytes.now place) }
 {
-    if place < bytes.len() {
-        push_end_of(name, bytes, bytes.split_at(place).0, text)
-    } else {
-        push_end_of(name, bytes, bytes, text)
-    }
+    push_end_of(origin, bytes, up_to(place, bytes), text)
 }
 
 /// What stands behind the first line.
@@ -220,46 +263,46 @@ fn from_line(line: usize, bytes: &[u8]) -> &[u8]
 
 /// A line, counted from 1, and below it what was wanted.
 fn push_at_line(
-    name: &[u8],
+    origin: Origin<'_>,
     bytes: &[u8],
     line: usize,
     sentence: &str,
     text: &mut Vec<u8>,
 ) -> Result<(), AllocError>
     ensures { OnOk result (text.new.items
-        ≡ text.old.items ++ at_line name.now bytes.now line sentence.now) }
+        ≡ text.old.items ++ at_line (origin_data origin.entry) bytes.now line sentence.now) }
 {
-    push_number_line(name, line, text)?;
+    push_number_line(origin, line, text)?;
     push_line(from_line(line.saturating_sub(1), bytes), text)?;
     push_reason(sentence, text)
 }
 
 /// A place in a text, and below it what was wanted.
 fn push_at_place(
-    name: &[u8],
+    origin: Origin<'_>,
     bytes: &[u8],
     place: usize,
     sentence: &str,
     text: &mut Vec<u8>,
 ) -> Result<(), AllocError>
     requires { length bytes.now < 2 ^ 32 }
-    ensures { OnOk result (text.new.items
-        ≡ text.old.items ++ (place_text name.now bytes.now place ++ reason_line sentence.now)) }
+    ensures { OnOk result (text.new.items ≡ text.old.items
+        ++ (place_text (origin_data origin.entry) bytes.now place ++ reason_line sentence.now)) }
 {
-    push_place(name, bytes, place, text)?;
+    push_place(origin, bytes, place, text)?;
     push_reason(sentence, text)
 }
 
 /// Where a fault of a job stands.
 fn push_fault(
-    name: &[u8],
+    origin: Origin<'_>,
     bytes: &[u8],
     fault: JobFault,
     text: &mut Vec<u8>,
 ) -> Result<(), AllocError>
     requires { length bytes.now < 2 ^ 32 }
     ensures { OnOk result (text.new.items
-        ≡ text.old.items ++ fault_text name.now bytes.now fault) }
+        ≡ text.old.items ++ fault_text (origin_data origin.entry) bytes.now fault) }
 {
     let sentence = job_sentence(fault);
     match fault {
@@ -268,9 +311,28 @@ fn push_fault(
         | JobFault::OpenBatch(line)
         | JobFault::TooManyOperators(line)
         | JobFault::DuplicateOperator(line)
-        | JobFault::TooManyCalls(line) => push_at_line(name, bytes, line, sentence, text),
-        JobFault::Text(fault) => push_at_place(name, bytes, fault.place, sentence, text),
+        | JobFault::TooManyCalls(line) => push_at_line(origin, bytes, line, sentence, text),
+        JobFault::Text(fault) => push_at_place(origin, bytes, fault.place, sentence, text),
         JobFault::TooLong | JobFault::OutOfMemory => push_reason(sentence, text),
+    }
+}
+
+/// The line of a job at which a fault stands, counted from 1, or 0 where it has none.
+///
+/// The bytes are the whole job. The line counts in them, whichever file it came from.
+pub fn fault_line(bytes: &[u8], fault: JobFault) -> usize
+    requires { length bytes.now < 2 ^ 32 }
+    ensures { result ≡ fault_line bytes.now fault }
+{
+    match fault {
+        JobFault::BadLine(line)
+        | JobFault::NoSuchCommand(line)
+        | JobFault::OpenBatch(line)
+        | JobFault::TooManyOperators(line)
+        | JobFault::DuplicateOperator(line)
+        | JobFault::TooManyCalls(line) => line,
+        JobFault::Text(fault) => last_line(up_to(fault.place, bytes)),
+        JobFault::TooLong | JobFault::OutOfMemory => 0,
     }
 }
 
@@ -278,20 +340,22 @@ fn push_fault(
 /// line, the column, what the line has there and `^` below the place, of another fault the line
 /// alone. Of a fault without a place, as of bytes that are too many, it is what was wanted alone.
 ///
-/// Lines and columns count from 1. A line is shown from its beginning, or from 40 bytes before the
-/// place, and 72 bytes of it at most; a tab shows as a space, a byte that isn't from 32 to 126 as
-/// `?`. The name of the file stands before the line's number, unless it is empty. An Err is want of
-/// memory.
+/// The bytes are the whole job, of which some lines stand before the file's own: the number that is
+/// told counts from 1 in that file, and a line that was put before its first is line 0. Columns
+/// count from 1. A line is shown from its beginning, or from 40 bytes before the place, and 72 bytes
+/// of it at most; a tab shows as a space, a byte that isn't from 32 to 126 as `?`. The name of the
+/// file stands before the line's number, unless it is empty. An `Err` is out of memory.
 pub fn fault_text(
     alloc: Global,
-    name: &[u8],
+    origin: Origin<'_>,
     bytes: &[u8],
     fault: JobFault,
 ) -> Result<Vec<u8>, AllocError>
     requires { length bytes.now < 2 ^ 32 }
-    ensures { IfOk result (λ text. text.items ≡ fault_text name.now bytes.now fault) }
+    ensures { IfOk result (λ text. text.items
+        ≡ fault_text (origin_data origin.entry) bytes.now fault) }
 {
     let mut text = Vec::new(alloc);
-    push_fault(name, bytes, fault, &mut text)?;
+    push_fault(origin, bytes, fault, &mut text)?;
     Ok(text)
 }

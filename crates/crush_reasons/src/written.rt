@@ -1,25 +1,16 @@
 //! Written weights of buckets that aren't their sums.
 
-ghost use Rattle.std.specs.Prelude.{◌≡◌, ◌<◌, ◌++◌, List, [], IfOk, IsTrue, MatchOption, OnOk, bytes_eq, if◌then◌else◌, length};
+ghost use Rattle.std.specs.Prelude.{◌≡◌, ◌<◌, ◌∷◌, ◌++◌, List, [], IfOk, IsTrue, MatchOption, OnOk, bytes_eq, if◌then◌else◌, length};
 ghost use Rattle.crush_units.specs.Weight.{weight_of_text};
 ghost use Rattle.crush_table.specs.Stands.{Stands};
 ghost use Rattle.crush_table.specs.Table.{Row, id_named};
-ghost use Rattle.crush_reasons.specs.Written.{IsNextWord, announces_weight, at_first, behind, behind_data, bucket_sum, is_inside, lines_left, line_of_sum, line_of_weight, sum_told, unequal_line, written_line, written_text};
+ghost use Rattle.crush_reasons.specs.Written.{IsNextWord, bucket_sum, first_line, is_inside, item_line, line_of_sum, line_of_weight, lines_left, sum_told, unequal_line, written_text};
 
 use crate::words::push_all;
 use crush_bytes::{Reader, Token};
 use crush_map::CrushMap;
 use crush_units::{ItemId, Weight};
 use std::alloc::{AllocError, Global};
-
-/// The three words before a word, and whether they stand between braces.
-#[derive(Clone, Copy)]
-struct Behind<'a> {
-    inside: bool,
-    item: &'a [u8],
-    name: &'a [u8],
-    key: &'a [u8],
-}
 
 /// Whether a word is this one.
 fn is(word: &[u8], key: &[u8]) -> bool
@@ -38,39 +29,6 @@ fn is_inside(inside: bool, word: &[u8]) -> bool
         false
     } else {
         inside
-    }
-}
-
-impl<'a> Behind<'a> {
-    /// What is before the first word.
-    fn at_first() -> Behind<'a>
-        ensures { behind_data result ≡ at_first }
-    {
-        Behind {
-            inside: false,
-            item: b"",
-            name: b"",
-            key: b"",
-        }
-    }
-
-    /// Whether they are `item`, a name and `weight`.
-    fn announces_weight(self) -> bool
-        ensures { result ≡ announces_weight (behind_data self.entry) }
-    {
-        self.inside && is(self.item, b"item") && is(self.key, b"weight")
-    }
-
-    /// The three before the next word.
-    fn with(self, word: &'a [u8]) -> Behind<'a>
-        ensures { behind_data result ≡ behind (behind_data self.entry) word.now }
-    {
-        Behind {
-            inside: is_inside(self.inside, word),
-            item: self.name,
-            name: self.key,
-            key: word,
-        }
     }
 }
 
@@ -162,20 +120,21 @@ fn push_item(
     }
 }
 
-/// The line of a word, where it is such a weight.
-fn push_word(
+/// The line of an item that goes on with these three words.
+fn push_item_line(
     map: &CrushMap<Global>,
-    behind: Behind<'_>,
-    word: &[u8],
+    name: &[u8],
+    key: &[u8],
+    weight: &[u8],
     text: &mut Vec<u8>,
 ) -> Result<(), AllocError>
     ensures { OnOk result ((t : List Row) → Stands map.now.forest t → text.new.items
-        ≡ text.old.items ++ written_line t (behind_data behind.entry) word.now) }
+        ≡ text.old.items ++ item_line t (name.now ∷ key.now ∷ weight.now ∷ [])) }
 {
-    if !behind.announces_weight() {
+    if !is(key, b"weight") {
         return Ok(());
     }
-    push_item(map, behind.name, word, text)
+    push_item(map, name, weight, text)
 }
 
 /// The next word of a text, if there is one.
@@ -189,15 +148,50 @@ fn next_word<'a>(reader: &mut Reader<'a>) -> Option<&'a [u8]>
     }
 }
 
-/// A text that is read for such weights.
+/// A text that is read for such weights: three words of it, whether they begin between braces, and
+/// the words that follow.
 #[derive(Drop)]
 struct Scan<'a> {
+    inside: bool,
+    item: &'a [u8],
+    name: &'a [u8],
+    key: &'a [u8],
     reader: Reader<'a>,
-    behind: Behind<'a>,
 }
 
 impl<'a> Scan<'a> {
-    /// Puts the line of the next word, and says whether there is one.
+    /// A whole text, behind three empty words.
+    #[tactic(auto, using(crate::proofs::Scanning::empty_first))]
+    fn new(bytes: &'a [u8]) -> Scan<'a>
+        ensures { (t : List Row) → lines_left t result ≡ written_text t bytes.now }
+    {
+        Scan {
+            inside: false,
+            item: b"",
+            name: b"",
+            key: b"",
+            reader: Reader::new(bytes),
+        }
+    }
+
+    /// Puts the line of the first word, where the word that follows the three is this one.
+    fn push_first(
+        &self,
+        map: &CrushMap<Global>,
+        weight: &[u8],
+        text: &mut Vec<u8>,
+    ) -> Result<(), AllocError>
+        ensures { OnOk result ((t : List Row) → Stands map.now.forest t → text.new.items
+            ≡ text.old.items ++ first_line t self.now weight.now) }
+    {
+        if self.inside && is(self.item, b"item") {
+            push_item_line(map, self.name, self.key, weight, text)
+        } else {
+            Ok(())
+        }
+    }
+
+    /// Puts the line of the first word and goes on by one. False where no word follows the three.
     fn push_next(&mut self, map: &CrushMap<Global>, text: &mut Vec<u8>) -> Result<bool, AllocError>
         ensures goes { IfOk result (λ more. (t : List Row) → Stands map.now.forest t
             → text.new.items ++ (if more then lines_left t self.new else [])
@@ -208,8 +202,11 @@ impl<'a> Scan<'a> {
         let Some(word) = next_word(&mut self.reader) else {
             return Ok(false);
         };
-        push_word(map, self.behind, word, text)?;
-        self.behind = self.behind.with(word);
+        self.push_first(map, word, text)?;
+        self.inside = is_inside(self.inside, self.item);
+        self.item = self.name;
+        self.name = self.key;
+        self.key = word;
         Ok(true)
     }
 
@@ -223,11 +220,11 @@ impl<'a> Scan<'a> {
     }
 }
 
-/// A line `NAME: W was written, the sum is W` for each `item NAME weight W` of a map's text where
-/// NAME is a bucket of the map that weighs something else, in the order of the text. The weight
-/// that was written stands there as in the text, the sum with five decimals.
+/// A line `NAME: W was written, the sum is W` for each `item NAME weight W` between braces of a
+/// map's text where NAME is a bucket of the map that weighs something else, in the order of the
+/// text. The weight that was written stands there as in the text, the sum with five decimals.
 ///
-/// The map is the one of that text, as it was read. An `Err` is want of memory.
+/// The map is the one of that text, as it was read. An `Err` is out of memory.
 pub fn written_text(
     alloc: Global,
     map: &CrushMap<Global>,
@@ -237,10 +234,7 @@ pub fn written_text(
         → text.items ≡ written_text t bytes.now) }
 {
     let mut text = Vec::new(alloc);
-    let mut scan = Scan {
-        reader: Reader::new(bytes),
-        behind: Behind::at_first(),
-    };
+    let mut scan = Scan::new(bytes);
     scan.push_left(map, &mut text)?;
     Ok(text)
 }

@@ -7,7 +7,7 @@ ghost use Rattle.crush_calls.specs.Entries.{AreOf};
 
 use crush_calls::{Call, Entry, Script, is_change, make_call};
 use crush_map::{CrushMap, Hashing};
-use crush_reasons::{ceph_text, explained_text, fault_text, written_text};
+use crush_reasons::{Origin, ceph_text, explained_text, fault_line, fault_text, written_text};
 use crush_script::{Job, JobFault, read_job};
 use std::alloc::Global;
 use std::process::Abort;
@@ -32,12 +32,12 @@ fn fault_of(rt: &(impl Abort + AllocGlobal), bytes: &[u8]) -> JobFault {
 }
 
 /// Whether this is told of a short text with a fault.
-fn is_told(rt: &(impl Abort + AllocGlobal), name: &[u8], bytes: &[u8], told: &[u8]) -> bool {
+fn is_told(rt: &(impl Abort + AllocGlobal), origin: Origin<'_>, bytes: &[u8], told: &[u8]) -> bool {
     if bytes.len() > 10_000 {
         return false;
     }
     let fault = fault_of(rt, bytes);
-    let text = fault_text(rt.alloc(), name, bytes, fault).expect(rt, "no memory");
+    let text = fault_text(rt.alloc(), origin, bytes, fault).expect(rt, "no memory");
     text.as_slice() == told
 }
 
@@ -46,16 +46,59 @@ fn a_fault_is_told_with_its_place(rt: HostRuntime) {
     assert!(rt;
         is_told(
             &rt,
-            b"",
+            Origin {
+                name: b"",
+                before: 0
+            },
             MISSPELT,
             b"  line 24, column 1\n    hots h2 {\n    ^\n  no type of this name is declared above\n"
         ) && is_told(
             &rt,
-            b"alice.txt",
+            Origin {
+                name: b"alice.txt",
+                before: 0
+            },
             b"# nothing\n%operator alice\nfly\tx\n",
             b"  alice.txt line 3\n    fly x\n  the first word of a line is to be a command: --help has all of them\n"
         )
     );
+}
+
+/// A map and two scripts that were joined: of each the line of its operator was put before it.
+const JOINED: &[u8] = b"# nothing\n%operator alice\nrm x\n%operator bob\nrm y\nfly z\n";
+
+/// The same, where the line that was put before the second is that of the first.
+const DUPLICATE: &[u8] = b"# nothing\n%operator alice\nrm x\n%operator alice\nrm y\n";
+
+#[test]
+fn a_line_is_told_as_that_of_its_own_file(rt: HostRuntime) {
+    let second = Origin {
+        name: b"bob.txt",
+        before: 4,
+    };
+    assert!(rt;
+        is_told(
+            &rt,
+            second,
+            JOINED,
+            b"  bob.txt line 2\n    fly z\n  the first word of a line is to be a command: --help has all of them\n"
+        ) && is_told(
+            &rt,
+            second,
+            DUPLICATE,
+            b"  bob.txt line 0\n    %operator alice\n  an operator above has this name\n"
+        )
+    );
+}
+
+/// Whether the fault of a short text stands at this line of it.
+fn stands_at(rt: &(impl Abort + AllocGlobal), bytes: &[u8], line: usize) -> bool {
+    bytes.len() <= 10_000 && fault_line(bytes, fault_of(rt, bytes)) == line
+}
+
+#[test]
+fn the_line_of_a_fault_counts_in_the_job(rt: HostRuntime) {
+    assert!(rt; stands_at(&rt, MISSPELT, 24) && stands_at(&rt, JOINED, 6));
 }
 
 /// The entries of one operator's calls, made one after the other.

@@ -11,7 +11,7 @@ use Rattle.crush_run.specs.declared.fault.SinceFault.{SinceFault}
 use Rattle.crush_run.specs.declared.fault.SinceFault.TheVariants as since
 use Rattle.crush_run.specs.declared.summary.Summary.{Summary}
 
--- want of memory, wherever it comes
+-- out of memory, wherever it was
 abbrev pub out_of_memory : List ℕ
 out_of_memory = codes "crushedit: out of memory\n"
 
@@ -113,7 +113,7 @@ fault_status run.Thread = 4
 fault_status (run.Refused count) = 5
 fault_status (run.Since f) = since_status f
 
--- 0 where the run was done, 1 for what is no job or no map, 3 where reading or writing failed, 4 for want of memory or of a thread, 5 where
+-- 0 where the run was done, 1 for what is no job or no map, 3 where reading or writing failed, 4 out of memory or without a thread, 5 where
 -- calls of a strict run were refused
 abbrev pub status : Result Summary RunFault → ℕ
 status (Ok s) = 0

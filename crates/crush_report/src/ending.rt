@@ -14,7 +14,7 @@ use itoa::Buffer;
 use std::alloc::{AllocError, Global};
 use std::io::Write;
 
-/// The line of want of memory, wherever it comes.
+/// The line of a run out of memory, wherever it was.
 const OUT_OF_MEMORY: &[u8] = b"crushedit: out of memory\n";
 
 /// What is told of it where reasons are asked for.
@@ -309,7 +309,7 @@ fn since_status(fault: SinceFault) -> u8
 /// | 4 | a worker couldn't be started | `crushedit: no thread` |
 /// | 5 | calls of a strict run were refused | `crushedit: refused N`, and their lines in the notes |
 ///
-/// Where writing fails, a front of all that stands there, and the status is the same.
+/// Where writing fails, a prefix of all that stands there, and the status is the same.
 pub fn report<E: Write>(
     outcome: &Result<Summary, RunFault>,
     explain: bool,
@@ -333,7 +333,7 @@ pub fn report<E: Write>(
 }
 
 /// Writes the text of a command line that asks for no run, and answers the status: of help, on
-/// standard output, 0 where all of it stands there, and 3 where a front of it does that isn't the
+/// standard output, 0 where all of it stands there, and 3 where a prefix of it does that isn't the
 /// whole; of a refusal, on standard error, 2; and 4 where there was no memory.
 pub fn tell<W: Write, E: Write>(fault: &OptionsFault, out: &mut W, err: &mut E) -> u8
     ensures status { IsOptionsStatus fault.now result }

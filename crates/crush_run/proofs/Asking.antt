@@ -1,5 +1,5 @@
 -- What is asked for of a run by its options.
-use Rattle.std.proofs.Common.{◌≡◌, ℕ, ◌≤◌, Bool, true, false, List, [], Option, Some, None, Result, Ok, Err, inl, inr, length, ap, subst, ◌∙◌, arith}
+use Rattle.std.proofs.Common.{◌≡◌, ℕ, Bool, false, List, Option, Some, None, Result, Ok, Err, inl, inr, length, refl, ap, subst, ◌∙◌, arith}
 use Rattle.std.specs.Prelude.{IfOk, IfErr, IfSome}
 use mathlib.Core.Logic.{dite}
 use native.Mathlib.Decide.{dec_le}
@@ -18,11 +18,12 @@ use Rattle.crush_run.specs.declared.fault.RunFault.TheVariants as run
 use Rattle.crush_run.specs.declared.fault.SinceFault.{SinceFault}
 use Rattle.crush_run.specs.declared.fault.SinceFault.TheVariants as since
 use Rattle.crush_run.specs.declared.summary.Summary.{Summary}
-use Rattle.crush_run.specs.Input.{IsInput}
-use Rattle.crush_run.specs.Options.{EndsAsAsked, IsAskedFault, IsAskedNoted, IsAskedOf, IsMapFault, IsNotedAsAsked, IsOptionsFault, IsSinceFault, IsTextOf}
-use Rattle.crush_run.specs.Notes.{IsFaultNoted, IsMapNoted, IsNoted, flaw_notes, since_notes}
+use Rattle.crush_run.specs.Input.{IsInput, job_bytes}
+use Rattle.crush_run.specs.Options.{EndsAsAsked, IsAskedFault, IsAskedNoted, IsAskedOf, IsMapFault, IsNotedAsAsked, IsOptionsFault, IsPartNoted, IsSinceFault, IsTextOf}
+use Rattle.crush_run.specs.Notes.{IsFaultNoted, IsFileNoted, IsMapNoted, IsNoted, IsSinceNoted, flaw_notes, weight_notes}
+use Rattle.crush_run.specs.Origins.{job_origin}
 use Rattle.crush_run.specs.Run.{Ends}
-use Rattle.crush_run.specs.Stages.{IsEarlyFault, IsOutcomeFault, IsReadFault}
+use Rattle.crush_run.specs.Stages.{IsEarlyFault, IsInputFault, IsNoJob, IsOutcomeFault, IsReadFault}
 
 -- a fault of a text that isn't want of memory is a flaw of it
 pub flaw_where : (bytes : List ℕ) (f : TextFault) → is_want f.kind ≡ false → IsFlawOrWant bytes f → IsMapFlaw bytes f
@@ -34,12 +35,16 @@ pub flaw_noted : (explain : Bool) (name bytes : List ℕ) (f : TextFault) (notes
 flaw_noted explain name bytes f notes is = (λ quiet. is ∙ ap (λ e. flaw_notes e name bytes f) quiet, is)
 
 -- what is noted of bytes read is noted of all bytes of a file
-since_of_all : (explain : Bool) (name : List ℕ) (all : Option (List ℕ)) (bytes : List ℕ) (f : SinceFault) (notes : List ℕ) → IfSome all (IsInput bytes) → IsSinceFault bytes f → notes ≡ since_notes explain name bytes f
-    → IfSome all (λ xs. notes ≡ since_notes explain name xs f)
-since_of_all explain name None bytes f notes input h is = tt
-since_of_all explain name (Some xs) bytes (since.Text f) notes input h is = is ∙ ap (λ z. flaw_notes explain name z f) (input.read h.0)
-since_of_all explain name (Some xs) bytes since.TooLong notes input h is = is
-since_of_all explain name (Some xs) bytes since.Read notes input h is = is
+flaw_of_all : (explain : Bool) (name : List ℕ) (all : Option (List ℕ)) (bytes : List ℕ) (f : TextFault) (notes : List ℕ) → IfSome all (IsInput bytes) → IsSinceFault bytes (since.Text f) → notes ≡ flaw_notes explain name bytes f
+    → IfSome all (λ xs. notes ≡ flaw_notes explain name xs f)
+flaw_of_all explain name None bytes f notes input h is = tt
+flaw_of_all explain name (Some xs) bytes f notes input h is = is ∙ ap (λ z. flaw_notes explain name z f) (input.read h.0)
+
+since_of_all : (explain : Bool) (name : List ℕ) (all : Option (List ℕ)) (bytes : List ℕ) (f : SinceFault) (notes : List ℕ) → IfSome all (IsInput bytes) → IsSinceFault bytes f → IsSinceNoted explain name (Some bytes) f notes
+    → IsSinceNoted explain name all f notes
+since_of_all explain name all bytes (since.Text f) notes input h told = (told.0, flaw_of_all explain name all bytes f notes input h told.1)
+since_of_all explain name all bytes since.TooLong notes input h told = told
+since_of_all explain name all bytes since.Read notes input h told = told
 
 pub map_noted_of_all : (explain : Bool) (name : List ℕ) (all : Option (List ℕ)) (bytes : List ℕ) (f : RunFault) (notes : List ℕ) → IfSome all (IsInput bytes) → IsMapFault (Some bytes) f → IsMapNoted explain name (Some bytes) f notes → IsMapNoted explain name all f notes
 map_noted_of_all explain name all bytes (run.Job j) notes input h told = told
@@ -48,7 +53,7 @@ map_noted_of_all explain name all bytes run.Write notes input h told = told
 map_noted_of_all explain name all bytes run.Memory notes input h told = told
 map_noted_of_all explain name all bytes run.Thread notes input h told = told
 map_noted_of_all explain name all bytes (run.Refused n) notes input h told = told
-map_noted_of_all explain name all bytes (run.Since f) notes input h told = (told.0, since_of_all explain name all bytes f notes input h told.1)
+map_noted_of_all explain name all bytes (run.Since f) notes input h told = since_of_all explain name all bytes f notes input h told
 
 -- what is known of the bytes read is known of all bytes of a file
 text_of_all : (m : MapData) (all : Option (List ℕ)) (bytes : List ℕ) → IfSome all (IsInput bytes) → IsTextOf m bytes → IfSome all (IsTextOf m)
@@ -79,9 +84,24 @@ pub unread_map : (all : Option (List ℕ)) → IsMapFault all (run.Since since.R
 unread_map None = tt
 unread_map (Some xs) = tt
 
-pub unread_noted : (explain : Bool) (name : List ℕ) (all : Option (List ℕ)) (notes : List ℕ) → notes ≡ [] → IsMapNoted explain name all (run.Since since.Read) notes
-unread_noted explain name None notes none = (λ quiet. none, tt)
-unread_noted explain name (Some xs) notes none = (λ quiet. none, none)
+-- any other fault of its reading is want of memory
+pub other_map : (f : RunFault) (all : Option (List ℕ)) → IsInputFault f → (f ≡ run.Read → ⊥) → IsMapFault all f
+other_map (run.Job j) all h other = absurd h
+other_map run.Read all h other = absurd (other refl)
+other_map run.Write all h other = absurd h
+other_map run.Memory all h other = tt
+other_map run.Thread all h other = absurd h
+other_map (run.Refused n) all h other = absurd h
+other_map (run.Since s) all h other = absurd h
+
+pub other_noted : (explain : Bool) (name : List ℕ) (all : Option (List ℕ)) (f : RunFault) (notes : List ℕ) → IsInputFault f → (f ≡ run.Read → ⊥) → IsFileNoted explain name f notes → IsMapNoted explain name all f notes
+other_noted explain name all (run.Job j) notes h other told = absurd h
+other_noted explain name all run.Read notes h other told = absurd (other refl)
+other_noted explain name all run.Write notes h other told = absurd h
+other_noted explain name all run.Memory notes h other told = told
+other_noted explain name all run.Thread notes h other told = absurd h
+other_noted explain name all (run.Refused n) notes h other told = absurd h
+other_noted explain name all (run.Since s) notes h other told = absurd h
 
 -- a fault of what is asked for comes before there is a history
 early_of_map : (all : Option (List ℕ)) (f : RunFault) → IsMapFault all f → IsEarlyFault f
@@ -100,30 +120,35 @@ early_of_asked content (printed.Since name) f h = early_of_map (content name.byt
 early_of_asked content printed.AsCeph f h = absurd h
 
 -- a run that ended early came to no output
-ended_before : (content : List ℕ → Option (List ℕ)) (options : Options) (job : JobData) (f : RunFault) (old new : Option (List ℕ)) (notes : List ℕ) → IsEarlyFault f → EndsAsAsked content options job (Err f) old new notes
-ended_before content options job (run.Job j) old new notes early = tt
-ended_before content options job run.Read old new notes early = tt
-ended_before content options job run.Write old new notes early = absurd early
-ended_before content options job run.Memory old new notes early = tt
-ended_before content options job run.Thread old new notes early = tt
-ended_before content options job (run.Refused n) old new notes early = absurd early
-ended_before content options job (run.Since s) old new notes early = tt
+ended_before : (content : List ℕ → Option (List ℕ)) (options : Options) (bytes : List ℕ) (job : JobData) (f : RunFault) (old new : Option (List ℕ)) (notes : List ℕ) → IsEarlyFault f → EndsAsAsked content options bytes job (Err f) old new notes
+ended_before content options bytes job (run.Job j) old new notes early = tt
+ended_before content options bytes job run.Read old new notes early = tt
+ended_before content options bytes job run.Write old new notes early = absurd early
+ended_before content options bytes job run.Memory old new notes early = tt
+ended_before content options bytes job run.Thread old new notes early = tt
+ended_before content options bytes job (run.Refused n) old new notes early = absurd early
+ended_before content options bytes job (run.Since s) old new notes early = tt
 
-pub ended_before_output : (content : List ℕ → Option (List ℕ)) (options : Options) (job : JobData) (r : Result Summary RunFault) (f : RunFault) (old new : Option (List ℕ)) (notes : List ℕ) → r ≡ Err f → IsEarlyFault f
-    → EndsAsAsked content options job r old new notes
-ended_before_output content options job r f old new notes is early = rw is (ended_before content options job f old new notes early)
+pub ended_before_output : (content : List ℕ → Option (List ℕ)) (options : Options) (bytes : List ℕ) (job : JobData) (r : Result Summary RunFault) (f : RunFault) (old new : Option (List ℕ)) (notes : List ℕ) → r ≡ Err f → IsEarlyFault f
+    → EndsAsAsked content options bytes job r old new notes
+ended_before_output content options bytes job r f old new notes is early = rw is (ended_before content options bytes job f old new notes early)
 
 -- a run with what is asked for ends as asked
-pub ended_as_asked : (content : List ℕ → Option (List ℕ)) (options : Options) (what : Asked) (job : JobData) (r : Result Summary RunFault) (old new : Option (List ℕ)) (notes : List ℕ) → IsAskedOf content options.printed what
-    → Ends options.mode what job r old new notes → EndsAsAsked content options job r old new notes
-ended_as_asked content options what job (Ok s) old new notes is ends = record { what = what; asked = is; ends = ends }
-ended_as_asked content options what job (Err (run.Job j)) old new notes is ends = tt
-ended_as_asked content options what job (Err run.Read) old new notes is ends = tt
-ended_as_asked content options what job (Err run.Write) old new notes is ends = record { what = what; asked = is; ends = ends }
-ended_as_asked content options what job (Err run.Memory) old new notes is ends = tt
-ended_as_asked content options what job (Err run.Thread) old new notes is ends = tt
-ended_as_asked content options what job (Err (run.Refused n)) old new notes is ends = record { what = what; asked = is; ends = ends }
-ended_as_asked content options what job (Err (run.Since s)) old new notes is ends = tt
+ended : (content : List ℕ → Option (List ℕ)) (options : Options) (what : Asked) (bytes : List ℕ) (job : JobData) (r : Result Summary RunFault) (old new : Option (List ℕ)) (notes : List ℕ) → IsAskedOf content options.printed what
+    → Ends options.mode what job (weight_notes options.mode.explain bytes job.table) r old new notes → EndsAsAsked content options bytes job r old new notes
+ended content options what bytes job (Ok s) old new notes is ends = record { what = what; asked = is; ends = ends }
+ended content options what bytes job (Err (run.Job j)) old new notes is ends = tt
+ended content options what bytes job (Err run.Read) old new notes is ends = tt
+ended content options what bytes job (Err run.Write) old new notes is ends = record { what = what; asked = is; ends = ends }
+ended content options what bytes job (Err run.Memory) old new notes is ends = tt
+ended content options what bytes job (Err run.Thread) old new notes is ends = tt
+ended content options what bytes job (Err (run.Refused n)) old new notes is ends = record { what = what; asked = is; ends = ends }
+ended content options what bytes job (Err (run.Since s)) old new notes is ends = tt
+
+pub ended_as_asked : (content : List ℕ → Option (List ℕ)) (options : Options) (what : Asked) (bytes : List ℕ) (job : JobData) (weights : List ℕ) (r : Result Summary RunFault) (old new : Option (List ℕ)) (notes : List ℕ) → IsAskedOf content options.printed what
+    → weights ≡ weight_notes options.mode.explain bytes job.table → Ends options.mode what job weights r old new notes → EndsAsAsked content options bytes job r old new notes
+ended_as_asked content options what bytes job weights r old new notes is same ends =
+    ended content options what bytes job r old new notes is (subst (λ (w : List ℕ). Ends options.mode what job w r old new notes) same ends)
 
 -- when the faults of the stages are told
 pub options_fault_of_read : (content : List ℕ → Option (List ℕ)) (options : Options) (all : Option (List ℕ)) (f : RunFault) → IsReadFault all f → IsOptionsFault content options all f
@@ -172,36 +197,47 @@ pub job_where_done : {X : Type 0} (r : Result X RunFault) (all : Option (List �
 job_where_done (Ok x) all has = has
 job_where_done (Err f) all has = tt
 
--- what is noted of a fault of reading, and of the ending of a run, is noted as asked
-pub read_as_asked : (content : List ℕ → Option (List ℕ)) (options : Options) (all : Option (List ℕ)) (f : RunFault) (notes : List ℕ) → IsReadFault all f → IsFaultNoted options.mode.explain all f notes → IsNotedAsAsked content options all (Err f) notes
-read_as_asked content options all (run.Job j) notes h told = told
-read_as_asked content options all run.Read notes h told = told
-read_as_asked content options all run.Write notes h told = told
-read_as_asked content options all run.Memory notes h told = told
-read_as_asked content options all run.Thread notes h told = told
-read_as_asked content options all (run.Refused n) notes h told = told
-read_as_asked content options all (run.Since s) notes h told = absurd h
+-- what is noted of a job that wasn't read, or is none, and of the ending of a run, is noted as asked
+pub part_as_asked : (content : List ℕ → Option (List ℕ)) (options : Options) (input : Option (List ℕ)) (f : RunFault) (notes : List ℕ) → IsInputFault f → IsPartNoted options f notes → IsNotedAsAsked content options input (Err f) notes
+part_as_asked content options input (run.Job j) notes h told = absurd h
+part_as_asked content options input run.Read notes h told = told
+part_as_asked content options input run.Write notes h told = absurd h
+part_as_asked content options input run.Memory notes h told = told
+part_as_asked content options input run.Thread notes h told = absurd h
+part_as_asked content options input (run.Refused n) notes h told = absurd h
+part_as_asked content options input (run.Since s) notes h told = absurd h
 
-pub ending_as_asked : (content : List ℕ → Option (List ℕ)) (options : Options) (all : Option (List ℕ)) (r : Result Summary RunFault) (notes : List ℕ) → IfErr r (IsOutcomeFault options.mode) → IsNoted options.mode.explain all r notes → IsNotedAsAsked content options all r notes
-ending_as_asked content options all (Ok s) notes h told = told
-ending_as_asked content options all (Err (run.Job j)) notes h told = told
-ending_as_asked content options all (Err run.Read) notes h told = told
-ending_as_asked content options all (Err run.Write) notes h told = told
-ending_as_asked content options all (Err run.Memory) notes h told = told
-ending_as_asked content options all (Err run.Thread) notes h told = told
-ending_as_asked content options all (Err (run.Refused n)) notes h told = told
-ending_as_asked content options all (Err (run.Since s)) notes h told = absurd h
+pub no_job_as_asked : (content : List ℕ → Option (List ℕ)) (options : Options) (input all : Option (List ℕ)) (f : RunFault) (notes : List ℕ) → IsNoJob all f
+    → IsFaultNoted options.mode.explain (job_origin content options input) (job_bytes content options input) f notes → IsNotedAsAsked content options input (Err f) notes
+no_job_as_asked content options input all (run.Job j) notes h told = told
+no_job_as_asked content options input all run.Read notes h told = absurd h
+no_job_as_asked content options input all run.Write notes h told = absurd h
+no_job_as_asked content options input all run.Memory notes h told = told
+no_job_as_asked content options input all run.Thread notes h told = absurd h
+no_job_as_asked content options input all (run.Refused n) notes h told = absurd h
+no_job_as_asked content options input all (run.Since s) notes h told = absurd h
+
+pub ending_as_asked : (content : List ℕ → Option (List ℕ)) (options : Options) (input : Option (List ℕ)) (r : Result Summary RunFault) (notes : List ℕ) → IfErr r (IsOutcomeFault options.mode)
+    → IsNoted options.mode.explain (job_origin content options input) (job_bytes content options input) r notes → IsNotedAsAsked content options input r notes
+ending_as_asked content options input (Ok s) notes h told = told
+ending_as_asked content options input (Err (run.Job j)) notes h told = told
+ending_as_asked content options input (Err run.Read) notes h told = absurd h
+ending_as_asked content options input (Err run.Write) notes h told = told
+ending_as_asked content options input (Err run.Memory) notes h told = told
+ending_as_asked content options input (Err run.Thread) notes h told = told
+ending_as_asked content options input (Err (run.Refused n)) notes h told = told
+ending_as_asked content options input (Err (run.Since s)) notes h told = absurd h
 
 -- and so is one of what the words ask for, which is another map alone
-noted_of_map : (content : List ℕ → Option (List ℕ)) (options : Options) (all own : Option (List ℕ)) (name : List ℕ) (f : RunFault) (notes : List ℕ) → IsMapFault own f → IsMapNoted options.mode.explain name own f notes
-    → IsAskedNoted content options.mode.explain options.printed f notes → IsNotedAsAsked content options all (Err f) notes
-noted_of_map content options all own name (run.Job j) notes may told asked = absurd may
-noted_of_map content options all own name run.Read notes may told asked = absurd may
-noted_of_map content options all own name run.Write notes may told asked = absurd may
-noted_of_map content options all own name run.Memory notes may told asked = told
-noted_of_map content options all own name run.Thread notes may told asked = absurd may
-noted_of_map content options all own name (run.Refused n) notes may told asked = absurd may
-noted_of_map content options all own name (run.Since s) notes may told asked = asked
+noted_of_map : (content : List ℕ → Option (List ℕ)) (options : Options) (input own : Option (List ℕ)) (name : List ℕ) (f : RunFault) (notes : List ℕ) → IsMapFault own f → IsMapNoted options.mode.explain name own f notes
+    → IsAskedNoted content options.mode.explain options.printed f notes → IsNotedAsAsked content options input (Err f) notes
+noted_of_map content options input own name (run.Job j) notes may told asked = absurd may
+noted_of_map content options input own name run.Read notes may told asked = absurd may
+noted_of_map content options input own name run.Write notes may told asked = absurd may
+noted_of_map content options input own name run.Memory notes may told asked = told
+noted_of_map content options input own name run.Thread notes may told asked = absurd may
+noted_of_map content options input own name (run.Refused n) notes may told asked = absurd may
+noted_of_map content options input own name (run.Since s) notes may told asked = asked
 
 asked_is_noted : (content : List ℕ → Option (List ℕ)) (explain : Bool) (what : Printed) (f : RunFault) (notes : List ℕ) → IsAskedFault content what f → IsAskedNoted content explain what f notes
     → (own : Option (List ℕ)) × (name : List ℕ) × IsMapFault own f × IsMapNoted explain name own f notes
@@ -210,8 +246,8 @@ asked_is_noted content explain printed.Tree f notes h told = absurd h
 asked_is_noted content explain (printed.Since name) f notes h told = (content name.bytes.items, name.bytes.items, h, told)
 asked_is_noted content explain printed.AsCeph f notes h told = absurd h
 
-pub noted_as_asked : (content : List ℕ → Option (List ℕ)) (options : Options) (all : Option (List ℕ)) (f : RunFault) (notes : List ℕ) → IsAskedFault content options.printed f → IsAskedNoted content options.mode.explain options.printed f notes
-    → IsNotedAsAsked content options all (Err f) notes
-noted_as_asked content options all f notes h told =
+pub noted_as_asked : (content : List ℕ → Option (List ℕ)) (options : Options) (input : Option (List ℕ)) (f : RunFault) (notes : List ℕ) → IsAskedFault content options.printed f → IsAskedNoted content options.mode.explain options.printed f notes
+    → IsNotedAsAsked content options input (Err f) notes
+noted_as_asked content options input f notes h told =
     let own = asked_is_noted content options.mode.explain options.printed f notes h told in
-    noted_of_map content options all own.0 own.1 f notes own.2 own.3 told
+    noted_of_map content options input own.0 own.1 f notes own.2 own.3 told

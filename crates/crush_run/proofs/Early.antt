@@ -1,10 +1,11 @@
 -- Faults that come before there is a history, and what is noted of them.
-use Rattle.std.proofs.Common.{◌≡◌, ℕ, Bool, List, [], Option, Result, Ok, Err}
+use Rattle.std.proofs.Common.{◌≡◌, ℕ, Bool, List, [], Option, Result, Err}
 use Rattle.crush_calls.specs.History.{EntryData}
 use Rattle.crush_options.specs.declared.asked.Mode.{Mode}
 use Rattle.crush_run.specs.declared.fault.RunFault.{RunFault}
 use Rattle.crush_run.specs.declared.fault.RunFault.TheVariants as run
-use Rattle.crush_run.specs.Notes.{IsFaultNoted, IsNoted, NotesRefused}
+use Rattle.crush_run.specs.Notes.{HistoryNoted, IsFaultNoted, IsNoted}
+use Rattle.crush_reasons.specs.Place.{OriginData}
 use Rattle.crush_run.specs.Run.{IsStrict}
 use Rattle.crush_run.specs.Stages.{IsEarlyFault, IsInputFault, IsNoJob, IsReadFault, IsScriptsFault}
 
@@ -21,46 +22,43 @@ strict_of_early X strict h (run.Since s) early = tt
 pub early_strict : {X : Type 0} (strict : Bool) (h : List EntryData) (r : Result X RunFault) (f : RunFault) → r ≡ Err f → IsEarlyFault f → IsStrict strict h r
 early_strict {X = X} strict h r f is early = rw is (strict_of_early X strict h f early)
 
--- nor are there refused entries to be noted
-refused_of_early : (X : Type 0) (mode : Mode) (names : List (List ℕ)) (h : List EntryData) (f : RunFault) (notes : List ℕ) → IsEarlyFault f → NotesRefused {X = X} mode names h (Err f) notes
-refused_of_early X mode names h (run.Job j) notes early = tt
-refused_of_early X mode names h run.Read notes early = tt
-refused_of_early X mode names h run.Write notes early = absurd early
-refused_of_early X mode names h run.Memory notes early = tt
-refused_of_early X mode names h run.Thread notes early = tt
-refused_of_early X mode names h (run.Refused n) notes early = absurd early
-refused_of_early X mode names h (run.Since s) notes early = tt
+-- nor is anything of a history noted
+told_of_early : (X : Type 0) (mode : Mode) (weights : List ℕ) (names : List (List ℕ)) (h : List EntryData) (f : RunFault) (notes : List ℕ) → IsEarlyFault f → HistoryNoted {X = X} mode weights names h (Err f) notes
+told_of_early X mode weights names h (run.Job j) notes early = tt
+told_of_early X mode weights names h run.Read notes early = tt
+told_of_early X mode weights names h run.Write notes early = absurd early
+told_of_early X mode weights names h run.Memory notes early = tt
+told_of_early X mode weights names h run.Thread notes early = tt
+told_of_early X mode weights names h (run.Refused n) notes early = absurd early
+told_of_early X mode weights names h (run.Since s) notes early = tt
 
-pub early_refused : {X : Type 0} (mode : Mode) (names : List (List ℕ)) (h : List EntryData) (r : Result X RunFault) (f : RunFault) (notes : List ℕ) → r ≡ Err f → IsEarlyFault f → NotesRefused mode names h r notes
-early_refused {X = X} mode names h r f notes is early = rw is (refused_of_early X mode names h f notes early)
+pub early_told : {X : Type 0} (mode : Mode) (weights : List ℕ) (names : List (List ℕ)) (h : List EntryData) (r : Result X RunFault) (f : RunFault) (notes : List ℕ) → r ≡ Err f → IsEarlyFault f → HistoryNoted mode weights names h r notes
+early_told {X = X} mode weights names h r f notes is early = rw is (told_of_early X mode weights names h f notes early)
 
 -- of a reader's fault, and of the scripts', nothing is noted
-noted_of_input : (explain : Bool) (all : Option (List ℕ)) (f : RunFault) (notes : List ℕ) → IsInputFault f → notes ≡ [] → IsFaultNoted explain all f notes
-noted_of_input explain all (run.Job j) notes h none = absurd h
-noted_of_input explain all run.Read notes h none = none
-noted_of_input explain all run.Write notes h none = absurd h
-noted_of_input explain all run.Memory notes h none = none
-noted_of_input explain all run.Thread notes h none = absurd h
-noted_of_input explain all (run.Refused n) notes h none = absurd h
-noted_of_input explain all (run.Since s) notes h none = absurd h
+noted_of_input : (explain : Bool) (origin : ℕ → OriginData) (all : Option (List ℕ)) (f : RunFault) (notes : List ℕ) → IsInputFault f → notes ≡ [] → IsFaultNoted explain origin all f notes
+noted_of_input explain origin all (run.Job j) notes h none = absurd h
+noted_of_input explain origin all run.Read notes h none = none
+noted_of_input explain origin all run.Write notes h none = absurd h
+noted_of_input explain origin all run.Memory notes h none = none
+noted_of_input explain origin all run.Thread notes h none = absurd h
+noted_of_input explain origin all (run.Refused n) notes h none = absurd h
+noted_of_input explain origin all (run.Since s) notes h none = absurd h
 
-pub input_noted : {X : Type 0} (explain : Bool) (all : Option (List ℕ)) (r : Result X RunFault) (f : RunFault) (notes : List ℕ) → r ≡ Err f → IsInputFault f → notes ≡ [] → IsNoted explain all r notes
-input_noted explain all r f notes is h none = rw is (noted_of_input explain all f notes h none)
+pub input_noted : {X : Type 0} (explain : Bool) (origin : ℕ → OriginData) (all : Option (List ℕ)) (r : Result X RunFault) (f : RunFault) (notes : List ℕ) → r ≡ Err f → IsInputFault f → notes ≡ [] → IsNoted explain origin all r notes
+input_noted explain origin all r f notes is h none = rw is (noted_of_input explain origin all f notes h none)
 
-pub stopped_of_input : (explain : Bool) (all : Option (List ℕ)) (stopped f : RunFault) (notes : List ℕ) → stopped ≡ f → IsInputFault f → notes ≡ [] → IsFaultNoted explain all stopped notes
-stopped_of_input explain all stopped f notes is h none = rw is (noted_of_input explain all f notes h none)
+noted_of_scripts : (explain in_turn : Bool) (origin : ℕ → OriginData) (all : Option (List ℕ)) (f : RunFault) (notes : List ℕ) → IsScriptsFault in_turn f → notes ≡ [] → IsFaultNoted explain origin all f notes
+noted_of_scripts explain in_turn origin all (run.Job j) notes h none = absurd h
+noted_of_scripts explain in_turn origin all run.Read notes h none = absurd h
+noted_of_scripts explain in_turn origin all run.Write notes h none = absurd h
+noted_of_scripts explain in_turn origin all run.Memory notes h none = none
+noted_of_scripts explain in_turn origin all run.Thread notes h none = none
+noted_of_scripts explain in_turn origin all (run.Refused n) notes h none = absurd h
+noted_of_scripts explain in_turn origin all (run.Since s) notes h none = absurd h
 
-noted_of_scripts : (explain in_turn : Bool) (all : Option (List ℕ)) (f : RunFault) (notes : List ℕ) → IsScriptsFault in_turn f → notes ≡ [] → IsFaultNoted explain all f notes
-noted_of_scripts explain in_turn all (run.Job j) notes h none = absurd h
-noted_of_scripts explain in_turn all run.Read notes h none = absurd h
-noted_of_scripts explain in_turn all run.Write notes h none = absurd h
-noted_of_scripts explain in_turn all run.Memory notes h none = none
-noted_of_scripts explain in_turn all run.Thread notes h none = none
-noted_of_scripts explain in_turn all (run.Refused n) notes h none = absurd h
-noted_of_scripts explain in_turn all (run.Since s) notes h none = absurd h
-
-pub scripts_noted : {X : Type 0} (explain in_turn : Bool) (all : Option (List ℕ)) (r : Result X RunFault) (f : RunFault) (notes : List ℕ) → r ≡ Err f → IsScriptsFault in_turn f → notes ≡ [] → IsNoted explain all r notes
-scripts_noted explain in_turn all r f notes is h none = rw is (noted_of_scripts explain in_turn all f notes h none)
+pub scripts_noted : {X : Type 0} (explain in_turn : Bool) (origin : ℕ → OriginData) (all : Option (List ℕ)) (r : Result X RunFault) (f : RunFault) (notes : List ℕ) → r ≡ Err f → IsScriptsFault in_turn f → notes ≡ [] → IsNoted explain origin all r notes
+scripts_noted explain in_turn origin all r f notes is h none = rw is (noted_of_scripts explain in_turn origin all f notes h none)
 
 -- faults that come before there is a history
 pub early_of_input : (f : RunFault) → IsInputFault f → IsEarlyFault f

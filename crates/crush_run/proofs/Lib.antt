@@ -7,5 +7,7 @@ pub mod Headings
 pub mod Joins
 pub mod Lists
 pub mod Noted
+pub mod Parts
+pub mod Reading
 pub mod Runs
 pub mod Told

@@ -28,8 +28,9 @@ use Rattle.crush_run.specs.declared.fault.RunFault.{RunFault}
 use Rattle.crush_run.specs.declared.summary.Summary.{Summary}
 use Rattle.crush_script.specs.Job.{JobData}
 use Rattle.crush_run.specs.Run.{Ends, IsRunOf, lines_asked, main_text, output_of}
+use Rattle.crush_run.specs.Notes.{weight_notes}
 use Rattle.crush_run.specs.Stages.{EndsLeft, HaveRun, IsEarlyFault, RunsScripts}
-use Rattle.crush_run.proofs.Early.{early_refused, early_strict}
+use Rattle.crush_run.proofs.Early.{early_strict, early_told}
 use Rattle.crush_run.proofs.Told.{nothing_written}
 
 -- the turns of the scripts are a run, in turn and at once
@@ -120,9 +121,9 @@ output_is_some asked history job h =
     simp length-append (omega (arith, some))
 
 -- where nothing was written of a job, nothing is a front of what its turns would have had written
-pub ended_early : (mode : Mode) (asked : Asked) (job : JobData) (r : Result Summary RunFault) (f : RunFault) (old : Option (List ℕ)) (notes : List ℕ) → r ≡ Err f → IsEarlyFault f
-    → Ends mode asked job r old old notes
-ended_early mode asked job r f old notes is early =
+pub ended_early : (mode : Mode) (asked : Asked) (job : JobData) (weights : List ℕ) (r : Result Summary RunFault) (f : RunFault) (old : Option (List ℕ)) (notes : List ℕ) → r ≡ Err f → IsEarlyFault f
+    → Ends mode asked job weights r old old notes
+ended_early mode asked job weights r f old notes is early =
     let h = turns job.setting job.table job.scripts in
     record {
       history = h;
@@ -130,24 +131,30 @@ ended_early mode asked job r f old notes is early =
       writes = nothing_written r f old (output_of asked mode.history job h) (output_is_some asked mode.history job h) is;
       summary = rw is tt;
       strict = early_strict mode.strict h r f is early;
-      noted = early_refused mode (names_of job.scripts) h r f notes is early;
+      noted = early_told mode weights (names_of job.scripts) h r f notes is early;
     }
 
 -- a run that left a map and a history ends with it
-pub left_ends : (mode : Mode) (what : Asked) (job : JobData) (adjusted : ℕ) (m : MapData) (names : List (List ℕ)) (h es : List EntryData) (r : Result Summary RunFault) (old new : Option (List ℕ)) (notes : List ℕ)
-    → EndsLeft mode what adjusted m names es r old new notes → HaveRun mode.in_turn job m h → names ≡ names_of job.scripts → es ≡ h → adjusted ≡ job.adjusted → Ends mode what job r old new notes
-left_ends mode what job adjusted m names h es r old new notes left ran same entries weights =
-    let own = subst (λ (e : List EntryData). EndsLeft mode what adjusted m names e r old new notes) entries left in
-    let named = subst (λ (n : List (List ℕ)). EndsLeft mode what adjusted m n h r old new notes) same own in
-    let ends = subst (λ (a : ℕ). EndsLeft mode what a m (names_of job.scripts) h r old new notes) weights named in
+pub left_ends : (mode : Mode) (what : Asked) (job : JobData) (adjusted : ℕ) (m : MapData) (lines weights : List ℕ) (names : List (List ℕ)) (h es : List EntryData) (r : Result Summary RunFault) (old new : Option (List ℕ)) (notes : List ℕ)
+    → EndsLeft mode what adjusted m lines names es r old new notes → HaveRun mode.in_turn job m h → names ≡ names_of job.scripts → es ≡ h → adjusted ≡ job.adjusted → lines ≡ weights → Ends mode what job weights r old new notes
+left_ends mode what job adjusted m lines weights names h es r old new notes left ran same entries replaced written =
+    let own = subst (λ (e : List EntryData). EndsLeft mode what adjusted m lines names e r old new notes) entries left in
+    let named = subst (λ (n : List (List ℕ)). EndsLeft mode what adjusted m lines n h r old new notes) same own in
+    let summed = subst (λ (a : ℕ). EndsLeft mode what a m lines (names_of job.scripts) h r old new notes) replaced named in
+    let ends = subst (λ (w : List ℕ). EndsLeft mode what job.adjusted m w (names_of job.scripts) h r old new notes) written summed in
     record {
       history = h;
       run = ran.run;
       writes = subst (λ (s : SettingData). Writes r old new (main_text what s (table_after job.setting job.table h) h ++ lines_asked mode.history (names_of job.scripts) h)) ran.stands.setting (ends.writes _ ran.stands.forest);
       summary = ends.summary;
       strict = ends.strict;
-      noted = ends.refused;
+      noted = ends.told;
     }
+
+-- what is noted of weights in bytes is noted of them in the same bytes
+pub weighed_of_all : (mode : Mode) (what : Asked) (job : JobData) (bytes xs : List ℕ) (r : Result Summary RunFault) (old new : Option (List ℕ)) (notes : List ℕ) → bytes ≡ xs
+    → Ends mode what job (weight_notes mode.explain bytes job.table) r old new notes → Ends mode what job (weight_notes mode.explain xs job.table) r old new notes
+weighed_of_all mode what job bytes xs r old new notes same ends = subst (λ (z : List ℕ). Ends mode what job (weight_notes mode.explain z job.table) r old new notes) same ends
 
 -- what follows of one promise of a run that was done, and of two
 pub when_ok : {X E : Type 0} (P Q : X → Type 0) (r : Result X E) → ((x : X) → P x → Q x) → IfOk r P → IfOk r Q

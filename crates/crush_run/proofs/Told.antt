@@ -52,6 +52,12 @@ job_of_all all bytes xs job input is_xs is =
     let same : IsInput bytes xs = subst (λ (o : Option (List ℕ)). IfSome o (IsInput bytes)) is_xs input in
     subst (λ (z : List ℕ). IsJob z job) (sym (same.whole is.short)) is
 
+-- and they are the bytes read
+pub same_of_job : (all : Option (List ℕ)) (bytes xs : List ℕ) (job : JobData) → IfSome all (IsInput bytes) → all ≡ Some xs → IsJob xs job → bytes ≡ xs
+same_of_job all bytes xs job input is_xs is =
+    let same : IsInput bytes xs = subst (λ (o : Option (List ℕ)). IfSome o (IsInput bytes)) is_xs input in
+    same.whole is.short
+
 -- a fault of the bytes read is one of all bytes
 fault_of_all : (bytes xs : List ℕ) (f : JobFault) → IsInput bytes xs → IsJobFault bytes f → IsJobFault xs f
 fault_of_all bytes xs (BadLine n) input h = subst (λ (z : List ℕ). IsJobFault z (BadLine n)) (input.read h.short) h

@@ -1,4 +1,4 @@
--- The faults of the layers below, as those of a run: want of memory is one fault wherever it comes.
+-- The faults of the layers below, as those of a run: out of memory is one fault wherever it comes.
 use Rattle.std.specs.Prelude.{if◌then◌else◌}
 use Rattle.crush_bytes.specs.declared.write.WriteFault.{WriteFault}
 use Rattle.crush_bytes.specs.declared.write.WriteFault.TheVariants as write

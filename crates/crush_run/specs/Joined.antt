@@ -1,6 +1,7 @@
 -- A job of several files: the first, and behind it the scripts of others.
-use Rattle.std.specs.Prelude.{ℕ, ◌+◌, ◌-◌, ◌==◌, Bool, true, false, ◌&&◌, ◌||◌, List, [], ◌∷◌, ◌++◌, Option, Some, None, codes, if◌then◌else◌, length, take, drop, slice_index, String}
+use Rattle.std.specs.Prelude.{ℕ, ◌+◌, ◌-◌, ◌==◌, Bool, true, false, ◌&&◌, ◌||◌, List, [], ◌∷◌, ◌++◌, Option, Some, None, codes, count_by, if◌then◌else◌, length, take, drop, slice_index, String}
 use Rattle.std.specs.List.{position_or_len}
+use Rattle.crush_run.specs.declared.joined.Part.{Part}
 
 -- a line feed, unless the bytes end in one
 abbrev pub line_end : List ℕ → List ℕ
@@ -42,12 +43,43 @@ operator_line name script = if begins_section_in true false script then [] else 
 abbrev pub joined : List ℕ → List ℕ → List ℕ → List ℕ
 joined job name script = job ++ line_end job ++ operator_line name script ++ script
 
+-- how many line feeds there are
+abbrev pub feeds : List ℕ → ℕ
+feeds bytes = count_by (λ b. b == 10) bytes
+
+-- PART: where the script of a file of this name stands in a job: from which line on, counted from 1, the line included that names
+-- its operator where one is put, and how many lines of the job stand before the file's own
+pub record PartData : Type 0 where
+  pub name : List ℕ
+  pub from : ℕ
+  pub before : ℕ
+
+abbrev pub part_data : Part → PartData
+part_data p = record { name = p.name.now; from = p.from; before = p.before }
+
+abbrev pub part_of : List ℕ → List ℕ → List ℕ → PartData
+part_of job name script = record {
+  name = name;
+  from = feeds (job ++ line_end job) + 1;
+  before = feeds (job ++ line_end job ++ operator_line name script);
+}
+
 -- the same of bytes that are known, or not
 abbrev pub joined_known : Option (List ℕ) → List ℕ → Option (List ℕ) → Option (List ℕ)
 joined_known (Some job) name (Some script) = Some (joined job name script)
 joined_known job name script = None
 
+abbrev pub part_known : Option (List ℕ) → List ℕ → Option (List ℕ) → List PartData
+part_known (Some job) name (Some script) = part_of job name script ∷ []
+part_known job name script = []
+
 -- the bytes of a job with the scripts of these files behind it, one after the other
 abbrev pub with_scripts : {Z : Type 0} → (List ℕ → Option (List ℕ)) → Option (List ℕ) → List (String Z) → Option (List ℕ)
 with_scripts content job [] = job
 with_scripts content job (name ∷ names) = with_scripts content (joined_known job name.bytes.items (content name.bytes.items)) names
+
+-- where each of them stands
+abbrev pub parts_of : {Z : Type 0} → (List ℕ → Option (List ℕ)) → Option (List ℕ) → List (String Z) → List PartData
+parts_of content job [] = []
+parts_of content job (name ∷ names) =
+    part_known job name.bytes.items (content name.bytes.items) ++ parts_of content (joined_known job name.bytes.items (content name.bytes.items)) names

@@ -3,6 +3,7 @@ pub mod Input
 pub mod Joined
 pub mod Options
 pub mod Notes
+pub mod Origins
 pub mod Run
 pub mod Script
 pub mod Stages

@@ -1,5 +1,5 @@
 -- What a command line asks a run for.
-use Rattle.std.specs.Prelude.{◌≡◌, ℕ, ◌<◌, ◌≤◌, Bool, List, Option, Result, Ok, Err, IfSome, length}
+use Rattle.std.specs.Prelude.{◌≡◌, ◌⊎◌, ℕ, ◌<◌, ◌≤◌, Bool, false, List, [], Option, None, Some, Result, Ok, Err, IfSome, String, length, slice_index_or}
 use Rattle.crush_table.specs.Table.{Row}
 use Rattle.crush_table.specs.Stands.{Stands}
 use Rattle.crush_map.specs.MapData.{MapData}
@@ -17,7 +17,9 @@ use Rattle.crush_run.specs.declared.fault.RunFault.TheVariants as run
 use Rattle.crush_run.specs.declared.fault.SinceFault.{SinceFault}
 use Rattle.crush_run.specs.declared.fault.SinceFault.TheVariants as since
 use Rattle.crush_run.specs.declared.summary.Summary.{Summary}
-use Rattle.crush_run.specs.Notes.{IsMapNoted, IsNoted}
+use Rattle.crush_run.specs.Input.{job_bytes}
+use Rattle.crush_run.specs.Notes.{IsMapNoted, IsNoted, IsUnopened, weight_notes}
+use Rattle.crush_run.specs.Origins.{job_origin}
 use Rattle.crush_run.specs.Run.{Ends, IsRunFault}
 
 -- the map is one whose text the bytes are, no more than a job may have
@@ -58,26 +60,56 @@ abbrev pub IsOptionsFault : (List ℕ → Option (List ℕ)) → Options → Opt
 IsOptionsFault content options all (run.Since fault) = IfSome all HasJob × IsAskedFault content options.printed (run.Since fault)
 IsOptionsFault content options all fault = IsRunFault options.mode all fault
 
--- what the words ask for was there, and the run is one with it
-pub record EndsAsked (content : List ℕ → Option (List ℕ)) (options : Options) (job : JobData) (result : Result Summary RunFault) (old new : Option (List ℕ)) (notes : List ℕ) : Type 0 where
+-- what the words ask for was there, and the run is one with it, of which the weights written in these bytes are noted
+pub record EndsAsked (content : List ℕ → Option (List ℕ)) (options : Options) (bytes : List ℕ) (job : JobData) (result : Result Summary RunFault) (old new : Option (List ℕ)) (notes : List ℕ) : Type 0 where
   pub what : Asked
   pub asked : IsAskedOf content options.printed what
-  pub ends : Ends options.mode what job result old new notes
+  pub ends : Ends options.mode what job (weight_notes options.mode.explain bytes job.table) result old new notes
 
 -- ENDS AS ASKED: said of a run that was done, that failed to write, or that was strict and met refusals; any other came to no
 -- output
-abbrev pub EndsAsAsked : (List ℕ → Option (List ℕ)) → Options → JobData → Result Summary RunFault → Option (List ℕ) → Option (List ℕ) → List ℕ → Type 0
-EndsAsAsked content options job (Ok s) old new notes = EndsAsked content options job (Ok s) old new notes
-EndsAsAsked content options job (Err run.Write) old new notes = EndsAsked content options job (Err run.Write) old new notes
-EndsAsAsked content options job (Err (run.Refused n)) old new notes = EndsAsked content options job (Err (run.Refused n)) old new notes
-EndsAsAsked content options job (Err fault) old new notes = Unit {0}
+abbrev pub EndsAsAsked : (List ℕ → Option (List ℕ)) → Options → List ℕ → JobData → Result Summary RunFault → Option (List ℕ) → Option (List ℕ) → List ℕ → Type 0
+EndsAsAsked content options bytes job (Ok s) old new notes = EndsAsked content options bytes job (Ok s) old new notes
+EndsAsAsked content options bytes job (Err run.Write) old new notes = EndsAsked content options bytes job (Err run.Write) old new notes
+EndsAsAsked content options bytes job (Err (run.Refused n)) old new notes = EndsAsked content options bytes job (Err (run.Refused n)) old new notes
+EndsAsAsked content options bytes job (Err fault) old new notes = Unit {0}
 
 -- what is noted of a fault of what the words ask for
 abbrev pub IsAskedNoted : (List ℕ → Option (List ℕ)) → Bool → Printed → RunFault → List ℕ → Type 0
 IsAskedNoted content explain (printed.Since name) fault notes = IsMapNoted explain name.bytes.items (content name.bytes.items) fault notes
 IsAskedNoted content explain what fault notes = ⊥
 
--- NOTED AS ASKED: a fault of another map by its place there, and else as of any run
+-- one of these names of scripts is this
+pub record IsScript {Z : Type 0} (scripts : List (String Z)) (name : List ℕ) : Type 0 where
+  pub place : ℕ
+  pub there : place < length scripts
+  pub script : String Z
+  pub is : script ≡ slice_index_or scripts place script
+  pub bytes : script.bytes.items ≡ name
+
+-- the job is read from a file of this name
+abbrev pub IsFile : {Z : Type 0} → Option (String Z) → List ℕ → Type 0
+IsFile None name = ⊥
+IsFile (Some file) name = file.bytes.items ≡ name
+
+-- a file that the options name for a job can't be opened
+pub record IsPartUnopened (options : Options) (notes : List ℕ) : Type 0 where
+  pub name : List ℕ
+  pub named : IsFile options.file name ⊎ IsScript options.scripts.items name
+  pub unopened : IsUnopened name notes
+
+-- NOTES OF A JOB that wasn't read: where reasons are asked for and a file of it can't be opened that, and else nothing
+abbrev pub IsReadNoted : Options → List ℕ → Type 0
+IsReadNoted options notes = (options.mode.explain ≡ false → notes ≡ []) × ((notes ≡ []) ⊎ IsPartUnopened options notes)
+
+-- and of a job whose reading met any fault
+abbrev pub IsPartNoted : Options → RunFault → List ℕ → Type 0
+IsPartNoted options run.Read notes = IsReadNoted options notes
+IsPartNoted options fault notes = notes ≡ []
+
+-- NOTED AS ASKED: a fault of another map by its place there, one of a read by its file, and else as of any run, with the places of
+-- a fault in the file that it comes from
 abbrev pub IsNotedAsAsked : (List ℕ → Option (List ℕ)) → Options → Option (List ℕ) → Result Summary RunFault → List ℕ → Type 0
-IsNotedAsAsked content options all (Err (run.Since fault)) notes = IsAskedNoted content options.mode.explain options.printed (run.Since fault) notes
-IsNotedAsAsked content options all result notes = IsNoted options.mode.explain all result notes
+IsNotedAsAsked content options input (Err (run.Since fault)) notes = IsAskedNoted content options.mode.explain options.printed (run.Since fault) notes
+IsNotedAsAsked content options input (Err run.Read) notes = IsReadNoted options notes
+IsNotedAsAsked content options input result notes = IsNoted options.mode.explain (job_origin content options input) (job_bytes content options input) result notes

@@ -23,7 +23,7 @@ use Rattle.crush_run.specs.declared.asked.Asked.TheVariants as asked
 use Rattle.crush_run.specs.declared.fault.RunFault.{RunFault}
 use Rattle.crush_run.specs.declared.fault.RunFault.TheVariants as run
 use Rattle.crush_run.specs.declared.summary.Summary.{Summary}
-use Rattle.crush_run.specs.Notes.{NotesRefused}
+use Rattle.crush_run.specs.Notes.{HistoryNoted}
 
 -- RUN: a history of a job. Each reply is the table's at that point; the calls of each operator are its script's, in order, and
 -- there are no others; in turn the scripts run one after the other
@@ -63,21 +63,21 @@ IsStrict strict h (Err run.Write) = strict ≡ true → refusals h ≡ 0
 IsStrict strict h (Err (run.Refused n)) = (strict ≡ true) × (n ≡ refusals h) × (0 < n)
 IsStrict strict h (Err fault) = Unit {0}
 
--- ENDS: there is a run of the job whose output is written, or after a fault a front of it that isn't the whole, which the
--- summary sums up, whose refused entries end it where it is strict, and are noted
-pub record Ends (mode : Mode) (what : Asked) (job : JobData) (result : Result Summary RunFault) (old new : Option (List ℕ)) (notes : List ℕ) : Type 0 where
+-- ENDS: there is a run of the job whose output is written, or after a fault a prefix of it that isn't the whole, which the
+-- summary sums up, whose refused entries end it where it is strict, and are noted, with these lines of written weights
+pub record Ends (mode : Mode) (what : Asked) (job : JobData) (weights : List ℕ) (result : Result Summary RunFault) (old new : Option (List ℕ)) (notes : List ℕ) : Type 0 where
   pub history : List EntryData
   pub run : IsRunOf mode.in_turn job history
   pub writes : Writes result old new (output_of what mode.history job history)
   pub summary : IfOk result (λ (s : Summary). s ≡ summary_of job history)
   pub strict : IsStrict mode.strict history result
-  pub noted : NotesRefused mode (names_of job.scripts) history result notes
+  pub noted : HistoryNoted mode weights (names_of job.scripts) history result notes
 
 -- TAKEN: of the reader's bytes no more are taken than the longest job has and one more, its first
 abbrev pub TakesFew : Option (List ℕ) → Option (List ℕ) → Type 0
 TakesFew old new = (front : List ℕ) × (length front ≤ LONGEST_JOB + 1) × Consumes old new front
 
--- a fault of the job is one of the bytes, and never want of memory, also not as a fault of its text
+-- a fault of the job is one of the bytes, and never out of memory, also not as a fault of its text
 abbrev pub IsRefusal : Option (List ℕ) → JobFault → Type 0
 IsRefusal all fault = (lacks_memory fault ≡ false) × IfSome all (λ bytes. IsJobFault bytes fault)
 

@@ -7,13 +7,15 @@ use Rattle.crush_table.specs.Table.{Row}
 use Rattle.crush_map.specs.MapData.{MapData, MapStands}
 use Rattle.crush_calls.specs.History.{EntryData, table_after}
 use Rattle.crush_calls.specs.Script.{ScriptData}
-use Rattle.crush_script.specs.Job.{JobData}
+use Rattle.crush_script.specs.Job.{JobData, JobStands}
 use Rattle.crush_options.specs.declared.asked.Mode.{Mode}
 use Rattle.crush_run.specs.declared.fault.RunFault.{RunFault}
 use Rattle.crush_run.specs.declared.fault.RunFault.TheVariants as run
 use Rattle.crush_run.specs.declared.asked.Asked.{Asked}
+use Rattle.crush_run.specs.declared.ending.Weighed.{Weighed}
 use Rattle.crush_run.specs.declared.summary.Summary.{Summary}
-use Rattle.crush_run.specs.Notes.{IsNoted, NotesRefused}
+use Rattle.crush_reasons.specs.Place.{OriginData}
+use Rattle.crush_run.specs.Notes.{HistoryNoted, IsNoted, weight_notes}
 use Rattle.crush_run.specs.Run.{IsRefusal, IsRunOf, IsStrict, lines_asked, main_text, summed}
 
 -- what may fail while the bytes are read
@@ -79,13 +81,18 @@ pub record HaveRun (in_turn : Bool) (job : JobData) (after : MapData) (h : List 
 abbrev pub RunsScripts : Bool → MapData → List ScriptData → MapData → List EntryData → Type 0
 RunsScripts in_turn map scripts after h = (job : JobData) → MapStands map job.setting job.table → scripts ≡ job.scripts → HaveRun in_turn job after h
 
--- how a run ends that left a map and a history: what is asked for is written, or a front of it, the summary is of the history, its
--- refused entries end it where it is strict, and are noted
-pub record EndsLeft (mode : Mode) (what : Asked) (adjusted : ℕ) (m : MapData) (names : List (List ℕ)) (h : List EntryData) (result : Result Summary RunFault) (old new : Option (List ℕ)) (notes : List ℕ) : Type 0 where
+-- how a run ends that left a map and a history: what is asked for is written, or a prefix of it, the summary is of the history, its
+-- refused entries end it where it is strict, and are noted, with these lines of written weights
+pub record EndsLeft (mode : Mode) (what : Asked) (adjusted : ℕ) (m : MapData) (weights : List ℕ) (names : List (List ℕ)) (h : List EntryData) (result : Result Summary RunFault) (old new : Option (List ℕ)) (notes : List ℕ) : Type 0 where
   pub writes : (t : List Row) → Stands m.forest t → Writes result old new (main_text what m.setting t h ++ lines_asked mode.history names h)
   pub summary : IfOk result (λ (s : Summary). s ≡ summed adjusted h)
   pub nothing : IfErr result (λ fault. fault ≢ run.Write → Keeps old new)
   pub fault : IfErr result (IsWritingFault mode.strict)
   pub strict : IsStrict mode.strict h result
-  pub refused : NotesRefused mode names h result notes
-  pub noted : (all : Option (List ℕ)) → IsNoted mode.explain all result notes
+  pub told : HistoryNoted mode weights names h result notes
+  pub noted : (origin : ℕ → OriginData) (all : Option (List ℕ)) → IsNoted mode.explain origin all result notes
+
+-- what was read of a job: it stands for the job, and the lines of its written weights are these of its bytes
+pub record IsWeighed (explain : Bool) (bytes : List ℕ) (job : JobData) (read : Weighed) : Type 0 where
+  pub stands : JobStands read.job job
+  pub weights : read.weights.items ≡ weight_notes explain bytes job.table

@@ -74,7 +74,7 @@ fn operate<N: Desk + Send + Sync, G: Gate + Sync, R: Threads + Wait + Sync>(
     Ok(editor.close(seats))
 }
 
-/// The seats of workers, none of which met a fault. A worker's fault is want of memory: a history
+/// The seats of workers, none of which met a fault. A worker's fault is that it was out of memory: a history
 /// has room for all the calls of a job.
 fn gather<N: Desk>(alloc: Global, finished: Vec<Finished<N>>) -> Result<Vec<Seat<N>>, RunFault>
     ensures count { IfOk result (λ seats. vec_len seats ≡ vec_len finished) }

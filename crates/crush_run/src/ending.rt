@@ -4,6 +4,7 @@ ghost use Rattle.std.specs.Prelude.{◌≡◌, [], Err};
 
 use crate::fault::RunFault;
 use crate::summary::Summary;
+use crush_script::Job;
 use std::alloc::Global;
 
 /// How a run ended.
@@ -12,8 +13,10 @@ pub struct Ending {
     /// What the run did, or why it was not done.
     pub outcome: Result<Summary, RunFault>,
     /// What is told below the one line on standard error. Where reasons are asked for, of a fault of
-    /// the bytes its place and what was wanted there, and of each call that was refused its line and
-    /// what was wanted; in a strict run without reasons the lines of what was refused; else nothing.
+    /// the bytes its place and what was wanted there, of a file that can't be opened its name and the
+    /// system's reason, and of a run its calls that were refused, each with what was wanted, and the
+    /// written weights of buckets that aren't their sums; in a strict run without reasons the lines of
+    /// what was refused; else nothing.
     pub notes: Vec<u8>,
 }
 
@@ -28,6 +31,14 @@ impl Ending {
             notes: Vec::new(alloc),
         }
     }
+}
+
+/// A job that was read, and what is noted of its text.
+#[derive(Drop)]
+pub(crate) struct Weighed {
+    pub(crate) job: Job,
+    /// The lines of written weights that aren't sums, where reasons are asked for.
+    pub(crate) weights: Vec<u8>,
 }
 
 /// Why a run stopped before its scripts ran.

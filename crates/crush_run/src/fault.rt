@@ -31,7 +31,7 @@ pub enum RunFault {
     /// A read answered an error. Nothing was written.
     #[error("read fault")]
     Read,
-    /// A write answered an error or took no byte. What was written is a front of the output.
+    /// A write answered an error or took no byte. What was written is a prefix of the output.
     #[error("write fault")]
     Write,
     /// A growth was refused. Nothing was written.

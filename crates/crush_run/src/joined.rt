@@ -1,10 +1,22 @@
 //! Scripts in files of their own, joined behind a job.
 
-ghost use Rattle.std.specs.Prelude.{◌≡◌, ◌≤◌, ◌++◌, ◌==◌, ◌-◌, OnOk, false, length, slice_index, true};
+ghost use Rattle.std.specs.Prelude.{◌≡◌, ◌≤◌, ◌++◌, ◌==◌, ◌-◌, IfOk, OnOk, false, length, slice_index, true};
 ghost use Rattle.std.specs.List.{position_or_len};
-ghost use Rattle.crush_run.specs.Joined.{begins_section_in, folder_length, is_line_blank, joined, line_end, operator_line, operator_of};
+ghost use Rattle.crush_run.specs.Joined.{begins_section_in, folder_length, is_line_blank, joined, line_end, operator_line, operator_of, part_data, part_of};
 
+use crush_script::line_feeds;
 use std::alloc::AllocError;
+
+/// Where the script of a file stands in a job.
+#[derive(Clone, Copy)]
+pub(crate) struct Part<'a> {
+    /// The name of the file.
+    pub(crate) name: &'a [u8],
+    /// Its first line in the job, counted from 1, with that which names its operator where one is put.
+    pub(crate) from: usize,
+    /// How many lines of the job stand before the file's own.
+    pub(crate) before: usize,
+}
 
 /// Whether the last byte is a line feed.
 fn ends_line(bytes: &[u8]) -> bool
@@ -104,11 +116,21 @@ fn push_operator_line(name: &[u8], script: &[u8], bytes: &mut Vec<u8>) -> Result
 }
 
 /// Puts the script of a file of this name behind a job: on a line of its own, and below the line
-/// that names its operator, where its first line with a word begins no section.
-pub(crate) fn push_script(name: &[u8], script: &[u8], bytes: &mut Vec<u8>) -> Result<(), AllocError>
-    ensures { OnOk result (bytes.new.items ≡ joined bytes.old.items name.now script.now) }
+/// that names its operator, where its first line with a word begins no section. The answer is where
+/// it stands.
+pub(crate) fn push_script<'a>(
+    name: &'a [u8],
+    script: &[u8],
+    bytes: &mut Vec<u8>,
+) -> Result<Part<'a>, AllocError>
+    ensures bytes { OnOk result (bytes.new.items ≡ joined bytes.old.items name.now script.now) }
+    ensures part { IfOk result (λ part.
+        part_data part ≡ part_of bytes.old.items name.now script.now) }
 {
     push_line_end(bytes)?;
+    let from = line_feeds(bytes.as_slice()) + 1;
     push_operator_line(name, script, bytes)?;
-    bytes.extend_from_slice(script)
+    let before = line_feeds(bytes.as_slice());
+    bytes.extend_from_slice(script)?;
+    Ok(Part { name, from, before })
 }

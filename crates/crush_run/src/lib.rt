@@ -12,6 +12,7 @@ mod input;
 mod joined;
 mod notes;
 mod options;
+mod origins;
 mod run;
 mod since;
 mod summary;

@@ -1,24 +1,23 @@
 //! The run that a command line asks for.
 
-ghost use Rattle.std.specs.Prelude.{◌≡◌, ◌≢◌, ◌≤◌, ℕ, List, None, Some, IfOk, IfErr, IfSome, length};
+ghost use Rattle.std.specs.Prelude.{◌≡◌, ◌≢◌, ◌≤◌, ℕ, List, [], Err, None, Some, IfOk, IfErr, IfSome, false, length};
 ghost use Rattle.std.specs.Io.KnownBytes.{Keeps};
-ghost use Rattle.crush_script.specs.Job.{HasJob, IsJob, JobData, JobStands};
+ghost use Rattle.crush_script.specs.Job.{HasJob, IsJob, JobData};
 ghost use Rattle.crush_run.specs.Input.{job_bytes};
-ghost use Rattle.crush_run.specs.Notes.{IsFaultNoted};
 ghost use Rattle.crush_run.specs.Options.{EndsAsAsked, IsAskedFault, IsAskedNoted, IsAskedOf, IsNotedAsAsked, IsOptionsFault};
-ghost use Rattle.crush_run.specs.Stages.{IsReadFault};
+ghost use Rattle.crush_run.specs.Stages.{IsReadFault, IsWeighed};
 ghost use Rattle.crush_units.specs.declared.limits.TheConstants.{MOST_OPERATORS};
 
 use crate::asked::{Asked, Plan};
-use crate::ending::{Ending, Stopped};
+use crate::ending::{Ending, Stopped, Weighed};
 use crate::fault::RunFault;
 use crate::files::Opens;
 use crate::gate::NoGate;
-use crate::input::read_all;
+use crate::input::{Joined, read_all};
+use crate::origins::{Origins, first_name};
 use crate::run::{job_of, run_read};
 use crate::since::read_since;
 use crush_options::{Options, Printed};
-use crush_script::Job;
 use std::io::{Read, Write};
 use std::random::RandomSource;
 use std::sync::Wait;
@@ -55,29 +54,33 @@ fn read_whole<H: AllocGlobal + RandomSource, F: Opens, R: Read>(
     files: &F,
     options: &Options,
     input: &mut R,
-) -> Result<Job, Stopped>
+) -> Result<Weighed, Stopped>
     ensures job { IfOk result (λ _.
         IfSome (job_bytes (F.content files.now) options.now (R.remaining input.old)) HasJob) }
     ensures only { (bytes : List ℕ) (job : JobData)
         → job_bytes (F.content files.now) options.now (R.remaining input.old) ≡ Some bytes
-        → IsJob bytes job → IfOk result (λ read. JobStands read job) }
-    ensures few { IfOk result (λ read. length read.scripts.items ≤ MOST_OPERATORS) }
+        → IsJob bytes job → IfOk result (IsWeighed options.now.mode.explain bytes job) }
+    ensures plain { IfOk result (λ read. options.now.mode.explain ≡ false
+        → read.weights.items ≡ []) }
+    ensures few { IfOk result (λ read. length read.job.scripts.items ≤ MOST_OPERATORS) }
     ensures input { options.now.file ≢ None → R.remaining input.new ≡ R.remaining input.old }
     ensures fault { IfErr result (λ stopped. IsReadFault
         (job_bytes (F.content files.now) options.now (R.remaining input.old)) stopped.fault) }
-    ensures noted { IfErr result (λ stopped. IsFaultNoted options.now.mode.explain
-        (job_bytes (F.content files.now) options.now (R.remaining input.old)) stopped.fault
-        stopped.notes.items) }
+    ensures noted { IfErr result (λ stopped. IsNotedAsAsked (F.content files.now) options.now
+        (R.remaining input.old) (Err stopped.fault) stopped.notes.items) }
 {
-    match read_all(rt.alloc(), files, options, input) {
-        Ok(bytes) => job_of(rt, options.mode.explain, bytes),
-        Err(fault) => Err(Stopped::quietly(rt.alloc(), fault)),
-    }
+    let Joined { bytes, parts } = read_all(rt.alloc(), files, options, input)?;
+    let origins = Origins {
+        first: first_name(options),
+        parts: parts.as_slice(),
+    };
+    job_of(rt, options.mode.explain, origins, bytes)
 }
 
 /// Runs the job of the file that the options name, or else of standard input, with the scripts of
 /// the files that they name behind it, as [`run_job`](crate::run_job) runs it. A file that can't be
-/// opened is one that can't be read, and is told as [`RunFault::Read`].
+/// opened is one that can't be read, and is told as [`RunFault::Read`]; where reasons are asked for,
+/// the notes are its name and the system's reason.
 ///
 /// A map since which changes are asked for is read once the job is, and told of as
 /// [`RunFault::Since`]; its file may have as many bytes as a job. Of a flaw of its text the notes
@@ -85,7 +88,9 @@ fn read_whole<H: AllocGlobal + RandomSource, F: Opens, R: Read>(
 ///
 /// Behind a job that doesn't end in a line feed comes one, and before a script whose first line with
 /// a word begins no section the line `%operator NAME`, NAME being the last part of the file's name
-/// up to its first `.`. All else is as if the job had been one file.
+/// up to its first `.`. All else is as if the job had been one file; but where reasons are asked for,
+/// and there is a script in a file of its own, a fault's line is told as that of its own file, behind
+/// the file's name.
 pub fn run_options<H, F, R, W>(
     rt: &H,
     files: &F,
@@ -106,7 +111,7 @@ where
     ensures output { (bytes : List ℕ) (job : JobData)
         → job_bytes (F.content files.now) options.now (R.remaining input.old) ≡ Some bytes
         → IsJob bytes job
-        → EndsAsAsked (F.content files.now) options.now job result.outcome
+        → EndsAsAsked (F.content files.now) options.now bytes job result.outcome
         (W.contents output.old) (W.contents output.new) result.notes.items }
     ensures fault { IfErr result.outcome (IsOptionsFault (F.content files.now) options.now
         (job_bytes (F.content files.now) options.now (R.remaining input.old))) }
@@ -118,9 +123,9 @@ where
     ensures nothing { IfErr result.outcome (λ fault. fault ≢ RunFault.Write
         → Keeps (W.contents output.old) (W.contents output.new)) }
 
-    // A fault of bytes is noted with its place, and without reasons refused calls alone are.
-    ensures noted { IsNotedAsAsked (F.content files.now) options.now
-        (job_bytes (F.content files.now) options.now (R.remaining input.old))
+    // A fault of bytes is noted with its place in its own file, a file that can't be opened with a
+    // reason, and without reasons refused calls alone are.
+    ensures noted { IsNotedAsAsked (F.content files.now) options.now (R.remaining input.old)
         result.outcome result.notes.items }
 {
     let job = match read_whole(rt, files, options, input) {

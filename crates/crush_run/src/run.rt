@@ -1,6 +1,6 @@
 //! A job, from the bytes read to the bytes written.
 
-ghost use Rattle.std.specs.Prelude.{◌≡◌, ◌≢◌, ◌≤◌, ◌++◌, ℕ, List, [], Option, Err, Some, IfOk, IfErr, IfSome, if◌then◌else◌, length};
+ghost use Rattle.std.specs.Prelude.{◌≡◌, ◌≢◌, ◌≤◌, ◌++◌, ℕ, List, [], Option, Err, Some, IfOk, IfErr, IfSome, false, if◌then◌else◌, length};
 ghost use Rattle.std.specs.Io.KnownBytes.{Keeps};
 ghost use Rattle.crush_table.specs.Stands.{Stands};
 ghost use Rattle.crush_table.specs.Table.{Row};
@@ -9,20 +9,23 @@ ghost use Rattle.crush_calls.specs.Entries.{AreOf};
 ghost use Rattle.crush_calls.specs.HistoryText.{names_of};
 ghost use Rattle.crush_script.specs.Job.{HasJob, IsJob, JobData, JobStands};
 ghost use Rattle.crush_calls.specs.Script.{scripts_data};
-ghost use Rattle.crush_run.specs.Notes.{IsFaultNoted, IsNoted, has_history};
+ghost use Rattle.crush_reasons.specs.Place.{OriginData};
+ghost use Rattle.crush_run.specs.Notes.{IsFaultNoted, IsNoted, has_history, weight_notes};
+ghost use Rattle.crush_run.specs.Origins.{no_origin, origin_of};
 ghost use Rattle.crush_run.specs.Run.{Ends, IsRunFault, IsStrict, TakesFew, lines_asked, main_text, summed};
 ghost use Rattle.crush_reasons.specs.Ceph.{ceph_text};
-ghost use Rattle.crush_run.specs.Stages.{EndsLeft, IsNoJob, IsOutcomeFault, IsScriptsFault, IsWritingFault, RunsScripts};
+ghost use Rattle.crush_run.specs.Stages.{EndsLeft, IsNoJob, IsOutcomeFault, IsScriptsFault, IsWeighed, IsWritingFault, RunsScripts};
 ghost use Rattle.crush_units.specs.declared.limits.TheConstants.{MOST_ENTRIES, MOST_OPERATORS};
 
 use crate::asked::{Asked, Plan};
 use crate::at_once::run_at_once;
-use crate::ending::{Ending, Stopped};
+use crate::ending::{Ending, Stopped, Weighed};
 use crate::fault::RunFault;
 use crate::gate::Gate;
 use crate::in_turn::run_in_turn;
 use crate::input::read_bytes;
-use crate::notes::{check_strict, refused_notes, stopped_by};
+use crate::notes::{check_strict, history_notes, stopped_by, weighed};
+use crate::origins::Origins;
 use crate::summary::Summary;
 use crush_bytes::{WriteFault, put};
 use crush_calls::{Entry, Script, count_changes, history_text};
@@ -107,6 +110,8 @@ struct Left<'a> {
     scripts: &'a [Script],
     /// The history.
     entries: &'a [Entry],
+    /// What is noted of the weights that were written in its text.
+    weights: &'a [u8],
 }
 
 /// Writes what is asked for of the map, and behind it the history where it is asked for, unless the
@@ -161,15 +166,17 @@ fn end_by(alloc: Global, fault: RunFault, notes: Vec<u8>) -> Ending
     Ending::quietly(alloc, fault)
 }
 
-/// Writes what is asked for, and tells of the calls that were refused, where that is asked for.
+/// Writes what is asked for, and tells of the calls that were refused and of written weights, where
+/// that is asked for.
 fn end_run<W: Write>(alloc: Global, plan: &Plan, left: &Left<'_>, writer: &mut W) -> Ending
     requires few { length left.now.entries.now ≤ MOST_ENTRIES }
     requires operators { AreOf (length left.now.scripts.now) left.now.entries.now }
+    requires plain { plan.now.mode.explain ≡ false → left.now.weights.now ≡ [] }
     ensures { EndsLeft plan.now.mode plan.now.asked left.now.adjusted left.now.map.now
-        (names_of (scripts_data left.now.scripts.now)) left.now.entries.now result.outcome
+        left.now.weights.now (names_of (scripts_data left.now.scripts.now)) left.now.entries.now result.outcome
         (W.contents writer.old) (W.contents writer.new) result.notes.items }
 {
-    let Ok(notes) = refused_notes(alloc, plan.mode, left.scripts, left.entries) else {
+    let Ok(notes) = history_notes(alloc, plan.mode, left.scripts, left.entries, left.weights) else {
         return Ending::quietly(alloc, RunFault::Memory);
     };
     match write_outcome(alloc, plan, left, writer) {
@@ -226,19 +233,22 @@ pub(crate) fn run_read<H: AllocGlobal + Threads + Wait + Sync, G: Gate + Sync, W
     rt: &H,
     gate: &G,
     plan: &Plan,
-    job: Job,
+    weighed: Weighed,
     writer: &mut W,
 ) -> Ending
-    requires few { length job.scripts.items ≤ MOST_OPERATORS }
-    ensures ends { (read : JobData) → JobStands job read
-        → Ends plan.now.mode plan.now.asked read result.outcome (W.contents writer.old) (W.contents writer.new)
-        result.notes.items }
+    requires few { length weighed.job.scripts.items ≤ MOST_OPERATORS }
+    requires plain { plan.now.mode.explain ≡ false → weighed.weights.items ≡ [] }
+    ensures ends { (read : JobData) → JobStands weighed.job read
+        → Ends plan.now.mode plan.now.asked read weighed.weights.items result.outcome
+        (W.contents writer.old) (W.contents writer.new) result.notes.items }
     ensures nothing { IfErr result.outcome (λ fault. fault ≢ RunFault.Write
         → Keeps (W.contents writer.old) (W.contents writer.new)) }
     ensures fault { IfErr result.outcome (IsOutcomeFault plan.now.mode) }
-    ensures noted { (all : Option (List ℕ)) → IsNoted plan.now.mode.explain all result.outcome result.notes.items }
+    ensures noted { (origin : ℕ → OriginData) (all : Option (List ℕ))
+        → IsNoted plan.now.mode.explain origin all result.outcome result.notes.items }
 {
     let alloc = rt.alloc();
+    let Weighed { job, weights } = weighed;
     let Job {
         map,
         adjusted,
@@ -262,6 +272,7 @@ pub(crate) fn run_read<H: AllocGlobal + Threads + Wait + Sync, G: Gate + Sync, W
         map: &map,
         scripts: named.as_slice(),
         entries,
+        weights: weights.as_slice(),
     };
     end_run(alloc, plan, &left, writer)
 }
@@ -274,24 +285,31 @@ pub(crate) fn drawn_hashing<H: RandomSource>(rt: &H) -> Hashing {
     }
 }
 
-/// Reads the job that these bytes are.
+/// Reads the job that these bytes are, whose lines come from there.
 pub(crate) fn job_of<H: AllocGlobal + RandomSource>(
     rt: &H,
     explain: bool,
+    origins: Origins<'_>,
     bytes: Vec<u8>,
-) -> Result<Job, Stopped>
+) -> Result<Weighed, Stopped>
     ensures job { IfOk result (λ _. HasJob bytes.items) }
     ensures only { (job : JobData) → IsJob bytes.items job
-        → IfOk result (λ read. JobStands read job) }
+        → IfOk result (IsWeighed explain bytes.items job) }
+    ensures plain { IfOk result (λ read. explain ≡ false → read.weights.items ≡ []) }
     ensures fault { IfErr result (λ stopped. IsNoJob (Some bytes.items) stopped.fault) }
-    ensures noted { IfErr result (λ stopped.
-        IsFaultNoted explain (Some bytes.items) stopped.fault stopped.notes.items) }
-    ensures few { IfOk result (λ read. length read.scripts.items ≤ MOST_OPERATORS) }
+    ensures noted { IfErr result (λ stopped. IsFaultNoted explain (origin_of origins.entry)
+        (Some bytes.items) stopped.fault stopped.notes.items) }
+    ensures few { IfOk result (λ read. length read.job.scripts.items ≤ MOST_OPERATORS) }
 {
     let alloc = rt.alloc();
-    match read_job(alloc, drawn_hashing(rt), bytes.as_slice()) {
-        Ok(job) => Ok(job),
-        Err(fault) => Err(stopped_by(alloc, explain, bytes.as_slice(), fault)),
+    let bytes = bytes.as_slice();
+    let job = match read_job(alloc, drawn_hashing(rt), bytes) {
+        Ok(job) => job,
+        Err(fault) => return Err(stopped_by(alloc, explain, origins, bytes, fault)),
+    };
+    match weighed(alloc, explain, bytes, job) {
+        Ok(read) => Ok(read),
+        Err(_) => Err(Stopped::quietly(alloc, RunFault::Memory)),
     }
 }
 
@@ -303,14 +321,16 @@ where
     W: Write,
     ensures job { IfOk result.outcome (λ _. HasJob bytes.items) }
     ensures output { (job : JobData) → IsJob bytes.items job
-        → Ends plan.now.mode plan.now.asked job result.outcome (W.contents writer.old) (W.contents writer.new)
-        result.notes.items }
-    ensures noted { IsNoted plan.now.mode.explain (Some bytes.items) result.outcome result.notes.items }
+        → Ends plan.now.mode plan.now.asked job
+        (weight_notes plan.now.mode.explain bytes.items job.table) result.outcome
+        (W.contents writer.old) (W.contents writer.new) result.notes.items }
+    ensures noted { IsNoted plan.now.mode.explain no_origin (Some bytes.items)
+        result.outcome result.notes.items }
     ensures nothing { IfErr result.outcome (λ fault. fault ≢ RunFault.Write
         → Keeps (W.contents writer.old) (W.contents writer.new)) }
     ensures fault { IfErr result.outcome (IsRunFault plan.now.mode (Some bytes.items)) }
 {
-    match job_of(rt, plan.mode.explain, bytes) {
+    match job_of(rt, plan.mode.explain, Origins::none(), bytes) {
         Ok(job) => run_read(rt, gate, plan, job, writer),
         Err(stopped) => stopped.end(),
     }
@@ -326,10 +346,11 @@ where
 ///
 /// A strict run in which calls were refused ends with [`RunFault::Refused`], and their lines are
 /// its notes: all calls were made and judged, and nothing is written. Where the mode asks for
-/// reasons, the notes say of each call that was refused, in whatever run, what was wanted, and of a
-/// fault of the bytes where it stands.
+/// reasons, the notes say of each call that was refused, in whatever run, what was wanted, behind
+/// these which written weights of buckets aren't their sums, and of a fault of the bytes where it
+/// stands.
 ///
-/// After [`RunFault::Write`] a front of the output was written, and never the whole, after any other
+/// After [`RunFault::Write`] a prefix of the output was written, and never the whole, after any other
 /// fault nothing.
 /// [`RunFault::Job`] says what is wrong with the bytes, and never that memory lacked, which is
 /// [`RunFault::Memory`], also where it lacked for the notes; of bytes that are no job it is never
@@ -349,15 +370,17 @@ where
     ensures job { IfOk result.outcome (λ _. IfSome (R.remaining reader.old) HasJob) }
 
     // For whatever job the bytes are, there is a run of it whose output is written, or after a
-    // fault a front of that which isn't the whole, which the summary sums up, and whose refused
-    // calls are noted.
+    // fault a prefix of that which isn't the whole, which the summary sums up, and whose refused
+    // calls are noted, with the written weights of the bytes.
     ensures output { (bytes : List ℕ) (job : JobData) → R.remaining reader.old ≡ Some bytes
         → IsJob bytes job
-        → Ends plan.now.mode plan.now.asked job result.outcome (W.contents writer.old) (W.contents writer.new)
-        result.notes.items }
+        → Ends plan.now.mode plan.now.asked job
+        (weight_notes plan.now.mode.explain bytes job.table) result.outcome
+        (W.contents writer.old) (W.contents writer.new) result.notes.items }
 
     // A fault of the bytes is noted with its place, and without reasons refused calls alone are.
-    ensures noted { IsNoted plan.now.mode.explain (R.remaining reader.old) result.outcome result.notes.items }
+    ensures noted { IsNoted plan.now.mode.explain no_origin (R.remaining reader.old)
+        result.outcome result.notes.items }
 
     // Only a failed write leaves anything.
     ensures nothing { IfErr result.outcome (λ fault. fault ≢ RunFault.Write

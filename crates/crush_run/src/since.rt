@@ -1,9 +1,10 @@
 //! The map since which changes are asked for.
 
-ghost use Rattle.std.specs.Prelude.{◌≡◌, ◌≤◌, Some, IfOk, IfErr, IfSome, length};
+ghost use Rattle.std.specs.Prelude.{◌≡◌, ◌≤◌, ℕ, Bool, List, Option, Some, IfOk, IfErr, IfSome, length};
 ghost use Rattle.crush_text.specs.Flaw.{IsFlawOrWant};
-ghost use Rattle.crush_run.specs.Notes.{IsMapNoted, flaw_notes};
+ghost use Rattle.crush_run.specs.Notes.{IsFileNoted, IsMapNoted, flaw_notes};
 ghost use Rattle.crush_run.specs.Options.{IsMapFault, IsTextOf};
+ghost use Rattle.crush_run.specs.Stages.{IsInputFault};
 ghost use Rattle.crush_units.specs.declared.limits.TheConstants.{LONGEST_JOB};
 
 use crate::ending::Stopped;
@@ -12,7 +13,7 @@ use crate::files::Opens;
 use crate::input::read_file;
 use crate::run::drawn_hashing;
 use crush_map::CrushMap;
-use crush_reasons::fault_text;
+use crush_reasons::{Origin, fault_text};
 use crush_script::JobFault;
 use crush_text::{TextFault, read_map_in};
 use crush_units::limits::LONGEST_JOB;
@@ -33,10 +34,14 @@ fn flaw_notes(
     if !explain {
         return Ok(Vec::new(alloc));
     }
-    fault_text(alloc, name.as_bytes(), text, JobFault::Text(fault))
+    let origin = Origin {
+        name: name.as_bytes(),
+        before: 0,
+    };
+    fault_text(alloc, origin, text, JobFault::Text(fault))
 }
 
-/// Why a text is no map, and where; or want of memory, also where there is none to tell it.
+/// Why a text is no map, and where; or out of memory, also where there is none to tell it.
 fn stopped_at(alloc: Global, explain: bool, name: &str, text: &[u8], fault: TextFault) -> Stopped
     requires few { length text.now ≤ LONGEST_JOB }
     requires flaw { IsFlawOrWant text.now fault }
@@ -77,6 +82,26 @@ fn map_of<H: AllocGlobal + RandomSource>(
     }
 }
 
+impl Stopped {
+    /// The same of the map since which changes are asked for.
+    fn of_since(self) -> Stopped
+        requires { IsInputFault self.fault }
+        ensures fault { (all : Option (List ℕ)) → IsMapFault all result.fault }
+        ensures noted { (explain : Bool) (name : List ℕ) (all : Option (List ℕ))
+            → IsFileNoted explain name self.fault self.notes.items
+            → IsMapNoted explain name all result.fault result.notes.items }
+    {
+        let Stopped { fault, notes } = self;
+        match fault {
+            RunFault::Read => Stopped {
+                fault: RunFault::Since(SinceFault::Read),
+                notes,
+            },
+            _ => Stopped { fault, notes },
+        }
+    }
+}
+
 /// Reads the map of the file of this name.
 pub(crate) fn read_since<H: AllocGlobal + RandomSource, F: Opens>(
     rt: &H,
@@ -91,10 +116,8 @@ pub(crate) fn read_since<H: AllocGlobal + RandomSource, F: Opens>(
         IsMapNoted explain name.now (F.content files.now name.now) stopped.fault
         stopped.notes.items) }
 {
-    let alloc = rt.alloc();
-    match read_file(alloc, files, name) {
+    match read_file(rt.alloc(), files, explain, name) {
         Ok(bytes) => map_of(rt, explain, name, bytes.as_slice()),
-        Err(RunFault::Read) => Err(Stopped::quietly(alloc, RunFault::Since(SinceFault::Read))),
-        Err(_) => Err(Stopped::quietly(alloc, RunFault::Memory)),
+        Err(stopped) => Err(stopped.of_since()),
     }
 }

@@ -13,6 +13,7 @@ mod at_once;
 mod command_lines;
 mod explained;
 mod failing;
+mod gate_faults;
 mod gates;
 mod limits;
 mod prefixes;

@@ -1,16 +1,16 @@
--- Faults of a job that are want of memory.
+-- Faults of a job that tell that memory lacked.
 use Rattle.std.specs.Prelude.{Bool, true, false}
 use Rattle.crush_text.specs.declared.fault.TextFaultKind.{TextFaultKind}
 use Rattle.crush_text.specs.declared.fault.TextFaultKind.TheVariants as kinds
 use Rattle.crush_script.specs.declared.fault.JobFault.{JobFault}
 use Rattle.crush_script.specs.declared.fault.JobFault.TheVariants.{Text, OutOfMemory}
 
--- whether a fault of a text is want of memory, and no flaw of it
+-- whether a fault of a text tells that memory lacked, and is no flaw of it
 abbrev pub is_want : TextFaultKind → Bool
 is_want kinds.OutOfMemory = true
 is_want kind = false
 
--- whether a fault of a job is want of memory, its own or that of its text
+-- whether a fault of a job tells that memory lacked, for it or for its text
 abbrev pub lacks_memory : JobFault → Bool
 lacks_memory OutOfMemory = true
 lacks_memory (Text fault) = is_want fault.kind

@@ -4,7 +4,7 @@ use Rattle.crush_script.specs.declared.command.LineFault.{LineFault}
 use Rattle.crush_script.specs.declared.command.LineFault.TheVariants.{OutOfMemory}
 use Rattle.crush_script.specs.Command.{Read}
 
--- the call gives the result, or tells of want of memory
+-- the call gives the result, or is out of memory
 abbrev pub ReadsAs : {X : Type 0} → Result X LineFault → Result X LineFault → Type 0
 ReadsAs (Ok x) given = given ≡ Ok x
 ReadsAs (Err OutOfMemory) given = Unit {0}

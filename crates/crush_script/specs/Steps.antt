@@ -5,7 +5,7 @@ use Rattle.crush_script.specs.declared.fault.JobFault.TheVariants.{Text, OutOfMe
 use Rattle.crush_script.specs.declared.sections.Sections.{Sections}
 use Rattle.crush_script.specs.Sections.{SectionsData, sections_data}
 
--- the fault is that of the definition, or want of memory
+-- the fault is that of the definition, or out of memory
 abbrev pub FailsAs : JobFault → Result SectionsData JobFault → Type 0
 FailsAs OutOfMemory given = Unit {0}
 FailsAs (Text fault) given = ⊥

@@ -12,3 +12,4 @@ mod word;
 pub use fault::JobFault;
 pub use job::{Job, read_job};
 pub use law::{printed_is_read, scripts_are_read_back};
+pub use line::{line_feeds, map_part};

@@ -21,6 +21,13 @@ fn length_to_section(job: &[u8]) -> usize
     job.len()
 }
 
+/// The map's text of a job: what stands before the first line whose first byte is `%`.
+pub fn map_part(job: &[u8]) -> &[u8]
+    ensures { result.now ≡ map_part job.now }
+{
+    cut_job(job).0
+}
+
 /// The two parts of a job: the map's text, and the sections.
 pub(crate) fn cut_job(job: &[u8]) -> (&[u8], &[u8])
     ensures map { result.0.now ≡ map_part job.now }
@@ -32,7 +39,7 @@ pub(crate) fn cut_job(job: &[u8]) -> (&[u8], &[u8])
 }
 
 /// How many line feeds a text has.
-pub(crate) fn line_feeds(text: &[u8]) -> usize
+pub fn line_feeds(text: &[u8]) -> usize
     ensures count { result ≡ count_by (λ b. b == 10) text.now }
     ensures within { result ≤ length text.now }
 {

@@ -96,6 +96,83 @@ fn a_fault_of_the_other_map_is_told_with_its_file(rt: HostRuntime) {
     assert!(rt; ends_with(&rt, &words, files, flaw, b"", OTHER_PLACE));
 }
 
+/// A script whose second line has no such command.
+const SLIP: &[u8] = b"reweight osd.0 1\nfly x\n";
+
+const SLIP_LINE: &[u8] =
+    b"  b.txt line 2\n    fly x\n  the first word of a line is to be a command: --help has all of them\n";
+
+const TWICE_LINE: &[u8] = b"  c/a.txt line 0\n    %operator a\n  an operator above has this name\n";
+
+#[test]
+fn a_fault_of_a_script_is_told_in_its_own_file(rt: HostRuntime) {
+    let files: &[(&str, &[u8])] = &[
+        ("m", PLAIN),
+        ("a.txt", b"rm x"),
+        ("b.txt", SLIP),
+        ("c/a.txt", b""),
+    ];
+    let slip = Err(RunFault::Job(JobFault::NoSuchCommand(46)));
+    let twice = Err(RunFault::Job(JobFault::DuplicateOperator(44)));
+    let words = ["--explain", "m", "-s", "a.txt", "-s", "b.txt"];
+    let again = ["--explain", "m", "-s", "a.txt", "-s", "c/a.txt"];
+    assert!(rt;
+        ends_with(&rt, &words, files, slip, b"", SLIP_LINE)
+            && ends_with(&rt, &again, files, twice, b"", TWICE_LINE)
+    );
+}
+
+#[test]
+fn a_file_that_cannot_be_opened_is_told_with_the_reason(rt: HostRuntime) {
+    let files: &[(&str, &[u8])] = &[("m", PLAIN)];
+    let (read, since) = (Err(RunFault::Read), Err(RunFault::Since(SinceFault::Read)));
+    let told = b"  x/y: entity not found\n";
+    assert!(rt;
+        ends_with(&rt, &["--explain", "x/y"], files, read, b"", told)
+            && ends_with(
+                &rt,
+                &["m", "-s", "x/y", "--explain"],
+                files,
+                read,
+                b"",
+                told
+            )
+            && ends_with(
+                &rt,
+                &["m", "--since", "x/y", "--explain"],
+                files,
+                since,
+                b"",
+                told
+            )
+            && ends_with(&rt, &["m", "-s", "x/y"], files, read, b"", b"")
+    );
+}
+
+/// A host that weighs 1.0, written as 2.5 in its root.
+const WRITTEN: &[u8] =
+    b"device 0 osd.0\ntype 0 osd\ntype 1 host\ntype 2 root\nhost h { id -2 alg straw2 item osd.0 weight 1 }\nroot r { id -1 alg straw2 item h weight 2.5 }\n";
+
+const NO_CHANGE: &[u8] =
+    b"total 1.00000 to 1.00000\n0 made, 0 removed, 0 renamed, 0 moved, 0 of other weight, 0 of other class\n";
+
+#[test]
+fn written_weights_are_told_where_reasons_are_asked_for(rt: HostRuntime) {
+    let files: &[(&str, &[u8])] = &[("m", WRITTEN)];
+    let done = Ok(summary(1, 0, 0));
+    let told = b"h: 2.5 was written, the sum is 1.00000\n";
+    assert!(rt;
+        ends_with(
+            &rt,
+            &["m", "--since", "m", "--explain"],
+            files,
+            done,
+            NO_CHANGE,
+            told
+        ) && ends_with(&rt, &["m", "--since", "m"], files, done, NO_CHANGE, b"")
+    );
+}
+
 /// Whether this is told of an outcome where reasons are asked for.
 fn is_explained(rt: &impl AllocGlobal, outcome: &Result<Summary, RunFault>, told: &[u8]) -> bool {
     let mut err = Vec::new(rt.alloc());

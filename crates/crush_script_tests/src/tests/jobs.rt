@@ -4,7 +4,7 @@ use crate::tests::{PLAIN_EXAMPLE_MAP, is_no_job, job_of, joined};
 use crush_calls::{Call, Script, make_call, write_entry};
 use crush_edits::Edit;
 use crush_map::CrushMap;
-use crush_script::{Job, JobFault};
+use crush_script::{Job, JobFault, line_feeds, map_part};
 use std::alloc::Global;
 use std::process::Abort;
 
@@ -152,4 +152,11 @@ fn a_job_has_at_most_sixteen_mebibytes(rt: HostRuntime) {
     let count = job.scripts.len();
     drop(job);
     assert!(rt; count == 0 && is_no_job_with(&rt, text, b"%", &JobFault::TooLong));
+}
+
+#[test]
+fn a_job_is_cut_before_its_first_section(rt: HostRuntime) {
+    let job: &[u8] = b"device 0 a # 100 %\n \r\n%operator b\nrm a\n";
+    let text: &[u8] = b"device 0 a # 100 %\n \r\n";
+    assert!(rt; map_part(job) == text && line_feeds(job) == 4);
 }

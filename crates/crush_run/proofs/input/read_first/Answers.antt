@@ -1,6 +1,19 @@
+use Rattle.std.proofs.Common.{inl, sym}
+use Rattle.crush_run.specs.Options.{IsFile}
+use Rattle.crush_run.proofs.Noted.{err_as}
+use Rattle.crush_run.proofs.Reading.{part_noted, quiet_part}
 use Rattle.crush_run.proofs.Runs.{when_ok}
 use Rattle.crush_run.proofs.Told.{known_of_take}
 use Rattle.crush_run.proofs.input.read_first.Goals as goal
 
 pub returns-in-None-clause-bytes : goal.returns-in-None-clause-bytes
-returns-in-None-clause-bytes g c = rw c.in-None.is (when_ok _ _ c.read_bytes.result (λ read taken. known_of_take _ read.items taken) c.read_bytes.ensures.bytes)
+returns-in-None-clause-bytes g c = rw c.in-None.is (when_ok _ _ c.read_quietly.result (λ read taken. known_of_take _ read.items taken) c.read_quietly.ensures.bytes)
+
+-- nothing is noted of standard input, and of a file what is noted of it
+pub returns-in-None-clause-noted : goal.returns-in-None-clause-noted
+returns-in-None-clause-noted g c = err_as _ _ c.read_quietly.result (λ s none. quiet_part c.args.options.now s.fault _ none) c.read_quietly.ensures.quiet
+
+pub returns-in-Some-clause-noted : goal.returns-in-Some-clause-noted
+returns-in-Some-clause-noted g c =
+    let named : IsFile c.args.options.now.file c.as_str.result.now = rw c.in-Some.is (sym c.as_str.ensures.value) in
+    err_as _ _ c.read_file.result (λ s told. part_noted c.args.options.now _ s.fault _ (inl named) told) c.read_file.ensures.noted

@@ -1,15 +1,16 @@
 use Rattle.crush_run.specs.Input.{job_bytes}
-use Rattle.crush_run.proofs.Asking.{early_of_asked, ended_as_asked, ended_before_output, ending_as_asked, job_where_done, noted_as_asked, options_fault_of_asked, options_fault_of_outcome, options_fault_of_read, read_as_asked}
+use Rattle.crush_run.specs.Origins.{job_origin}
+use Rattle.crush_run.proofs.Asking.{ended_as_asked, ended_before_output, ending_as_asked, job_where_done, options_fault_of_outcome, options_fault_of_read}
 use Rattle.crush_run.proofs.Early.{early_of_read}
 use Rattle.crush_run.proofs.options.run_options.Goals as goal
 
 -- a fault of reading comes before there is a job
 pub returns-in-Err-clause-output : goal.returns-in-Err-clause-output
 returns-in-Err-clause-output g c = λ bytes job all is.
-    ended_before_output _ _ job _ _ _ _ _ c.end.ensures.outcome (early_of_read (job_bytes (g.F.Opens.content c.args.files.now) c.args.options.now (g.R.Read.remaining c.args.input.now)) _ c.in-Err.ensures.fault)
+    ended_before_output _ _ bytes job _ _ _ _ _ c.end.ensures.outcome (early_of_read (job_bytes (g.F.Opens.content c.args.files.now) c.args.options.now (g.R.Read.remaining c.args.input.now)) _ c.in-Err.ensures.fault)
 
 pub returns-in-Err-clause-noted : goal.returns-in-Err-clause-noted
-returns-in-Err-clause-noted g c = rw (c.end.ensures.outcome, c.end.ensures.notes) (read_as_asked (g.F.Opens.content c.args.files.now) c.args.options.now (job_bytes (g.F.Opens.content c.args.files.now) c.args.options.now (g.R.Read.remaining c.args.input.now)) _ _ c.in-Err.ensures.fault c.in-Err.ensures.noted)
+returns-in-Err-clause-noted g c = rw (c.end.ensures.outcome, c.end.ensures.notes) c.in-Err.ensures.noted
 
 pub returns-in-Err-clause-fault : goal.returns-in-Err-clause-fault
 returns-in-Err-clause-fault g c = rw c.end.ensures.outcome (options_fault_of_read (g.F.Opens.content c.args.files.now) c.args.options.now (job_bytes (g.F.Opens.content c.args.files.now) c.args.options.now (g.R.Read.remaining c.args.input.now)) _ c.in-Err.ensures.fault)
@@ -20,10 +21,11 @@ returns-clause-job g c = job_where_done c.run_read.result.outcome (job_bytes (g.
 -- it is the run of the job that was read, with what is asked for
 pub returns-clause-output : goal.returns-clause-output
 returns-clause-output g c = λ bytes job all is.
-    ended_as_asked (g.F.Opens.content c.args.files.now) c.args.options.now _ job c.run_read.result.outcome _ _ _ c.in-Ok-asked_of.ensures.asked (c.run_read.ensures.ends job (c.in-Ok.ensures.only bytes job all is))
+    let read = c.in-Ok.ensures.only bytes job all is in
+    ended_as_asked (g.F.Opens.content c.args.files.now) c.args.options.now _ bytes job _ c.run_read.result.outcome _ _ _ c.in-Ok-asked_of.ensures.asked read.weights (c.run_read.ensures.ends job read.stands)
 
 pub returns-clause-noted : goal.returns-clause-noted
-returns-clause-noted g c = ending_as_asked (g.F.Opens.content c.args.files.now) c.args.options.now (job_bytes (g.F.Opens.content c.args.files.now) c.args.options.now (g.R.Read.remaining c.args.input.now)) _ _ c.run_read.ensures.fault (c.run_read.ensures.noted _)
+returns-clause-noted g c = ending_as_asked (g.F.Opens.content c.args.files.now) c.args.options.now (g.R.Read.remaining c.args.input.now) _ _ c.run_read.ensures.fault (c.run_read.ensures.noted (job_origin (g.F.Opens.content c.args.files.now) c.args.options.now (g.R.Read.remaining c.args.input.now)) _)
 
 pub returns-clause-fault : goal.returns-clause-fault
 returns-clause-fault g c = options_fault_of_outcome (g.F.Opens.content c.args.files.now) c.args.options.now (job_bytes (g.F.Opens.content c.args.files.now) c.args.options.now (g.R.Read.remaining c.args.input.now)) c.run_read.result.outcome c.in-Ok.ensures.job c.run_read.ensures.fault

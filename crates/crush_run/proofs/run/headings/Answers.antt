@@ -1,4 +1,4 @@
-use Rattle.std.proofs.Common.{◌∙◌, ap, arith, length-append}
+use Rattle.std.proofs.Common.{◌∙◌, ap, arith}
 use Rattle.std.proofs.lemmas.List.{take_all}
 use Rattle.crush_calls.specs.HistoryText.{names_of}
 use Rattle.crush_calls.specs.Script.{scripts_data}

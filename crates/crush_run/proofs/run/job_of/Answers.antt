@@ -1,9 +1,15 @@
-use Rattle.std.proofs.Common.{sym, subst, List, ℕ}
-use Rattle.crush_script.specs.Job.{IsJob}
+use Rattle.std.proofs.Common.{ℕ, List, ap, sym, subst, ◌∙◌}
+use Rattle.crush_script.specs.Job.{IsJob, JobStands}
+use Rattle.crush_script.specs.declared.job.Job.{Job}
+use Rattle.crush_run.specs.Notes.{weight_notes}
 use Rattle.crush_run.proofs.run.job_of.Goals as goal
 
-pub returns-in-Ok-clause-job : goal.returns-in-Ok-clause-job
-returns-in-Ok-clause-job g c = (c.in-Ok.ensures.job.0, subst (λ (z : List ℕ). IsJob z c.in-Ok.ensures.job.0) c.as_slice.ensures.value c.in-Ok.ensures.job.1)
-
-pub returns-in-Ok-clause-only : goal.returns-in-Ok-clause-only
-returns-in-Ok-clause-only g c = λ job is. c.in-Ok.ensures.only job (subst (λ (z : List ℕ). IsJob z job) (sym c.as_slice.ensures.value) is)
+-- what was read is the job, and its weights were looked at before a script ran
+pub returns-in-Ok-weighed-clause-only : goal.returns-in-Ok-weighed-clause-only
+returns-in-Ok-weighed-clause-only g c = λ job is.
+    let same = c.as_slice-bytes.ensures.value in
+    let stands = c.in-Ok.ensures.only job (subst (λ (z : List ℕ). IsJob z job) (sym same) is) in
+    record {
+      stands = subst (λ (j : Job). JobStands j job) (sym c.in-Ok-weighed.ensures.job) stands;
+      weights = c.in-Ok-weighed.ensures.weights job.table stands.map.forest ∙ ap (λ (b : List ℕ). weight_notes c.args.explain b job.table) same;
+    }

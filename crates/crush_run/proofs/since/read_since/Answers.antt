@@ -23,3 +23,10 @@ returns-in-Ok-clause-noted g c =
     let all = g.F.Opens.content c.args.files.now c.args.name.now in
     let known = subst (λ (z : List ℕ). IfSome all (IsInput z)) (sym c.as_slice.ensures.value) c.in-Ok.ensures.bytes in
     err_both _ _ _ c.map_of.result (λ s h told. map_noted_of_all c.args.explain c.args.name.now all c.as_slice.result.now s.fault _ known h told) c.map_of.ensures.fault c.map_of.ensures.noted
+
+-- and so is what is known of a file that wasn't read
+pub returns-in-Err-clause-fault : goal.returns-in-Err-clause-fault
+returns-in-Err-clause-fault g c = c.of_since.ensures.fault _
+
+pub returns-in-Err-clause-noted : goal.returns-in-Err-clause-noted
+returns-in-Err-clause-noted g c = c.of_since.ensures.noted _ _ _ c.in-Err.ensures.noted

@@ -1,4 +1,4 @@
-use Rattle.std.proofs.Common.{◌≡◌, ◌++◌, take, subst, sym, ◌∙◌, refl, arith, rules}
+use Rattle.std.proofs.Common.{◌≡◌, ◌++◌, take, subst, ◌∙◌, refl, arith, rules}
 use Rattle.std.proofs.lemmas.List.{take_all}
 use Rattle.crush_map.specs.MapData.{MapStands}
 use Rattle.crush_calls.specs.History.{behind, counted_after, turn}

@@ -1,0 +1,64 @@
+//! A gate is called behind each call before which it was called, also where the call meets a fault.
+//! `bench/refused_memory.py` refuses the requests for memory of these tests one by one; they ask for
+//! none but in a run, so that each fault is one of the run.
+
+use super::{AT_ONCE, MODE, run_map};
+use crush_options::Mode;
+use crush_run::Gate;
+use std::random::RandomSource;
+use std::sync::Wait;
+use std::sync::atomic::{AtomicU64, Ordering};
+use std::thread::Threads;
+
+/// Counts how often it is called before a call, and behind one.
+#[derive(Drop)]
+struct Counts {
+    before: AtomicU64,
+    after: AtomicU64,
+}
+
+impl Counts {
+    /// Whether it was called as often behind a call as before one.
+    fn are_even(&self) -> bool {
+        self.before.load(Ordering::SeqCst) == self.after.load(Ordering::SeqCst)
+    }
+}
+
+impl Gate for Counts {
+    fn before<R: Wait>(&self, _rt: &R, _operator: usize, _number: usize) {
+        self.before.fetch_add(1, Ordering::SeqCst);
+    }
+
+    fn after<R: Wait>(&self, _rt: &R, _operator: usize, _number: usize) {
+        self.after.fetch_add(1, Ordering::SeqCst);
+    }
+}
+
+/// Two operators, each with a call that takes memory of the map and one that is refused.
+const JOB: &[u8] =
+    b"device 0 osd.0\ntype 0 osd\ntype 1 host\nhost h1 { id -1 alg straw2 item osd.0 }\nhost h2 { id -2 alg straw2 }\n%operator a\nmove osd.0 host=h2\nrm x\n%operator b\nrm x\nadd osd.7 1 host=h1\n";
+
+/// Whether the gate of a run in this mode, however it ends, was called as often behind calls as
+/// before them.
+fn stands_behind_each_call(
+    rt: &(impl AllocGlobal + RandomSource + Threads + Wait + Sync),
+    mode: Mode,
+) -> bool {
+    let gate = Counts {
+        before: AtomicU64::new(0),
+        after: AtomicU64::new(0),
+    };
+    let mut out = Vec::new(rt.alloc());
+    drop(run_map(rt, &gate, mode, &mut &*JOB, &mut out));
+    gate.are_even()
+}
+
+#[test]
+fn a_gate_stands_behind_each_call_in_turn(rt: HostRuntime) {
+    assert!(&rt; stands_behind_each_call(&rt, MODE));
+}
+
+#[test]
+fn a_gate_stands_behind_each_call_at_once(rt: HostRuntime) {
+    assert!(&rt; stands_behind_each_call(&rt, AT_ONCE));
+}
