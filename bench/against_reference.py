@@ -8,8 +8,9 @@ scripts, of sixteen operators, and those of examples/, the refused ones too, as 
 tunables, rules and classes. In turn all bytes are compared. At once the history may be another each time: the model
 makes the calls in its order (`at_once.py`). Where the program has the words `--tree`, `--since MAP`, `--as-ceph`,
 `--strict`, `--explain` and `--script`, half of the runs have some of them (`looking.py` and `explained.py` say what
-comes then, reasons of refused calls in turn); else that is told. The seed may be any word; without one it is drawn.
-It is printed, and the same seed makes the same jobs.
+comes then); else that is told. With the last two there comes to each job one whose scripts are in files, half of these
+jobs with one faulty line and many with weights of buckets that aren't the sums. The seed may be any word; without one
+it is drawn. It is printed, and the same seed makes the same jobs.
 """
 
 import collections
@@ -22,9 +23,10 @@ import sys
 import tempfile
 
 from at_once import fault_of, job_text, random_scripts
-from chance import Dice, random_job, random_map
+from chance import Dice, call_lines, random_call, random_job, random_map
+from looking import first_line, is_refusal, reasons
 from model import Map, run_call
-from reading import outcome, read_job, read_since
+from reading import joined, outcome, read_job, read_since
 
 DATA = pathlib.Path(__file__).resolve().parent.parent / "crates/crush_examples/data"
 # What a mutation puts into a job: words and bytes that are due somewhere, or nowhere, and numbers out of range.
@@ -38,6 +40,13 @@ PIECES = [
     "0", "00", "1", "-0", "-1", "4294967295", "4294967296", "2147483647", "2147483648", "-2147483648", "-2147483649",
     "65535", "65536", "32767.99998", "32767.99999", "65535.99999", "65536.0", ".5", "5.", "0.0000001", "01234567890",
 ]
+# Words that are written for a bucket's weight, and lines that make a script or a map's text a faulty one.
+WRITTEN = ["0", "1", "00001.50", "0.333", "2.500000000000000000", "65535.99998", "0.00001"]
+FAULTY = [
+    "fly", "\tfly osd.1 # so", "reweight osd.0", "rm", "rm " + "a" * 90 + " b", "%", "%operator", "%operator a b",
+    "begin", "commit", "begin at 65537", "add osd.01 1", "move x y=z z", "reweight osd.1 1.", "rm \xe9", "rm osd.1\r\r",
+]
+FAULTY_OF_MAPS = ["$", "device 7 osd.7 {", "type 1 twice", "\t\xe9", "host", "fly", "choose_args 0", "rule r {", "}"]
 
 
 def place(dice, things):
@@ -103,8 +112,8 @@ def any_job(dice, examples, refused):
     return random_job(dice)[0]
 
 
-def run(program, flags, text):
-    ran = subprocess.run([program, *flags], input=text.encode("latin-1"), capture_output=True, timeout=60)
+def run(program, flags, text, folder=None):
+    ran = subprocess.run([program, *flags], input=text.encode("latin-1"), cwd=folder, capture_output=True, timeout=60)
     return ran.returncode, ran.stdout.decode("latin-1"), ran.stderr.decode("latin-1")
 
 
@@ -127,71 +136,155 @@ def any_map_text(dice, text):
     return dice.choice([own, own, mutated(dice, own), random_map(dice).text(), random_map(dice).text()])
 
 
-def refusals_fault(printed, told, scripts):
-    """What is wrong with the end of a strict run at once, of whose history only the refused lines are told."""
-    head, *lines = told.splitlines()
-    if printed or head != f"crushedit: refused {len(lines)}" or not lines:
-        return f"at once: printed {printed!r}, told {told}"
+def is_line_of(line, calls):
+    """Whether a history line is of one of these calls, each with its operator's name before it."""
+    return line.split(" ", 2)[2].partition(" = refused ")[0] in calls
+
+
+def refusals_fault(printed, refused, scripts):
+    """What is wrong with the end of a strict run at once, of whose history only these refused lines are told."""
+    if printed or not refused:
+        return f"at once: printed {printed!r}, {len(refused)} refused"
     calls = {f"{name} {run_call(Map({}), call, 0)[1].partition(' = ')[0]}" for name, made in scripts for call in made}
-    numbers = [int(line.split(" ", 2)[1]) for line in lines]
-    if numbers != sorted(set(numbers)) or not all(
-            line.split(" ", 2)[2].partition(" = refused ")[0] in calls and " = refused " in line for line in lines):
-        return f"at once: told {told}"
+    numbers = [int(line.split(" ", 2)[1]) for line in refused]
+    if numbers != sorted(set(numbers)) or not all(is_line_of(line, calls) for line in refused):
+        return f"at once: refused {refused}"
     return None
 
 
-def parted(text, folder):
-    """The text up to its sections, and a file for each of these, up to sixteen, which make the same job behind it. A
-    file is called by its operator, and has no line of it, where that can be."""
+def at_once_fault(text, ran, words, since):
+    """What is wrong with a run at once of a job that has no fault. The history may be another each time: what is told
+    of it has to be of its lines."""
+    status, printed, told = ran
+    read, adjusted, scripts = read_job(text)
+    refused = [line for line in (told if status == 5 else printed).splitlines(keepends=True) if is_refusal(line)]
+    due = first_line(status, refused, adjusted) + reasons(words, refused, adjusted)
+    if status not in (0, 5) or told != due:
+        return f"at once: status {status}, {told}\n--- and not {due}"
+    if status == 5:
+        return refusals_fault(printed, refused, scripts) if "--strict" in words else "at once: status 5"
+    if "--strict" in words and refused:
+        return f"at once: a strict run printed {printed}"
+    return fault_of(read, dict(scripts), printed, words, read_since(since) if "--since" in words else None)
+
+
+def parted(text):
+    """The text up to its sections, and for each of these, up to sixteen, the name of a file and what it has, which make
+    the same job behind it. A file is called by its operator, and has no line of it, where that can be."""
     front, *sections = re.split(r"(?m)^(?=%)", text)
     if not front:
         return text, []  # behind an empty text a line feed would come
-    files = []
+    scripts = []
     for number, section in enumerate(sections[:16]):
         head = re.match(r"%operator ([A-Za-z0-9_-]+)\n(?=[ \t]*[a-z])", section)
-        name = head[1] + ".txt" if head and len(head[1]) < 200 else "script"
-        path = pathlib.Path(folder, str(number), name)
-        path.parent.mkdir()
+        is_called = head and len(head[1]) < 200
         rest = "".join(sections[16:]) if number == 15 else ""
-        path.write_bytes(((section[head.end():] if name != "script" else section) + rest).encode("latin-1"))
-        files.append(str(path))
-    return front, files
+        scripts.append((f"{number}/{head[1]}.txt", section[head.end():] + rest) if is_called
+                       else (f"{number}/script", section + rest))
+    return front, scripts
 
 
-def named(ran, file):
-    """How a run ended, where the file of `--since` is called MAP."""
-    status, printed, told = ran
-    return status, printed, told.replace(f"  {file} line ", "  MAP line ")
+def any_name(dice, number):
+    """The name of a script's file: it may be of an operator that others are called by too, or of none."""
+    name = dice.choice([f"op{number}.txt"] * 32 + [f"op{number}", f"op{number}.b.txt", "my script.txt", ".txt", "same"])
+    return dice.choice(["", f"{number}/", f"./{number}/"] if name.startswith("op") else [f"{number}/"]) + name
 
 
-def difference(program, text, due, words, since):
+def any_script(dice, map, number):
+    """What a script's file has: perhaps lines without words first, a line of its operator, and no line feed last."""
+    calls = "".join(call_lines(dice, random_call(dice, map)) for _ in range(dice.randint(0, 4)))
+    own = f"%operator own{number}\n"
+    head = dice.choice(["", "# a script\n", " \t\r\n\n", "#%\n", " # so\r\n"])
+    head += dice.choice([""] * 12 + [own] * 8 + [" " + own, "% \n"])
+    script = head + calls
+    return script[:-1] if dice.randint(0, 3) == 0 else script
+
+
+def with_other_weights(dice, text):
+    """Items that are buckets get weights that mostly aren't the sums, or are their sums in other words."""
+    return re.sub(r"(?m)^(\titem (?!osd|disk)\S+ weight )(\S+)",
+                  lambda found: found[1] + dice.choice([*WRITTEN, found[2], found[2] + "0"]), text)
+
+
+def with_a_line(dice, text, lines):
+    """One of these lines is put between two of the text's."""
+    own = text.splitlines(keepends=True)
+    at = place(dice, own)
+    return "".join(own[:at]) + dice.choice(lines) + "\n" + "".join(own[at:])
+
+
+def any_files(dice):
+    """A job and scripts of files behind it, one of which may have a faulty line, or a batch that doesn't end."""
+    map = random_map(dice)
+    text = dice.choice([map.text()] * 6 + [map.text()[:-1], map.text() + "%operator own\nrm x\n", "", "\n"])
+    scripts = [(any_name(dice, number), any_script(dice, map, number)) for number in range(dice.randint(1, 5))]
+    text, wrong = with_other_weights(dice, text), dice.randint(0, 5)
+    if wrong == 0:
+        return with_a_line(dice, text, FAULTY_OF_MAPS), scripts
+    if wrong < 3:
+        at = place(dice, scripts[1:])
+        scripts[at] = scripts[at][0], with_a_line(dice, scripts[at][1], FAULTY)
+    return text, scripts
+
+
+Case = collections.namedtuple("Case", "text words since name scripts")
+
+
+def flags_of(case):
+    """The words of the command line, with the names of files behind theirs, and of the job's last, if it has one."""
+    more = {"--since": [["--since", "MAP"]], "--script": [["--script", name] for name, _ in case.scripts]}
+    flags = [flag for word in case.words for part in more.get(word, [[word]]) for flag in part]
+    return flags + [case.name] * (case.name != "")
+
+
+def write_files(folder, case):
+    for name, own in [("MAP", case.since), *case.scripts, *[(case.name, case.text)] * (case.name != "")]:
+        path = pathlib.Path(folder, name)
+        path.parent.mkdir(exist_ok=True)
+        path.write_bytes(own.encode("latin-1"))
+
+
+def difference(program, case, due):
     """What the program does otherwise than the model, which says what is due in turn, or nothing."""
+    flags, given = flags_of(case), "" if case.name else case.text
     with tempfile.TemporaryDirectory() as folder:
-        file = pathlib.Path(folder, "since")
-        file.write_bytes(since.encode("latin-1"))
-        flags, given = [], text
-        for word in words:
-            if word == "--script":
-                given, files = parted(text, folder)
-                flags += [part for name in files for part in ("--script", name)]
-            else:
-                flags += [word, str(file)] if word == "--since" else [word]
-        got = named(run(program, ["--in-turn", *flags], given), file)
+        write_files(folder, case)
+        got = run(program, ["--in-turn", *flags], given, folder)
         if got != due:
             return f"in turn: {got}\n--- and not {due}"
-        kept = {"--explain"} if due[0] == 1 else set()
-        flags = [flag for flag in flags if flag in kept or flag not in {"--no-history", "--explain"}]
-        status, printed, told = named(run(program, flags, given), file)
+        got = run(program, [flag for flag in flags if flag != "--no-history"], given, folder)
     if due[0] == 1:
-        return f"at once: status {status}, {told}, {printed}" if (status, printed, told) != due else None
-    read, adjusted, scripts = read_job(text)
-    if "--strict" in words and status == 5:
-        return refusals_fault(printed, told, scripts)
-    if status != 0 or told != (f"crushedit: adjusted {adjusted}\n" if adjusted else ""):
-        return f"at once: status {status}, {told}"
-    if "--strict" in words and " = refused " in printed:
-        return f"at once: a strict run printed {printed}"
-    return fault_of(read, dict(scripts), printed, words, read_since(since) if "--since" in words else None)
+        return f"at once: {got}" if got != due else None
+    return at_once_fault(joined(case.text, "", case.scripts)[0], got, case.words, case.since)
+
+
+def any_case(dice, own, text, there):
+    """A job as it is run: half of them with words, of those with scripts of files half in a file too. What `own` draws
+    changes no job."""
+    words = any_words(dice, there) if dice.randint(0, 1) else []
+    since = any_map_text(dice, text)
+    text, scripts = parted(text) if "--script" in words else (text, [])
+    return Case(text, words, since, own.choice(["", "my.job"]), scripts)
+
+
+def cases(seed, index, there, examples, refused):
+    """A job, a mutation and a prefix of it; and, where the program has the words, one in files, mostly explained."""
+    dice, own = Dice(f"{seed} {index}"), Dice(f"{seed} {index} files")
+    job = any_job(dice, examples, refused)
+    for name, text in (("job", job), ("mutation", mutated(dice, job)), ("prefix", prefix(dice, job))):
+        yield name, any_case(dice, own, text, there)
+    if {"--script", "--explain"} <= there:
+        text, scripts = any_files(own)
+        words = [word for word in any_words(own, there) if word not in ("--script", "--explain")] + ["--script"]
+        words += own.choice([[], ["--explain"], ["--explain"], ["--explain"]])
+        yield "job in files", Case(text, words, any_map_text(own, text), own.choice(["", "my.job"]), scripts)
+
+
+def lines_told(case, told):
+    """What is counted of the lines that standard error is told: places in files, and weights that were written."""
+    names = "|".join(re.escape(name) for name, _ in case.scripts)
+    yield "places in scripts", len(re.findall(rf"(?m)^  (?:{names}) line \d", told)) if names else 0
+    yield "weights written", told.count(" was written, the sum is ")
 
 
 def compare(program, count, seed):
@@ -200,25 +293,24 @@ def compare(program, count, seed):
     if missing:
         print(f"this program has no {', '.join(missing)}: without these")
     examples = [path.read_bytes().decode("latin-1") for path in sorted(DATA.glob("*.job"))]
-    refused = (DATA / "records").read_bytes().decode("latin-1").split("\x1e")
+    records = (DATA / "records").read_bytes().decode("latin-1").split("\x1e")
     told, refusals = collections.Counter(), collections.Counter()
     for index in range(count):
-        dice = Dice(f"{seed} {index}")
-        job = any_job(dice, examples, refused)
-        for name, text in (("job", job), ("mutation", mutated(dice, job)), ("prefix", prefix(dice, job))):
-            words = any_words(dice, there) if dice.randint(0, 1) else []
-            since = any_map_text(dice, text)
-            due = outcome(text, words, since)
-            wrong = difference(program, text, due, words, since)
+        drawn = list(cases(seed, index, there, examples, records))
+        kinds = [name for name, _ in drawn]
+        for name, case in drawn:
+            due = outcome(*case)
+            wrong = difference(program, case, due)
             if wrong:
                 sys.stdout.reconfigure(errors="backslashreplace")
-                print(f"{text}\n--- {' '.join(words)}, since\n{since}\n--- {wrong}")
+                print(*case, f"--- {wrong}", sep="\n--- ")
                 sys.exit(f"{name} {index} of seed {seed} differs")
             told[{0: "done", 5: "strict and refused"}.get(due[0]) or due[2].splitlines()[0].split()[-1]] += 1
-            told.update(words)
+            told.update(case.words)
+            told.update(dict(lines_told(case, due[2])))
             refusals.update(re.findall(r" = refused (?:at \d+ )?(\w+) \d+(?: changes \d+)?\n", due[1]))
-    print(f"{count} jobs of seed {seed}, a mutation and a prefix of each, in turn and at once, end as the model says:",
-          ", ".join(f"{name} {number}" for name, number in sorted(told.items())))
+    print(f"{count} jobs of seed {seed}, each with a {', a '.join(kinds[1:])}, in turn and at once, end as the model "
+          "says:", ", ".join(f"{name} {number}" for name, number in sorted(told.items())))
     print("refusals:", ", ".join(f"{name} {number}" for name, number in sorted(refusals.items())))
 
 

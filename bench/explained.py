@@ -4,6 +4,8 @@ docs/RULES.md."""
 import pathlib
 import re
 
+from model import text_of
+
 RULES = pathlib.Path(__file__).resolve().parent.parent / "docs/RULES.md"
 MOST_SHOWN, MOST_BEFORE = 72, 40
 
@@ -24,26 +26,46 @@ def shown(line):
     return "".join(" " if byte == "\t" else byte if " " <= byte <= "~" else "?" for byte in line[:MOST_SHOWN])
 
 
-def place(text, at):
+def line_told(line, files):
+    """A line of a text of these files as that of its own. Each file is its name, perhaps none, its first line in the
+    text, and the number of that line in the file: 0 where it was put before the file's own. A line is of the last
+    file that begins at it or above."""
+    name, first, number = [file for file in files if file[1] <= line][-1]
+    return f"{name} line {line - first + number}" if name else f"line {line - first + number}"
+
+
+def place(text, at, files):
     """Line and column of a byte, the line there, and the sign below."""
     before = text[:at]
     behind = len(before) - (before.rfind("\n") + 1)
     kept = min(behind, MOST_BEFORE)
     line = text[at - kept :].split("\n", 1)[0]
-    return f"line {before.count(chr(10)) + 1}, column {behind + 1}\n    {shown(line)}\n    {' ' * kept}^\n"
+    told = line_told(before.count("\n") + 1, files)
+    return f"{told}, column {behind + 1}\n    {shown(line)}\n    {' ' * kept}^\n"
 
 
-def fault_text(text, fault, file=""):
-    """What is told of a fault of a text, whose one line says `fault`; the file's name stands before `line`."""
-    name = f"{file} " if file else ""
+def fault_text(text, fault, files=(("", 1, 1),), of_runs=""):
+    """What is told of a fault of a text of these files, whose one line says `fault`. `of_runs` stands before it where
+    a fault without a place has a sentence among those of runs."""
     where, _, kind = fault.rpartition(": ")
     if where.startswith("byte "):
-        return f"  {name}{place(text, int(where[5:]))}  {OF_TEXTS[kind]}\n"
+        return f"  {place(text, int(where[5:]), files)}  {OF_TEXTS[kind]}\n"
     if where.startswith("line "):
-        line = text.split("\n")[int(where[5:]) - 1]
-        return f"  {name}{where}\n    {shown(line)}\n  {OF_JOBS[kind]}\n"
-    sentence = OF_RUNS["since: " + kind] if file else OF_JOBS[kind]
-    return f"  {sentence}\n"
+        number = int(where[5:])
+        line = text.split("\n")[number - 1]
+        return f"  {line_told(number, files)}\n    {shown(line)}\n  {OF_JOBS[kind]}\n"
+    return f"  {OF_RUNS[of_runs + kind] if of_runs else OF_JOBS[kind]}\n"
+
+
+def unread_text(line, name="", reason=""):
+    """What is told of a run that ends with this line, where a file can't be opened for this reason; without one, a
+    file that is open can't be read."""
+    return f"crushedit: {line}\n  {OF_RUNS[line]}\n" + (f"  {name}: {reason}\n" if reason else "")
+
+
+def written_text(written):
+    """What is told of weights of buckets that aren't the sums: each a name, the word that was written, and the sum."""
+    return "".join(f"{name}: {word} was written, the sum is {text_of(sum)}\n" for name, word, sum in written)
 
 
 def refused_text(lines):

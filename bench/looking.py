@@ -3,7 +3,7 @@ and how a strict run ends."""
 
 import re
 
-from explained import refused_text
+from explained import refused_text, written_text
 from model import is_change, run_call, shown, text_of
 
 
@@ -156,16 +156,30 @@ def is_refusal(line):
     return " = refused " in line
 
 
+def reasons(words, refused, adjusted):
+    """What standard error is told below its one line, by the words of the command line: of the history lines of what
+    was refused, and of the weights that were replaced."""
+    if "--explain" in words:
+        return refused_text(refused) + written_text(adjusted)
+    return "".join(refused) if "--strict" in words else ""
+
+
+def first_line(status, refused, adjusted):
+    """The one line of a run of this status, 0 or 5, or nothing."""
+    if status == 5:
+        return f"crushedit: refused {len(refused)}\n"
+    return f"crushedit: adjusted {len(adjusted)}\n" if adjusted else ""
+
+
 def ending(words, since, read, adjusted, scripts):
-    """Status, standard output and standard error of a run in turn."""
+    """Status, standard output and standard error of a run in turn. `adjusted` are the weights that were replaced."""
     map, made = run_in_turn(read, scripts)
     refused = [line for _, line in made if is_refusal(line)]
-    told = refused_text(refused) if "--explain" in words else "".join(refused) if "--strict" in words else ""
+    told = reasons(words, refused, adjusted)
     if "--strict" in words and refused:
-        return 5, "", f"crushedit: refused {len(refused)}\n" + told
+        return 5, "", first_line(5, refused, adjusted) + told
     history = "" if "--no-history" in words else "".join(line for _, line in made)
-    line = f"crushedit: adjusted {adjusted}\n" if adjusted else ""
-    return 0, body(words, since, map, made) + history, line + told
+    return 0, body(words, since, map, made) + history, first_line(0, refused, adjusted) + told
 
 
 def history_of(printed, count):

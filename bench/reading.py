@@ -68,12 +68,12 @@ def weight(word):
 
 
 class Reader:
-    """The words that are left, the map so far, its held items, its total, and the written weights that were
-    replaced."""
+    """The words that are left, the map so far, its held items, its total, and the weights that were replaced: of each
+    the bucket's name, the word that was written, and the sum."""
 
     def __init__(self, text):
         self.left = words(text)[::-1]
-        self.map, self.held, self.total, self.adjusted, self.is_behind = Map({}, [], []), set(), 0, 0, False
+        self.map, self.held, self.total, self.adjusted, self.is_behind = Map({}, [], []), set(), 0, [], False
 
     def is_next(self, word):
         return self.left[-1][1] == word
@@ -179,14 +179,15 @@ class Reader:
         written = None
         if self.skip("weight"):
             heaviest = MOST["device" if self.map.is_device(name) else "bucket"]
-            written = weight(self.plain(
+            written = self.plain(
                 ("BadWeight", lambda w: weight(w) is None or weight(w) > heaviest),
-                ("SumTooLarge", lambda w: is_too_heavy(name, weight(w)))))
-        units = own(name, 65536 if written is None else written)
+                ("SumTooLarge", lambda w: is_too_heavy(name, weight(w))))
+        units = own(name, weight(written or "1"))
         if self.map.is_device(name):
             self.map.items[name]["weight"] = units
             self.total += units
-        self.adjusted += written not in (None, units)
+        if written and weight(written) != units:
+            self.adjusted.append((name, written, units))
         kids.append(name)
         self.held.add(name)
         return units
@@ -230,7 +231,7 @@ class Reader:
 
 
 def read_map(text):
-    """The map that a text spells, and how many written weights of buckets aren't the sums."""
+    """The map that a text spells, and the written weights of buckets that aren't the sums."""
     reader = Reader(text)
     reader.statements()
     return reader.map, reader.adjusted
@@ -305,7 +306,7 @@ def read_scripts(lines, before):
 
 
 def read_job(text):
-    """The map of a job, how many of its weights were replaced, and the scripts."""
+    """The map of a job, the weights of it that were replaced, and the scripts."""
     if len(text) > LONGEST_JOB:
         raise Fault("TooLong")
     lines = text.split("\n")
@@ -315,19 +316,41 @@ def read_job(text):
     return read, adjusted, read_scripts(lines[before:], before)
 
 
-def outcome(text, words=(), since=None):
+def begins_section(script):
+    """Whether the first line that has more than blanks and a comment begins with `%`."""
+    lines = (line for line in script.split("\n") if line.split("#")[0].strip(" \t\r"))
+    return next(lines, "").startswith("%")
+
+
+def joined(text, name, scripts):
+    """The bytes of a job with the scripts of files behind it, pairs of a name and bytes; and its files, as `line_told`
+    takes them, of which the first is called `name`."""
+    files = [(name, 1, 1)]
+    for script, own in scripts:
+        text += "" if text.endswith("\n") else "\n"
+        operator = script.rpartition("/")[2].partition(".")[0]
+        put = "" if begins_section(own) else f"%operator {operator}\n"
+        files.append((script, text.count("\n") + 1, 0 if put else 1))
+        text += put + own
+    return text, files
+
+
+def outcome(text, words=(), since=None, name="", scripts=()):
     """The status of a job that is run in turn, what is printed, and what standard error is told, with these words of
-    the command line and the bytes of the file of `--since`, which is called MAP."""
+    the command line, the bytes of the file of `--since`, which is called MAP, the name of the job's file, which is
+    told where there are scripts of files, and these, pairs of a name and bytes."""
     explain = "--explain" in words
+    text, files = joined(text, name if scripts else "", scripts)
     try:
-        read, adjusted, scripts = read_job(text)
+        read, adjusted, calls = read_job(text)
     except Fault as fault:
-        return 1, "", f"crushedit: {fault}\n" + (fault_text(text, str(fault)) if explain else "")
+        return 1, "", f"crushedit: {fault}\n" + (fault_text(text, str(fault), files) if explain else "")
     try:
         old = read_since(since) if "--since" in words else None
     except Fault as fault:
-        return 1, "", f"crushedit: since: {fault}\n" + (fault_text(since, str(fault), "MAP") if explain else "")
-    return ending(words, old, read, adjusted, scripts)
+        told = fault_text(since, str(fault), [("MAP", 1, 1)], "since: ") if explain else ""
+        return 1, "", f"crushedit: since: {fault}\n" + told
+    return ending(words, old, read, adjusted, calls)
 
 
 def read_since(text):

@@ -1,6 +1,6 @@
 """Runs crushedit on each job of examples/ and refuses its requests for memory one by one.
 
-    python3 bench/refused_memory.py crates/crushedit/out/crushedit [WORD ..]
+    python3 bench/refused_memory.py crates/crushedit/out/crushedit [TESTS] [WORD ..]
 
 A library that is preloaded answers the Nth request by nothing, for N from 1 until a run asks for fewer. Each
 such run has to end with status 4, nothing on standard output and its one line on standard error, or exactly as
@@ -18,6 +18,10 @@ Then the requests are counted that the thread of an operator makes for calls whi
 as many calls that are as long and are refused by a name that isn't there. Each is copied and kept alike, so that
 there have to be as many.
 
+TESTS is the path, with a `/`, of the tests of crush_run. Of it the tests of `gate_faults` are run in the same way, each
+request refused and each thread not started: each run has to pass, whatever the job in it comes to. They look whether
+a gate is called behind each call, also one that is out of memory.
+
 With words only jobs whose names have one of them are run. As many are run side by side as there are processors.
 Needs a C compiler, `cc`, `gcc` or what CC names, and the /proc of Linux. Prints how many requests were refused, and
 ends with status 1 where a run ends otherwise, a job asks for no memory, or such calls ask for more.
@@ -34,6 +38,7 @@ import tempfile
 
 EXAMPLES = pathlib.Path(__file__).resolve().parent.parent / "examples"
 NO_MEMORY, NO_THREAD = b"crushedit: out of memory\n", b"crushedit: no thread\n"
+OF_GATES, PASSED, FAILED = "tests::gate_faults::", b"test result: ok", b"assertion failed: "
 LIBRARY = r"""
 #define _GNU_SOURCE
 #include <dirent.h>
@@ -205,12 +210,10 @@ def preloaded(command, library, files, job, number, thread=0):
 
 
 class Refuser:
-    """Runs a job in one mode, and refuses a request. What the library tells goes into a folder of its own."""
+    """Runs a command on a job, and refuses a request. What the library tells goes into a folder of its own."""
 
-    def __init__(self, program, library, folder, job, flags):
-        self.command, self.library = [program, *flags], library
-        self.name, self.job = " ".join([job.name, *flags]), job.read_bytes()
-        self.is_at_once = self.job.count(b"\n%operator") > 1 and not flags
+    def __init__(self, command, library, folder, name, job=b"", is_at_once=False):
+        self.command, self.library, self.name, self.job, self.is_at_once = command, library, name, job, is_at_once
         self.files = files_in(folder)
         self.told, self.left, _, self.starts = self.files.values()
         self.whole, _ = self.run(0)
@@ -266,9 +269,37 @@ class Refuser:
         return number, wanting, len(self.before)
 
 
+class TestRefuser(Refuser):
+    """The same of a test, which has to pass in each run."""
+
+    def wants(self, run, told, what):
+        """Whether the run passed; else how it ended is told, a failed assertion apart."""
+        if run.returncode == 0 and run.stdout.strip() == PASSED and not self.left.exists():
+            return True
+        how = "" if run.stderr.startswith(FAILED) else "no assertion failed, "
+        raise Ending(f"{self.name}: {what}, of {' '.join(told)}: {how}status {run.returncode}, {run.stdout!r}, "
+                     f"{run.stderr!r}, {'a thread is left' if self.left.exists() else 'no thread is left'}")
+
+
 def refuse_each(program, library, job, flags):
+    name, text = " ".join([job.name, *flags]), job.read_bytes()
     with tempfile.TemporaryDirectory() as folder:
-        return Refuser(program, library, folder, job, flags).refuse_each()
+        is_at_once = text.count(b"\n%operator") > 1 and not flags
+        return Refuser([program, *flags], library, folder, name, text, is_at_once).refuse_each()
+
+
+def refuse_each_of_test(tests, library, name):
+    with tempfile.TemporaryDirectory() as folder:
+        return TestRefuser([tests, name], library, folder, name).refuse_each()
+
+
+def tests_of_gates(tests):
+    """The names of the tests of `gate_faults` among those of a program."""
+    listed = subprocess.run([tests, "--list"], capture_output=True, check=True, timeout=60).stdout.decode()
+    names = re.findall(rf"(?m)^({OF_GATES}\w+): test$", listed)
+    if not names:
+        raise Ending(f"{tests}: no test is called {OF_GATES}NAME")
+    return names
 
 
 # Hosts with a device each in one root, and as many that are empty.
@@ -334,21 +365,38 @@ def take_none(program, library):
     return len(kinds) + 1
 
 
+def summed(cases):
+    """The sums of what each case counts."""
+    return [sum(column) for column in zip(*(case.result() for case in cases))]
+
+
+def refuse_all(pool, program, library, jobs, tests):
+    """Tells what was refused of each job in both modes, and of the tests."""
+    modes = {
+        mode: [pool.submit(refuse_each, program, library, job, flags) for job in jobs]
+        for mode, flags in (("at once", []), ("in turn", ["--in-turn"]))
+    }
+    names = tests_of_gates(tests) if tests else []
+    of_gates = [pool.submit(refuse_each_of_test, tests, library, name) for name in names]
+    for mode, cases in modes.items():
+        refused, wanting, threads = summed(cases)
+        print(f"{len(jobs)} jobs {mode}: {refused} requests refused; {wanting} runs ended with status 4, "
+              f"{refused - wanting} as without a refusal; {threads} threads not started", flush=True)
+    if of_gates:
+        refused, _, threads = summed(of_gates)
+        print(f"{len(of_gates)} tests of gates: {refused} requests refused, {threads} threads not started; each run "
+              "passed", flush=True)
+
+
 def main():
     program, words = os.path.abspath(sys.argv[1]), sys.argv[2:]
+    tests = os.path.abspath(words.pop(0)) if words and "/" in words[0] else ""
     jobs = [job for job in EXAMPLES.rglob("*.job") if not words or any(word in job.stem for word in words)]
     jobs.sort(key=lambda job: job.stat().st_size, reverse=True)
     with tempfile.TemporaryDirectory() as folder, concurrent.futures.ThreadPoolExecutor(os.cpu_count()) as pool:
         library = built_library(pathlib.Path(folder))
-        modes = {
-            mode: [pool.submit(refuse_each, program, library, job, flags) for job in jobs]
-            for mode, flags in (("at once", []), ("in turn", ["--in-turn"]))
-        }
         try:
-            for mode, cases in modes.items():
-                refused, wanting, threads = (sum(column) for column in zip(*(case.result() for case in cases)))
-                print(f"{len(jobs)} jobs {mode}: {refused} requests refused; {wanting} runs ended with status 4, "
-                      f"{refused - wanting} as without a refusal; {threads} threads not started", flush=True)
+            refuse_all(pool, program, library, jobs, tests)
             print(f"{take_none(program, library)} kinds of call that take no memory of a map: none asks for any")
         except Ending as ending:
             pool.shutdown(cancel_futures=True)

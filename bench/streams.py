@@ -5,7 +5,8 @@
 Each case is a command of bash, with `$C` for the program and `$L` for a library that is preloaded, with which a
 file that is synced answers that the disk is full (it needs a C compiler, `cc`, `gcc` or what CC names), in a
 folder with `job` (a map with an edit), `large` (one
-of 2,000 devices, more than a pipe holds) and `adjusted` (a weight that is no sum). Of each it tells the status, of
+of 2,000 devices, more than a pipe holds) and `adjusted` (a weight that is no sum). Of a file that can't be opened
+`--explain` tells the reason, of one that can't be read no more than the sentence. Of each it tells the status, of
 what a signal ended 128 and its number, what standard error got, and how much of its output was written. With --table
 what comes is printed as a table and not judged; else a line for each case that ends otherwise, and status 1 where
 any does.
@@ -17,10 +18,12 @@ import subprocess
 import sys
 import tempfile
 
+from explained import unread_text
 from make_job import map_text, script
 
 READ, WRITE = "crushedit: read fault", "crushedit: write fault"
 FILE_SIZE = 128 + 25
+MISSING, FORBIDDEN = "No such file or directory (os error 2)", "Permission denied (os error 13)"
 ADJUSTED = "type 1 host\nhost a { id -1 alg straw2 }\nhost b { id -2 alg straw2 item a weight 1 }\n"
 # Makes 4 the end for writing of a pipe whose only reader has closed its end.
 NO_READER = "mkfifo pipe; exec 3<> pipe 4> pipe 3<&-"
@@ -78,6 +81,29 @@ CASES = [
     ("the same, and it is a pipe", "LD_PRELOAD=$L $C job | cat", 0, "", "all"),
     ("--help, and the same", "LD_PRELOAD=$L $C --help > help", 3, WRITE, None),
     ("the same, and nothing was written", "LD_PRELOAD=$L $C missing", 3, READ, "none"),
+    ("--explain, and FILE isn't there", "$C --explain missing", 3,
+     unread_text("read fault", "missing", MISSING), "none"),
+    ("--explain, and a SCRIPT isn't there", "$C --explain -s job -s no/such job", 3,
+     unread_text("read fault", "no/such", MISSING), "none"),
+    ("the same behind standard input", "$C --explain -s ./missing < job", 3,
+     unread_text("read fault", "./missing", MISSING), "none"),
+    ("--explain, and the MAP of --since isn't there", "$C --explain --since missing job", 3,
+     unread_text("since: read fault", "missing", MISSING), "none"),
+    ("the same without --explain", "$C --since missing job", 3, "crushedit: since: read fault", "none"),
+    ("--explain, and FILE is a link to itself", "ln -s loop loop; $C --explain loop", 3,
+     unread_text("read fault", "loop", "Too many levels of symbolic links (os error 40)"), "none"),
+    ("--explain, and FILE is the empty word", "$C --explain ''", 3, unread_text("read fault", "", MISSING), "none"),
+    ("--explain, and FILE is a directory", "$C --explain .", 3, unread_text("read fault"), "none"),
+    ("--explain, and a SCRIPT is a directory", "$C --explain -s . job", 3, unread_text("read fault"), "none"),
+    ("--explain, and the MAP of --since is a directory", "$C --explain --since . job", 3,
+     unread_text("since: read fault"), "none"),
+    ("--explain, and standard input is closed", "$C --explain <&-", 3, unread_text("read fault"), "none"),
+]
+# What can't be tried as root, who may look into each folder.
+OF_OTHERS = [
+    ("--explain, and FILE is in a folder that may not be looked into",
+     "mkdir -m 0 shut; $C --explain shut/job; status=$?; chmod 700 shut; exit $status", 3,
+     unread_text("read fault", "shut/job", FORBIDDEN), "none"),
 ]
 
 
@@ -113,7 +139,7 @@ def ending(program, library, folder, command):
 
 def main():
     program, as_table = os.path.abspath(sys.argv[1]), "--table" in sys.argv
-    failed = False
+    cases, failed = CASES + (OF_OTHERS if os.geteuid() else []), False
     with tempfile.TemporaryDirectory() as folder:
         library = make_library(folder)
         whole = []
@@ -121,16 +147,18 @@ def main():
             with open(os.path.join(folder, name), "w") as out:
                 out.write(text)
             whole.append(subprocess.run([program, out.name], capture_output=True, check=True).stdout)
-        for name, command, *due in CASES:
+        for name, command, due_status, due_told, due_written in cases:
             status, told, out = ending(program, library, folder, command)
-            got = [status, told, written(out, whole) if due[2] is not None else None]
+            got = [status, told, written(out, whole) if due_written is not None else None]
+            due = [due_status, due_told.strip(), due_written]
             if as_table:
-                print(f"| {name} | {status} | {f'`{told}`' if told else ''} | {got[2] or ''} |")
+                lines = ", ".join(f"`{line.strip()}`" for line in told.splitlines())
+                print(f"| {name} | {status} | {lines} | {got[2] or ''} |")
             elif got != due:
                 failed = True
                 print(f"{name}: {got} and not {due}: {command}")
     if not as_table:
-        print(f"{len(CASES)} cases of streams: {'some end otherwise' if failed else 'each ends as docs/ say'}")
+        print(f"{len(cases)} cases of streams: {'some end otherwise' if failed else 'each ends as docs/ say'}")
     sys.exit(1 if failed else 0)
 
 
