@@ -23,6 +23,8 @@ from times import memory
 
 OPERATOR = "%operator a\n"
 MOST = 65536
+# The file of the map since which changes are printed, which has the 60,000 devices as they were.
+SINCE = "since"
 TYPES = ["type 0 osd", "type 1 host", "type 3 rack", "type 11 root"]
 
 
@@ -57,24 +59,26 @@ def reweights(number):
 
 
 def jobs():
-    """Each job's name, its map and its script, made when it is its turn."""
+    """Each job's name, its map and its script, made when it is its turn, and the words before it."""
     hosts = (MOST + 19) // 20
     one = script(1, lambda number: "reweight osd.7 2.5")
-    yield "hosts 5,000", lambda: map_text(5000) + one
-    yield "hosts 60,000", lambda: map_text(60000) + one
-    yield "hosts 65,536", lambda: map_text(MOST) + one
-    yield "flat 65,536", lambda: flat(MOST) + one
-    yield "reweights", lambda: map_text(MOST) + script(MOST, reweights)
-    yield "moves", lambda: map_text(MOST) + script(MOST, lambda n: f"move osd.{far(n)} host=host{n * 13 % hosts}")
-    yield "removals", lambda: map_text(MOST) + script(MOST, lambda n: f"rm osd.{far(n)}")
+    yield "hosts 5,000", lambda: map_text(5000) + one, []
+    yield "hosts 60,000", lambda: map_text(60000) + one, []
+    yield "tree 60,000", lambda: map_text(60000) + one, ["--tree"]
+    yield "since 60,000", lambda: map_text(60000) + one, ["--since", SINCE]
+    yield "hosts 65,536", lambda: map_text(MOST) + one, []
+    yield "flat 65,536", lambda: flat(MOST) + one, []
+    yield "reweights", lambda: map_text(MOST) + script(MOST, reweights), []
+    yield "moves", lambda: map_text(MOST) + script(MOST, lambda n: f"move osd.{far(n)} host=host{n * 13 % hosts}"), []
+    yield "removals", lambda: map_text(MOST) + script(MOST, lambda n: f"rm osd.{far(n)}"), []
     yield "additions", lambda: map_text(0) + "host h {\nid -2\nalg straw2\n}\n" + script(
-        MOST, lambda n: f"add osd.{n} 1 host=h")
-    yield "new buckets", lambda: map_text(60000) + script(900, lambda n: f"add-bucket new{n} rack")
+        MOST, lambda n: f"add osd.{n} 1 host=h"), []
+    yield "new buckets", lambda: map_text(60000) + script(900, lambda n: f"add-bucket new{n} rack"), []
     yield "swaps", lambda: map_text(MOST) + script(
-        MOST, lambda n: f"swap-bucket host{n % 1000} host{1000 + n * 13 % 1000}")
+        MOST, lambda n: f"swap-bucket host{n % 1000} host{1000 + n * 13 % 1000}"), []
     yield "renames", lambda: map_text(MOST) + script(
-        MOST, lambda n: f"rename-bucket {'x' * (n // hosts % 2)}host{n % hosts} {'x' * (1 - n // hosts % 2)}host{n % hosts}")
-    yield "nest 4,096", lambda: nest(4096) + script(1000, lambda n: f"reweight osd.0 {n % 7}.5")
+        MOST, lambda n: f"rename-bucket {'x' * (n // hosts % 2)}host{n % hosts} {'x' * (1 - n // hosts % 2)}host{n % hosts}"), []
+    yield "nest 4,096", lambda: nest(4096) + script(1000, lambda n: f"reweight osd.0 {n % 7}.5"), []
 
 
 def spent(words, path, limit):
@@ -132,17 +136,20 @@ def main():
     print(f"{'job':<14}{'bytes':>10}{'seconds':>9}{'wc':>8}{'ratio':>7}{'memory':>8}")
     with tempfile.TemporaryDirectory() as folder:
         path = os.path.join(folder, "job")
-        for name, text in jobs():
+        with open(os.path.join(folder, SINCE), "w") as out:
+            out.write(map_text(60000))
+        for name, text, asked in jobs():
             if options.only and not any(word in name for word in options.only):
                 continue
             with open(path, "w") as out:
                 size = out.write(text())
+            run_words = [program, *[os.path.join(folder, word) if word == SINCE else word for word in asked]]
             words = least(["wc"], path, options)
-            run = least([program], path, options)
+            run = least(run_words, path, options)
             if run is None:
                 told = f"{'-':>9}"
             else:
-                most = memory([([program], path)])
+                most = memory([(run_words, path)])
                 held = "-" if most is None else f"{most * 1024 * 1024 / size:.1f}"
                 told = f"{run:9.3f}{words:8.3f}{run / words:7.1f}{held:>8}"
             print(f"{name:<14}{size:>10}{told}", flush=True)

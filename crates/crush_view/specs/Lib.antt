@@ -1,3 +1,4 @@
+pub mod Counted
 pub mod Equal
 pub mod Ids
 pub mod ItemData

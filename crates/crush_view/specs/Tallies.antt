@@ -49,6 +49,10 @@ tally_of t u ids = record {
   reclassed = count is_reclassed t u ids;
 }
 
+-- of no item
+abbrev pub no_tally : Tally
+no_tally = record { made = 0; removed = 0; renamed = 0; moved = 0; reweighed = 0; reclassed = 0 }
+
 -- the counts with one item more
 abbrev pub tally_with : Tally → Option ItemData → Option ItemData → Tally
 tally_with n before after = record {

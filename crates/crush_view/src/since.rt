@@ -1,12 +1,17 @@
 //! What has changed from one map to another, as text.
 
-ghost use Rattle.std.specs.Prelude.{◌≡◌, ◌++◌, List, OnOk, flat_map};
+ghost use Rattle.std.specs.Prelude.{◌≡◌, ◌++◌, List, IfOk, OnOk, flat_map};
 ghost use Rattle.std.specs.Io.KnownBytes.{Keeps};
 ghost use Rattle.crush_bytes.specs.Writes.{Writes};
+ghost use Rattle.std.specs.Option.{option_map};
 ghost use Rattle.crush_table.specs.Stands.{Stands};
 ghost use Rattle.crush_table.specs.Table.{Row};
 ghost use Rattle.crush_view.specs.Since.{told, since_text, id_line};
 ghost use Rattle.crush_view.specs.SinceLaws.{NothingSinceItself, NoItemWhereRowsAreEqual};
+ghost use Rattle.crush_view.specs.Tallies.{HasRoom, tally_of, tally_with};
+ghost use Rattle.crush_view.specs.ItemParts.{item_line};
+ghost use Rattle.crush_view.specs.SeenItem.{seen_data};
+ghost use Rattle.crush_view.specs.Counted.{IsCounted};
 
 mod columns;
 mod ids;
@@ -26,7 +31,7 @@ use seen::{class_ids_of, look_up};
 use settings::push_settings;
 use std::alloc::{AllocError, Allocator, Global};
 use std::io::Write;
-use tally::count_changes;
+use tally::{Tally, with};
 use words::{push_counts, push_totals};
 
 /// Writes what has changed from the old map to the new: a line for each item that differs, buckets
@@ -79,44 +84,49 @@ fn push_since<A: Allocator, B: Allocator>(
         ++ since_text (told old.now.setting t) (told new.now.setting u)) }
 {
     let ids = ids_of_both(alloc, old, new)?;
-    push_items(alloc, old, new, ids.as_slice(), out)?;
+    let counts = push_items(alloc, old, new, ids.as_slice(), out)?;
     push_settings(old.setting(), new.setting(), out)?;
     push_totals(old.total(), new.total(), out)?;
-    let counts = count_changes(old, new, ids.as_slice());
     push_counts(&counts, out)?;
     Ok(())
 }
 
-/// The lines of the items of these ids.
+/// The lines of the items of these ids, of which the answer is how many differ in which way.
 fn push_items<A: Allocator, B: Allocator>(
     alloc: Global,
     old: &CrushMap<A>,
     new: &CrushMap<B>,
     ids: &[ItemId],
     out: &mut Vec<u8>,
-) -> Result<(), AllocError>
-    ensures { (t u : List Row) → Stands old.now.forest t → Stands new.now.forest u
+) -> Result<Tally, AllocError>
+    ensures lines { (t u : List Row) → Stands old.now.forest t → Stands new.now.forest u
         → OnOk result (out.new.items ≡ out.old.items
         ++ flat_map (id_line (told old.now.setting t) (told new.now.setting u)) ids.now) }
+    ensures counts { IfOk result (λ tally. (t u : List Row)
+        → Stands old.now.forest t → Stands new.now.forest u → tally ≡ tally_of t u ids.now) }
 {
+    let mut tally = Tally::none();
     for id in ids {
-        push_item(alloc, old, new, id, out)?;
+        tally = push_item(old, new, id, tally, out)?;
     }
-    Ok(())
+    Ok(tally)
 }
 
-/// The line of the item of this id.
+/// The line of the item of this id, and the counts with it. The maps' indexes are asked, and nothing
+/// is searched.
 #[tactic(auto, unfolding(crate::specs::Since::id_line))]
 fn push_item<A: Allocator, B: Allocator>(
-    alloc: Global,
     old: &CrushMap<A>,
     new: &CrushMap<B>,
     id: &ItemId,
+    tally: Tally,
     out: &mut Vec<u8>,
-) -> Result<(), AllocError>
-    ensures { (t u : List Row) → Stands old.now.forest t → Stands new.now.forest u
+) -> Result<Tally, AllocError>
+    requires { HasRoom tally }
+    ensures line { (t u : List Row) → Stands old.now.forest t → Stands new.now.forest u
         → OnOk result (out.new.items ≡ out.old.items
         ++ id_line (told old.now.setting t) (told new.now.setting u) id.now) }
+    ensures counts { IfOk result (IsCounted old.now.forest new.now.forest id.now tally) }
 {
     let item = Compared {
         old: old.setting(),
@@ -125,5 +135,24 @@ fn push_item<A: Allocator, B: Allocator>(
         after: look_up(new, *id),
         same_class_ids: same_class_ids(class_ids_of(old, *id), class_ids_of(new, *id)),
     };
-    push_line(alloc, *id, &item, out)
+    push_compared(*id, &item, tally, out)
+}
+
+/// The line of this item, and the counts with it.
+fn push_compared(
+    id: ItemId,
+    item: &Compared<'_>,
+    tally: Tally,
+    out: &mut Vec<u8>,
+) -> Result<Tally, AllocError>
+    requires { HasRoom tally }
+    ensures line { OnOk result (out.new.items ≡ out.old.items
+        ++ item_line item.now.old.now item.now.new.now id (option_map seen_data item.now.before)
+        (option_map seen_data item.now.after) item.now.same_class_ids) }
+    ensures counts { IfOk result (λ more. more
+        ≡ tally_with tally (option_map seen_data item.now.before)
+        (option_map seen_data item.now.after)) }
+{
+    push_line(*out.allocator(), id, item, out)?;
+    Ok(with(tally, &item.before, &item.after))
 }

@@ -211,10 +211,13 @@ fn push_place(
     ensures { OnOk result (parts.new.items ≡ parts.old.items
         ++ behind (place_part (seen_data before.now) (seen_data after.now))) }
 {
+    if same_parent(before.view.parent, after.view.parent) {
+        return Ok(());
+    }
     let from = place_of(alloc, before)?;
     let to = place_of(alloc, after)?;
     push_change(
-        same_parent(before.view.parent, after.view.parent),
+        false,
         b"from ".as_slice(),
         from.as_slice(),
         to.as_slice(),
@@ -232,10 +235,13 @@ fn push_weight(
     ensures { OnOk result (parts.new.items ≡ parts.old.items
         ++ behind (weight_part (view_data before.now) (view_data after.now))) }
 {
+    if before.weight.units() == after.weight.units() {
+        return Ok(());
+    }
     let was = weight_of(alloc, before.weight)?;
     let is = weight_of(alloc, after.weight)?;
     push_change(
-        before.weight.units() == after.weight.units(),
+        false,
         b"weight ".as_slice(),
         was.as_slice(),
         is.as_slice(),

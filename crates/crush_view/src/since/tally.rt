@@ -1,18 +1,13 @@
 //! How many items differ, and in which way.
 
-ghost use Rattle.std.specs.Prelude.{◌≡◌, ◌+◌, ◌<◌, ◌^◌, List};
+ghost use Rattle.std.specs.Prelude.{◌≡◌, ◌+◌, ◌<◌, ◌^◌};
 ghost use Rattle.std.specs.Option.{option_map};
 ghost use Rattle.crush_table.specs.Count.{one_if};
-ghost use Rattle.crush_table.specs.Stands.{Stands};
-ghost use Rattle.crush_table.specs.Table.{Row};
 ghost use Rattle.crush_view.specs.SeenItem.{seen_data};
-ghost use Rattle.crush_view.specs.Tallies.{HasRoom, tally_of, tally_with, is_made, is_renamed, is_moved, is_reweighed, is_reclassed};
+ghost use Rattle.crush_view.specs.Tallies.{HasRoom, no_tally, tally_with, is_made, is_renamed, is_moved, is_reweighed, is_reclassed};
 
 use crate::since::columns::{same_class, same_parent};
-use crate::since::seen::{Seen, look_up};
-use crush_map::CrushMap;
-use crush_units::ItemId;
-use std::alloc::Allocator;
+use crate::since::seen::Seen;
 
 /// How many items differ in which way. The last four are of those that both maps have.
 #[derive(Clone, Copy, Debug)]
@@ -31,33 +26,24 @@ pub(crate) struct Tally {
     pub reclassed: usize,
 }
 
-/// How many items of these ids differ in which way.
-pub(crate) fn count_changes<A: Allocator, B: Allocator>(
-    old: &CrushMap<A>,
-    new: &CrushMap<B>,
-    ids: &[ItemId],
-) -> Tally
-    ensures { (t u : List Row) → Stands old.now.forest t → Stands new.now.forest u
-        → result ≡ tally_of t u ids.now }
-{
-    let mut tally = Tally {
-        made: 0,
-        removed: 0,
-        renamed: 0,
-        moved: 0,
-        reweighed: 0,
-        reclassed: 0,
-    };
-    for id in ids {
-        let before = look_up(old, *id);
-        let after = look_up(new, *id);
-        tally = with(tally, &before, &after);
+impl Tally {
+    /// None differs.
+    pub(crate) fn none() -> Tally
+        ensures { result ≡ no_tally }
+    {
+        Tally {
+            made: 0,
+            removed: 0,
+            renamed: 0,
+            moved: 0,
+            reweighed: 0,
+            reclassed: 0,
+        }
     }
-    tally
 }
 
 /// The counts with one item more.
-fn with(tally: Tally, before: &Option<Seen<'_>>, after: &Option<Seen<'_>>) -> Tally
+pub(crate) fn with(tally: Tally, before: &Option<Seen<'_>>, after: &Option<Seen<'_>>) -> Tally
     requires { HasRoom tally }
     ensures { result
         ≡ tally_with tally (option_map seen_data before.now) (option_map seen_data after.now) }

@@ -1,8 +1,16 @@
+use Rattle.std.proofs.Common.{sym}
 use Rattle.crush_view.specs.Since.{told, id_line}
+use Rattle.crush_view.proofs.TallyLaws.{at_most_more, tally_more}
 use Rattle.crush_view.proofs.WalkLaws.{one_more, more_steps}
 use Rattle.crush_view.proofs.since.push_items.Goals as goal
 
 pub loop-id-preserved : goal.loop-id-preserved
-loop-id-preserved g c = λ t u a b.
-    one_more _ _ _ _ _ _ (c.loop-id.invariant t u a b) (c.in_ok-push_item.ensures t u a b)
-    (more_steps (id_line (told c.args.old.now.setting t) (told c.args.new.now.setting u)) c.args.ids.now c.loop-id.id-index c.id-item.result c.loop-id-test.true c.id-item.is)
+loop-id-preserved g c =
+    let counted = c.in_ok-tally.ensures.counts in
+    record {
+      lines = λ t u a b.
+          one_more _ _ _ _ _ _ (c.loop-id.invariant.lines t u a b) (c.in_ok-tally.ensures.line t u a b)
+          (more_steps (id_line (told c.args.old.now.setting t) (told c.args.new.now.setting u)) c.args.ids.now c.loop-id.id-index c.id-item.result c.loop-id-test.true c.id-item.is);
+      most = at_most_more _ _ _ counted.before counted.after c.loop-id.invariant.most counted.more_is;
+      counts = λ t u a b. tally_more t u c.args.ids.now c.loop-id.id-index c.id-item.result _ _ _ _ c.loop-id-test.true c.id-item.is (c.loop-id.invariant.counts t u a b) counted.more_is (counted.was t a) (counted.is u b);
+    }

@@ -3,7 +3,13 @@ use Rattle.std.specs.Prelude.{flat_map}
 use Rattle.crush_table.specs.Stands.{Stands}
 use Rattle.crush_table.specs.Table.{Row}
 use Rattle.crush_view.specs.Since.{told, id_line}
+use Rattle.crush_view.specs.Tallies.{tally_of}
+use Rattle.crush_view.proofs.TallyLaws.{AtMost}
 use Rattle.crush_view.proofs.since.push_items.Given as goal
 
 abbrev pub invariant-loop-id : goal.invariant-loop-id
-invariant-loop-id g l = (t u : List Row) → Stands l.old.forest t → Stands l.new.forest u → l.out.items ≡ l.fn.out.items ++ flat_map (id_line (told l.old.setting t) (told l.new.setting u)) (take l.id-index l.ids)
+invariant-loop-id g l = record {
+  lines : (t u : List Row) → Stands l.old.forest t → Stands l.new.forest u → l.out.items ≡ l.fn.out.items ++ flat_map (id_line (told l.old.setting t) (told l.new.setting u)) (take l.id-index l.ids);
+  most : AtMost l.id-index l.tally;
+  counts : (t u : List Row) → Stands l.old.forest t → Stands l.new.forest u → l.tally ≡ tally_of t u (take l.id-index l.ids);
+}

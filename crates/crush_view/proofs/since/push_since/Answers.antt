@@ -14,7 +14,7 @@ returns g c = λ t u a b.
     let p = c.args.new.now.setting in
     let ids = c.in_ok-ids.ensures t u a b in
     four_sections _ _ _ _ _ (flat_map (id_line (told s t) (told p u)) _) (setting_lines s p) (totals_line (total t) (total u)) _
-    (c.in_ok-push_items.ensures t u a b ∙ ap (λ l. c.args.out.now.items ++ flat_map (id_line (told s t) (told p u)) l) (c.as_slice.ensures.value ∙ ids))
+    (c.in_ok-counts.ensures.lines t u a b ∙ ap (λ l. c.args.out.now.items ++ flat_map (id_line (told s t) (told p u)) l) (c.as_slice.ensures.value ∙ ids))
     (c.in_ok-push_settings.ensures ∙ (λ i. c.push_items.new.out.items ++ setting_lines (c.setting.ensures i) (c.setting-2.ensures i)))
     (c.in_ok-push_totals.ensures ∙ (λ i. c.push_settings.new.out.items ++ totals_line (c.total.ensures t a i) (c.total-2.ensures u b i)))
-    (c.in_ok-push_counts.ensures ∙ ap (λ n. c.push_totals.new.out.items ++ counts_line n) (c.count_changes-counts.ensures t u a b ∙ ap (tally_of t u) (c.as_slice-2.ensures.value ∙ ids)))
+    (c.in_ok-push_counts.ensures ∙ ap (λ n. c.push_totals.new.out.items ++ counts_line n) (c.in_ok-counts.ensures.counts t u a b ∙ ap (tally_of t u) (c.as_slice.ensures.value ∙ ids)))
