@@ -316,7 +316,7 @@ def compare(program, count, seed):
 
 def main():
     words = dict(enumerate(sys.argv))
-    compare(words[1], int(words.get(2, 1000)), words.get(3, random.randrange(2**32)))
+    compare(os.path.abspath(words[1]), int(words.get(2, 1000)), words.get(3, random.randrange(2**32)))
 
 
 if __name__ == "__main__":
