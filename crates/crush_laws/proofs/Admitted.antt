@@ -19,8 +19,8 @@ use Rattle.crush_table.specs.Table.{is_there, id_named, bucket_count}
 use Rattle.crush_edits.specs.Setting.{StepData, take, choose, set, emit, RuleData, kind_number}
 use Rattle.crush_edits.specs.Fits.{is_reserved}
 use Rattle.crush_edits.specs.Stops.{number_of}
-use Rattle.crush_map.specs.Built.{Draft, Pending, nothing, begun as is_begun, filling as is_filling, with_class_id, with_next_item, pending_with_id, pending_with_class_id}
-use Rattle.crush_map.specs.Building.{IsPending, is_bucket_kind, has_name, has_bucket_id, has_class, has_pending_name, has_pending_id, pending_class_ids, closed_item, item_named, is_full_of_buckets, is_full_of_class_ids}
+use Rattle.crush_builder.specs.Built.{Draft, Pending, nothing, begun as is_begun, filling as is_filling, with_class_id, with_next_item, pending_with_id, pending_with_class_id}
+use Rattle.crush_builder.specs.Building.{IsPending, is_bucket_kind, has_name, has_bucket_id, has_class, has_pending_name, has_pending_id, pending_class_ids, closed_item, item_named, is_full_of_buckets, is_full_of_class_ids}
 use Rattle.crush_bytes.specs.Words.{is_brace_word}
 use Rattle.crush_text.specs.declared.opening.Opening.{Opening}
 use Rattle.crush_text.specs.declared.opening.Opening.TheVariants as openings

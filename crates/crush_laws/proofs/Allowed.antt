@@ -24,10 +24,11 @@ use Rattle.crush_table.specs.Count.{one_if}
 use Rattle.crush_table.proofs.Tested.{bytes_itself}
 use Rattle.crush_print.proofs.PrintedTexts.{All-right}
 use Rattle.crush_table.proofs.Found.{times, row_of-absent}
-use Rattle.crush_map.specs.Built.{Draft, Pending, nothing, filling, with_tunable, with_kind, with_device, add_rule, placed_row, put_below, table_with_item, with_next_item}
-use Rattle.crush_map.specs.Building.{CanNumber, own_ids, has_name, has_pending_name, has_kind_number, has_kind_name, has_tunable, is_full_of_devices, is_full_of_kinds, is_full_of_tunables}
-use Rattle.crush_map.specs.Rules.{has_rule_name, has_rule_id, is_full_of_rules}
-use Rattle.crush_map.proofs.RowSteps.{new_device}
+use Rattle.crush_map.specs.WrittenItems.{placed_row, put_below}
+use Rattle.crush_builder.specs.Built.{Draft, Pending, nothing, filling, with_tunable, with_kind, with_device, add_rule, table_with_item, with_next_item}
+use Rattle.crush_builder.specs.Building.{CanNumber, own_ids, has_name, has_pending_name, has_kind_number, has_kind_name, has_tunable, is_full_of_devices, is_full_of_kinds, is_full_of_tunables}
+use Rattle.crush_builder.specs.Rules.{has_rule_name, has_rule_id, is_full_of_rules}
+use Rattle.crush_builder.proofs.RowSteps.{new_device}
 use Rattle.crush_text.specs.Grammar.{with_step}
 use Rattle.crush_text.specs.Document.{IsMap}
 

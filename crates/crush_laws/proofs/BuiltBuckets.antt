@@ -14,7 +14,7 @@ use Rattle.crush_table.specs.Same.{Same}
 use Rattle.crush_table.proofs.Relocated.{All-kids}
 use Rattle.crush_edits.specs.Setting.{SettingData, kind_number}
 use Rattle.crush_edits.specs.Fits.{IsSetting}
-use Rattle.crush_map.specs.Built.{Draft, nothing, filling as is_filling}
+use Rattle.crush_builder.specs.Built.{Draft, nothing, filling as is_filling}
 use Rattle.crush_print.specs.MapText.{kind_text}
 use Rattle.crush_print.proofs.PrintedLines.{head_words, class_id_words, choice_words, bucket_words, kid_words, whole_words}
 use Rattle.crush_print.proofs.PrintedTexts.{root_order}

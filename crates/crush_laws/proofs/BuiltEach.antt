@@ -12,7 +12,7 @@ use Rattle.crush_table.specs.Lawful.{Lawful}
 use Rattle.crush_table.proofs.Tested.{bytes_itself}
 use Rattle.crush_edits.specs.Setting.{TunableData, SettingData}
 use Rattle.crush_edits.specs.Fits.{IsTunable, Fits}
-use Rattle.crush_map.specs.Built.{Draft, nothing}
+use Rattle.crush_builder.specs.Built.{Draft, nothing}
 use Rattle.crush_bytes.specs.Words.{begins_with_key}
 use Rattle.crush_print.proofs.PrintedLines.{tunable_words}
 use Rattle.crush_text.specs.Form.{first, at}

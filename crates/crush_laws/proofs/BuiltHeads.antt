@@ -26,9 +26,9 @@ use Rattle.crush_table.proofs.Same.{uses}
 use Rattle.crush_table.proofs.Appended.{times_used-push}
 use Rattle.crush_edits.specs.Setting.{RuleData, SettingData, kind_number, bucket_taken}
 use Rattle.crush_edits.specs.Fits.{Fits, IsSetting, HasKind, IsThere}
-use Rattle.crush_map.specs.Built.{Pending, nothing, begun, numbered as is_numbered, filling as is_filling, Draft, with_alg}
-use Rattle.crush_map.specs.Building.{CanBegin, CanNumber, IsPending, is_bucket_kind, is_some_above_zero, own_ids}
-use Rattle.crush_map.proofs.RowSteps.{named_bucket_kind}
+use Rattle.crush_builder.specs.Built.{Pending, nothing, begun, numbered as is_numbered, filling as is_filling, Draft, with_alg}
+use Rattle.crush_builder.specs.Building.{CanBegin, CanNumber, IsPending, is_bucket_kind, is_some_above_zero, own_ids}
+use Rattle.crush_builder.proofs.RowSteps.{named_bucket_kind}
 use Rattle.crush_print.proofs.PrintedLines.{head_words, class_id_words, choice_words}
 use Rattle.crush_print.proofs.PrintedTexts.{All-left}
 use Rattle.crush_print.proofs.PartTables.{bare, shown, part_of}

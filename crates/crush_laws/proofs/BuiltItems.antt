@@ -18,9 +18,10 @@ use Rattle.crush_table.proofs.Weighs.{All-both}
 use Rattle.crush_table.proofs.Moved.{row_id}
 use Rattle.crush_table.proofs.Renamed.{All-row}
 use Rattle.crush_edits.specs.Setting.{SettingData}
-use Rattle.crush_map.specs.Built.{filling as is_filling, Draft, with_next_item, placed_row, put_below, adjustment}
-use Rattle.crush_map.specs.Building.{item_named, closed_item}
-use Rattle.crush_map.proofs.ItemSteps.{only_row}
+use Rattle.crush_map.specs.WrittenItems.{placed_row, put_below, adjustment}
+use Rattle.crush_builder.specs.Built.{filling as is_filling, Draft, with_next_item}
+use Rattle.crush_builder.specs.Building.{item_named, closed_item}
+use Rattle.crush_builder.proofs.ItemSteps.{only_row}
 use Rattle.crush_print.proofs.PrintedLines.{item_words, kid_words}
 use Rattle.crush_print.proofs.PartTables.{bare}
 use Rattle.crush_print.proofs.PartSteps.{with_one, with_one-it, with_one-other}

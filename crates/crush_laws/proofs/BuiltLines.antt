@@ -18,8 +18,8 @@ use Rattle.crush_units.proofs.Algs.{alg_of_text-alg_text}
 use Rattle.crush_units.proofs.ReadBack.{read_again}
 use Rattle.crush_units.specs.declared.limits.TheConstants.{LARGEST_TUNABLE}
 use Rattle.crush_table.specs.Table.{is_placed}
-use Rattle.crush_map.specs.Built.{Draft, with_tunable, with_kind, with_device, begun_bucket, with_id, with_class_id, with_alg, with_next_item, with_end}
-use Rattle.crush_map.specs.Building.{item_named}
+use Rattle.crush_builder.specs.Built.{Draft, with_tunable, with_kind, with_device, begun_bucket, with_id, with_class_id, with_alg, with_next_item, with_end}
+use Rattle.crush_builder.specs.Building.{item_named}
 use Rattle.crush_bytes.specs.Words.{Word, texts, begins_with_key}
 use Rattle.crush_text.specs.declared.opening.Opening.TheVariants as openings
 use Rattle.crush_bytes.specs.Numbers.{is_number}

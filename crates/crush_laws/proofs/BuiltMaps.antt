@@ -13,7 +13,7 @@ use Rattle.crush_table.proofs.Same.{Same-sym}
 use Rattle.crush_table.proofs.Tested.{bytes_equal, bytes_itself}
 use Rattle.crush_edits.specs.Setting.{KindData, SettingData, kind_number}
 use Rattle.crush_edits.specs.Fits.{Fits, is_reserved}
-use Rattle.crush_map.specs.Built.{Draft}
+use Rattle.crush_builder.specs.Built.{Draft}
 use Rattle.crush_bytes.specs.Words.{words}
 use Rattle.crush_bytes.proofs.Printed.{Holds, holds_nothing}
 use Rattle.crush_print.specs.MapText.{device_numbers, kind_numbers, kind_text, map_text}

@@ -11,8 +11,8 @@ use Rattle.std.specs.Str.Parse.{AllDigits}
 use Rattle.crush_units.specs.declared.limits.TheConstants.{FARTHEST_COUNT, LARGEST_COUNT, LARGEST_RULE_NUMBER}
 use Rattle.crush_edits.specs.Setting.{take, choose, set, emit, RuleData}
 use Rattle.crush_edits.specs.Fits.{IsCount}
-use Rattle.crush_map.specs.Built.{Draft, add_rule}
-use Rattle.crush_map.specs.Rules.{complete_bucket_named}
+use Rattle.crush_builder.specs.Built.{Draft, add_rule}
+use Rattle.crush_builder.specs.Rules.{complete_bucket_named}
 use Rattle.crush_bytes.specs.Words.{Word, begins_with_key}
 use Rattle.crush_print.proofs.PrintedLines.{class_words, size_words, choice_word, order_word}
 use Rattle.crush_bytes.specs.Numbers.{is_signed, signed_value}

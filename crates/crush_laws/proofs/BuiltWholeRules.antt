@@ -13,9 +13,9 @@ use Rattle.crush_table.proofs.Tested.{bytes_itself}
 use Rattle.crush_edits.specs.Setting.{StepData, take, choose, set, emit, RuleData, SettingData, bucket_taken}
 use Rattle.crush_edits.specs.Fits.{Fits, IsStep, IsRule, IsThere}
 use Rattle.crush_edits.specs.Stops.{number_of}
-use Rattle.crush_map.specs.Built.{nothing, add_rule}
-use Rattle.crush_map.specs.Building.{closed_item}
-use Rattle.crush_map.specs.Rules.{complete_bucket_named}
+use Rattle.crush_builder.specs.Built.{nothing, add_rule}
+use Rattle.crush_builder.specs.Building.{closed_item}
+use Rattle.crush_builder.specs.Rules.{complete_bucket_named}
 use Rattle.crush_print.specs.RuleLines.{bucket_name}
 use Rattle.crush_print.proofs.PrintedLines.{size_words, step_words, rule_words, rule_head_words}
 use Rattle.crush_print.proofs.PrintedTexts.{All-left, All-right}

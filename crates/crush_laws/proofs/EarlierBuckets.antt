@@ -15,8 +15,8 @@ use Rattle.crush_table.proofs.Tested.{bytes_itself}
 use Rattle.crush_table.proofs.Appended.{times_used-push}
 use Rattle.crush_edits.specs.Setting.{SettingData}
 use Rattle.crush_edits.specs.Fits.{HasKind}
-use Rattle.crush_map.specs.Building.{CanBegin, CanNumber, own_ids}
-use Rattle.crush_map.proofs.RowSteps.{new_bucket}
+use Rattle.crush_builder.specs.Building.{CanBegin, CanNumber, own_ids}
+use Rattle.crush_builder.proofs.RowSteps.{new_bucket}
 use Rattle.crush_laws.proofs.Allowed.{none_before, last_of, count_last, unnamed}
 use Rattle.crush_laws.proofs.BuiltHeads.{own_count}
 

@@ -9,9 +9,10 @@ use Rattle.crush_table.specs.Table.{Row}
 use Rattle.crush_table.specs.Lawful.{Lawful}
 use Rattle.crush_edits.specs.Setting.{take, choose, set, emit, RuleData, taken_buckets}
 use Rattle.crush_edits.specs.Fits.{IsKind, HasKind}
-use Rattle.crush_map.specs.Built.{Draft, Pending, nothing, with_device, with_alg, with_next_item, weight_or_one, pending_with_id, pending_with_class_id, pending_row, put_below, table_with_item, add_rule}
-use Rattle.crush_map.specs.Building.{IsPending}
-use Rattle.crush_map.proofs.RowSteps.{new_device, new_bucket}
+use Rattle.crush_map.specs.WrittenItems.{weight_or_one, put_below}
+use Rattle.crush_builder.specs.Built.{Draft, Pending, nothing, with_device, with_alg, with_next_item, pending_with_id, pending_with_class_id, pending_row, table_with_item, add_rule}
+use Rattle.crush_builder.specs.Building.{IsPending}
+use Rattle.crush_builder.proofs.RowSteps.{new_device, new_bucket}
 use Rattle.crush_print.proofs.PrintedTexts.{All-left}
 use Rattle.crush_text.specs.declared.opening.Opening.{Opening}
 use Rattle.crush_text.specs.declared.opening.Opening.TheVariants as openings

@@ -9,8 +9,8 @@ use Rattle.crush_table.specs.Count.{one_if}
 use Rattle.crush_table.specs.Table.{Row}
 use Rattle.crush_edits.specs.Setting.{KindData, TunableData, StepData, RuleData, SettingData, taken_buckets}
 use Rattle.crush_edits.specs.Fits.{IsKind, IsTunable, IsStep, IsRule, IsThere, HasKind}
-use Rattle.crush_map.specs.Built.{Draft, with_kind, with_tunable, add_rule}
-use Rattle.crush_map.proofs.RuleSteps.{rule_kept}
+use Rattle.crush_builder.specs.Built.{Draft, with_kind, with_tunable, add_rule}
+use Rattle.crush_builder.proofs.RuleSteps.{rule_kept}
 use Rattle.crush_print.proofs.PrintedTexts.{All-left}
 use Rattle.crush_text.specs.Grammar.{with_step}
 use Rattle.crush_text.specs.Document.{IsMap}

@@ -24,7 +24,7 @@ use Rattle.crush_table.proofs.Weighs.{All-both, All-found}
 use Rattle.crush_print.proofs.PartTables.{bare, shown, Lawful-shown}
 use Rattle.crush_edits.specs.Setting.{SettingData}
 use Rattle.crush_edits.specs.Fits.{HasKind}
-use Rattle.crush_map.specs.Built.{placed_row, put_below}
+use Rattle.crush_map.specs.WrittenItems.{placed_row, put_below}
 use Rattle.crush_laws.proofs.Allowed.{none_before}
 
 -- A ROW MORE

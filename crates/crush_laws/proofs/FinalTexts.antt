@@ -7,7 +7,7 @@ use Rattle.crush_table.specs.Table.{Row}
 use Rattle.crush_table.specs.Lawful.{Lawful, HasParent}
 use Rattle.crush_edits.specs.Setting.{SettingData}
 use Rattle.crush_edits.specs.Fits.{Fits, IsThere}
-use Rattle.crush_map.specs.Built.{Draft}
+use Rattle.crush_builder.specs.Built.{Draft}
 use Rattle.crush_bytes.specs.Words.{Word, words, begins_with_key}
 use Rattle.crush_text.specs.Role.{value}
 use Rattle.crush_text.specs.Form.{Mode, first, second, begun, numbered, filling, ruled, Form, done, word, optional, ahead}

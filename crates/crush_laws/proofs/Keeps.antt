@@ -22,13 +22,14 @@ use Rattle.crush_edits.specs.Stops.{number_of}
 use Rattle.crush_table.specs.Count.{one_if}
 use Rattle.crush_table.specs.Table.{Row, bucket_count, member, used_ids}
 use Rattle.crush_table.proofs.Attached.{Lawful-nil}
-use Rattle.crush_map.specs.declared.fault.BuildFault.TheVariants as build
-use Rattle.crush_map.specs.Faults.{first_fault, class_id_fault}
-use Rattle.crush_map.specs.Built.{Draft, Pending, nothing, begun as is_begun, numbered as is_numbered, filling as is_filling, empty_draft, pending_with_id, pending_with_class_id, pending_row, pending_with_alg, with_alg, with_device, weight_or_one, with_next_item}
-use Rattle.crush_map.specs.Building.{CanBegin, CanNumber, IsRoot, is_bucket_kind, is_full_of_kinds, is_full_of_tunables, is_full_of_devices, is_full_of_buckets, is_full_of_class_ids, item_named}
-use Rattle.crush_map.specs.Rules.{complete_bucket_named, is_full_of_rules}
-use Rattle.crush_map.proofs.KindSteps.{less}
-use Rattle.crush_map.proofs.RowSteps.{new_bucket, bucket_lawful, one_more_class_id}
+use Rattle.crush_builder.specs.declared.fault.BuildFault.TheVariants as build
+use Rattle.crush_builder.specs.Faults.{first_fault, class_id_fault}
+use Rattle.crush_map.specs.WrittenItems.{weight_or_one}
+use Rattle.crush_builder.specs.Built.{Draft, Pending, nothing, begun as is_begun, numbered as is_numbered, filling as is_filling, empty_draft, pending_with_id, pending_with_class_id, pending_row, pending_with_alg, with_alg, with_device, with_next_item}
+use Rattle.crush_builder.specs.Building.{CanBegin, CanNumber, IsRoot, is_bucket_kind, is_full_of_kinds, is_full_of_tunables, is_full_of_devices, is_full_of_buckets, is_full_of_class_ids, item_named}
+use Rattle.crush_builder.specs.Rules.{complete_bucket_named, is_full_of_rules}
+use Rattle.crush_builder.proofs.KindSteps.{less}
+use Rattle.crush_builder.proofs.RowSteps.{new_bucket, bucket_lawful, one_more_class_id}
 use Rattle.crush_edits.proofs.FitLaws.{Fits-push}
 use Rattle.crush_bytes.specs.Words.{Word, Text, words, is_brace_word, AreFormed, begins_with_key}
 use Rattle.crush_bytes.proofs.Forms.{words_are_formed}

@@ -17,14 +17,15 @@ use Rattle.crush_table.specs.Lawful.{Lawful, is_too_heavy}
 use Rattle.crush_edits.specs.Setting.{KindData}
 use Rattle.crush_edits.specs.Fits.{IsKind, Fits, is_reserved}
 use Rattle.crush_table.proofs.Appended.{row_of-append, unused_fresh}
-use Rattle.crush_map.specs.Built.{Draft, Pending, nothing, begun, numbered, filling, with_kind, with_device, with_tunable, placed_row, put_below, table_with_item, weight_or_one, with_next_item}
-use Rattle.crush_map.specs.Building.{IsRoot, is_open, has_name, closed_item, item_named, has_kind_number, has_kind_name, has_tunable, is_full_of_devices, is_full_of_kinds, is_full_of_tunables}
-use Rattle.crush_map.proofs.KindSteps.{Fits-with_kind}
-use Rattle.crush_map.proofs.TunableSteps.{Fits-with_tunable}
+use Rattle.crush_map.specs.WrittenItems.{placed_row, put_below, weight_or_one}
+use Rattle.crush_builder.specs.Built.{Draft, Pending, nothing, begun, numbered, filling, with_kind, with_device, with_tunable, table_with_item, with_next_item}
+use Rattle.crush_builder.specs.Building.{IsRoot, is_open, has_name, closed_item, item_named, has_kind_number, has_kind_name, has_tunable, is_full_of_devices, is_full_of_kinds, is_full_of_tunables}
+use Rattle.crush_builder.proofs.KindSteps.{Fits-with_kind}
+use Rattle.crush_builder.proofs.TunableSteps.{Fits-with_tunable}
 use Rattle.crush_apply.proofs.Found.{there_by_name}
-use Rattle.crush_map.proofs.RowSteps.{new_device, device_lawful}
+use Rattle.crush_builder.proofs.RowSteps.{new_device, device_lawful}
 use Rattle.crush_edits.proofs.FitLaws.{Fits-push}
-use Rattle.crush_map.proofs.ItemSteps.{is_no_part, item_lawful, put_fits, root_put}
+use Rattle.crush_builder.proofs.ItemSteps.{is_no_part, item_lawful, put_fits, root_put}
 use Rattle.crush_text.specs.Document.{IsMap}
 
 -- a tunable more

@@ -13,9 +13,9 @@ use Rattle.crush_units.specs.Alg.{alg_text, alg_of_text}
 use Rattle.crush_units.specs.Weight.{are_digits, weight_of_text}
 use Rattle.crush_units.specs.declared.limits.TheConstants.{FARTHEST_BUCKET_ID, LARGEST_RULE_NUMBER, LAST_DEVICE_ID, LAST_TYPE}
 use Rattle.crush_edits.specs.Setting.{KindData}
-use Rattle.crush_map.specs.Built.{Draft}
-use Rattle.crush_map.specs.Building.{IsPending, item_named}
-use Rattle.crush_map.specs.Rules.{complete_bucket_named}
+use Rattle.crush_builder.specs.Built.{Draft}
+use Rattle.crush_builder.specs.Building.{IsPending, item_named}
+use Rattle.crush_builder.specs.Rules.{complete_bucket_named}
 use Rattle.crush_bytes.specs.Words.{Word, words, AreFormed, begins_with_key}
 use Rattle.crush_bytes.proofs.Forms.{words_are_formed}
 use Rattle.crush_text.specs.declared.fault.TextFaultKind.TheVariants.{Unexpected, BadNumber, BadWeight, UnknownItem, SecondParent, OtherAlgorithm, LeftOut, UnknownBucketInRule}

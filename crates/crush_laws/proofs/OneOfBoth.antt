@@ -2,7 +2,7 @@
 use Rattle.std.proofs.Common.{◌≡◌, ℕ, Bool, true, false, cond, List, [], ◌∷◌, ◌++◌, Result, Ok, Err, refl, sym, ap, subst, ◌∙◌, inl, inr}
 use Rattle.std.proofs.lemmas.Bool.{cond_both}
 use Rattle.std.specs.Prelude.{◌⊎◌, bytes_eq, codes, drop}
-use Rattle.crush_map.specs.Built.{Draft}
+use Rattle.crush_builder.specs.Built.{Draft}
 use Rattle.crush_edits.specs.Setting.{RuleData}
 use Rattle.crush_bytes.specs.Words.{Word, Stop, words, begins_with_key}
 use Rattle.crush_text.specs.declared.opening.Opening.{Opening}

@@ -16,7 +16,8 @@ use Rattle.crush_table.specs.Table.{Row}
 use Rattle.crush_table.specs.Lawful.{Lawful}
 use Rattle.crush_edits.specs.Setting.{StepData, SettingData}
 use Rattle.crush_edits.specs.Fits.{Fits}
-use Rattle.crush_map.specs.Built.{Draft, empty_draft, Pending, nothing, numbered as is_numbered, filling as is_filling, pending_with_id, pending_with_class_id, pending_row, pending_with_alg, put_below, weight_or_one, adjustment, table_with_item, with_id, with_class_id, with_alg, with_next_item, with_end, add_rule}
+use Rattle.crush_map.specs.WrittenItems.{put_below, weight_or_one, adjustment}
+use Rattle.crush_builder.specs.Built.{Draft, empty_draft, Pending, nothing, numbered as is_numbered, filling as is_filling, pending_with_id, pending_with_class_id, pending_row, pending_with_alg, table_with_item, with_id, with_class_id, with_alg, with_next_item, with_end, add_rule}
 use Rattle.crush_bytes.specs.Numbers.{is_number}
 use Rattle.crush_bytes.specs.Words.{words, texts}
 use Rattle.crush_text.specs.declared.fault.TextFaultKind.TheVariants.{BadNumber}
@@ -26,7 +27,8 @@ use Rattle.crush_text.specs.Form.{Mode, first, second, begun, numbered, filling,
 use Rattle.crush_text.specs.Grammar.{id_or_alg_line, item_or_brace, step_or_brace, with_step, statement}
 use Rattle.crush_text.specs.Document.{start, IsMapText}
 use Rattle.crush_laws.specs.Document.{ItemLine, Document}
-use Rattle.crush_laws.specs.Meaning.{item_in, step_in, TakesBucket, setting_of, table_of, adjusted, SpellsMap, TextsAreLawfulDocuments}
+use Rattle.crush_laws.specs.Meaning.{item_in, step_in, TakesBucket, setting_of, table_of, adjusted, SpellsMap}
+use Rattle.crush_laws.specs.MapOrFlaw.{TextsAreLawfulDocuments}
 use Rattle.crush_laws.proofs.Keeps.{not_false, each_map_is_lawful}
 use Rattle.crush_laws.proofs.LawfulTexts.{is_for}
 use Rattle.crush_laws.proofs.ReadLines.{Line, Lines, along, spelled_lines}

@@ -7,8 +7,8 @@ use Rattle.crush_units.specs.declared.id.ItemId.{ItemId}
 use Rattle.crush_units.specs.declared.id.ItemId.TheVariants.{Device, Bucket}
 use Rattle.crush_units.specs.Id.{same_id}
 use Rattle.crush_table.specs.Table.{id_named, is_placed}
-use Rattle.crush_map.specs.Built.{Draft, Pending, filling as is_filling, with_tunable, with_kind, with_device}
-use Rattle.crush_map.specs.Building.{closed_item}
+use Rattle.crush_builder.specs.Built.{Draft, Pending, filling as is_filling, with_tunable, with_kind, with_device}
+use Rattle.crush_builder.specs.Building.{closed_item}
 use Rattle.crush_text.specs.declared.fault.TextFaultKind.TheVariants.{BadNumber}
 use Rattle.crush_text.specs.Role.{key, item_of}
 use Rattle.crush_text.specs.Form.{first, ruled, Progress, at}

@@ -11,7 +11,8 @@ use Rattle.crush_table.specs.Items.{ShadowData}
 use Rattle.crush_table.specs.Table.{Row}
 use Rattle.crush_table.specs.ItemRows.{bucket_row}
 use Rattle.crush_edits.specs.Setting.{KindData, TunableData, StepData, RuleData, SettingData}
-use Rattle.crush_map.specs.Built.{Draft, nothing, begun as is_begun, numbered as is_numbered, filling as is_filling, put_below, weight_or_one, adjustment, begun_bucket}
+use Rattle.crush_map.specs.WrittenItems.{put_below, weight_or_one, adjustment}
+use Rattle.crush_builder.specs.Built.{Draft, nothing, begun as is_begun, numbered as is_numbered, filling as is_filling, begun_bucket}
 use Rattle.crush_text.specs.declared.fault.TextFaultKind.TheVariants.{BadNumber, Unexpected}
 use Rattle.crush_text.specs.declared.opening.Opening.TheVariants as openings
 use Rattle.crush_text.specs.Role.{key, opening, rule_id_key, kind_of_word, opened}

@@ -8,9 +8,9 @@ use Rattle.crush_units.specs.declared.id.ItemId.{ItemId}
 use Rattle.crush_table.specs.Table.{id_named}
 use Rattle.crush_edits.specs.Setting.{RuleData, take, choose}
 use Rattle.crush_edits.specs.Stops.{bucket_named, number_of}
-use Rattle.crush_map.specs.Built.{Draft, Pending, nothing}
-use Rattle.crush_map.specs.Building.{closed_item}
-use Rattle.crush_map.specs.Rules.{complete_bucket_named}
+use Rattle.crush_builder.specs.Built.{Draft, Pending, nothing}
+use Rattle.crush_builder.specs.Building.{closed_item}
+use Rattle.crush_builder.specs.Rules.{complete_bucket_named}
 use Rattle.crush_text.specs.declared.fault.TextFaultKind.TheVariants.{BadNumber}
 use Rattle.crush_bytes.specs.Numbers.{signed_value}
 use Rattle.crush_text.specs.Role.{key, any_word, step_word, step_order, taken_bucket, value, bucket_of_word, takes as word_takes, chooses as word_chooses, sets as word_sets, emits as word_emits}

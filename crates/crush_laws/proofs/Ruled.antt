@@ -10,10 +10,10 @@ use Rattle.crush_units.specs.Name.{IsName}
 use Rattle.crush_units.specs.declared.limits.TheConstants.{LARGEST_RULE_NUMBER, MOST_RULES, MOST_STEPS}
 use Rattle.crush_edits.specs.Setting.{StepData, RuleData, SettingData, bucket_taken}
 use Rattle.crush_edits.specs.Fits.{IsStep, IsRule, IsThere}
-use Rattle.crush_map.specs.Built.{Draft, add_rule}
-use Rattle.crush_map.specs.Rules.{has_rule_name, has_rule_id, is_full_of_rules}
-use Rattle.crush_map.proofs.KindSteps.{count_one_more, less}
-use Rattle.crush_map.proofs.RuleSteps.{rule_kept}
+use Rattle.crush_builder.specs.Built.{Draft, add_rule}
+use Rattle.crush_builder.specs.Rules.{has_rule_name, has_rule_id, is_full_of_rules}
+use Rattle.crush_builder.proofs.KindSteps.{count_one_more, less}
+use Rattle.crush_builder.proofs.RuleSteps.{rule_kept}
 use Rattle.crush_text.specs.Grammar.{new_rule, with_step}
 use Rattle.crush_text.specs.Document.{IsMap}
 

@@ -18,10 +18,11 @@ use Rattle.crush_table.specs.Count.{one_if}
 use Rattle.crush_table.proofs.Found.{times-cons, times-append, times-is_there}
 use Rattle.crush_edits.specs.Setting.{StepData, take, choose, set, emit, RuleData, bucket_taken, taken_buckets}
 use Rattle.crush_edits.specs.Fits.{IsKind, IsThere}
-use Rattle.crush_map.specs.Built.{Draft, Pending, nothing, begun as is_begun, numbered as is_numbered, filling as is_filling, with_device, with_alg, with_next_item, weight_or_one, pending_with_id, pending_with_class_id, pending_row, pending_with_alg, placed_row, put_below, table_with_item, add_rule}
-use Rattle.crush_map.specs.Building.{IsRoot, is_open}
-use Rattle.crush_map.proofs.ItemSteps.{root_put}
-use Rattle.crush_map.proofs.RowSteps.{new_device, new_bucket}
+use Rattle.crush_map.specs.WrittenItems.{weight_or_one, placed_row, put_below}
+use Rattle.crush_builder.specs.Built.{Draft, Pending, nothing, begun as is_begun, numbered as is_numbered, filling as is_filling, with_device, with_alg, with_next_item, pending_with_id, pending_with_class_id, pending_row, pending_with_alg, table_with_item, add_rule}
+use Rattle.crush_builder.specs.Building.{IsRoot, is_open}
+use Rattle.crush_builder.proofs.ItemSteps.{root_put}
+use Rattle.crush_builder.proofs.RowSteps.{new_device, new_bucket}
 use Rattle.crush_print.proofs.PrintedTexts.{All-left}
 use Rattle.crush_text.specs.declared.opening.Opening.{Opening}
 use Rattle.crush_text.specs.declared.opening.Opening.TheVariants as openings

@@ -5,7 +5,7 @@ use Rattle.crush_table.specs.Table.{Row}
 use Rattle.crush_table.specs.Lawful.{Lawful}
 use Rattle.crush_edits.specs.Setting.{KindData, TunableData, RuleData, SettingData}
 use Rattle.crush_edits.specs.Fits.{Fits, IsKind}
-use Rattle.crush_map.specs.Built.{Draft}
+use Rattle.crush_builder.specs.Built.{Draft}
 use Rattle.crush_bytes.specs.Words.{words, texts}
 use Rattle.crush_text.specs.Form.{second, at}
 use Rattle.crush_text.specs.Flow.{between}

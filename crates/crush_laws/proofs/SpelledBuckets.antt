@@ -14,8 +14,9 @@ use Rattle.crush_table.specs.Items.{ShadowData}
 use Rattle.crush_table.specs.Table.{Row, is_placed}
 use Rattle.crush_edits.specs.Setting.{KindData, TunableData, RuleData}
 use Rattle.crush_edits.specs.Fits.{is_reserved}
-use Rattle.crush_map.specs.Built.{Draft, Pending, numbered as is_numbered, filling as is_filling, with_class_id, with_alg, with_next_item, put_below, weight_or_one, adjustment}
-use Rattle.crush_map.specs.Building.{closed_item, item_named}
+use Rattle.crush_map.specs.WrittenItems.{put_below, weight_or_one, adjustment}
+use Rattle.crush_builder.specs.Built.{Draft, Pending, numbered as is_numbered, filling as is_filling, with_class_id, with_alg, with_next_item}
+use Rattle.crush_builder.specs.Building.{closed_item, item_named}
 use Rattle.crush_bytes.specs.Words.{begins_with_key}
 use Rattle.crush_bytes.specs.Numbers.{is_number}
 use Rattle.crush_text.specs.Role.{key, number, item_of, units, units_or_none}

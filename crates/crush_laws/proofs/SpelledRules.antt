@@ -7,9 +7,9 @@ use Rattle.crush_units.specs.declared.limits.TheConstants.{LARGEST_RULE_NUMBER}
 use Rattle.crush_table.specs.Table.{Row, id_named}
 use Rattle.crush_edits.specs.Setting.{KindData, TunableData, StepData, take, choose, set, RuleData}
 use Rattle.crush_edits.specs.Stops.{number_of, bucket_named}
-use Rattle.crush_map.specs.Built.{Draft, nothing, add_rule}
-use Rattle.crush_map.specs.Building.{closed_item}
-use Rattle.crush_map.specs.Rules.{complete_bucket_named}
+use Rattle.crush_builder.specs.Built.{Draft, nothing, add_rule}
+use Rattle.crush_builder.specs.Building.{closed_item}
+use Rattle.crush_builder.specs.Rules.{complete_bucket_named}
 use Rattle.crush_bytes.specs.Words.{begins_with_key}
 use Rattle.crush_text.specs.Form.{second, ruled, at, Form, word, optional}
 use Rattle.crush_text.specs.Role.{key, any_word, step_word, bucket_of_word}

@@ -5,7 +5,7 @@ use Rattle.crush_table.specs.Table.{Row}
 use Rattle.crush_table.specs.Lawful.{Lawful}
 use Rattle.crush_edits.specs.Setting.{SettingData}
 use Rattle.crush_edits.specs.Fits.{Fits}
-use Rattle.crush_map.specs.Built.{Draft}
+use Rattle.crush_builder.specs.Built.{Draft}
 use Rattle.crush_bytes.specs.Words.{Word, ended, words}
 use Rattle.crush_text.specs.Flow.{State}
 use Rattle.crush_text.specs.Document.{IsWhole, start}

@@ -4,17 +4,22 @@ use Rattle.crush_table.specs.Table.{Row}
 use Rattle.crush_edits.specs.Setting.{SettingData}
 use Rattle.crush_edits.specs.Fits.{Fits}
 use Rattle.crush_table.specs.Lawful.{Lawful}
-use Rattle.crush_map.specs.Built.{Draft}
+use Rattle.crush_builder.specs.Built.{Draft}
 use Rattle.crush_text.specs.declared.fault.TextFaultKind.{TextFaultKind}
 use Rattle.crush_text.specs.declared.fault.TextFault.{TextFault}
 use Rattle.crush_bytes.specs.Words.{Word, words, begins_with_key}
 use Rattle.crush_text.specs.Document.{IsMapText}
 use Rattle.crush_laws.specs.Admitted.{IsLawfulText}
 use Rattle.crush_laws.specs.Final.{EndsLawfully}
+use Rattle.crush_laws.specs.Meaning.{SpellsMap}
 use Rattle.crush_text.specs.Role.{Role}
 use Rattle.crush_text.specs.Rows.{IsFault}
 use Rattle.crush_text.specs.Tests.{word_for}
 use Rattle.crush_text.specs.Flaw.{IsMapFlaw}
+
+-- bytes are the text of a map exactly where their words spell a lawful document with what the map has
+abbrev pub TextsAreLawfulDocuments : Type 0
+TextsAreLawfulDocuments = (bytes : List ℕ) (s : SettingData) (t : List Row) (n : ℕ) → IsMapText bytes s t n ↔ SpellsMap bytes s t n
 
 -- bytes with a flaw are the text of no map
 abbrev pub AFlawExcludesTheMap : Type 0

@@ -1,5 +1,5 @@
 -- WHAT A DOCUMENT MEANS: its setting, its table and its adjustments; and which documents are lawful.
-use Rattle.std.specs.Prelude.{◌≡◌, ◌↔◌, ℕ, ◌+◌, ◌<◌, List, [], ◌∷◌, ◌++◌, false, Some, None, All, map, flat_map, unwrap_or}
+use Rattle.std.specs.Prelude.{◌≡◌, ℕ, ◌+◌, ◌<◌, List, [], ◌∷◌, ◌++◌, false, Some, None, All, map, flat_map, unwrap_or}
 use Rattle.crush_units.specs.declared.id.ItemId.{ItemId}
 use Rattle.crush_units.specs.declared.id.ItemId.TheVariants.{Device, Bucket}
 use Rattle.crush_units.specs.Id.{same_id}
@@ -9,9 +9,8 @@ use Rattle.crush_table.specs.Lawful.{Lawful}
 use Rattle.crush_edits.specs.Setting.{KindData, TunableData, StepData, take, choose, set, emit, RuleData, SettingData, kind_number}
 use Rattle.crush_edits.specs.Stops.{bucket_named}
 use Rattle.crush_edits.specs.Fits.{Fits}
-use Rattle.crush_map.specs.Built.{put_below, weight_or_one, adjustment}
+use Rattle.crush_map.specs.WrittenItems.{put_below, weight_or_one, adjustment}
 use Rattle.crush_bytes.specs.Words.{words, texts, ended}
-use Rattle.crush_text.specs.Document.{IsMapText}
 use Rattle.crush_laws.specs.Document.{ItemLine, BucketLines, StepLine, takes, chooses, sets, emits, RuleLines, First, tunable, kind, device, Second, bucket, rule, Document}
 use Rattle.crush_laws.specs.Spells.{Spells}
 
@@ -144,7 +143,3 @@ pub record SpellsMap (bytes : List ℕ) (s : SettingData) (t : List Row) (n : �
   pub setting : setting_of document ≡ s
   pub table : table_of document ≡ t
   pub count : adjusted document ≡ n
-
--- THE LAW: bytes are the text of a map exactly where their words spell a lawful document with what the map has
-abbrev pub TextsAreLawfulDocuments : Type 0
-TextsAreLawfulDocuments = (bytes : List ℕ) (s : SettingData) (t : List Row) (n : ℕ) → IsMapText bytes s t n ↔ SpellsMap bytes s t n

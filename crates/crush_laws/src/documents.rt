@@ -1,6 +1,6 @@
 //! Texts as documents.
 
-ghost use Rattle.crush_laws.specs.Meaning.{TextsAreLawfulDocuments};
+ghost use Rattle.crush_laws.specs.MapOrFlaw.{TextsAreLawfulDocuments};
 ghost use Rattle.crush_laws.specs.Example.{ExampleIsRight};
 
 /// A map's text is a document: bytes are the text of a map exactly where their words spell, by the

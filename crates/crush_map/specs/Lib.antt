@@ -1,7 +1,3 @@
-pub mod Building
-pub mod Built
 pub mod Codes
-pub mod Faults
 pub mod MapData
-pub mod Pending
-pub mod Rules
+pub mod WrittenItems

@@ -22,7 +22,7 @@ use std::alloc::{Allocator, Global};
 impl<A: Allocator> CrushMap<A> {
     /// Makes the edit, or tells why it isn't made.
     ///
-    /// Where several refusals hold, the one of least number is told. Want of memory is told only of
+    /// Where several refusals hold, the one of least number is told. Out of memory is told only of
     /// an edit that takes memory, where nothing speaks against it and the map would be another after
     /// it: so never of new weights, of an exchange or of a removal, also of a class. After an Err
     /// the map is as before, also its room, as it is where the edit changes nothing. New weights
@@ -64,8 +64,8 @@ impl<A: Allocator> CrushMap<A> {
     /// at most 65,536.
     ///
     /// Where one is refused, its index, from 0, and its refusal are told. The map is then as before
-    /// the first, and so it is for want of memory, which may be told of a batch of which a later
-    /// edit would be refused.
+    /// the first, and so it is where memory ran out, which may be told of a batch of which a
+    /// later edit would be refused.
     pub fn apply_batch(&mut self, edits: &[Edit]) -> Result<Dones, BatchFault>
     where
         A: Clone,

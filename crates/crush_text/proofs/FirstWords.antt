@@ -1,7 +1,7 @@
 -- The first word of a statement, and the end of the text in its place.
 use Rattle.std.proofs.Common.{◌≡◌, ℕ, Bool, true, false, List, Option, Some, None, Ok, Err, refl, sym, ap, subst, ◌∙◌, inr}
-use Rattle.crush_map.specs.Built.{Draft}
-use Rattle.crush_map.specs.Building.{BuilderData}
+use Rattle.crush_builder.specs.Built.{Draft}
+use Rattle.crush_builder.specs.Building.{BuilderData}
 use Rattle.crush_bytes.specs.Words.{Text, first as first_word, stopped, ended, bad}
 use Rattle.crush_text.specs.declared.fault.TextFaultKind.TheVariants.{BadWord}
 use Rattle.crush_text.specs.declared.fault.TextFault.{TextFault}

@@ -1,8 +1,8 @@
 -- Which places words reach without a fault, and how lines lead on.
 use Rattle.std.proofs.Common.{◌≡◌, ℕ, Bool, true, false, cond, List, [], ◌∷◌, Result, Ok, Err, refl, sym, ap, subst, ◌∙◌, inl, inr}
 use Rattle.std.specs.Prelude.{drop, not, if◌then◌else◌}
-use Rattle.crush_map.specs.Built.{Draft}
-use Rattle.crush_map.specs.Building.{BuilderData}
+use Rattle.crush_builder.specs.Built.{Draft}
+use Rattle.crush_builder.specs.Building.{BuilderData}
 use Rattle.crush_bytes.specs.Words.{Word, Stop, ended, bad, Text, begins, begins_with_key, past}
 use Rattle.crush_text.specs.declared.fault.TextFaultKind.{TextFaultKind}
 use Rattle.crush_text.specs.declared.fault.TextFaultKind.TheVariants.{Unexpected, OutOfMemory}

@@ -1,9 +1,9 @@
 -- Where a function fails it promises no more than its fault.
 use Rattle.std.proofs.Common.{◌≡◌, ℕ, Bool, List, Result, Ok, Err, Option, inl}
 use Rattle.std.specs.Prelude.{OnOk, IsErrAnd, MatchResult}
-use Rattle.crush_map.specs.Built.{Draft}
-use Rattle.crush_map.specs.Building.{IsDraft}
-use Rattle.crush_map.specs.Rules.{kept_rule}
+use Rattle.crush_builder.specs.Built.{Draft}
+use Rattle.crush_builder.specs.Building.{IsDraft}
+use Rattle.crush_builder.specs.Rules.{kept_rule}
 use Rattle.crush_edits.specs.declared.rule.Rule.{Rule}
 use Rattle.crush_edits.specs.Setting.{RuleData}
 use Rattle.crush_bytes.specs.Words.{Text}

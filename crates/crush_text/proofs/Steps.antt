@@ -1,17 +1,17 @@
 -- The lines of class ids and of rules, word by word.
 use Rattle.std.proofs.Common.{◌≡◌, ◌+◌, ◌<◌, arith, None, false, ℕ, Bool, List, [], ◌∷◌, ◌++◌, length, map, Result, Ok, Err, refl, sym, ap, ◌∙◌, inl, inr, true, subst, ◌⊎◌}
 use Rattle.std.specs.Prelude.{Some, codes, nat_le, unwrap_or, Option, IfOk, IfErr}
-use Rattle.crush_map.specs.declared.fault.BuildFault.{BuildFault}
-use Rattle.crush_map.specs.declared.fault.RulePart.TheVariants.{Step as AtStep}
+use Rattle.crush_builder.specs.declared.fault.BuildFault.{BuildFault}
+use Rattle.crush_builder.specs.declared.fault.RulePart.TheVariants.{Step as AtStep}
 use Rattle.std.proofs.lemmas.List.{map-append}
 use Rattle.std.proofs.lemmas.Bool.{lt-leb}
 use Rattle.crush_edits.specs.declared.rule.Step.{Step}
 use Rattle.crush_edits.specs.Setting.{RuleData}
-use Rattle.crush_map.specs.Built.{Draft}
+use Rattle.crush_builder.specs.Built.{Draft}
 use Rattle.crush_edits.specs.declared.rule.Rule.{Rule}
 use Rattle.crush_units.specs.declared.limits.TheConstants.{MOST_STEPS}
-use Rattle.crush_map.specs.Building.{BuilderData, IsDraft}
-use Rattle.crush_map.specs.Rules.{complete_bucket_named, taken_number, kept_step, kept_rule, has_rule_name, has_rule_id, step_fault, word_fault, steps_fault, or_later, IsRuleForm}
+use Rattle.crush_builder.specs.Building.{BuilderData, IsDraft}
+use Rattle.crush_builder.specs.Rules.{complete_bucket_named, taken_number, kept_step, kept_rule, has_rule_name, has_rule_id, step_fault, word_fault, steps_fault, or_later, IsRuleForm}
 use Rattle.crush_text.specs.Room.{IsHead}
 use Rattle.crush_bytes.specs.Words.{Text}
 use Rattle.crush_text.specs.declared.fault.TextFault.{TextFault}

@@ -16,9 +16,9 @@ use Rattle.crush_table.specs.Table.{is_placed}
 use Rattle.crush_table.specs.Lawful.{is_too_heavy}
 use Rattle.crush_edits.specs.Setting.{kind_number}
 use Rattle.crush_edits.specs.Fits.{is_reserved}
-use Rattle.crush_map.specs.Built.{Draft, with_next_item}
-use Rattle.crush_map.specs.Building.{item_named, is_bucket_kind, is_full_of_devices, is_full_of_buckets, is_full_of_kinds, is_full_of_tunables}
-use Rattle.crush_map.specs.Rules.{complete_bucket_named, is_full_of_rules}
+use Rattle.crush_builder.specs.Built.{Draft, with_next_item}
+use Rattle.crush_builder.specs.Building.{item_named, is_bucket_kind, is_full_of_devices, is_full_of_buckets, is_full_of_kinds, is_full_of_tunables}
+use Rattle.crush_builder.specs.Rules.{complete_bucket_named, is_full_of_rules}
 use Rattle.crush_bytes.specs.Words.{is_brace_word}
 use Rattle.crush_text.specs.declared.fault.TextFaultKind.{TextFaultKind}
 use Rattle.crush_text.specs.declared.fault.TextFaultKind.TheVariants.{BadWord, Ended, Unexpected, BadNumber, BadWeight, DuplicateId, DuplicateName, UnknownType, UnknownItem, SecondParent, OtherAlgorithm, LeftOut, UnknownBucketInRule, TooMany, SumTooLarge, OutOfMemory}

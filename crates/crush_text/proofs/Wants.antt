@@ -4,15 +4,15 @@ use Rattle.std.specs.Prelude.{Some, is_some, if◌then◌else◌}
 use Rattle.crush_units.specs.declared.id.ItemId.{ItemId}
 use Rattle.crush_units.specs.declared.id.ItemId.TheVariants.{Device, Bucket}
 use Rattle.crush_table.specs.Table.{is_there}
-use Rattle.crush_map.specs.Built.{Draft}
-use Rattle.crush_map.specs.Building.{BuilderData, IsDraft, has_name, is_full_of_devices, is_open}
-use Rattle.crush_map.specs.declared.fault.BuildFault.{BuildFault}
-use Rattle.crush_map.specs.declared.fault.BuildFault.TheVariants.{BadWeight, DuplicateId, DuplicateName, UnknownType, UnknownItem, SecondParent, UnknownBucketInRule, TooMany, SumTooLarge, OutOfMemory}
+use Rattle.crush_builder.specs.Built.{Draft}
+use Rattle.crush_builder.specs.Building.{BuilderData, IsDraft, has_name, is_full_of_devices, is_open}
+use Rattle.crush_builder.specs.declared.fault.BuildFault.{BuildFault}
+use Rattle.crush_builder.specs.declared.fault.BuildFault.TheVariants.{BadWeight, DuplicateId, DuplicateName, UnknownType, UnknownItem, SecondParent, UnknownBucketInRule, TooMany, SumTooLarge, OutOfMemory}
 use Rattle.crush_edits.specs.declared.rule.Rule.{Rule}
-use Rattle.crush_map.specs.declared.fault.RuleFault.{RuleFault}
-use Rattle.crush_map.specs.Rules.{is_full_of_rules, rule_fault, rule_told}
+use Rattle.crush_builder.specs.declared.fault.RuleFault.{RuleFault}
+use Rattle.crush_builder.specs.Rules.{is_full_of_rules, rule_fault, rule_told}
 use Rattle.crush_text.specs.Room.{IsFreeRule}
-use Rattle.crush_map.specs.Faults.{fault_told, first_fault, device_fault, is_heavy_device, is_closed}
+use Rattle.crush_builder.specs.Faults.{fault_told, first_fault, device_fault, is_heavy_device, is_closed}
 
 -- what isn't told is want of memory
 is_want : (f : BuildFault) → None ≡ fault_told f → f ≡ OutOfMemory

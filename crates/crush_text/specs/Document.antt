@@ -4,7 +4,7 @@ use Rattle.crush_table.specs.Table.{Row}
 use Rattle.crush_edits.specs.Setting.{SettingData}
 use Rattle.crush_edits.specs.Fits.{Fits}
 use Rattle.crush_table.specs.Lawful.{Lawful}
-use Rattle.crush_map.specs.Built.{Draft, empty_draft}
+use Rattle.crush_builder.specs.Built.{Draft, empty_draft}
 use Rattle.crush_bytes.specs.Words.{Word, Text, ended, words}
 use Rattle.crush_text.specs.Role.{value}
 use Rattle.crush_text.specs.Form.{first, at, Form, done, word, optional, ahead}

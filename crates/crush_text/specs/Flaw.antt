@@ -1,6 +1,6 @@
 -- What a flaw of a map's text is.
 use Rattle.std.specs.Prelude.{◌≡◌, ◌⊎◌, ℕ, Bool, false, List, [], ◌∷◌, ◌++◌}
-use Rattle.crush_map.specs.Built.{Draft}
+use Rattle.crush_builder.specs.Built.{Draft}
 use Rattle.crush_text.specs.declared.fault.TextFaultKind.{TextFaultKind}
 use Rattle.crush_text.specs.declared.fault.TextFaultKind.TheVariants.{BadWord, Ended, OutOfMemory, Unexpected}
 use Rattle.crush_text.specs.declared.fault.TextFault.{TextFault}

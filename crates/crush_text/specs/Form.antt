@@ -1,7 +1,7 @@
 -- How a line goes on.
 use Rattle.std.specs.Prelude.{ℕ, Bool, List}
 use Rattle.crush_edits.specs.Setting.{RuleData}
-use Rattle.crush_map.specs.Built.{Draft}
+use Rattle.crush_builder.specs.Built.{Draft}
 use Rattle.crush_text.specs.Role.{Role, El}
 
 -- which line may come: a statement before the first bucket or rule, or behind one; of a bucket the line of its id, a class id

@@ -4,8 +4,8 @@ use Rattle.crush_units.specs.declared.id.ItemId.{ItemId}
 use Rattle.crush_table.specs.Lawful.{is_too_heavy}
 use Rattle.crush_edits.specs.declared.rule.Step.{Step}
 use Rattle.crush_edits.specs.Setting.{RuleData}
-use Rattle.crush_map.specs.Built.{Draft}
-use Rattle.crush_map.specs.Rules.{kept_step}
+use Rattle.crush_builder.specs.Built.{Draft}
+use Rattle.crush_builder.specs.Rules.{kept_step}
 use Rattle.crush_text.specs.declared.fault.TextFaultKind.{TextFaultKind}
 use Rattle.crush_text.specs.declared.fault.TextFaultKind.TheVariants.{BadWord, Ended, SumTooLarge}
 use Rattle.crush_text.specs.declared.fault.TextFault.{TextFault}

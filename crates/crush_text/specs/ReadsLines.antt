@@ -3,8 +3,8 @@ use Rattle.std.specs.Prelude.{◌≡◌, ◌⊎◌, ℕ, ◌<◌, ◌≤◌, Lis
 use Rattle.crush_units.specs.declared.id.ItemId.{ItemId}
 use Rattle.crush_table.specs.Lawful.{is_too_heavy}
 use Rattle.crush_edits.specs.Setting.{kind_number}
-use Rattle.crush_map.specs.Built.{Draft, Pending, nothing, with_next_item}
-use Rattle.crush_map.specs.Building.{BuilderData, IsDraft, is_begun, is_numbered, is_filling, is_full_of_class_ids}
+use Rattle.crush_builder.specs.Built.{Draft, Pending, nothing, with_next_item}
+use Rattle.crush_builder.specs.Building.{BuilderData, IsDraft, is_begun, is_numbered, is_filling, is_full_of_class_ids}
 use Rattle.crush_text.specs.declared.fault.TextFaultKind.{TextFaultKind}
 use Rattle.crush_text.specs.declared.fault.TextFault.{TextFault}
 use Rattle.crush_bytes.specs.Words.{Text}

@@ -3,9 +3,9 @@ use Rattle.std.specs.Prelude.{◌≡◌, ℕ, ◌<◌, ◌≤◌, List, Option, 
 use Rattle.crush_edits.specs.declared.rule.Rule.{Rule}
 use Rattle.crush_edits.specs.declared.rule.Step.{Step}
 use Rattle.crush_edits.specs.Setting.{RuleData}
-use Rattle.crush_map.specs.Built.{Draft, add_rule}
-use Rattle.crush_map.specs.Building.{BuilderData, IsDraft}
-use Rattle.crush_map.specs.Rules.{IsStepForm, IsRuleForm, kept_rule, word_fault}
+use Rattle.crush_builder.specs.Built.{Draft, add_rule}
+use Rattle.crush_builder.specs.Building.{BuilderData, IsDraft}
+use Rattle.crush_builder.specs.Rules.{IsStepForm, IsRuleForm, kept_rule, word_fault}
 use Rattle.crush_text.specs.declared.fault.TextFault.{TextFault}
 use Rattle.crush_bytes.specs.Words.{Text}
 use Rattle.crush_text.specs.declared.reader.MapReader.{MapReader}

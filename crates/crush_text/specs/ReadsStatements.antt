@@ -1,8 +1,8 @@
 -- What the functions that read statements promise.
 use Rattle.std.specs.Prelude.{◌≡◌, ◌⊎◌, ℕ, ◌<◌, List, Bool, Option, Some, None, Result, Ok, Err, IfOk, IfSome, OnOk, length, false, ◌||◌, bytes_eq, codes, if◌then◌else◌}
 use Rattle.crush_edits.specs.Setting.{kind_number}
-use Rattle.crush_map.specs.Built.{Draft, empty_draft}
-use Rattle.crush_map.specs.Building.{BuilderData, IsDraft}
+use Rattle.crush_builder.specs.Built.{Draft, empty_draft}
+use Rattle.crush_builder.specs.Building.{BuilderData, IsDraft}
 use Rattle.crush_text.specs.declared.fault.TextFault.{TextFault}
 use Rattle.crush_bytes.specs.Words.{Text, stopped, ended}
 use Rattle.crush_text.specs.declared.reader.MapReader.{MapReader}

@@ -2,8 +2,8 @@
 use Rattle.std.specs.Prelude.{◌≡◌, ◌||◌, ℕ, ◌<◌, List, true, false, Result, Ok, IfOk, OnOk, length, nat_eq, codes}
 use Rattle.std.specs.List.{starts_with}
 use Rattle.crush_units.specs.Name.{is_name, IsName}
-use Rattle.crush_map.specs.Built.{Draft}
-use Rattle.crush_map.specs.Building.{IsDraft}
+use Rattle.crush_builder.specs.Built.{Draft}
+use Rattle.crush_builder.specs.Building.{IsDraft}
 use Rattle.crush_text.specs.declared.fault.TextFault.{TextFault}
 use Rattle.crush_bytes.specs.Words.{Text, is_brace_word}
 use Rattle.crush_text.specs.declared.reader.MapReader.{MapReader}

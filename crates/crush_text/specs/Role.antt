@@ -9,9 +9,9 @@ use Rattle.crush_units.specs.declared.weight.WeightFault.{WeightFault}
 use Rattle.crush_units.specs.Alg.{alg_of_text}
 use Rattle.crush_units.specs.Weight.{weight_of_text}
 use Rattle.crush_edits.specs.Setting.{kind_number}
-use Rattle.crush_map.specs.Built.{Draft}
-use Rattle.crush_map.specs.Building.{item_named}
-use Rattle.crush_map.specs.Rules.{complete_bucket_named}
+use Rattle.crush_builder.specs.Built.{Draft}
+use Rattle.crush_builder.specs.Building.{item_named}
+use Rattle.crush_builder.specs.Rules.{complete_bucket_named}
 use Rattle.crush_text.specs.declared.opening.Opening.{Opening}
 use Rattle.crush_text.specs.declared.opening.Opening.TheVariants as openings
 use Rattle.crush_bytes.specs.Numbers.{signed_value}

@@ -6,10 +6,10 @@ use Rattle.crush_units.specs.declared.limits.TheConstants.{LARGEST_RULE_NUMBER}
 use Rattle.crush_table.specs.Table.{is_there, is_placed}
 use Rattle.crush_edits.specs.Setting.{kind_number}
 use Rattle.crush_edits.specs.Fits.{is_reserved}
-use Rattle.crush_map.specs.Built.{Draft}
-use Rattle.crush_map.specs.Building.{has_tunable, has_kind_number, has_kind_name, has_name, has_bucket_id, has_class, is_full_of_class_ids, is_full_of_tunables, is_full_of_devices, is_full_of_kinds, is_full_of_buckets}
-use Rattle.crush_map.specs.Faults.{is_closed}
-use Rattle.crush_map.specs.Rules.{complete_bucket_named, is_full_of_rules, has_rule_name, has_rule_id, steps_fault}
+use Rattle.crush_builder.specs.Built.{Draft}
+use Rattle.crush_builder.specs.Building.{has_tunable, has_kind_number, has_kind_name, has_name, has_bucket_id, has_class, is_full_of_class_ids, is_full_of_tunables, is_full_of_devices, is_full_of_kinds, is_full_of_buckets}
+use Rattle.crush_builder.specs.Faults.{is_closed}
+use Rattle.crush_builder.specs.Rules.{complete_bucket_named, is_full_of_rules, has_rule_name, has_rule_id, steps_fault}
 use Rattle.crush_edits.specs.declared.rule.Rule.{Rule}
 use Rattle.crush_text.specs.declared.opening.Opening.{Opening}
 use Rattle.crush_text.specs.declared.opening.Opening.TheVariants as openings

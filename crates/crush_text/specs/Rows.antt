@@ -11,9 +11,9 @@ use Rattle.crush_table.specs.Table.{is_there, is_placed}
 use Rattle.crush_table.specs.Lawful.{is_too_heavy}
 use Rattle.crush_edits.specs.Setting.{kind_number}
 use Rattle.crush_edits.specs.Fits.{is_reserved}
-use Rattle.crush_map.specs.Built.{Draft, with_next_item}
-use Rattle.crush_map.specs.Building.{has_name, has_bucket_id, has_class, item_named, is_bucket_kind, has_kind_number, has_kind_name, has_tunable, is_full_of_devices, is_full_of_buckets, is_full_of_kinds, is_full_of_tunables, is_full_of_class_ids}
-use Rattle.crush_map.specs.Rules.{complete_bucket_named, has_rule_name, has_rule_id, is_full_of_rules}
+use Rattle.crush_builder.specs.Built.{Draft, with_next_item}
+use Rattle.crush_builder.specs.Building.{has_name, has_bucket_id, has_class, item_named, is_bucket_kind, has_kind_number, has_kind_name, has_tunable, is_full_of_devices, is_full_of_buckets, is_full_of_kinds, is_full_of_tunables, is_full_of_class_ids}
+use Rattle.crush_builder.specs.Rules.{complete_bucket_named, has_rule_name, has_rule_id, is_full_of_rules}
 use Rattle.crush_text.specs.declared.fault.TextFaultKind.{TextFaultKind}
 use Rattle.crush_text.specs.declared.fault.TextFaultKind.TheVariants.{Unexpected, BadNumber, BadWeight, DuplicateId, DuplicateName, UnknownType, UnknownItem, SecondParent, OtherAlgorithm, LeftOut, UnknownBucketInRule, TooMany, SumTooLarge}
 use Rattle.crush_units.specs.declared.limits.TheConstants.{LARGEST_RULE_NUMBER}

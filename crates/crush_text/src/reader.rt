@@ -23,8 +23,9 @@ mod word;
 
 use crate::fault::TextFault;
 use crate::reader::unbegun::unbegun;
+use crush_builder::MapBuilder;
 use crush_bytes::Reader;
-use crush_map::{CrushMap, Hashing, MapBuilder};
+use crush_map::{CrushMap, Hashing};
 use std::alloc::{Allocator, Global};
 
 /// The text that is left to read, and the map that is built of what stood before it. A method reads

@@ -3,7 +3,7 @@
 use crate::tests::asking::{Fact, are_true_of};
 use crate::tests::statements::{Statement, takes_all};
 use crate::tests::whole::{has_the_setting, map_in_the_making, whole_example_map};
-use crush_map::{BuildFault, MapBuilder};
+use crush_builder::{BuildFault, MapBuilder};
 use crush_units::{BucketId, DeviceId, ItemId, TypeId, Weight};
 use std::alloc::Global;
 use std::process::Abort;

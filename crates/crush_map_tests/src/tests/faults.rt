@@ -1,6 +1,7 @@
 //! What is written of a fault, and its number.
 
-use crush_map::{BuildFault, EditFault, Refusal};
+use crush_builder::BuildFault;
+use crush_map::{EditFault, Refusal};
 use std::alloc::Global;
 use std::fmt::Display;
 use std::process::Abort;

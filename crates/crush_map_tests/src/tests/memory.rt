@@ -3,7 +3,8 @@
 
 use crate::tests::statements::make;
 use crate::tests::whole::{BEFORE_RULE, has_the_setting, whole_example_map, whole_example_map_in};
-use crush_map::{BuildFault, CrushMap, MapBuilder};
+use crush_builder::{BuildFault, MapBuilder};
+use crush_map::CrushMap;
 use crush_units::{ItemId, Weight};
 use linked_list_allocator::LocalHeap;
 use std::alloc::Global;

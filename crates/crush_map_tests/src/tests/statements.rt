@@ -1,6 +1,7 @@
 //! Statements of a map's text, with the conditions that their calls have.
 
-use crush_map::{BuildFault, CrushMap, MapBuilder, is_reserved};
+use crush_builder::{BuildFault, MapBuilder};
+use crush_map::{CrushMap, is_reserved};
 use crush_units::{Alg, BucketId, DeviceId, TypeId, Weight, is_name};
 use std::alloc::{Allocator, Global};
 use std::process::Abort;

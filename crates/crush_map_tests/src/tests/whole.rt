@@ -1,12 +1,13 @@
 //! The example map: the plain one with a tunable and a rule, in the machine's memory and in heaps.
 
 ghost use Rattle.std.specs.Prelude.{All};
-ghost use Rattle.crush_map.specs.Rules.{IsStepForm};
+ghost use Rattle.crush_builder.specs.Rules.{IsStepForm};
 
 use crate::tests::asking::name;
 use crate::tests::building::bucket;
 use crate::tests::statements::{Statement, empty, finish, make_all};
-use crush_map::{BuildFault, CrushMap, MapBuilder, Rule, RuleFault, Setting, Step};
+use crush_builder::{BuildFault, MapBuilder, RuleFault};
+use crush_map::{CrushMap, Rule, Setting, Step};
 use crush_units::TypeId;
 use linked_list_allocator::LocalHeap;
 use std::alloc::{Allocator, Global};

@@ -2,7 +2,7 @@
 
 ghost use Rattle.std.specs.Prelude.{◌≡◌, false, IfOk, Some, None, drop, if◌then◌else◌};
 ghost use Rattle.std.specs.Str.Parse.{digits_value};
-ghost use Rattle.crush_map.specs.Building.{is_begun, is_numbered};
+ghost use Rattle.crush_builder.specs.Building.{is_begun, is_numbered};
 ghost use Rattle.crush_bytes.specs.Numbers.{is_negative};
 ghost use Rattle.crush_text.specs.Role.{bucket_id, id_or_alg, id_class, algorithm, kind_of_word};
 ghost use Rattle.crush_text.specs.Form.{second, begun, numbered, filling, at};

@@ -1,9 +1,9 @@
 //! The items of a bucket.
 
 ghost use Rattle.std.specs.Prelude.{◌≡◌, true, false, IfOk, IfSome, Some};
-ghost use Rattle.crush_map.specs.Built.{Draft};
-ghost use Rattle.crush_map.specs.Building.{IsDraft, is_filling, item_named};
-ghost use Rattle.crush_map.specs.Faults.{is_closed, is_heavy_device};
+ghost use Rattle.crush_builder.specs.Built.{Draft};
+ghost use Rattle.crush_builder.specs.Building.{IsDraft, is_filling, item_named};
+ghost use Rattle.crush_builder.specs.Faults.{is_closed, is_heavy_device};
 ghost use Rattle.crush_text.specs.Role.{item_or_end, item};
 ghost use Rattle.crush_text.specs.Form.{second, filling, at};
 ghost use Rattle.crush_text.specs.Grammar.{item_line, item_weight_line, line_forms};
@@ -17,8 +17,8 @@ ghost use Rattle.crush_text.specs.ReadsLines.{IsAmid, behind_item, ReadsLine, Re
 use crate::fault::{TextFault, TextFaultKind};
 use crate::reader::MapReader;
 use crate::reader::word::{PlacedWord, next_word, want_at};
+use crush_builder::{BuildFault, MapBuilder};
 use crush_bytes::Reader;
-use crush_map::{BuildFault, MapBuilder};
 use crush_units::{ItemId, Weight};
 use std::alloc::Allocator;
 

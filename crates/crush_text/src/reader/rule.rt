@@ -2,8 +2,8 @@
 
 ghost use Rattle.std.specs.Prelude.{◌≡◌, ◌⊎◌, ◌≤◌, ◌<◌, length, true, IfOk, IfErr, IfSome, OnOk, Ok};
 ghost use Rattle.crush_units.specs.Name.{IsName};
-ghost use Rattle.crush_map.specs.Built.{Draft};
-ghost use Rattle.crush_map.specs.Rules.{IsRuleForm};
+ghost use Rattle.crush_builder.specs.Built.{Draft};
+ghost use Rattle.crush_builder.specs.Rules.{IsRuleForm};
 ghost use Rattle.crush_units.specs.declared.limits.TheConstants.{LARGEST_RULE_NUMBER};
 ghost use Rattle.crush_units.specs.declared.limits.TheConstants.{MOST_STEPS};
 ghost use Rattle.crush_text.specs.Flaw.{IsWant};

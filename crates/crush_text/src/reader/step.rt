@@ -3,8 +3,8 @@
 ghost use Rattle.std.specs.Prelude.{◌≡◌, ◌≤◌, length, IfOk, OnOk, nat_eq, true, Some, None, if◌then◌else◌, codes};
 ghost use Rattle.std.specs.List.{starts_with};
 ghost use Rattle.crush_edits.specs.Setting.{RuleData};
-ghost use Rattle.crush_map.specs.Built.{Draft};
-ghost use Rattle.crush_map.specs.Rules.{IsStepForm, word_fault};
+ghost use Rattle.crush_builder.specs.Built.{Draft};
+ghost use Rattle.crush_builder.specs.Rules.{IsStepForm, word_fault};
 ghost use Rattle.crush_bytes.specs.Numbers.{is_signed, signed_value};
 ghost use Rattle.crush_text.specs.Role.{step_word, taken_bucket, step_order, step_count, step_type};
 ghost use Rattle.crush_text.specs.Form.{word};

@@ -7,8 +7,8 @@ ghost use Rattle.crush_text.specs.declared.fault.TextFaultKind.TheVariants.{OutO
 ghost use Rattle.crush_text.specs.ReadsWords.{TakesWord};
 
 use crate::fault::{TextFault, TextFaultKind};
+use crush_builder::BuildFault;
 use crush_bytes::{Reader, Token};
-use crush_map::BuildFault;
 use crush_units::Name;
 use std::alloc::Global;
 

@@ -3,7 +3,7 @@ use Rattle.std.proofs.Common.{ℕ, ◌∙◌, sym, subst}
 use Rattle.std.proofs.lemmas.Result.{err_from_is_err_and}
 use Rattle.crush_table.specs.Stands.{Stands}
 use Rattle.crush_edits.specs.Setting.{SettingData}
-use Rattle.crush_map.specs.Built.{empty_draft}
+use Rattle.crush_builder.specs.Built.{empty_draft}
 use Rattle.crush_text.specs.Document.{IsMapText}
 use Rattle.crush_text.proofs.Whole.{text_fails, in_time, is_flaw, no_map, is_map, only_map}
 use Rattle.crush_text.proofs.reader.read_map_in.Goals as goal

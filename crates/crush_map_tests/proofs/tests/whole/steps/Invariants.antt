@@ -1,5 +1,5 @@
 use Rattle.std.specs.Prelude.{All}
-use Rattle.crush_map.specs.Rules.{IsStepForm}
+use Rattle.crush_builder.specs.Rules.{IsStepForm}
 use Rattle.crush_map_tests.proofs.tests.whole.steps.Given as goal
 
 -- those so far have the form

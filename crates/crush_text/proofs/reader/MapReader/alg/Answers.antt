@@ -3,7 +3,7 @@ use Rattle.std.proofs.Common.{rules, Bool, sym, ap, ◌∙◌}
 use Rattle.std.specs.Prelude.{if◌then◌else◌}
 use Rattle.crush_bytes.specs.Words.{past}
 use Rattle.std.proofs.lemmas.Result.{err_from_is_err_and}
-use Rattle.crush_map.specs.Built.{with_alg}
+use Rattle.crush_builder.specs.Built.{with_alg}
 use Rattle.crush_text.proofs.LineByLine.{fails_so}
 use Rattle.crush_text.proofs.LineEnds.{word_fails, word_reads}
 use Rattle.crush_text.proofs.Reached.{part_taken, reaches_word}

@@ -2,10 +2,10 @@
 use Rattle.std.proofs.Common.{◌≡◌, ◌∙◌, Err, rules, refl, ap}
 use Rattle.std.specs.Prelude.{not}
 use Rattle.std.proofs.lemmas.Result.{IfErr-at_err}
-use Rattle.crush_map.specs.Built.{begun_bucket}
-use Rattle.crush_map.specs.Building.{is_begun, is_some_above_zero}
-use Rattle.crush_map.specs.declared.fault.BuildFault.{BuildFault}
-use Rattle.crush_map.specs.declared.fault.BuildFault.TheVariants.{DuplicateName, UnknownType, TooMany, OutOfMemory}
+use Rattle.crush_builder.specs.Built.{begun_bucket}
+use Rattle.crush_builder.specs.Building.{is_begun, is_some_above_zero}
+use Rattle.crush_builder.specs.declared.fault.BuildFault.{BuildFault}
+use Rattle.crush_builder.specs.declared.fault.BuildFault.TheVariants.{DuplicateName, UnknownType, TooMany, OutOfMemory}
 use Rattle.crush_text.specs.Reads.{line_at}
 use Rattle.crush_text.proofs.LineEnds.{still}
 use Rattle.crush_text.proofs.Reached.{reaches_word}

@@ -3,8 +3,8 @@ use Rattle.std.proofs.Common.{rules, Bool, None, refl, sym, ap, ◌∙◌}
 use Rattle.std.specs.Prelude.{if◌then◌else◌}
 use Rattle.crush_bytes.specs.Words.{past}
 use Rattle.std.proofs.lemmas.Result.{err_from_is_err_and}
-use Rattle.crush_map.specs.Built.{with_device}
-use Rattle.crush_map.specs.Building.{IsDraft}
+use Rattle.crush_builder.specs.Built.{with_device}
+use Rattle.crush_builder.specs.Building.{IsDraft}
 use Rattle.crush_text.specs.Form.{first, at, done}
 use Rattle.crush_text.proofs.LineByLine.{fails_so}
 use Rattle.crush_text.proofs.LineEnds.{still, still_idle, word_fails, word_reads, device_reads, class_reads}

@@ -1,7 +1,7 @@
 -- The opening brace and the id word by word.
 use Rattle.std.proofs.Common.{rules, ◌∙◌}
 use Rattle.std.proofs.lemmas.Result.{err_from_is_err_and}
-use Rattle.crush_map.specs.Built.{with_id}
+use Rattle.crush_builder.specs.Built.{with_id}
 use Rattle.crush_text.proofs.LineByLine.{fails_so}
 use Rattle.crush_text.proofs.LineEnds.{still, word_fails, word_reads}
 use Rattle.crush_text.proofs.Steps.{done_reads}

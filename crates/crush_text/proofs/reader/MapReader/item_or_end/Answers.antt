@@ -1,7 +1,7 @@
 -- One more item, or the bucket's end.
 use Rattle.std.proofs.Common.{rules, ◌∙◌, ap, Bool, true, Ok}
 use Rattle.std.proofs.lemmas.Result.{err_from_is_err_and}
-use Rattle.crush_map.specs.Built.{with_end}
+use Rattle.crush_builder.specs.Built.{with_end}
 use Rattle.crush_text.specs.Reads.{line_at}
 use Rattle.crush_text.proofs.Weighed.{item_or_end_goes, item_or_end_fails}
 use Rattle.crush_text.proofs.Refused.{no_line}

@@ -1,7 +1,7 @@
 -- The lines so far, and what comes of the rest.
 use Rattle.std.proofs.Common.{◌≤◌, false, length}
-use Rattle.crush_map.specs.Built.{Draft}
-use Rattle.crush_map.specs.Building.{IsDraft, is_filling}
+use Rattle.crush_builder.specs.Built.{Draft}
+use Rattle.crush_builder.specs.Building.{IsDraft, is_filling}
 use Rattle.crush_text.specs.Form.{filling, at}
 use Rattle.crush_text.specs.Flow.{between}
 use Rattle.crush_text.specs.Reads.{LeadsOn}

@@ -1,9 +1,9 @@
 -- A type's line word by word, and what the builder refuses is want of memory.
 use Rattle.std.proofs.Common.{◌≡◌, ◌∙◌, Err, rules, refl}
 use Rattle.std.proofs.lemmas.Result.{err_from_is_err_and, IfErr-at_err}
-use Rattle.crush_map.specs.Built.{with_kind}
-use Rattle.crush_map.specs.declared.fault.BuildFault.{BuildFault}
-use Rattle.crush_map.specs.declared.fault.BuildFault.TheVariants.{DuplicateId, DuplicateName, TooMany, OutOfMemory}
+use Rattle.crush_builder.specs.Built.{with_kind}
+use Rattle.crush_builder.specs.declared.fault.BuildFault.{BuildFault}
+use Rattle.crush_builder.specs.declared.fault.BuildFault.TheVariants.{DuplicateId, DuplicateName, TooMany, OutOfMemory}
 use Rattle.crush_text.proofs.LineByLine.{fails_so}
 use Rattle.crush_text.proofs.LineEnds.{still, still_idle, word_fails, word_reads, type_reads}
 use Rattle.crush_text.proofs.Reached.{reaches_word, reaches_on}

@@ -1,9 +1,9 @@
 -- The head of a rule, its steps and its end.
 use Rattle.std.proofs.Common.{◌≡◌, ◌∙◌, Err, rules, refl}
 use Rattle.std.proofs.lemmas.Result.{err_from_is_err_and, IfErr-at_err}
-use Rattle.crush_map.specs.declared.fault.BuildFault.TheVariants.{OutOfMemory}
-use Rattle.crush_map.specs.declared.fault.RuleFault.{RuleFault}
-use Rattle.crush_map.specs.Rules.{with_rule}
+use Rattle.crush_builder.specs.declared.fault.BuildFault.TheVariants.{OutOfMemory}
+use Rattle.crush_builder.specs.declared.fault.RuleFault.{RuleFault}
+use Rattle.crush_builder.specs.Rules.{with_rule}
 use Rattle.crush_text.specs.Grammar.{rule_line}
 use Rattle.crush_text.proofs.LineEnds.{still, still_idle}
 use Rattle.crush_text.proofs.Wants.{want_of_rule}

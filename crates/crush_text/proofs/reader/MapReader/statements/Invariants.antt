@@ -1,7 +1,7 @@
 -- The statements so far, and what comes of the rest.
 use Rattle.std.proofs.Common.{length}
-use Rattle.crush_map.specs.Built.{Draft}
-use Rattle.crush_map.specs.Building.{IsDraft}
+use Rattle.crush_builder.specs.Built.{Draft}
+use Rattle.crush_builder.specs.Building.{IsDraft}
 use Rattle.crush_text.specs.Form.{first, at}
 use Rattle.crush_text.specs.Flow.{between}
 use Rattle.crush_text.specs.Reads.{LeadsOn}

@@ -5,8 +5,8 @@ use Rattle.std.proofs.lemmas.List.{length-map}
 use Rattle.crush_units.specs.declared.limits.TheConstants.{MOST_STEPS}
 use Rattle.crush_edits.specs.declared.rule.Step.{Step}
 use Rattle.crush_edits.specs.Setting.{StepData}
-use Rattle.crush_map.specs.Building.{IsDraft}
-use Rattle.crush_map.specs.Rules.{kept_rule, kept_step}
+use Rattle.crush_builder.specs.Building.{IsDraft}
+use Rattle.crush_builder.specs.Rules.{kept_rule, kept_step}
 use Rattle.crush_text.specs.Form.{ruled, at}
 use Rattle.crush_text.proofs.LineEnds.{still}
 use Rattle.crush_text.proofs.Reached.{want_here}

@@ -1,7 +1,7 @@
 -- The steps one after the other, up to the brace.
 use Rattle.std.proofs.Common.{◌∙◌, rules, arith, refl, subst, ℕ, Option, Ok}
 use Rattle.std.proofs.lemmas.Result.{err_from_is_err_and}
-use Rattle.crush_map.specs.Rules.{kept_rule}
+use Rattle.crush_builder.specs.Rules.{kept_rule}
 use Rattle.crush_text.specs.Form.{ruled}
 use Rattle.crush_text.specs.Grammar.{line_forms}
 use Rattle.crush_text.specs.ReadsRules.{StepGoes}

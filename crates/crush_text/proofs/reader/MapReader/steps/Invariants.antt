@@ -1,8 +1,8 @@
 -- The steps so far, and what comes of the rest.
 use Rattle.std.proofs.Common.{◌≡◌, ◌≤◌, length}
-use Rattle.crush_map.specs.Built.{Draft}
-use Rattle.crush_map.specs.Building.{IsDraft}
-use Rattle.crush_map.specs.Rules.{kept_rule}
+use Rattle.crush_builder.specs.Built.{Draft}
+use Rattle.crush_builder.specs.Building.{IsDraft}
+use Rattle.crush_builder.specs.Rules.{kept_rule}
 use Rattle.crush_text.specs.Form.{ruled, at}
 use Rattle.crush_text.specs.Flow.{between}
 use Rattle.crush_text.specs.Reads.{LeadsOn}

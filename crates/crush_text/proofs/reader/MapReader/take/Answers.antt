@@ -4,7 +4,7 @@ use Rattle.std.specs.Prelude.{if◌then◌else◌}
 use Rattle.crush_bytes.specs.Words.{past}
 use Rattle.std.proofs.lemmas.Result.{err_from_is_err_and}
 use Rattle.crush_edits.specs.Setting.{take}
-use Rattle.crush_map.specs.Rules.{complete_bucket_named, taken_number}
+use Rattle.crush_builder.specs.Rules.{complete_bucket_named, taken_number}
 use Rattle.crush_text.specs.Grammar.{step_done}
 use Rattle.crush_text.proofs.LineByLine.{fails_so}
 use Rattle.crush_text.proofs.LineEnds.{word_fails, word_reads}

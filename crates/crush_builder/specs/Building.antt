@@ -1,0 +1,169 @@
+-- The state of a builder, the draft at which it is, and the tests that a reader makes before each step.
+pub use Rattle.crush_edits.specs.Setting.{has_tunable}
+use Rattle.std.specs.Prelude.{◌≡◌, ℕ, ◌<◌, ◌≤◌, List, [], ◌∷◌, All, map, Option, Some, None, Bool, true, false, ◌==◌, ◌||◌, ◌&&◌, if◌then◌else◌, length, bytes_eq, nat_lt, nat_le, is_some, option_and_then}
+use Rattle.std.specs.List.{count_by, list_any}
+use Rattle.crush_units.specs.declared.id.ItemId.{ItemId}
+use Rattle.crush_units.specs.declared.id.ItemId.TheVariants.{Bucket}
+use Rattle.crush_units.specs.Id.{same_id}
+use Rattle.crush_units.specs.Name.{IsName}
+use Rattle.crush_table.specs.Items.{ShadowData}
+use Rattle.crush_table.specs.Table.{Row, is_bucket, is_there, is_named, parent_of, id_named, used_ids, member, device_count, bucket_count}
+use Rattle.crush_table.specs.Lawful.{IsShadowId}
+use Rattle.crush_table.specs.Forest.{ForestData, rows_of}
+use Rattle.crush_table.specs.Stands.{Stands}
+use Rattle.crush_edits.specs.Setting.{KindData, SettingData, kind_number}
+use Rattle.crush_edits.specs.Fits.{Fits}
+use Rattle.crush_builder.specs.Built.{Pending, nothing, begun, numbered, filling, Draft}
+use Rattle.crush_units.specs.declared.limits.TheConstants.{FARTHEST_BUCKET_ID, LAST_TYPE, MOST_BUCKETS, MOST_CLASS_IDS, MOST_DEVICES, MOST_TUNABLES, MOST_TYPES}
+
+-- what contracts see of a builder
+pub record BuilderData : Type 0 where
+  pub setting : SettingData
+  pub forest : ForestData
+  pub pending : Pending
+  pub adjusted : ℕ
+
+-- a type of buckets that the setting has
+abbrev pub is_bucket_kind : SettingData → ℕ → Bool
+is_bucket_kind s k = nat_lt 0 k && list_any (λ (x : KindData). x.number == k) s.kinds
+
+-- the same by a type's name
+abbrev pub is_some_above_zero : Option ℕ → Bool
+is_some_above_zero None = false
+is_some_above_zero (Some k) = nat_lt 0 k
+
+abbrev pub names_bucket_kind : SettingData → List ℕ → Bool
+names_bucket_kind s n = is_some_above_zero (kind_number s n)
+
+-- what of a bucket that is not yet in the table can be put there
+pub record CanBegin (s : SettingData) (t : List Row) (kind : ℕ) (name : List ℕ) : Type 0 where
+  pub known : is_bucket_kind s kind ≡ true
+  pub most : kind ≤ LAST_TYPE
+  pub form : IsName name
+  pub free : is_named t name ≡ false
+  pub few : bucket_count t < MOST_BUCKETS
+
+-- a bucket's id and those of its class ids
+abbrev pub own_ids : ℕ → List ShadowData → List ℕ
+own_ids b class_ids = b ∷ map (λ (c : ShadowData). c.id) class_ids
+
+-- its id and its class ids are in range, distinct and free, and no two class ids are of one class
+pub record CanNumber (t : List Row) (b : ℕ) (class_ids : List ShadowData) : Type 0 where
+  pub some : 0 < b
+  pub most : b ≤ FARTHEST_BUCKET_ID
+  pub free : member b (used_ids t) ≡ false
+  pub form : All IsShadowId class_ids
+  pub fresh : All (λ (c : ShadowData). member c.id (used_ids t) ≡ false) class_ids
+  pub apart : (k : ℕ) → count_by (λ u. u == k) (own_ids b class_ids) ≤ 1
+  pub classes : (c : List ℕ) → count_by (λ (x : ShadowData). bytes_eq x.class c) class_ids ≤ 1
+  pub few : length class_ids ≤ MOST_CLASS_IDS
+
+-- the bucket stands in the table, in no other bucket
+pub record IsRoot (t : List Row) (b : ℕ) : Type 0 where
+  pub there : is_there t (Bucket b) ≡ true
+  pub root : parent_of t (Bucket b) ≡ None
+
+-- the pending part goes with the setting and the table
+abbrev pub IsPending : SettingData → List Row → Pending → Type 0
+IsPending s t nothing = Unit {0}
+IsPending s t (begun kind name) = CanBegin s t kind name
+IsPending s t (numbered kind name b class_ids) = CanBegin s t kind name × CanNumber t b class_ids
+IsPending s t (filling b) = IsRoot t b
+
+-- how many buckets another holds: no fewer than weights were adjusted
+abbrev pub held_buckets : List Row → ℕ
+held_buckets t = count_by (λ (r : Row). is_bucket r && is_some r.parent) t
+
+-- the builder is at the draft
+pub record IsDraft (b : BuilderData) (d : Draft) : Type 0 where
+  pub setting : b.setting ≡ d.setting
+  pub pending : b.pending ≡ d.pending
+  pub adjusted : b.adjusted ≡ d.adjusted
+  pub few : d.adjusted ≤ held_buckets d.table
+  pub stands : Stands b.forest d.table
+  pub fits : Fits d.setting d.table
+  pub part : IsPending d.setting d.table d.pending
+
+-- its own rows are the table of one such draft
+abbrev pub own_draft : BuilderData → Draft
+own_draft b = record { setting = b.setting; table = rows_of b.forest; pending = b.pending; adjusted = b.adjusted }
+
+-- what each builder keeps beside what its forest keeps
+pub record BuilderFits (b : BuilderData) : Type 0 where
+  pub fits : Fits b.setting (rows_of b.forest)
+  pub part : IsPending b.setting (rows_of b.forest) b.pending
+  pub few : b.adjusted ≤ held_buckets (rows_of b.forest)
+
+-- THE TESTS
+abbrev pub is_idle : Pending → Bool
+is_idle nothing = true
+is_idle _ = false
+
+abbrev pub is_begun : Pending → Bool
+is_begun (begun kind name) = true
+is_begun _ = false
+
+abbrev pub is_numbered : Pending → Bool
+is_numbered (numbered kind name b class_ids) = true
+is_numbered _ = false
+
+abbrev pub is_filling : Pending → Bool
+is_filling (filling b) = true
+is_filling _ = false
+
+-- whether a name is that of the pending bucket, an id its own or that of a class id, and whether an item is the bucket that is being filled
+abbrev pub has_pending_name : Pending → List ℕ → Bool
+has_pending_name (begun kind name) n = bytes_eq name n
+has_pending_name (numbered kind name b class_ids) n = bytes_eq name n
+has_pending_name _ n = false
+
+abbrev pub has_pending_id : Pending → ℕ → Bool
+has_pending_id (numbered kind name b class_ids) k = member k (own_ids b class_ids)
+has_pending_id _ k = false
+
+abbrev pub pending_class_ids : Pending → List ShadowData
+pending_class_ids (numbered kind name b class_ids) = class_ids
+pending_class_ids _ = []
+
+abbrev pub is_open : Pending → ItemId → Bool
+is_open (filling b) i = same_id (Bucket b) i
+is_open _ i = false
+
+abbrev pub has_name : Draft → List ℕ → Bool
+has_name d n = is_named d.table n || has_pending_name d.pending n
+
+abbrev pub has_bucket_id : Draft → ℕ → Bool
+has_bucket_id d k = member k (used_ids d.table) || has_pending_id d.pending k
+
+-- a class id of the pending bucket has the class
+abbrev pub has_class : Draft → List ℕ → Bool
+has_class d c = list_any (λ (x : ShadowData). bytes_eq x.class c) (pending_class_ids d.pending)
+
+-- the item of a name, if it is a device or a bucket that was closed
+abbrev pub closed_item : Pending → ItemId → Option ItemId
+closed_item p i = if is_open p i then None else Some i
+
+abbrev pub item_named : Draft → List ℕ → Option ItemId
+item_named d n = option_and_then (closed_item d.pending) (id_named d.table n)
+
+abbrev pub has_kind_number : SettingData → ℕ → Bool
+has_kind_number s k = list_any (λ (x : KindData). x.number == k) s.kinds
+
+abbrev pub has_kind_name : SettingData → List ℕ → Bool
+has_kind_name s n = list_any (λ (x : KindData). bytes_eq x.name n) s.kinds
+
+-- one more would pass a limit
+abbrev pub is_full_of_devices : Draft → Bool
+is_full_of_devices d = nat_le MOST_DEVICES (device_count d.table)
+
+abbrev pub is_full_of_buckets : Draft → Bool
+is_full_of_buckets d = nat_le MOST_BUCKETS (bucket_count d.table)
+
+abbrev pub is_full_of_class_ids : Draft → Bool
+is_full_of_class_ids d = nat_le MOST_CLASS_IDS (length (pending_class_ids d.pending))
+
+abbrev pub is_full_of_kinds : Draft → Bool
+is_full_of_kinds d = nat_le MOST_TYPES (length d.setting.kinds)
+
+abbrev pub is_full_of_tunables : Draft → Bool
+is_full_of_tunables d = nat_le MOST_TUNABLES (length d.setting.tunables)

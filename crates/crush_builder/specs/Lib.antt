@@ -1,0 +1,6 @@
+pub mod Building
+pub mod Built
+pub mod Codes
+pub mod Faults
+pub mod Pending
+pub mod Rules

@@ -1,0 +1,96 @@
+-- A rule that a builder is given: its form, what speaks against it, and what is kept of it.
+use Rattle.std.specs.Prelude.{ℕ, ◌+◌, ◌≤◌, List, [], ◌∷◌, Option, Some, None, Bool, ◌==◌, if◌then◌else◌, IfSome, All, map, length, bytes_eq, is_some, nat_le, option_and_then}
+use Rattle.std.specs.List.{list_any}
+use Rattle.crush_units.specs.declared.limits.TheConstants.{LARGEST_RULE_NUMBER, MOST_RULES, MOST_STEPS}
+use Rattle.crush_units.specs.Name.{IsName}
+use Rattle.crush_edits.specs.Setting.{StepData, take, choose, set, emit, RuleData, SettingData, kind_number}
+use Rattle.crush_edits.specs.Fits.{IsCount, IsSet}
+use Rattle.crush_edits.specs.Stops.{number_of}
+use Rattle.crush_edits.specs.declared.rule.Rule.{Rule}
+use Rattle.crush_edits.specs.declared.rule.Step.{Step}
+use Rattle.crush_edits.specs.declared.rule.Step.TheVariants.{Take, Choose, Set, Emit}
+use Rattle.crush_builder.specs.declared.fault.BuildFault.{BuildFault}
+use Rattle.crush_builder.specs.declared.fault.BuildFault.TheVariants.{DuplicateId, DuplicateName, UnknownType, UnknownBucketInRule, TooMany}
+use Rattle.crush_builder.specs.declared.fault.RuleFault.{RuleFault}
+use Rattle.crush_builder.specs.declared.fault.RulePart.{RulePart}
+use Rattle.crush_builder.specs.declared.fault.RulePart.TheVariants.{Statement as AtStatement, Name as AtName, Id as AtId, Step as AtStep}
+use Rattle.crush_builder.specs.Built.{Draft, add_rule}
+use Rattle.crush_builder.specs.Building.{item_named}
+use Rattle.crush_builder.specs.Faults.{fault_told}
+
+-- THE FORM that the text gives a rule's words and numbers
+abbrev pub IsStepForm : Step → Type 0
+IsStepForm (Take name class) = IfSome class IsName
+IsStepForm (Choose leaf firstn count kind) = IsCount count
+IsStepForm (Set word value) = IsSet word value
+IsStepForm Emit = Unit {0}
+
+pub record IsRuleForm (r : Rule) : Type 0 where
+  pub name : IsName r.name
+  pub id : r.id ≤ LARGEST_RULE_NUMBER
+  pub kind : IsName r.kind
+  pub min_size : IfSome r.min_size (λ n. n ≤ LARGEST_RULE_NUMBER)
+  pub max_size : IfSome r.max_size (λ n. n ≤ LARGEST_RULE_NUMBER)
+  pub steps : All IsStepForm r.steps.items
+
+-- the bucket of a name, where a device or no complete bucket has it none
+abbrev pub complete_bucket_named : Draft → List ℕ → Option ℕ
+complete_bucket_named d n = option_and_then number_of (item_named d n)
+
+-- WHAT IS KEPT: the buckets by their ids
+abbrev pub taken_number : Option ℕ → ℕ
+taken_number None = 0
+taken_number (Some b) = b
+
+abbrev pub kept_step : Draft → Step → StepData
+kept_step d (Take name class) = take (taken_number (complete_bucket_named d name)) class
+kept_step d (Choose leaf firstn count kind) = choose leaf firstn count kind
+kept_step d (Set word value) = set word value
+kept_step d Emit = emit
+
+abbrev pub kept_rule : Draft → Rule → RuleData
+kept_rule d r = record { name = r.name; id = r.id; kind = r.kind; min_size = r.min_size; max_size = r.max_size; steps = map (kept_step d) r.steps.items }
+
+abbrev pub with_rule : Draft → Rule → Draft
+with_rule d r = add_rule d (kept_rule d r)
+
+-- THE FAULTS, each at its part, in the order of the parts
+abbrev pub has_rule_name : SettingData → List ℕ → Bool
+has_rule_name s n = list_any (λ (x : RuleData). bytes_eq x.name n) s.rules
+
+abbrev pub has_rule_id : SettingData → ℕ → Bool
+has_rule_id s k = list_any (λ (x : RuleData). x.id == k) s.rules
+
+abbrev pub is_full_of_rules : Draft → Bool
+is_full_of_rules d = nat_le MOST_RULES (length d.setting.rules)
+
+-- a step by itself: it names what isn't there
+abbrev pub word_fault : Draft → Step → Option BuildFault
+word_fault d (Take name class) = if is_some (complete_bucket_named d name) then None else Some UnknownBucketInRule
+word_fault d (Choose leaf firstn count kind) = if is_some (kind_number d.setting kind) then None else Some UnknownType
+word_fault d (Set word value) = None
+word_fault d Emit = None
+
+abbrev pub step_fault : Draft → ℕ → Step → Option BuildFault
+step_fault d k x = if nat_le MOST_STEPS k then Some TooMany else word_fault d x
+
+-- the fault at the part, or else what comes later
+abbrev pub or_later : RulePart → Option BuildFault → Option RuleFault → Option RuleFault
+or_later p None later = later
+or_later p (Some f) later = Some (record { part = p; fault = f })
+
+-- of steps that follow k others
+abbrev pub steps_fault : Draft → ℕ → List Step → Option RuleFault
+steps_fault d k [] = None
+steps_fault d k (x ∷ xs) = or_later (AtStep k) (step_fault d k x) (steps_fault d (k + 1) xs)
+
+abbrev pub rule_fault : Draft → Rule → Option RuleFault
+rule_fault d r =
+    if is_full_of_rules d then Some (record { part = AtStatement; fault = TooMany })
+    else (if has_rule_name d.setting r.name then Some (record { part = AtName; fault = DuplicateName })
+    else (if has_rule_id d.setting r.id then Some (record { part = AtId; fault = DuplicateId })
+    else steps_fault d 0 r.steps.items))
+
+-- what a fault tells of the draft: that it is this one there, and out of memory that none is
+abbrev pub rule_told : RuleFault → Option RuleFault
+rule_told f = if is_some (fault_told f.fault) then Some f else None

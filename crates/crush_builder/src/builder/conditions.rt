@@ -1,0 +1,267 @@
+//! The tests that tell whether a call of the builder may be made.
+
+ghost use Rattle.std.specs.Prelude.{◌≡◌, ◌==◌, ◌↔◌, IsTrue, IfSome, IfOk, map, bytes_eq, true, false};
+ghost use Rattle.std.specs.Option.{ok_or};
+ghost use Rattle.crush_builder.specs.declared.fault.BuildFault.TheVariants.{UnknownItem};
+ghost use Rattle.crush_units.specs.declared.id.ItemId.TheVariants.{Device, Bucket};
+ghost use Rattle.crush_table.specs.Table.{is_there, is_placed, weight_of};
+ghost use Rattle.crush_edits.specs.Setting.{kind_number, has_tunable};
+ghost use Rattle.crush_builder.specs.Built.{Draft, nothing};
+ghost use Rattle.crush_builder.specs.Building.{IsDraft, is_begun, is_numbered, is_filling, is_open};
+ghost use Rattle.crush_builder.specs.Building.{has_kind_number, has_kind_name, has_name, has_bucket_id};
+ghost use Rattle.crush_builder.specs.Building.{is_bucket_kind, item_named, is_full_of_devices};
+ghost use Rattle.crush_builder.specs.Building.{is_full_of_buckets, is_full_of_kinds};
+ghost use Rattle.crush_builder.specs.Building.{is_full_of_tunables, has_class};
+ghost use Rattle.crush_builder.specs.Building.{is_full_of_class_ids, names_bucket_kind};
+ghost use Rattle.crush_builder.specs.Building.{has_pending_id, pending_class_ids};
+ghost use Rattle.crush_nodes.specs.Seen.{shadow_data};
+ghost use Rattle.crush_nodes.specs.declared.node.ShadowId.{ShadowId as DeclaredShadow};
+ghost use Rattle.std.specs.List.{list_any};
+
+use super::{MapBuilder, Pending};
+use crate::fault::BuildFault;
+use crush_tree::ShadowId;
+use crush_units::limits::{MOST_BUCKETS, MOST_CLASS_IDS, MOST_DEVICES, MOST_TUNABLES, MOST_TYPES};
+use crush_units::{BucketId, DeviceId, ItemId, TypeId, Weight};
+use std::alloc::Allocator;
+
+impl<A: Allocator> MapBuilder<A> {
+    /// Whether no statement is in the middle, so that a type, a device or a bucket may come.
+    pub fn is_idle(&self) -> bool
+        ensures { IsTrue result ↔ (self.now.pending ≡ nothing) }
+    {
+        matches!(self.pending, Pending::Nothing)
+    }
+
+    /// Whether a bucket has begun and waits for its id.
+    pub fn is_begun(&self) -> bool
+        ensures { result ≡ is_begun self.now.pending }
+    {
+        matches!(self.pending, Pending::Begun(..))
+    }
+
+    /// Whether a bucket has its id and waits for its algorithm.
+    pub fn is_numbered(&self) -> bool
+        ensures { result ≡ is_numbered self.now.pending }
+    {
+        matches!(self.pending, Pending::Numbered(..))
+    }
+
+    /// Whether a bucket has its algorithm and waits for items or its end.
+    pub fn is_filling(&self) -> bool
+        ensures { result ≡ is_filling self.now.pending }
+    {
+        matches!(self.pending, Pending::Filling(_))
+    }
+
+    /// Whether a device has this id.
+    pub fn has_device(&self, id: DeviceId) -> bool
+        ensures { (d : Draft) → IsDraft self.now d → result ≡ is_there d.table (Device id) }
+    {
+        self.hierarchy.kind(ItemId::Device(id)).is_some()
+    }
+
+    /// Whether a bucket or a class id has this id, also the bucket that isn't complete.
+    pub fn has_bucket_id(&self, id: BucketId) -> bool
+        ensures { (d : Draft) → IsDraft self.now d → result ≡ has_bucket_id d id }
+    {
+        self.hierarchy.is_used(id) || self.has_pending_id(id)
+    }
+
+    /// Whether the bucket that waits for its algorithm has a class id of this class.
+    pub fn has_class(&self, class: &[u8]) -> bool
+        ensures { (d : Draft) → IsDraft self.now d → result ≡ has_class d class.now }
+    {
+        names_class(self.class_ids(), class)
+    }
+
+    /// Whether the bucket that waits for its algorithm has 16 class ids.
+    pub fn is_full_of_class_ids(&self) -> bool
+        ensures { (d : Draft) → IsDraft self.now d → result ≡ is_full_of_class_ids d }
+    {
+        self.class_ids().len() >= MOST_CLASS_IDS
+    }
+
+    /// Whether an item has this name, also the bucket that isn't complete.
+    pub fn has_name(&self, name: &[u8]) -> bool
+        ensures { (d : Draft) → IsDraft self.now d → result ≡ has_name d name.now }
+    {
+        let pending = match &self.pending {
+            Pending::Begun(_, own) => own.is(name),
+            Pending::Numbered(_, own, _, _) => own.is(name),
+            _ => false,
+        };
+        self.hierarchy.id_of_bytes(name).is_some() || pending
+    }
+
+    /// Whether a type has this number.
+    pub fn has_kind_number(&self, number: TypeId) -> bool
+        ensures { (d : Draft) → IsDraft self.now d → result ≡ has_kind_number d.setting number }
+    {
+        self.setting.kind_name(number).is_some()
+    }
+
+    /// Whether a type has this name.
+    pub fn has_kind_name(&self, name: &[u8]) -> bool
+        ensures { (d : Draft) → IsDraft self.now d → result ≡ has_kind_name d.setting name.now }
+    {
+        self.kind_number(name).is_some()
+    }
+
+    /// Whether a tunable has this name.
+    pub fn has_tunable(&self, name: &[u8]) -> bool
+        ensures { (d : Draft) → IsDraft self.now d → result ≡ has_tunable d.setting name.now }
+    {
+        self.setting.tunables().contains_key(name)
+    }
+
+    /// Whether buckets can have the type of this number: it isn't 0, and one of the map's types.
+    pub fn is_bucket_kind(&self, number: TypeId) -> bool
+        ensures { (d : Draft) → IsDraft self.now d → result ≡ is_bucket_kind d.setting number }
+    {
+        number.number() > 0 && self.has_kind_number(number)
+    }
+
+    /// Whether buckets can have the type of this name.
+    pub(super) fn names_bucket_kind(&self, name: &[u8]) -> bool
+        ensures { (d : Draft) → IsDraft self.now d
+            → result ≡ names_bucket_kind d.setting name.now }
+    {
+        match self.kind_number(name) {
+            Some(number) => number.number() > 0,
+            None => false,
+        }
+    }
+
+    /// The number of the type of this name, or `None` where the map has no such type.
+    pub fn kind_number(&self, name: &[u8]) -> Option<TypeId>
+        ensures { (d : Draft) → IsDraft self.now d → result ≡ kind_number d.setting name.now }
+    {
+        self.setting.kind_number(name)
+    }
+
+    /// The device or the complete bucket of this name, or [`BuildFault::UnknownItem`] where there
+    /// is none.
+    pub fn item_named(&self, name: &[u8]) -> Result<ItemId, BuildFault>
+        ensures value { (d : Draft) → IsDraft self.now d
+            → result ≡ ok_or (item_named d name.now) UnknownItem }
+        ensures there { IfOk result (λ i. (d : Draft) → IsDraft self.now d
+            → is_there d.table i ≡ true) }
+        ensures closed { IfOk result (λ i. is_open self.now.pending i ≡ false) }
+    {
+        self.closed_item(name).ok_or(BuildFault::UnknownItem)
+    }
+
+    /// The device or the complete bucket of this name, or `None` where there is none.
+    pub(super) fn closed_item(&self, name: &[u8]) -> Option<ItemId>
+        ensures value { (d : Draft) → IsDraft self.now d → result ≡ item_named d name.now }
+        ensures there { IfSome result (λ i. (d : Draft) → IsDraft self.now d
+            → is_there d.table i ≡ true) }
+        ensures closed { IfSome result (λ i. is_open self.now.pending i ≡ false) }
+    {
+        match self.hierarchy.id_of_bytes(name)? {
+            ItemId::Device(device) => Some(ItemId::Device(device)),
+            ItemId::Bucket(bucket) => {
+                if self.fills(bucket) {
+                    None
+                } else {
+                    Some(ItemId::Bucket(bucket))
+                }
+            }
+        }
+    }
+
+    /// Whether a bucket holds the item.
+    pub fn is_placed(&self, id: ItemId) -> bool
+        ensures { (d : Draft) → IsDraft self.now d → result ≡ is_placed d.table id }
+    {
+        self.hierarchy.parent(id).is_some()
+    }
+
+    /// The weight of an item, or `None` where it isn't there.
+    pub fn weight_of(&self, id: ItemId) -> Option<Weight>
+        ensures { (d : Draft) → IsDraft self.now d → result ≡ weight_of d.table id }
+    {
+        self.hierarchy.weight(id)
+    }
+
+    /// How many buckets were put into another with a written weight that wasn't their sum.
+    pub fn adjusted(&self) -> u32
+        ensures { (d : Draft) → IsDraft self.now d → result ≡ d.adjusted }
+    {
+        self.adjusted
+    }
+
+    /// Whether there are 65,536 devices.
+    pub fn is_full_of_devices(&self) -> bool
+        ensures { (d : Draft) → IsDraft self.now d → result ≡ is_full_of_devices d }
+    {
+        self.hierarchy.counts().devices >= MOST_DEVICES
+    }
+
+    /// Whether there are 4,096 buckets.
+    pub fn is_full_of_buckets(&self) -> bool
+        ensures { (d : Draft) → IsDraft self.now d → result ≡ is_full_of_buckets d }
+    {
+        self.hierarchy.counts().buckets >= MOST_BUCKETS
+    }
+
+    /// Whether there are 256 types.
+    pub fn is_full_of_kinds(&self) -> bool
+        ensures { (d : Draft) → IsDraft self.now d → result ≡ is_full_of_kinds d }
+    {
+        self.setting.kinds().len() >= MOST_TYPES
+    }
+
+    /// Whether there are 64 tunables.
+    pub fn is_full_of_tunables(&self) -> bool
+        ensures { (d : Draft) → IsDraft self.now d → result ≡ is_full_of_tunables d }
+    {
+        self.setting.tunables().len() >= MOST_TUNABLES
+    }
+
+    /// Whether the bucket that waits for its algorithm, or one of its class ids, has the id.
+    fn has_pending_id(&self, id: BucketId) -> bool
+        ensures { result ≡ has_pending_id self.now.pending id }
+    {
+        match &self.pending {
+            Pending::Numbered(_, _, own, _) => *own == id || numbers_class_id(self.class_ids(), id),
+            _ => false,
+        }
+    }
+
+    /// The class ids of the bucket that waits for its algorithm, or none where none does.
+    fn class_ids(&self) -> &[ShadowId<A>]
+        ensures { map shadow_data result.now ≡ pending_class_ids self.now.pending }
+    {
+        match &self.pending {
+            Pending::Numbered(_, _, _, Some(class_ids)) => class_ids.as_slice(),
+            _ => &[],
+        }
+    }
+
+    /// Whether the bucket is the one that is being filled.
+    pub(super) fn fills(&self, id: BucketId) -> bool
+        ensures { result ≡ is_open self.now.pending (Bucket id) }
+    {
+        match &self.pending {
+            Pending::Filling(bucket) => *bucket == id,
+            _ => false,
+        }
+    }
+}
+
+/// Whether one of the class ids has the id.
+fn numbers_class_id<A: Allocator>(class_ids: &[ShadowId<A>], id: BucketId) -> bool
+    ensures { result ≡ list_any (λ (c : DeclaredShadow _). c.id == id) class_ids.now }
+{
+    class_ids.iter().any(|class_id| class_id.id == id)
+}
+
+/// Whether one of the class ids has the class.
+fn names_class<A: Allocator>(class_ids: &[ShadowId<A>], class: &[u8]) -> bool
+    ensures { result
+        ≡ list_any (λ (c : DeclaredShadow _). bytes_eq c.class class.now) class_ids.now }
+{
+    class_ids.iter().any(|class_id| class_id.class.is(class))
+}

@@ -1,0 +1,203 @@
+//! What speaks against a call of the builder.
+
+ghost use Rattle.std.specs.Prelude.{◌≡◌, ℕ, true, false, not};
+ghost use Rattle.crush_table.specs.Forest.{all_items, rows_of};
+ghost use Rattle.crush_table.specs.Lawful.{is_too_heavy};
+ghost use Rattle.crush_table.specs.Stored.{weight_sum};
+ghost use Rattle.crush_table.specs.Table.{is_there, is_placed};
+ghost use Rattle.crush_nodes.specs.Ops.{part_of};
+ghost use Rattle.crush_map.specs.WrittenItems.{adjustment};
+ghost use Rattle.crush_builder.specs.Built.{Draft, filling, table_with_item};
+ghost use Rattle.crush_builder.specs.Building.{IsDraft};
+ghost use Rattle.crush_builder.specs.Faults.{kind_fault, device_fault, begin_fault, item_fault};
+ghost use Rattle.crush_builder.specs.Faults.{is_closed, is_heavy_device, tunable_fault, class_id_fault};
+ghost use Rattle.crush_builder.specs.Pending.{with_first_weight};
+
+use super::{MapBuilder, device_weight};
+use crate::fault::BuildFault;
+use crush_tree::Place;
+use crush_units::{BucketId, DeviceId, ItemId, TypeId, Weight};
+use std::alloc::Allocator;
+
+impl<A: Allocator> MapBuilder<A> {
+    /// What speaks against one more type.
+    pub(super) fn kind_fault(&self, number: TypeId, name: &[u8]) -> Option<BuildFault>
+        ensures { (d : Draft) → IsDraft self.now d → result ≡ kind_fault d number name.now }
+    {
+        if self.has_kind_number(number) {
+            return Some(BuildFault::DuplicateId);
+        }
+        if self.has_kind_name(name) {
+            return Some(BuildFault::DuplicateName);
+        }
+        if self.is_full_of_kinds() {
+            return Some(BuildFault::TooMany);
+        }
+        None
+    }
+
+    /// What speaks against one more tunable.
+    pub(super) fn tunable_fault(&self, name: &[u8]) -> Option<BuildFault>
+        ensures { (d : Draft) → IsDraft self.now d → result ≡ tunable_fault d name.now }
+    {
+        if self.has_tunable(name) {
+            return Some(BuildFault::DuplicateName);
+        }
+        if self.is_full_of_tunables() {
+            return Some(BuildFault::TooMany);
+        }
+        None
+    }
+
+    /// What speaks against one more device.
+    pub(super) fn device_fault(&self, id: DeviceId, name: &[u8]) -> Option<BuildFault>
+        ensures { (d : Draft) → IsDraft self.now d → result ≡ device_fault d id name.now }
+    {
+        if self.has_device(id) {
+            return Some(BuildFault::DuplicateId);
+        }
+        if self.has_name(name) {
+            return Some(BuildFault::DuplicateName);
+        }
+        if self.is_full_of_devices() {
+            return Some(BuildFault::TooMany);
+        }
+        None
+    }
+
+    /// What speaks against one more bucket.
+    pub(super) fn begin_fault(&self, kind: &[u8], name: &[u8]) -> Option<BuildFault>
+        ensures { (d : Draft) → IsDraft self.now d → result ≡ begin_fault d kind.now name.now }
+    {
+        if self.has_name(name) {
+            return Some(BuildFault::DuplicateName);
+        }
+        if !self.names_bucket_kind(kind) {
+            return Some(BuildFault::UnknownType);
+        }
+        if self.is_full_of_buckets() {
+            return Some(BuildFault::TooMany);
+        }
+        None
+    }
+
+    /// What speaks against one more class id.
+    pub(super) fn class_id_fault(&self, id: BucketId, class: &[u8]) -> Option<BuildFault>
+        ensures { (d : Draft) → IsDraft self.now d → result ≡ class_id_fault d id class.now }
+    {
+        if self.has_bucket_id(id) {
+            return Some(BuildFault::DuplicateId);
+        }
+        if self.has_class(class) {
+            return Some(BuildFault::DuplicateName);
+        }
+        if self.is_full_of_class_ids() {
+            return Some(BuildFault::TooMany);
+        }
+        None
+    }
+
+    /// What speaks against one more item of the bucket that is being filled.
+    pub(super) fn item_fault(
+        &self,
+        bucket: BucketId,
+        id: ItemId,
+        written: Option<Weight>,
+    ) -> Option<BuildFault>
+        requires { self.now.pending ≡ filling bucket }
+        ensures { (d : Draft) → IsDraft self.now d → result ≡ item_fault d id written }
+    {
+        let item = &id;
+        let written = &written;
+        if is_heavy_device(*item, *written) {
+            return Some(BuildFault::BadWeight);
+        }
+        if !self.is_closed(*item) {
+            return Some(BuildFault::UnknownItem);
+        }
+        if self.is_placed(*item) {
+            return Some(BuildFault::SecondParent);
+        }
+        if !self.fits_item(bucket, *item, device_weight(*written)) {
+            return Some(BuildFault::SumTooLarge);
+        }
+        None
+    }
+
+    /// Whether the item is a device, or a bucket that is complete.
+    fn is_closed(&self, id: ItemId) -> bool
+        ensures { (d : Draft) → IsDraft self.now d → result ≡ is_closed d id }
+    {
+        let item = &id;
+        let open = match item {
+            ItemId::Bucket(bucket) => self.fills(*bucket),
+            ItemId::Device(_) => false,
+        };
+        self.hierarchy.kind(*item).is_some() && !open
+    }
+
+    /// Whether all sums stay in range where the item is put into the bucket that is being filled.
+    fn fits_item(&self, bucket: BucketId, id: ItemId, weight: Weight) -> bool
+        requires fills { self.now.pending ≡ filling bucket }
+        requires closed { (d : Draft) → IsDraft self.now d → is_closed d id ≡ true }
+        requires free { (d : Draft) → IsDraft self.now d → is_placed d.table id ≡ false }
+        ensures { (d : Draft) → IsDraft self.now d
+            → result ≡ not (is_too_heavy (table_with_item d.pending id weight d.table)) }
+    {
+        self.hierarchy.recall_invariant();
+        let item = &id;
+        let coming = self.weight_to_come(*item, weight);
+        self.hierarchy
+            .fits_move(*item, Place::Bucket(bucket), coming)
+    }
+
+    /// What an item weighs once it is put into a bucket with the weight: a device that, and a
+    /// bucket what it weighs.
+    fn weight_to_come(&self, id: ItemId, weight: Weight) -> Weight
+        requires { is_there (rows_of self.now.forest) id ≡ true }
+        ensures { result
+            ≡ weight_sum (with_first_weight weight (part_of id (all_items self.now.forest))) }
+    {
+        self.hierarchy.recall_invariant();
+        let item = &id;
+        self.hierarchy.recall_part(*item);
+        match item {
+            ItemId::Device(_) => weight,
+            ItemId::Bucket(_) => match self.hierarchy.weight(*item) {
+                Some(own) => own,
+                None => unreachable!(),
+            },
+        }
+    }
+
+    /// 1 where the written weight of a bucket isn't its sum, else 0.
+    pub(super) fn adjustment(&self, id: ItemId, written: Option<Weight>) -> u32
+        ensures { (d : Draft) → IsDraft self.now d → is_there d.table id ≡ true
+            → result ≡ adjustment d.table id written }
+    {
+        let item = &id;
+        match item {
+            ItemId::Device(_) => 0,
+            ItemId::Bucket(_) => {
+                let Some(written) = written else {
+                    return 0;
+                };
+                let Some(own) = self.hierarchy.weight(*item) else {
+                    return 0;
+                };
+                if written == own { 0 } else { 1 }
+            }
+        }
+    }
+}
+
+/// Whether a device is to have a weight that no device has.
+fn is_heavy_device(id: ItemId, written: Option<Weight>) -> bool
+    ensures { result ≡ is_heavy_device id written }
+{
+    let item = &id;
+    match (item, written) {
+        (ItemId::Device(_), Some(weight)) => !weight.is_device_weight(),
+        _ => false,
+    }
+}

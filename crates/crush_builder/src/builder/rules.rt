@@ -1,0 +1,235 @@
+//! Rules: what speaks against one, and how it is kept.
+
+ghost use Rattle.std.specs.Prelude.{◌≡◌, ◌==◌, None, OnOk, IfErr, IfOk, IfSome, All, map, bytes_eq};
+ghost use Rattle.std.specs.List.{list_any};
+ghost use Rattle.crush_edits.specs.SettingSeen.{step_data, rule_data};
+ghost use Rattle.crush_edits.specs.declared.setting.KeptRule.{KeptRule as DeclaredRule};
+ghost use Rattle.crush_builder.specs.Built.{Draft, nothing};
+ghost use Rattle.crush_builder.specs.Building.{IsDraft};
+ghost use Rattle.crush_builder.specs.Rules.{IsRuleForm, complete_bucket_named, kept_step, kept_rule, with_rule};
+ghost use Rattle.crush_builder.specs.Rules.{has_rule_name, has_rule_id, is_full_of_rules, word_fault};
+ghost use Rattle.crush_builder.specs.Rules.{step_fault, steps_fault, rule_fault, rule_told};
+
+use super::MapBuilder;
+use crate::fault::{BuildFault, RuleFault, RulePart};
+use crush_edits::{KeptRule, KeptStep, Rule, Step};
+use crush_units::limits::{MOST_RULES, MOST_STEPS};
+use crush_units::{BucketId, ItemId};
+use std::alloc::{AllocError, Allocator};
+
+impl<A: Allocator> MapBuilder<A> {
+    /// Adds a rule, as `rule NAME { .. }`. The map keeps the buckets that it takes by their ids.
+    ///
+    /// The fault of the first part is told that has one. Of the statement [`BuildFault::TooMany`]
+    /// with 256 rules; of the name [`BuildFault::DuplicateName`] and of the id
+    /// [`BuildFault::DuplicateId`] where a rule has it; of a step [`BuildFault::TooMany`] of the
+    /// 65th, [`BuildFault::UnknownType`] where it chooses of a type that no type is, and
+    /// [`BuildFault::UnknownBucketInRule`] where it takes what is no complete bucket. Out of memory
+    /// is told of the statement.
+    pub fn rule(&mut self, rule: &Rule) -> Result<(), RuleFault>
+        requires idle { self.old.pending ≡ nothing }
+        requires form { IsRuleForm rule.now }
+        ensures refused { IfErr result (λ f. (d : Draft) → IsDraft self.old d
+            → rule_fault d rule.now ≡ rule_told f) }
+        ensures memory { IfErr result (λ f. f.fault ≡ BuildFault.OutOfMemory
+            → f.part ≡ RulePart.Statement) }
+        ensures clear { OnOk result ((d : Draft) → IsDraft self.old d
+            → rule_fault d rule.now ≡ None) }
+        ensures ok { OnOk result ((d : Draft) → IsDraft self.old d
+            → IsDraft self.new (with_rule d rule.now)) }
+    {
+        self.hierarchy.recall_invariant();
+        if let Some(fault) = self.rule_fault(rule) {
+            return Err(fault);
+        }
+        let kept = self.kept_rule(rule)?;
+        self.setting.push_rule(kept)?;
+        Ok(())
+    }
+
+    /// Whether a rule has this name.
+    pub fn has_rule_name(&self, name: &[u8]) -> bool
+        ensures { (d : Draft) → IsDraft self.now d → result ≡ has_rule_name d.setting name.now }
+    {
+        names_rule(self.setting.rules(), name)
+    }
+
+    /// Whether a rule has this id.
+    pub fn has_rule_id(&self, id: u32) -> bool
+        ensures { (d : Draft) → IsDraft self.now d → result ≡ has_rule_id d.setting id }
+    {
+        numbers_rule(self.setting.rules(), id)
+    }
+
+    /// Whether there are 256 rules.
+    pub fn is_full_of_rules(&self) -> bool
+        ensures { (d : Draft) → IsDraft self.now d → result ≡ is_full_of_rules d }
+    {
+        self.setting.rules().len() >= MOST_RULES
+    }
+
+    /// What speaks against the rule, at the first part that has a fault.
+    fn rule_fault(&self, rule: &Rule) -> Option<RuleFault>
+        ensures { (d : Draft) → IsDraft self.now d → result ≡ rule_fault d rule.now }
+    {
+        if self.is_full_of_rules() {
+            return Some(RuleFault {
+                part: RulePart::Statement,
+                fault: BuildFault::TooMany,
+            });
+        }
+        if self.has_rule_name(rule.name.as_bytes()) {
+            return Some(RuleFault {
+                part: RulePart::Name,
+                fault: BuildFault::DuplicateName,
+            });
+        }
+        if self.has_rule_id(rule.id) {
+            return Some(RuleFault {
+                part: RulePart::Id,
+                fault: BuildFault::DuplicateId,
+            });
+        }
+        self.steps_fault(&rule.steps)
+    }
+
+    /// What speaks against the steps, at the first that has a fault.
+    fn steps_fault(&self, steps: &[Step]) -> Option<RuleFault>
+        ensures { (d : Draft) → IsDraft self.now d → result ≡ steps_fault d 0 steps.now }
+    {
+        for (place, step) in steps.iter().enumerate() {
+            if let Some(fault) = self.step_fault(place, step) {
+                return Some(RuleFault {
+                    part: RulePart::Step(place),
+                    fault,
+                });
+            }
+        }
+        None
+    }
+
+    /// What speaks against the step at a place.
+    fn step_fault(&self, place: usize, step: &Step) -> Option<BuildFault>
+        ensures { (d : Draft) → IsDraft self.now d → result ≡ step_fault d place step.now }
+    {
+        if place >= MOST_STEPS {
+            return Some(BuildFault::TooMany);
+        }
+        self.word_fault(step)
+    }
+
+    /// What speaks against the words of a step.
+    fn word_fault(&self, step: &Step) -> Option<BuildFault>
+        ensures { (d : Draft) → IsDraft self.now d → result ≡ word_fault d step.now }
+    {
+        match step {
+            Step::Take(name, _) => {
+                if self.bucket_named(name.as_bytes()).is_some() {
+                    None
+                } else {
+                    Some(BuildFault::UnknownBucketInRule)
+                }
+            }
+            Step::Choose { kind, .. } => {
+                if self.kind_number(kind.as_bytes()).is_some() {
+                    None
+                } else {
+                    Some(BuildFault::UnknownType)
+                }
+            }
+            Step::Set(..) | Step::Emit => None,
+        }
+    }
+
+    /// The complete bucket of this name, or `None` where there is none.
+    pub fn bucket_named(&self, name: &[u8]) -> Option<BucketId>
+        ensures { (d : Draft) → IsDraft self.now d → result ≡ complete_bucket_named d name.now }
+    {
+        match self.closed_item(name)? {
+            ItemId::Bucket(bucket) => Some(bucket),
+            ItemId::Device(_) => None,
+        }
+    }
+
+    /// The rule as the map keeps it.
+    fn kept_rule(&self, rule: &Rule) -> Result<KeptRule, AllocError>
+        requires clear { (d : Draft) → IsDraft self.now d → rule_fault d rule.now ≡ None }
+        ensures { IfOk result (λ kept. (d : Draft) → IsDraft self.now d
+            → rule_data kept ≡ kept_rule d rule.now) }
+    {
+        let name = rule.name.try_copy(self.machine)?;
+        let kind = rule.kind.try_copy(self.machine)?;
+        let steps = self.kept_steps(&rule.steps)?;
+        Ok(KeptRule {
+            name,
+            id: rule.id,
+            kind,
+            min_size: rule.min_size,
+            max_size: rule.max_size,
+            steps,
+        })
+    }
+
+    /// The steps as the map keeps them.
+    fn kept_steps(&self, steps: &[Step]) -> Result<Vec<KeptStep>, AllocError>
+        requires clear { (d : Draft) → IsDraft self.now d
+            → All (λ x. word_fault d x ≡ None) steps.now }
+        ensures { IfOk result (λ kept. (d : Draft) → IsDraft self.now d
+            → map step_data kept.items ≡ map (kept_step d) steps.now) }
+    {
+        let mut kept = Vec::new(self.machine);
+        for step in steps {
+            let step = self.kept_step(step)?;
+            kept.push(step)?;
+        }
+        Ok(kept)
+    }
+
+    /// The step as the map keeps it.
+    fn kept_step(&self, step: &Step) -> Result<KeptStep, AllocError>
+        requires clear { (d : Draft) → IsDraft self.now d → word_fault d step.now ≡ None }
+        ensures { IfOk result (λ kept. (d : Draft) → IsDraft self.now d
+            → step_data kept ≡ kept_step d step.now) }
+    {
+        self.hierarchy.recall_invariant();
+        match step {
+            Step::Take(name, class) => {
+                let Some(bucket) = self.bucket_named(name.as_bytes()) else {
+                    unreachable!()
+                };
+                let class = match class {
+                    Some(class) => Some(class.try_copy(self.machine)?),
+                    None => None,
+                };
+                Ok(KeptStep::Take(bucket, class))
+            }
+            Step::Choose {
+                leaf,
+                firstn,
+                count,
+                kind,
+            } => Ok(KeptStep::Choose {
+                leaf: *leaf,
+                firstn: *firstn,
+                count: *count,
+                kind: kind.try_copy(self.machine)?,
+            }),
+            Step::Set(word, value) => Ok(KeptStep::Set(word.try_copy(self.machine)?, *value)),
+            Step::Emit => Ok(KeptStep::Emit),
+        }
+    }
+}
+
+/// Whether one of the rules has the name.
+fn names_rule(rules: &[KeptRule], name: &[u8]) -> bool
+    ensures { result ≡ list_any (λ (x : DeclaredRule). bytes_eq x.name name.now) rules.now }
+{
+    rules.iter().any(|rule| rule.name.is(name))
+}
+
+/// Whether one of the rules has the id.
+fn numbers_rule(rules: &[KeptRule], id: u32) -> bool
+    ensures { result ≡ list_any (λ (x : DeclaredRule). x.id == id) rules.now }
+{
+    rules.iter().any(|rule| rule.id == id)
+}

@@ -1,5 +1,0 @@
-use Rattle.std.proofs.Common.{rules}
-use Rattle.crush_map.proofs.builder.MapBuilder.end.Goals as goal
-
-pub returns : goal.returns
-returns g c = search rules
