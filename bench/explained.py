@@ -70,5 +70,8 @@ def written_text(written):
 
 def refused_text(lines):
     """The history lines of what was refused, each with its sentence below."""
-    kinds = [re.search(r" = refused (?:at \d+ )?(\w+) ", line)[1] for line in lines]
-    return "".join(f"{line}  {OF_REFUSALS[kind]}\n" for line, kind in zip(lines, kinds))
+    told = ""
+    for line in lines:
+        batch, kind = re.search(r" = refused (at \d+ )?(\w+) ", line).groups()
+        told += f"{line}  {OF_REFUSALS[kind]}{' (the edits of a batch count from 0)' if batch else ''}\n"
+    return told

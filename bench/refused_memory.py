@@ -1,6 +1,6 @@
 """Runs crushedit on each job of examples/ and refuses its requests for memory one by one.
 
-    python3 bench/refused_memory.py crates/crushedit/out/crushedit [TESTS] [WORD ..]
+    python3 bench/refused_memory.py crates/crushedit/out/crushedit [TESTS [OF_EDITOR]] [WORD ..]
 
 A library that is preloaded answers the Nth request by nothing, for N from 1 until a run asks for fewer. Each
 such run has to end with status 4, nothing on standard output and its one line on standard error, or exactly as
@@ -20,7 +20,9 @@ there have to be as many.
 
 TESTS is the path, with a `/`, of the tests of crush_run. Of it the tests of `gate_faults` are run in the same way, each
 request refused and each thread not started: each run has to pass, whatever the job in it comes to. They look whether
-a gate is called behind each call, also one that is out of memory.
+a gate is called behind each call, also one that is out of memory. OF_EDITOR is that of the tests of crush_editor. Of
+these the tests of `no_memory` are run in pairs, which make the same calls once and often: calls that take no memory, so
+that both have to ask for it as often.
 
 With words only jobs whose names have one of them are run. As many are run side by side as there are processors.
 Needs a C compiler, `cc`, `gcc` or what CC names, and the /proc of Linux. Prints how many requests were refused, and
@@ -38,7 +40,10 @@ import tempfile
 
 EXAMPLES = pathlib.Path(__file__).resolve().parent.parent / "examples"
 NO_MEMORY, NO_THREAD = b"crushedit: out of memory\n", b"crushedit: no thread\n"
-OF_GATES, PASSED, FAILED = "tests::gate_faults::", b"test result: ok", b"assertion failed: "
+OF_GATES, OF_NO_MEMORY = "tests::gate_faults::", "tests::no_memory::"
+PASSED, FAILED = b"test result: ok", b"assertion failed: "
+# A request that no run reaches: all are counted, and none is refused.
+MANY = 2**40
 LIBRARY = r"""
 #define _GNU_SOURCE
 #include <dirent.h>
@@ -293,13 +298,34 @@ def refuse_each_of_test(tests, library, name):
         return TestRefuser([tests, name], library, folder, name).refuse_each()
 
 
-def tests_of_gates(tests):
-    """The names of the tests of `gate_faults` among those of a program."""
+def tests_of(tests, module):
+    """The names of the tests of a module among those of a program."""
     listed = subprocess.run([tests, "--list"], capture_output=True, check=True, timeout=60).stdout.decode()
-    names = re.findall(rf"(?m)^({OF_GATES}\w+): test$", listed)
+    names = re.findall(rf"(?m)^({module}\w+): test$", listed)
     if not names:
-        raise Ending(f"{tests}: no test is called {OF_GATES}NAME")
+        raise Ending(f"{tests}: no test is called {module}NAME")
     return names
+
+
+def count_of_test(tests, library, name):
+    """How many requests for memory a test makes, which has to pass."""
+    with tempfile.TemporaryDirectory() as folder:
+        files = files_in(folder)
+        run = preloaded([tests, name], library, files, b"", MANY)
+        if run.returncode or run.stdout.strip() != PASSED:
+            raise Ending(f"{name}: status {run.returncode}, {run.stdout!r}, {run.stderr!r}")
+        return int(files["COUNTED_FILE"].read_text().split()[0])
+
+
+def look_often(tests, library):
+    """How many pairs of tests make the same calls once and often, and ask for memory as often."""
+    names = [name for name in tests_of(tests, OF_NO_MEMORY) if name.endswith("_once")]
+    for name in names:
+        once = count_of_test(tests, library, name)
+        often = count_of_test(tests, library, name.removesuffix("_once") + "_often")
+        if once != often or once == 0:
+            raise Ending(f"{name}: {once} requests for memory, and {often} where the calls are made often")
+    return len(names)
 
 
 # Hosts with a device each in one root, and as many that are empty.
@@ -376,7 +402,7 @@ def refuse_all(pool, program, library, jobs, tests):
         mode: [pool.submit(refuse_each, program, library, job, flags) for job in jobs]
         for mode, flags in (("at once", []), ("in turn", ["--in-turn"]))
     }
-    names = tests_of_gates(tests) if tests else []
+    names = tests_of(tests, OF_GATES) if tests else []
     of_gates = [pool.submit(refuse_each_of_test, tests, library, name) for name in names]
     for mode, cases in modes.items():
         refused, wanting, threads = summed(cases)
@@ -390,7 +416,8 @@ def refuse_all(pool, program, library, jobs, tests):
 
 def main():
     program, words = os.path.abspath(sys.argv[1]), sys.argv[2:]
-    tests = os.path.abspath(words.pop(0)) if words and "/" in words[0] else ""
+    tests, of_editor = ([os.path.abspath(word) for word in words if "/" in word] + ["", ""])[:2]
+    words = [word for word in words if "/" not in word]
     jobs = [job for job in EXAMPLES.rglob("*.job") if not words or any(word in job.stem for word in words)]
     jobs.sort(key=lambda job: job.stat().st_size, reverse=True)
     with tempfile.TemporaryDirectory() as folder, concurrent.futures.ThreadPoolExecutor(os.cpu_count()) as pool:
@@ -398,6 +425,8 @@ def main():
         try:
             refuse_all(pool, program, library, jobs, tests)
             print(f"{take_none(program, library)} kinds of call that take no memory of a map: none asks for any")
+            if of_editor:
+                print(f"{look_often(of_editor, library)} pairs of tests: 1,000 looks ask for no more memory than one")
         except Ending as ending:
             pool.shutdown(cancel_futures=True)
             sys.exit(str(ending))

@@ -213,7 +213,7 @@ pub fn operator_name(scripts: &[Script], operator: usize) -> &[u8]
 /// The lines of a history, one for each entry, as [`write_entry`] writes it; they count from 1, and
 /// each entry has the name of the script of its operator's number. Each is of one of the scripts.
 ///
-/// They are laid out in memory, so that a whole history is one write, and so that want of memory
+/// They are laid out in memory, so that a whole history is one write, and so that out of memory
 /// shows before anything is written. There are fewer than 2^32 entries, so that each has a number;
 /// a job's are at most 65,536.
 pub fn history_text(

@@ -69,7 +69,7 @@ impl<A: Allocator, O: Opening> Model for Book<A, O> {
 
 impl<A: Allocator + Clone> Book<A> {
     /// The book of a map, with no entry. The seat is the one that publishes of a gauge that was made
-    /// for this map and was never published to. For want of memory the map comes back.
+    /// for this map and was never published to. Where memory runs out the map comes back.
     pub fn new(map: CrushMap<A>, seat: MapBookSeat, alloc: Global) -> Result<Book<A>, CrushMap<A>>
         requires { seat.view ≡ BookSees (known map []) }
         ensures opening { IfOk result (λ b. b.opening ≡ map) }
@@ -168,7 +168,7 @@ impl<A: Allocator + Clone, O: Opening> Book<A, O> {
         }
     }
 
-    /// [`Book::commit`] of a call that is moved into its entry, so that nothing is copied. After a
+    /// [`Book::commit`] of a call that is moved into its entry, so that it isn't copied. After a
     /// fault the call comes back.
     pub fn commit_copied(
         &mut self,
@@ -289,7 +289,8 @@ impl<A: Allocator + Clone, O: Opening> Book<A, O> {
         self.lacking()
     }
 
-    /// The fault of a call where memory lacks: still `Full`, exactly where there are 65,536 entries.
+    /// The fault of a call for which memory runs out: still `Full`, exactly where there are 65,536
+    /// entries.
     fn lacking(&self) -> SubmitFault
         ensures { (result ≡ SubmitFault.Full) ↔ (length self.now.history ≡ MOST_ENTRIES) }
     {

@@ -75,8 +75,8 @@ impl<A: Allocator, O: Opening> Model for Started<A, O> {
 }
 
 impl<A: Allocator + Clone> Started<A> {
-    /// Makes the gauge, the book and the readers of so many operators: 1 to 16. For want of memory the
-    /// map comes back.
+    /// Makes the gauge, the book and the readers of so many operators: 1 to 16. Where memory runs
+    /// out the map comes back.
     pub fn new(map: CrushMap<A>, operators: usize, alloc: Global) -> Result<Started<A>, CrushMap<A>>
         requires some { 0 < operators }
         requires few { operators ≤ MOST_OPERATORS }
@@ -217,7 +217,7 @@ impl<N: Desk, O: Opening> Editor<N, O> {
     /// fault the slips and the history are as before, and the seat has seen the history that the lock
     /// held: of 65,536 entries exactly where it is told `Full`. So a seat that was told `Full` is told
     /// so ever after. Two copies of the call, one for its entry and one for its slip, and the slip's
-    /// room are taken before the lock. Under it nothing is copied.
+    /// room are taken before the lock. Under it no call is copied.
     ///
     /// A guarded batch that names as many changes as the seat has seen, as its last reading told
     /// them, is made of the table that the seat has seen or is stale; a stale one is told the number
@@ -331,8 +331,8 @@ impl<N: Desk, O: Opening> Editor<N, O> {
 
 impl<N: Desk> Editor<N> {
     /// The editor of a name, with a seat for each operator, seat k for operator k, counted from 0. No
-    /// seat has a slip, and each has seen the history without an entry. For want of memory the map
-    /// comes back as it was.
+    /// seat has a slip, and each has seen the history without an entry. Where memory runs out the
+    /// map comes back as it was.
     pub fn open(
         started: Started,
         alloc: Global,
@@ -376,7 +376,7 @@ impl<N: Desk> Editor<N, Unkept> {
 }
 
 impl<N: Desk, O: Opening> Editor<N, O> {
-    /// The editor of a name with its seats, or for want of memory its book, without an entry.
+    /// The editor of a name with its seats, or where memory runs out its book, without an entry.
     fn begin(
         started: Started<Global, O>,
         alloc: Global,

@@ -6,7 +6,7 @@
 //! and keeps a slip of each call that it was answered. Where all seats are given back, `close` hands
 //! out a history that one thread could have made.
 //!
-//! Only [`Editor::submit`] may wait: it takes the lock.
+//! Only [`Editor::submit`] and [`Editor::submit_copied`] may wait: they take the lock.
 #![tactic(auto)]
 
 pub mod book;

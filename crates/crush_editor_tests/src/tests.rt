@@ -22,6 +22,7 @@ use std::sync::Wait;
 mod closing;
 mod full;
 mod guarded;
+mod no_memory;
 mod unkept;
 
 const PLAIN_EXAMPLE_MAP: &[u8] = b"\

@@ -107,7 +107,7 @@ fn commit_again<A: Allocator + Clone>(
     }
     ensure!(
         is_book_written(alloc, book, scripts, before.as_slice())?,
-        "another book after want of memory"
+        "another book after memory ran out"
     );
     let reply = book.commit(alloc, gauge, operator, call);
     ensure!(reply.is_ok(), "no memory");

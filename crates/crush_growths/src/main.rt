@@ -3,7 +3,7 @@
 //!
 //! Standard input has the jobs. The items of maps are in memory that refuses one request, and what
 //! asked for it is asked once more: so each run has to come to the known output, whichever was
-//! refused, and want of memory has to be told, at most once in each run. The calls are made on a map
+//! refused, and out of memory has to be told, at most once in each run. The calls are made on a map
 //! alone, and then by a book.
 #![tactic(auto)]
 
@@ -41,11 +41,11 @@ fn run_records(rt: &HostRuntime, records: &[u8]) -> anyhow::Result<()> {
     Ok(())
 }
 
-/// Runs a job with each request refused. Want of memory is told in no fewer runs than the fewest
+/// Runs a job with each request refused. Out of memory is told in no fewer runs than the fewest
 /// requests that its map can make.
 fn run_record(rt: &HostRuntime, parts: &Parts, maker: Maker) -> anyhow::Result<()> {
     let memory = Refusing::new(rt.alloc());
     let (told, fewest) = run_each(rt.alloc(), &memory, parts, maker)?;
-    ensure!(told >= fewest, "want of memory is told too seldom");
+    ensure!(told >= fewest, "out of memory is told too seldom");
     Ok(())
 }

@@ -96,7 +96,7 @@ fn make_again<A: Allocator + Clone>(
     *answers = answers.saturating_add(1);
     ensure!(
         is_written(alloc, map, &[], before.as_slice())?,
-        "another map after want of memory"
+        "another map after memory ran out"
     );
     Ok(make_call(map, changes, call)?)
 }

@@ -57,7 +57,7 @@ fn main(rt: HostRuntime) -> anyhow::Result<()> {
 }
 
 /// Prints the text after the edit, and what was answered. A refusal is an answer; any other fault,
-/// as want of memory, ends the program, and `main` tells it.
+/// as out of memory, ends the program, and `main` tells it.
 fn print_edited(rt: &HostRuntime, text: &[u8], asked: &Edit) -> anyhow::Result<()> {
     match edit_text(rt.alloc(), text, asked, &mut rt.stdout()) {
         Ok(done) => {

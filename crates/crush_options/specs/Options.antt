@@ -110,7 +110,7 @@ AsksTooMuch rows (Help text) = ⊥
 AsksTooMuch rows (Refused text) = IsTooMuch rows
 AsksTooMuch rows Memory = Unit {0}
 
--- a refusal with a text, or memory lacks for it
+-- a refusal with a text, or out of memory for it
 abbrev pub IsRefusedFor : Text → OptionsFault → Type 0
 IsRefusedFor why (Help text) = ⊥
 IsRefusedFor why (Refused text) = text.bytes.items ≡ why

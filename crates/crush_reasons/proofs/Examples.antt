@@ -46,8 +46,9 @@ explained : explained_text (codes "a" ∷ []) 1 (
     (record { operator = 0; call = One (Remove (codes "default")); reply = Refused NotEmpty })
     ∷ (record { operator = 0; call = One (Reweight (codes "osd.0") 131072); reply = Done (record { changed = true; made = 0 }) })
     ∷ (record { operator = 0; call = Guarded 0 (Remove (codes "x") ∷ []); reply = Stale 1 })
+    ∷ (record { operator = 0; call = Batch (Remove (codes "osd.0") ∷ Remove (codes "default") ∷ []); reply = BatchRefused 1 NotEmpty })
     ∷ [])
-    ≡ codes "# 1 a rm default = refused NotEmpty 39\n  the bucket holds items: move or remove them first\n# 3 a begin at 0 ; rm x ; commit = refused Stale 11 changes 1\n  the map has changed since: look at it again, and name the number of changes that is told\n"
+    ≡ codes "# 1 a rm default = refused NotEmpty 39\n  the bucket holds items: move or remove them first\n# 3 a begin at 0 ; rm x ; commit = refused Stale 11 changes 1\n  the map has changed since: look at it again, and name the number of changes that is told\n# 4 a begin ; rm osd.0 ; rm default ; commit = refused at 1 NotEmpty 39\n  the bucket holds items: move or remove them first (the edits of a batch count from 0)\n"
 unfolding explained_text line_front line_end digits
 explained = refl
 

@@ -1,8 +1,9 @@
 -- Where a fault of a job stands: its line, and of a text's fault the column and the place in that line.
-use Rattle.std.specs.Prelude.{ℕ, zero, suc, ◌+◌, ◌-◌, ◌==◌, ◌&&◌, List, [], ◌++◌, codes, count_by, decimal, drop, if◌then◌else◌, length, map, min, nat_lt, replicate, reverse, take}
+use Rattle.std.specs.Prelude.{ℕ, zero, suc, ◌+◌, ◌-◌, ◌==◌, ◌&&◌, List, [], ◌++◌, codes, decimal, drop, if◌then◌else◌, length, map, min, nat_lt, replicate, reverse, take}
 use Rattle.std.specs.List.{position_or_len}
 use Rattle.crush_script.specs.declared.fault.JobFault.{JobFault}
 use Rattle.crush_script.specs.declared.fault.JobFault.TheVariants.{BadLine, NoSuchCommand, OpenBatch, TooManyOperators, DuplicateOperator, Text, OutOfMemory, TooLong, TooManyCalls}
+use Rattle.crush_script.specs.Lines.{line_feeds}
 use Rattle.crush_reasons.specs.Explained.{reason_line}
 use Rattle.crush_reasons.specs.declared.place.Origin.{Origin}
 use Rattle.crush_reasons.specs.Sentences.{job_sentence}
@@ -21,7 +22,7 @@ own_line origin line = line - origin.before
 
 -- the line at which a prefix of a job ends, counted from 1
 abbrev pub last_line : List ℕ → ℕ
-last_line before = count_by (λ b. b == 10) before + 1
+last_line before = line_feeds before + 1
 
 -- how many bytes stand before the first line feed
 abbrev pub to_feed : List ℕ → ℕ

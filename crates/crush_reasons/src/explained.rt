@@ -4,11 +4,12 @@ ghost use Rattle.std.specs.Prelude.{◌≡◌, ◌<◌, ◌^◌, ◌++◌, IfOk,
 ghost use Rattle.crush_calls.specs.Entries.{AreOf};
 ghost use Rattle.crush_calls.specs.HistoryText.{names_of, line_text};
 ghost use Rattle.crush_calls.specs.Script.{scripts_data};
-ghost use Rattle.crush_reasons.specs.Explained.{explained_line, explained_text};
+ghost use Rattle.crush_reasons.specs.Explained.{counting, explained_line, explained_text, reason_line};
+ghost use Rattle.crush_reasons.specs.Sentences.{reply_sentence};
 
 use crate::sentences::reply_sentence;
-use crate::words::push_reason;
-use crush_calls::{Entry, Script, is_refused, operator_name, write_entry};
+use crate::words::push_all;
+use crush_calls::{Entry, Reply, Script, is_refused, operator_name, write_entry};
 use std::alloc::{AllocError, Global};
 
 /// The line of an entry.
@@ -22,6 +23,35 @@ fn push_entry(
         ++ line_text number operator.now entry.now.call entry.now.reply) }
 {
     write_entry(number, operator, &entry.call, entry.reply, text).map_err(|_| AllocError)
+}
+
+/// What stands behind the sentence of a reply: of a batch, from where its edits count.
+fn counting(reply: Reply) -> &'static str
+    ensures { result.now ≡ counting reply }
+{
+    match reply {
+        Reply::Done(_) => "",
+        Reply::Dones(_) => "",
+        Reply::Refused(_) => "",
+        Reply::BatchRefused(_, _) => " (the edits of a batch count from 0)",
+        Reply::Stale(_) => "",
+    }
+}
+
+/// The line of a refusal's reason.
+fn push_reply(reply: Reply, text: &mut Vec<u8>) -> Result<(), AllocError>
+    ensures { OnOk result (text.new.items
+        ≡ text.old.items ++ reason_line (reply_sentence reply ++ counting reply)) }
+{
+    push_all(
+        &[
+            b"  ".as_slice(),
+            reply_sentence(reply).as_bytes(),
+            counting(reply).as_bytes(),
+            b"\n".as_slice(),
+        ],
+        text,
+    )
 }
 
 /// The line of an entry and its reason, where it was refused.
@@ -38,11 +68,11 @@ fn push_explained(
         return Ok(());
     }
     push_entry(number, operator, entry, text)?;
-    push_reason(reply_sentence(entry.reply), text)
+    push_reply(entry.reply, text)
 }
 
 /// The lines of the entries that were refused, each as the history has it, with its number there,
-/// and below each two spaces and what was wanted.
+/// and below each two spaces and what was wanted; of a batch, too, that its edits count from 0.
 ///
 /// There are fewer than 2^32 entries, so that each has a number; a job's are at most 65,536. An Err
 /// is out of memory.

@@ -1,12 +1,12 @@
 //! Where a fault of a job stands, and what was wanted there.
 
-ghost use Rattle.std.specs.Prelude.{◌≡◌, ◌≤◌, ◌<◌, ◌^◌, ◌+◌, ◌-◌, ◌++◌, ◌==◌, IfOk, OnOk, count_by, if◌then◌else◌, length, map, replicate, take};
+ghost use Rattle.std.specs.Prelude.{◌≡◌, ◌≤◌, ◌<◌, ◌^◌, ◌+◌, ◌-◌, ◌++◌, ◌==◌, IfOk, OnOk, if◌then◌else◌, length, map, replicate, take};
 ghost use Rattle.crush_reasons.specs.Explained.{reason_line};
 ghost use Rattle.crush_reasons.specs.Place.{at_line, at_place, behind_feed, behind_line, column_line, fault_line, fault_text, from_line, last_line, name_front, number_line, origin_data, own_line, place_text, shown_before, shown_byte, shown_line, sign_line, to_feed};
 
 use crate::sentences::job_sentence;
 use crate::words::{push_all, push_reason};
-use crush_script::JobFault;
+use crush_script::{JobFault, line_feeds};
 use itoa::Buffer;
 use std::alloc::{AllocError, Global};
 
@@ -70,20 +70,12 @@ fn behind_feed(bytes: &[u8]) -> usize
     behind
 }
 
-/// How many line feeds there are.
-fn count_feeds(bytes: &[u8]) -> usize
-    ensures value { result ≡ count_by (λ b. b == 10) bytes.now }
-    ensures within { result ≤ length bytes.now }
-{
-    bytes.iter().filter(|byte| **byte == b'\n').count()
-}
-
 /// The line at which a prefix of a job ends, counted from 1.
 fn last_line(before: &[u8]) -> usize
     requires { length before.now < 2 ^ 32 }
     ensures { result ≡ last_line before.now }
 {
-    count_feeds(before) + 1
+    line_feeds(before) + 1
 }
 
 /// The bytes up to a place, all of them where it is beyond their end.

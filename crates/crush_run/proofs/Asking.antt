@@ -25,7 +25,7 @@ use Rattle.crush_run.specs.Origins.{job_origin}
 use Rattle.crush_run.specs.Run.{Ends}
 use Rattle.crush_run.specs.Stages.{IsEarlyFault, IsInputFault, IsNoJob, IsOutcomeFault, IsReadFault}
 
--- a fault of a text that isn't want of memory is a flaw of it
+-- a fault of a text that isn't out of memory is a flaw of it
 pub flaw_where : (bytes : List ℕ) (f : TextFault) → is_want f.kind ≡ false → IsFlawOrWant bytes f → IsMapFlaw bytes f
 flaw_where bytes f room (inl want) = let e = ap is_want want in absurd cc
 flaw_where bytes f room (inr flaw) = flaw
@@ -84,7 +84,7 @@ pub unread_map : (all : Option (List ℕ)) → IsMapFault all (run.Since since.R
 unread_map None = tt
 unread_map (Some xs) = tt
 
--- any other fault of its reading is want of memory
+-- any other fault of its reading is out of memory
 pub other_map : (f : RunFault) (all : Option (List ℕ)) → IsInputFault f → (f ≡ run.Read → ⊥) → IsMapFault all f
 other_map (run.Job j) all h other = absurd h
 other_map run.Read all h other = absurd (other refl)

@@ -12,11 +12,15 @@ pub Consumes-nothing : (a : Option (List ℕ)) → Consumes a a []
 Consumes-nothing None = tt
 Consumes-nothing (Some xs) = refl
 
--- what is taken is the front of all bytes, of its own length
-pub front_of_all : (a b : Option (List ℕ)) (x : List ℕ) (n : ℕ) → Consumes a b x → length x ≡ n → IfSome a (λ all. x ≡ take n all)
-front_of_all None b x n h e = tt
-front_of_all (Some xs) None x n h e = absurd h
-front_of_all (Some xs) (Some ys) x n h e = sym (ap (take n) h ∙ take_at x ys n e)
+-- which is few
+pub few_nothing : (a b : Option (List ℕ)) → b ≡ a → TakesFew a b
+few_nothing a b same = ([], omega arith, subst (λ (c : Option (List ℕ)). Consumes a c []) (sym same) (Consumes-nothing a))
+
+-- what is taken is the prefix of all bytes, of its own length
+pub prefix_of_all : (a b : Option (List ℕ)) (x : List ℕ) (n : ℕ) → Consumes a b x → length x ≡ n → IfSome a (λ all. x ≡ take n all)
+prefix_of_all None b x n h e = tt
+prefix_of_all (Some xs) None x n h e = absurd h
+prefix_of_all (Some xs) (Some ys) x n h e = sym (ap (take n) h ∙ take_at x ys n e)
 
 -- all bytes are taken
 pub all_of_it : (a b : Option (List ℕ)) (x : List ℕ) (n : ℕ) → Consumes a b x → IsAtEnd b → length x ≤ n → IfSome a (λ all. x ≡ take n all)

@@ -1,6 +1,7 @@
 -- A job of several files: the first, and behind it the scripts of others.
-use Rattle.std.specs.Prelude.{ℕ, ◌+◌, ◌-◌, ◌==◌, Bool, true, false, ◌&&◌, ◌||◌, List, [], ◌∷◌, ◌++◌, Option, Some, None, codes, count_by, if◌then◌else◌, length, take, drop, slice_index, String}
+use Rattle.std.specs.Prelude.{ℕ, ◌+◌, ◌-◌, ◌==◌, Bool, true, false, ◌&&◌, ◌||◌, List, [], ◌∷◌, ◌++◌, Option, Some, None, codes, if◌then◌else◌, length, take, drop, slice_index, String}
 use Rattle.std.specs.List.{position_or_len}
+use Rattle.crush_script.specs.Lines.{line_feeds}
 use Rattle.crush_run.specs.declared.joined.Part.{Part}
 
 -- a line feed, unless the bytes end in one
@@ -43,10 +44,6 @@ operator_line name script = if begins_section_in true false script then [] else 
 abbrev pub joined : List ℕ → List ℕ → List ℕ → List ℕ
 joined job name script = job ++ line_end job ++ operator_line name script ++ script
 
--- how many line feeds there are
-abbrev pub feeds : List ℕ → ℕ
-feeds bytes = count_by (λ b. b == 10) bytes
-
 -- PART: where the script of a file of this name stands in a job: from which line on, counted from 1, the line included that names
 -- its operator where one is put, and how many lines of the job stand before the file's own
 pub record PartData : Type 0 where
@@ -60,8 +57,8 @@ part_data p = record { name = p.name.now; from = p.from; before = p.before }
 abbrev pub part_of : List ℕ → List ℕ → List ℕ → PartData
 part_of job name script = record {
   name = name;
-  from = feeds (job ++ line_end job) + 1;
-  before = feeds (job ++ line_end job ++ operator_line name script);
+  from = line_feeds (job ++ line_end job) + 1;
+  before = line_feeds (job ++ line_end job ++ operator_line name script);
 }
 
 -- the same of bytes that are known, or not

@@ -75,7 +75,7 @@ pub record Ends (mode : Mode) (what : Asked) (job : JobData) (weights : List ℕ
 
 -- TAKEN: of the reader's bytes no more are taken than the longest job has and one more, its first
 abbrev pub TakesFew : Option (List ℕ) → Option (List ℕ) → Type 0
-TakesFew old new = (front : List ℕ) × (length front ≤ LONGEST_JOB + 1) × Consumes old new front
+TakesFew old new = (taken : List ℕ) × (length taken ≤ LONGEST_JOB + 1) × Consumes old new taken
 
 -- a fault of the job is one of the bytes, and never out of memory, also not as a fault of its text
 abbrev pub IsRefusal : Option (List ℕ) → JobFault → Type 0

@@ -24,7 +24,7 @@ IsInputFault run.Read = Unit {0}
 IsInputFault run.Memory = Unit {0}
 IsInputFault fault = ⊥
 
--- what may fail while the bytes read are taken for a job: they are none, or memory lacks
+-- what may fail while the bytes read are taken for a job: they are none, or memory runs out
 abbrev pub IsNoJob : Option (List ℕ) → RunFault → Type 0
 IsNoJob all (run.Job fault) = IsRefusal all fault
 IsNoJob all run.Memory = Unit {0}
@@ -41,7 +41,7 @@ IsAtOnceFault run.Memory = Unit {0}
 IsAtOnceFault run.Thread = Unit {0}
 IsAtOnceFault fault = ⊥
 
--- what may fail while the scripts run: in turn they want no thread
+-- what may fail while the scripts run: in turn they need no thread
 abbrev pub IsScriptsFault : Bool → RunFault → Type 0
 IsScriptsFault in_turn run.Memory = Unit {0}
 IsScriptsFault in_turn run.Thread = in_turn ≡ false

@@ -21,7 +21,7 @@ use std::thread::Threads;
 /// the history in which they were made. Of the map before them nothing is kept.
 ///
 /// [`RunFault::Thread`] where a worker can't be started; those that run finish. Else
-/// [`RunFault::Memory`] where memory lacked, for a worker or before.
+/// [`RunFault::Memory`] where memory ran out, for a worker or before.
 pub(crate) fn run_at_once<G: Gate + Sync, R: Threads + Wait + Sync>(
     rt: &R,
     alloc: Global,
@@ -74,14 +74,14 @@ fn operate<N: Desk + Send + Sync, G: Gate + Sync, R: Threads + Wait + Sync>(
     Ok(editor.close(seats))
 }
 
-/// The seats of workers, none of which met a fault. A worker's fault is that it was out of memory: a history
-/// has room for all the calls of a job.
+/// The seats of workers, none of which met a fault. A worker's fault is that it was out of memory: a
+/// history has room for all the calls of a job.
 fn gather<N: Desk>(alloc: Global, finished: Vec<Finished<N>>) -> Result<Vec<Seat<N>>, RunFault>
     ensures count { IfOk result (λ seats. vec_len seats ≡ vec_len finished) }
     ensures each { IfOk result (λ seats. (k : ℕ) (d : _) (e : _) → k < vec_len seats
         → (slice_index_or seats.items k d ≡ (slice_index_or finished.items k e).seat)
         × ((slice_index_or finished.items k e).fault ≡ None)) }
-    ensures fault { IfErr result IsAtOnceFault }
+    ensures fault { IfErr result (λ fault. fault ≡ RunFault.Memory) }
 {
     let mut seats = Vec::new(alloc);
     for done in finished {

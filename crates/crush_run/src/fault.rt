@@ -9,7 +9,7 @@ use thiserror::Error;
 /// Why the map since which changes are asked for was not read.
 #[derive(Clone, Copy, Debug, PartialEq, Eq, Error)]
 pub enum SinceFault {
-    /// Its text has this flaw, whose place is that of a byte of its file. Want of memory is never
+    /// Its text has this flaw, whose place is that of a byte of its file. Out of memory is never
     /// told here, but as [`RunFault::Memory`].
     #[error("{0}")]
     Text(TextFault),
@@ -24,7 +24,7 @@ pub enum SinceFault {
 /// Why a run was not done.
 #[derive(Clone, Copy, Debug, PartialEq, Eq, Error)]
 pub enum RunFault {
-    /// What was read is no job. Nothing was written. Want of memory is never told here, but as
+    /// What was read is no job. Nothing was written. Out of memory is never told here, but as
     /// [`RunFault::Memory`].
     #[error("{0}")]
     Job(JobFault),

@@ -66,8 +66,8 @@ impl<'t, G: Gate, R: Wait> InTurn<'t, G, R> {
 /// Runs the scripts one after the other on one book, which no lock holds and which keeps nothing of
 /// its opening.
 ///
-/// A job has no more calls than a history has room for, so that a call is refused for want of
-/// memory alone.
+/// A job has no more calls than a history has room for, so that a call is refused where
+/// memory runs out alone.
 pub(crate) fn run_in_turn<G: Gate, R: Wait>(
     rt: &R,
     alloc: Global,

@@ -34,7 +34,7 @@ pub(crate) fn read_bytes<R: Read>(alloc: Global, reader: &mut R) -> Result<Vec<u
     ensures fault { IfErr result IsInputFault }
     ensures taken { IfOk result (λ bytes.
         Consumes (R.remaining reader.old) (R.remaining reader.new) bytes.items) }
-    ensures front { IfErr result (λ _.
+    ensures prefix { IfErr result (λ _.
         TakesFew (R.remaining reader.old) (R.remaining reader.new)) }
     ensures bytes { IfOk result (λ bytes. IfSome (R.remaining reader.old)
         (λ all. bytes.items ≡ take MOST_BYTES all)) }
@@ -63,6 +63,7 @@ fn read_quietly<R: Read>(alloc: Global, reader: &mut R) -> Result<Vec<u8>, Stopp
         (λ all. bytes.items ≡ take MOST_BYTES all)) }
     ensures fault { IfErr result (λ stopped. IsInputFault stopped.fault) }
     ensures quiet { IfErr result (λ stopped. stopped.notes.items ≡ []) }
+    ensures taken { TakesFew (R.remaining reader.old) (R.remaining reader.new) }
 {
     match read_bytes(alloc, reader) {
         Ok(bytes) => Ok(bytes),
@@ -101,6 +102,7 @@ fn read_first<F: Opens, R: Read>(
         IfSome (first_bytes (F.content files.now) options.now.file (R.remaining input.old))
         (IsInput bytes.items)) }
     ensures input { options.now.file ≢ None → R.remaining input.new ≡ R.remaining input.old }
+    ensures taken { TakesFew (R.remaining input.old) (R.remaining input.new) }
     ensures fault { IfErr result (λ stopped. IsInputFault stopped.fault) }
     ensures noted { IfErr result (λ stopped.
         IsPartNoted options.now stopped.fault stopped.notes.items) }
@@ -173,6 +175,7 @@ pub(crate) fn read_all<'a, F: Opens, R: Read>(
         (λ all. IsJoined job all
         (job_parts (F.content files.now) options.now (R.remaining input.old)))) }
     ensures input { options.now.file ≢ None → R.remaining input.new ≡ R.remaining input.old }
+    ensures taken { TakesFew (R.remaining input.old) (R.remaining input.new) }
     ensures fault { IfErr result (λ stopped. IsInputFault stopped.fault) }
     ensures noted { IfErr result (λ stopped.
         IsPartNoted options.now stopped.fault stopped.notes.items) }

@@ -161,7 +161,7 @@ pub(crate) fn unopened(alloc: Global, explain: bool, name: &str, error: io::Erro
 }
 
 /// The bytes, or of too many a prefix as long as a job may be.
-fn front(bytes: &[u8]) -> &[u8]
+fn job_prefix(bytes: &[u8]) -> &[u8]
     ensures few { length result.now ≤ LONGEST_JOB }
     ensures whole { length bytes.now ≤ LONGEST_JOB → bytes.now ≡ result.now }
 {
@@ -185,7 +185,7 @@ fn place_notes(
         ≡ place_notes explain (origin_of origins.entry) bytes.now fault) }
 {
     if explain {
-        let bytes = front(bytes);
+        let bytes = job_prefix(bytes);
         let origin = origins.at(fault_line(bytes, fault));
         return fault_text(alloc, origin, bytes, fault);
     }

@@ -5,6 +5,7 @@ ghost use Rattle.std.specs.Io.KnownBytes.{Keeps};
 ghost use Rattle.crush_script.specs.Job.{HasJob, IsJob, JobData};
 ghost use Rattle.crush_run.specs.Input.{job_bytes};
 ghost use Rattle.crush_run.specs.Options.{EndsAsAsked, IsAskedFault, IsAskedNoted, IsAskedOf, IsNotedAsAsked, IsOptionsFault};
+ghost use Rattle.crush_run.specs.Run.{TakesFew};
 ghost use Rattle.crush_run.specs.Stages.{IsReadFault, IsWeighed};
 ghost use Rattle.crush_units.specs.declared.limits.TheConstants.{MOST_OPERATORS};
 
@@ -64,6 +65,7 @@ fn read_whole<H: AllocGlobal + RandomSource, F: Opens, R: Read>(
         → read.weights.items ≡ []) }
     ensures few { IfOk result (λ read. length read.job.scripts.items ≤ MOST_OPERATORS) }
     ensures input { options.now.file ≢ None → R.remaining input.new ≡ R.remaining input.old }
+    ensures taken { TakesFew (R.remaining input.old) (R.remaining input.new) }
     ensures fault { IfErr result (λ stopped. IsReadFault
         (job_bytes (F.content files.now) options.now (R.remaining input.old)) stopped.fault) }
     ensures noted { IfErr result (λ stopped. IsNotedAsAsked (F.content files.now) options.now
@@ -116,8 +118,10 @@ where
     ensures fault { IfErr result.outcome (IsOptionsFault (F.content files.now) options.now
         (job_bytes (F.content files.now) options.now (R.remaining input.old))) }
 
-    // With a file, standard input is left alone.
+    // With a file, standard input is left alone; without one, little more than the longest job is
+    // taken of it, however the run ends.
     ensures input { options.now.file ≢ None → R.remaining input.new ≡ R.remaining input.old }
+    ensures taken { TakesFew (R.remaining input.old) (R.remaining input.new) }
 
     // Only a failed write leaves anything.
     ensures nothing { IfErr result.outcome (λ fault. fault ≢ RunFault.Write

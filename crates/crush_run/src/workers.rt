@@ -131,7 +131,7 @@ fn join_all<N: Desk, R: Threads>(
     ensures each { IfOk result (λ done. (k : ℕ) (d : _) (e : _) → k < length scripts.value.items
         → HasRunScript scripts.value.items e k (slice_index_or done.items k d).seat
         (slice_index_or done.items k d).fault) }
-    ensures fault { IfErr result IsAtOnceFault }
+    ensures fault { IfErr result (λ fault. fault ≡ RunFault.Memory) }
 {
     let _scripts = scripts;
     match thread::join_promised(rt, handles) {

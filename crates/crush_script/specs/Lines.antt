@@ -20,9 +20,13 @@ map_part job = take (length_to_section true job) job
 abbrev pub section_part : List ℕ → List ℕ
 section_part job = drop (length_to_section true job) job
 
+-- how many line feeds there are
+abbrev pub line_feeds : List ℕ → ℕ
+line_feeds bytes = count_by (λ b. b == 10) bytes
+
 -- the number of the first line of the sections: lines count from 1
 abbrev pub section_line : List ℕ → ℕ
-section_line job = count_by (λ b. b == 10) (map_part job) + 1
+section_line job = line_feeds (map_part job) + 1
 
 -- a line without the carriage return at its end
 abbrev pub without_return : List ℕ → List ℕ

@@ -1,4 +1,4 @@
--- What a call gives of a definition's result, unless memory lacks.
+-- What a call gives of a definition's result, unless memory runs out.
 use Rattle.std.specs.Prelude.{◌≡◌, ℕ, List, Result, Ok, Err}
 use Rattle.crush_script.specs.declared.command.LineFault.{LineFault}
 use Rattle.crush_script.specs.declared.command.LineFault.TheVariants.{OutOfMemory}

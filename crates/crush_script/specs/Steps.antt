@@ -1,4 +1,4 @@
--- What reading lines leaves, unless memory lacks.
+-- What reading lines leaves, unless memory runs out.
 use Rattle.std.specs.Prelude.{◌≡◌, Result, Ok, Err}
 use Rattle.crush_script.specs.declared.fault.JobFault.{JobFault}
 use Rattle.crush_script.specs.declared.fault.JobFault.TheVariants.{Text, OutOfMemory, TooLong}

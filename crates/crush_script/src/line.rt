@@ -1,8 +1,8 @@
 //! The lines of a job, and the words of a line in a section.
 
-ghost use Rattle.std.specs.Prelude.{◌≡◌, ◌+◌, ◌≤◌, ◌<◌, ◌==◌, ◌∷◌, [], true, count_by, length, not, MatchOption};
+ghost use Rattle.std.specs.Prelude.{◌≡◌, ◌+◌, ◌≤◌, ◌<◌, ◌==◌, ◌∷◌, [], true, length, not, MatchOption};
 ghost use Rattle.std.specs.List.{position_or_len};
-ghost use Rattle.crush_script.specs.Lines.{lines, length_to_section, map_part, section_part, without_return, line_words, words_between_blanks, is_space_or_tab, begins_section};
+ghost use Rattle.crush_script.specs.Lines.{lines, length_to_section, line_feeds, map_part, section_part, without_return, line_words, words_between_blanks, is_space_or_tab, begins_section};
 
 use std::marker::Model;
 
@@ -40,7 +40,7 @@ pub(crate) fn cut_job(job: &[u8]) -> (&[u8], &[u8])
 
 /// How many line feeds a text has.
 pub fn line_feeds(text: &[u8]) -> usize
-    ensures count { result ≡ count_by (λ b. b == 10) text.now }
+    ensures count { result ≡ line_feeds text.now }
     ensures within { result ≤ length text.now }
 {
     text.iter().filter(|byte| **byte == b'\n').count()

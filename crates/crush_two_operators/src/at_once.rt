@@ -19,7 +19,7 @@ use std::thread::{Threads, join};
 /// calls in it are exactly those of the two, each operator's in order.
 ///
 /// Beside it stands the later of what the two read after their last calls: who came last has read of
-/// all changes. An `Err` is want of memory.
+/// all changes. An `Err` is out of memory.
 pub fn edit_at_once<R: Threads + Wait + Sync>(
     rt: &R,
     alloc: Global,
@@ -33,7 +33,7 @@ pub fn edit_at_once<R: Threads + Wait + Sync>(
     // An editor has a name, by which contracts tell its gauge and its opening. It can be given only
     // once these are there: so the work stands in a function that is generic in the name and is called
     // at `Brand`, and proofs/at_once/edit_at_once/Invariants.antt says what the name stands for.
-    let started = Started::new(map, 2, alloc).ok().context("no memory")?;
+    let started = Started::new(map, 2, alloc).ok().context("out of memory")?;
     work_together::<Brand, R>(rt, alloc, started, first, second)
 }
 
@@ -52,7 +52,7 @@ fn work_together<N: Desk + Send + Sync, R: Threads + Wait + Sync>(
     ensures all { IfOk result (λ r. MakesAll N.opening r.0.map r.0.history.items) }
     ensures calls { IfOk result (λ r. AreTheirs first.now second.now r.0.history.items) }
 {
-    let (editor, mut seats) = Editor::<N>::open(started, alloc).ok().context("no memory")?;
+    let (editor, mut seats) = Editor::<N>::open(started, alloc).ok().context("out of memory")?;
     let two = seats.pop().context("no seat")?;
     let one = seats.pop().context("no seat")?;
 
@@ -68,8 +68,8 @@ fn work_together<N: Desk + Send + Sync, R: Threads + Wait + Sync>(
             ensures { IfSome result (λ w. HasMade two second.entry.now w.seat) }
         { work(rt, alloc, shared, two, second) },
     );
-    let one = one.context("no memory")?;
-    let two = two.context("no memory")?;
+    let one = one.context("out of memory")?;
+    let two = two.context("out of memory")?;
     let last = later(one.last, two.last);
 
     // `close` wants all seats back, in the order in which `open` handed them out.
@@ -87,7 +87,7 @@ struct Worked<N: Desk> {
 
 /// Makes the calls of a seat's operator, one after the other, and reads after each how far the map
 /// is. A reading takes no lock, so it goes on while the other operator is inside a call. `None` for
-/// want of memory.
+/// out of memory.
 fn work<N: Desk, R: Wait>(
     rt: &R,
     alloc: Global,

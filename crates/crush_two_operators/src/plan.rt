@@ -21,7 +21,7 @@ use std::thread::{Threads, join};
 /// map, its next the second, and so on. Each is made exactly once and in its order, whichever of the
 /// two comes first: no step is made of a map that its operator hasn't seen.
 ///
-/// An `Err` is want of memory, a history that is full, or a step that is refused or changes nothing.
+/// An `Err` is out of memory, a history that is full, or a step that is refused or changes nothing.
 pub fn follow_at_once<R: Threads + Wait + Sync>(
     rt: &R,
     alloc: Global,
@@ -31,7 +31,7 @@ pub fn follow_at_once<R: Threads + Wait + Sync>(
     ensures all { IfOk result (λ c. MakesAll map c.map c.history.items) }
     ensures plan { IfOk result (λ c. IsFollowed plan.now c.history.items) }
 {
-    let started = Started::new(map, 2, alloc).ok().context("no memory")?;
+    let started = Started::new(map, 2, alloc).ok().context("out of memory")?;
     follow_together::<Brand, R>(rt, alloc, started, plan)
 }
 
@@ -49,7 +49,7 @@ fn follow_together<N: Desk + Send + Sync, R: Threads + Wait + Sync>(
     ensures all { IfOk result (λ c. MakesAll N.opening c.map c.history.items) }
     ensures plan { IfOk result (λ c. IsFollowed plan.now c.history.items) }
 {
-    let (editor, mut seats) = Editor::<N>::open(started, alloc).ok().context("no memory")?;
+    let (editor, mut seats) = Editor::<N>::open(started, alloc).ok().context("out of memory")?;
     let two = seats.pop().context("no seat")?;
     let one = seats.pop().context("no seat")?;
     let shared = &editor;
@@ -96,7 +96,7 @@ fn follow<N: Desk, R: Wait>(
     None
 }
 
-/// The call that asks for this edit while there are so many changes. `None` for want of memory.
+/// The call that asks for this edit while there are so many changes. `None` is out of memory.
 fn step(alloc: Global, seen: u32, edit: &Edit) -> Option<Call>
     ensures { IfSome result (λ call. call ≡ Guarded seen (edit.now ∷ [])) }
 {

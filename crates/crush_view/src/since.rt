@@ -31,7 +31,7 @@ use seen::{class_ids_of, look_up};
 use settings::push_settings;
 use std::alloc::{AllocError, Allocator, Global};
 use std::io::Write;
-use tally::{Tally, with};
+use tally::Tally;
 use words::{push_counts, push_totals};
 
 /// Writes what has changed from the old map to the new: a line for each item that differs, buckets
@@ -154,5 +154,5 @@ fn push_compared(
         (option_map seen_data item.now.after)) }
 {
     push_line(*out.allocator(), id, item, out)?;
-    Ok(with(tally, &item.before, &item.after))
+    Ok(tally.with(&item.before, &item.after))
 }

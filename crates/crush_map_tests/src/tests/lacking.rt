@@ -1,4 +1,4 @@
-//! Each edit, and batches, for which memory lacks at each of their growths: the map is then as
+//! Each edit, and batches, for which memory runs out at each of their growths: the map is then as
 //! before, and the same call, made again where there is memory, answers and does as ever. And a
 //! batch of as many edits as there may be.
 
@@ -38,7 +38,7 @@ struct Call {
     told: Told,
     /// What is then true of the map.
     then: &'static [Fact],
-    /// How often memory lacks for it at least.
+    /// How often memory runs out for it at least.
     least: usize,
 }
 
@@ -105,7 +105,7 @@ fn lacked(
     lacks
 }
 
-/// Whether memory lacks for the call on the example map in a heap whose largest piece is then
+/// Whether memory runs out for the call on the example map in a heap whose largest piece is then
 /// `spare` bytes.
 fn lacks_with(
     rt: &impl Abort,
@@ -123,7 +123,7 @@ fn lacks_with(
     lacks
 }
 
-/// Asserts how often memory lacks at least for the call in a heap that has hardly any memory left,
+/// Asserts how often memory runs out at least for the call in a heap that has hardly any memory left,
 /// then 64 bytes more, and so on until there is enough.
 fn lacks_often(rt: &impl Abort, alloc: Global, place: usize, call: &Call, edits: &[Edit]) {
     for times in 0..256 {
@@ -135,7 +135,7 @@ fn lacks_often(rt: &impl Abort, alloc: Global, place: usize, call: &Call, edits:
     panic!(rt; "no heap has enough memory")
 }
 
-/// Asserts of each call, made on maps of its own, how often memory lacks for it at least.
+/// Asserts of each call, made on maps of its own, how often memory runs out for it at least.
 fn lack_at_each_growth(rt: &impl Abort, alloc: Global, calls: &[Call]) {
     for (place, call) in calls.iter().enumerate() {
         let edits = edits(rt, alloc, call.asked);

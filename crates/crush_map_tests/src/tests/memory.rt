@@ -87,7 +87,7 @@ fn are_there(builder: &MapBuilder<&LocalHeap>, taken: usize) -> bool {
     ITEMS.iter().all(|item| is_there(builder, taken, item))
 }
 
-/// Makes the statements up to the first for which memory lacks. After each, and after the want, the
+/// Makes the statements up to the first for which memory runs out. After each, and after that one, the
 /// builder has the items of those that were taken.
 fn make_and_look(rt: &impl Abort, builder: &mut MapBuilder<&LocalHeap>) {
     for (taken, statement) in BEFORE_RULE.iter().enumerate() {

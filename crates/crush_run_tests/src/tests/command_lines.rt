@@ -163,9 +163,9 @@ const HELP: &[&str] = &[
     "\n    5    with --strict",
 ];
 
-/// What is told where the word asks for no run.
-fn told(rt: &(impl Abort + AllocGlobal), word: &str) -> String {
-    let Err(OptionsFault::Help(text)) = options(rt.alloc(), &[word]) else {
+/// What is told where the words ask for no run.
+fn told(rt: &(impl Abort + AllocGlobal), words: &[&str]) -> String {
+    let Err(OptionsFault::Help(text)) = options(rt.alloc(), words) else {
         panic!(rt; "nothing is told")
     };
     text
@@ -183,9 +183,21 @@ fn has_all(text: &str, parts: &[&str]) -> bool {
 
 #[test]
 fn help_and_the_version_are_told(rt: HostRuntime) {
-    let help = told(&rt, "--help");
-    let version = told(&rt, "--version");
+    let help = told(&rt, &["--help"]);
+    let version = told(&rt, &["--version"]);
     assert!(rt;
         has_all(help.as_str(), HELP) && version.as_str().starts_with("crushedit 0.1.0 (rattle-kit-")
     );
+    drop(version);
+    drop(help);
 }
+
+#[test]
+fn no_word_behind_the_help_is_looked_at(rt: HostRuntime) {
+    let fly = told(&rt, &["--help", "--fly"]);
+    let twice = told(&rt, &["-h", "-h"]);
+    assert!(rt; has_all(fly.as_str(), HELP) && has_all(twice.as_str(), HELP));
+    drop(twice);
+    drop(fly);
+}
+

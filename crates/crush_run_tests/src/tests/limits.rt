@@ -40,7 +40,7 @@ fn chain(rt: &(impl Abort + AllocGlobal), weight: &str) -> Vec<u8> {
     text
 }
 
-/// What is called in the chain, and the lines of it. That a name is taken is told before want of room,
+/// What is called in the chain, and the lines of it. That a name is taken is told before a lack of room,
 /// and a bucket that is there takes a further device.
 const SCRIPT: &[u8] =
     b"%operator a\nadd-bucket b1 host\nadd-bucket z host\nadd osd.1 1 host=z\nadd osd.1 1 host=b1\nrm osd.1\nreweight osd.0 2.0\n";

@@ -10,7 +10,7 @@ use std::alloc::AllocError;
 use std::io::{self, ErrorKind, Write};
 use std::process::Abort;
 
-/// Whether want of memory is one fault, whoever tells it.
+/// Whether out of memory is one fault, whoever tells it.
 fn is_one_fault() -> bool {
     RunFault::from(JobFault::OutOfMemory) == RunFault::Memory
         && RunFault::from(WriteFault::OutOfMemory) == RunFault::Memory

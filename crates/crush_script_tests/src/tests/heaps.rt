@@ -30,7 +30,7 @@ fn the_plain_example_map_is_read_into_a_heap(rt: HostRuntime) {
     assert!(rt; holds_the_map(&rt, 65536) == Ok(true));
 }
 
-/// Whether the fault is that memory lacks inside the text of the plain example map; for the first
+/// Whether the fault is that memory ran out inside the text of the plain example map; for the first
 /// device, whose name is at place 38, where the heap is the smallest.
 fn is_lack(fault: TextFault, is_smallest: bool) -> bool {
     fault.kind == TextFaultKind::OutOfMemory

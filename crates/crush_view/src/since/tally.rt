@@ -40,21 +40,21 @@ impl Tally {
             reclassed: 0,
         }
     }
-}
 
-/// The counts with one item more.
-pub(crate) fn with(tally: Tally, before: &Option<Seen<'_>>, after: &Option<Seen<'_>>) -> Tally
-    requires { HasRoom tally }
-    ensures { result
-        ≡ tally_with tally (option_map seen_data before.now) (option_map seen_data after.now) }
-{
-    Tally {
-        made: more(tally.made, is_made(before, after)),
-        removed: more(tally.removed, is_made(after, before)),
-        renamed: more(tally.renamed, is_renamed(before, after)),
-        moved: more(tally.moved, is_moved(before, after)),
-        reweighed: more(tally.reweighed, is_reweighed(before, after)),
-        reclassed: more(tally.reclassed, is_reclassed(before, after)),
+    /// The counts with one item more.
+    pub(crate) fn with(self, before: &Option<Seen<'_>>, after: &Option<Seen<'_>>) -> Tally
+        requires { HasRoom self }
+        ensures { result
+            ≡ tally_with self (option_map seen_data before.now) (option_map seen_data after.now) }
+    {
+        Tally {
+            made: more(self.made, is_made(before, after)),
+            removed: more(self.removed, is_made(after, before)),
+            renamed: more(self.renamed, is_renamed(before, after)),
+            moved: more(self.moved, is_moved(before, after)),
+            reweighed: more(self.reweighed, is_reweighed(before, after)),
+            reclassed: more(self.reclassed, is_reclassed(before, after)),
+        }
     }
 }
 

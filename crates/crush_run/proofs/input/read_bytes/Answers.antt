@@ -1,7 +1,7 @@
 use Rattle.std.proofs.Common.{arith, rules, length, take, ◌+◌, ◌≤◌}
 use Rattle.std.proofs.lemmas.Result.{err_from_is_err_and}
 use Rattle.crush_run.specs.declared.input.TheConstants.{MOST_BYTES}
-use Rattle.crush_run.proofs.Consuming.{Consumes-piece, Consumes-no_more, front_of_all, all_of_it, few_kept, few_then}
+use Rattle.crush_run.proofs.Consuming.{Consumes-piece, Consumes-no_more, prefix_of_all, all_of_it, few_kept, few_then}
 use Rattle.crush_run.proofs.input.read_bytes.Goals as goal
 
 pub returns-in-Ok-eq0-clause-bytes : goal.returns-in-Ok-eq0-clause-bytes
@@ -13,7 +13,7 @@ returns-in-Ok-eq0-clause-bytes g c =
 
 pub returns-then-len-eq-MOST_BYTES-clause-bytes : goal.returns-then-len-eq-MOST_BYTES-clause-bytes
 returns-then-len-eq-MOST_BYTES-clause-bytes g c =
-    front_of_all (g.R.Read.remaining c.args.reader.now) (g.R.Read.remaining c.read.new.self) c.extend_from_slice.new.self.items MOST_BYTES
+    prefix_of_all (g.R.Read.remaining c.args.reader.now) (g.R.Read.remaining c.read.new.self) c.extend_from_slice.new.self.items MOST_BYTES
     (Consumes-piece _ _ _ _ _ _ c.loop.invariant.taken c.in-Ok.ensures.bytes.0 c.in_ok-extend_from_slice-in-Ok.ensures.items) (omega arith)
 
 pub loop-preserved : goal.loop-preserved
@@ -27,8 +27,8 @@ loop-preserved g c = record {
 pub returns-in-Err-clause-bytes : goal.returns-in-Err-clause-bytes
 returns-in-Err-clause-bytes g c = tt
 
-pub returns-in-Err-clause-front : goal.returns-in-Err-clause-front
-returns-in-Err-clause-front g c = few_kept _ _ _ c.loop.bytes.items c.loop.invariant.taken c.in-Err.ensures.bytes (omega (arith, c.loop.invariant.few))
+pub returns-in-Err-clause-prefix : goal.returns-in-Err-clause-prefix
+returns-in-Err-clause-prefix g c = few_kept _ _ _ c.loop.bytes.items c.loop.invariant.taken c.in-Err.ensures.bytes (omega (arith, c.loop.invariant.few))
 
 pub returns-in-Ok-eq0-clause-taken : goal.returns-in-Ok-eq0-clause-taken
 returns-in-Ok-eq0-clause-taken g c =
@@ -39,8 +39,8 @@ returns-then-len-eq-MOST_BYTES-clause-taken g c =
     Consumes-piece _ _ _ _ _ _ c.loop.invariant.taken c.in-Ok.ensures.bytes.0 c.in_ok-extend_from_slice-in-Ok.ensures.items
 
 -- a piece for which there is no room was taken too
-pub returns-in_err-extend_from_slice-in-Ok-clause-front : goal.returns-in_err-extend_from_slice-in-Ok-clause-front
-returns-in_err-extend_from_slice-in-Ok-clause-front g c =
+pub returns-in_err-extend_from_slice-in-Ok-clause-prefix : goal.returns-in_err-extend_from_slice-in-Ok-clause-prefix
+returns-in_err-extend_from_slice-in-Ok-clause-prefix g c =
     let p = err_from_is_err_and c.from_residual.result c.from_residual.ensures.1 in
     let few : length c.loop.bytes.items + length (take c.in-Ok.count c.read.new.buf) ≤ MOST_BYTES = search rules in
     rw p.1 (few_then _ _ _ c.loop.bytes.items _ c.loop.invariant.taken c.in-Ok.ensures.bytes.0 few)

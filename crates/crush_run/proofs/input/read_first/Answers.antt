@@ -1,5 +1,6 @@
-use Rattle.std.proofs.Common.{inl, sym}
+use Rattle.std.proofs.Common.{inl, refl, sym}
 use Rattle.crush_run.specs.Options.{IsFile}
+use Rattle.crush_run.proofs.Consuming.{few_nothing}
 use Rattle.crush_run.proofs.Noted.{err_as}
 use Rattle.crush_run.proofs.Reading.{part_noted, quiet_part}
 use Rattle.crush_run.proofs.Runs.{when_ok}
@@ -17,3 +18,7 @@ pub returns-in-Some-clause-noted : goal.returns-in-Some-clause-noted
 returns-in-Some-clause-noted g c =
     let named : IsFile c.args.options.now.file c.as_str.result.now = rw c.in-Some.is (sym c.as_str.ensures.value) in
     err_as _ _ c.read_file.result (λ s told. part_noted c.args.options.now _ s.fault _ (inl named) told) c.read_file.ensures.noted
+
+-- a file is read in place of standard input
+pub returns-in-Some-clause-taken : goal.returns-in-Some-clause-taken
+returns-in-Some-clause-taken g c = few_nothing _ _ refl

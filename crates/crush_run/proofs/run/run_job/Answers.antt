@@ -35,4 +35,4 @@ pub returns-in-Err-clause-fault : goal.returns-in-Err-clause-fault
 returns-in-Err-clause-fault g c = rw c.quietly.ensures.outcome (run_fault_of_input c.args.plan.now.mode _ _ c.in-Err.ensures.fault)
 
 pub returns-in-Err-clause-taken : goal.returns-in-Err-clause-taken
-returns-in-Err-clause-taken g c = c.in-Err.ensures.front
+returns-in-Err-clause-taken g c = c.in-Err.ensures.prefix

@@ -1,4 +1,4 @@
-use Rattle.std.proofs.Common.{◌≡◌, ℕ, ◌+◌, ◌==◌, ◌≤◌, List, [], Result, Ok, Err, length, count_by, is_ok, true≢false, inl, inr, refl, sym, ap, subst, ◌∙◌, arith}
+use Rattle.std.proofs.Common.{◌≡◌, ℕ, ◌+◌, ◌≤◌, List, [], Result, Ok, Err, length, is_ok, true≢false, inl, inr, refl, sym, ap, subst, ◌∙◌, arith}
 use Rattle.std.proofs.lemmas.List.{length-map}
 use Rattle.std.proofs.lemmas.Result.{err_from_is_err_and}
 use Rattle.crush_bytes.specs.Words.{words}
@@ -9,7 +9,7 @@ use Rattle.crush_text.specs.Want.{IsToldInTime}
 use Rattle.crush_text.proofs.Laws.{no_want}
 use Rattle.crush_script.specs.Fault.{is_want, lacks_memory}
 use Rattle.crush_script.specs.MapPart.{IsTextFault}
-use Rattle.crush_script.specs.Lines.{lines, map_part, section_part, section_line}
+use Rattle.crush_script.specs.Lines.{lines, line_feeds, map_part, section_part, section_line}
 use Rattle.crush_calls.specs.Script.{ScriptData, script_data, scripts_data}
 use Rattle.crush_script.specs.Sections.{SectionsData, no_sections, sections_data, sections_of, with_lines}
 use Rattle.crush_script.specs.Job.{JobData, IsJobFault}
@@ -23,17 +23,17 @@ use Rattle.crush_script.proofs.Few.{calls_few, scripts_few}
 use Rattle.crush_script.proofs.job.read_job.Goals as goal
 
 -- what the lines behind the cut say is what the sections of the job say
-sections_of-cut : (bytes text rest : List ℕ) (feeds : ℕ) (said : Result SectionsData JobFault) → text ≡ map_part bytes → rest ≡ section_part bytes → feeds ≡ count_by (λ b. b == 10) text
+sections_of-cut : (bytes text rest : List ℕ) (feeds : ℕ) (said : Result SectionsData JobFault) → text ≡ map_part bytes → rest ≡ section_part bytes → feeds ≡ line_feeds text
     → with_lines (feeds + 1) no_sections (lines rest) ≡ said → sections_of bytes ≡ said
 sections_of-cut bytes text rest feeds said front back counted says =
-    let first : feeds + 1 ≡ section_line bytes = ap (λ (n : ℕ). n + 1) (counted ∙ ap (λ (x : List ℕ). count_by (λ b. b == 10) x) front) in
+    let first : feeds + 1 ≡ section_line bytes = ap (λ (n : ℕ). n + 1) (counted ∙ ap line_feeds front) in
     (λ i. with_lines (sym first i) no_sections (lines (sym back i))) ∙ says
 
 -- sections that the definition gives meet no fault of it
 ok_is_no_err : (said : SectionsData) (fault : JobFault) (given : Result SectionsData JobFault) → given ≡ Ok said → given ≡ Err fault → ⊥
 ok_is_no_err said fault given ok err = true≢false (sym (ap is_ok ok) ∙ ap is_ok err)
 
--- they are refused for want of memory alone
+-- they are refused out of memory alone
 want_alone : (fault : JobFault) (said : SectionsData) (given : Result SectionsData JobFault) → given ≡ Ok said → FailsAs fault given → fault ≡ OutOfMemory
 want_alone (BadLine number) said given ok err = absurd (ok_is_no_err said (BadLine number) given ok err)
 want_alone (NoSuchCommand number) said given ok err = absurd (ok_is_no_err said (NoSuchCommand number) given ok err)
@@ -119,7 +119,7 @@ returns-in_err-map-clause-fault c =
     rw (p.1, p.2) (record { short = omega arith; map = subst (λ (x : List ℕ). IsTextFault x fault) c.cut_job.ensures.map is })
 
 -- what the lines behind the cut fail as
-cut_fails : (fault : JobFault) (bytes text rest : List ℕ) (feeds : ℕ) → text ≡ map_part bytes → rest ≡ section_part bytes → feeds ≡ count_by (λ b. b == 10) text
+cut_fails : (fault : JobFault) (bytes text rest : List ℕ) (feeds : ℕ) → text ≡ map_part bytes → rest ≡ section_part bytes → feeds ≡ line_feeds text
     → FailsAs fault (with_lines (feeds + 1) no_sections (lines rest)) → FailsAs fault (sections_of bytes)
 cut_fails fault bytes text rest feeds front back counted = subst (FailsAs fault) (sym (sections_of-cut bytes text rest feeds (with_lines (feeds + 1) no_sections (lines rest)) front back counted refl))
 

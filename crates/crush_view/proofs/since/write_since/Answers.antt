@@ -9,6 +9,6 @@ returns-in-Ok-clause-writes g c = λ t u a b.
     let text = since_text (told c.args.old.now.setting t) (told c.args.new.now.setting u) in
     rw (sym (c.as_slice.ensures.value ∙ c.in-Ok.ensures t u a b ∙ ap (λ (l : List ℕ). l ++ text) c.new-text.ensures.items)) c.put.ensures.writes
 
--- where memory lacks, nothing is written
+-- out of memory, nothing is written
 pub returns-clause-writes : goal.returns-clause-writes
 returns-clause-writes g c = λ t u a b. nothing_is_less _ _ (since_text_is_some (told c.args.old.now.setting t) (told c.args.new.now.setting u))
