@@ -245,7 +245,7 @@ class Refuser:
         return [NO_THREAD if is_for_thread else NO_MEMORY]
 
     def wants(self, run, told, what):
-        """Whether the run in which this was refused ended for want of memory; else it has to be the whole."""
+        """Whether the run in which this was refused ended out of memory; else it has to be the whole."""
         if self.left.exists():
             raise Ending(f"{self.name}: {what}: a thread is left")
         if run.returncode == 4 and not run.stdout and run.stderr in self.lines(told):
@@ -256,7 +256,7 @@ class Refuser:
         return False
 
     def refuse_each(self):
-        """How many requests were refused, how many of these runs ended for want of memory, and how many threads were
+        """How many requests were refused, how many of these runs ended out of memory, and how many threads were
         not started, whose runs all have to."""
         number = wanting = 0
         while True:

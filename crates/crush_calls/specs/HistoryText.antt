@@ -65,8 +65,8 @@ digit_of true = codes "1"
 digit_of false = codes "0"
 
 -- what stands before the call in a line: `# NUMBER OPERATOR `
-unfoldable pub line_front : ℕ → List ℕ → List ℕ
-line_front number operator = codes "# " ++ decimal number ++ codes " " ++ operator ++ codes " "
+unfoldable pub line_head : ℕ → List ℕ → List ℕ
+line_head number operator = codes "# " ++ decimal number ++ codes " " ++ operator ++ codes " "
 
 -- a refusal's name and its error
 abbrev pub refusal_text : Refusal → List ℕ
@@ -86,7 +86,7 @@ line_end (Stale n) = codes " = refused Stale 11 changes " ++ decimal n ++ codes 
 
 -- the line of a call and its reply: `# NUMBER OPERATOR CALL = REPLY`
 abbrev pub line_text : ℕ → List ℕ → Call → Reply → List ℕ
-line_text number operator call reply = line_front number operator ++ (call_text call ++ line_end reply)
+line_text number operator call reply = line_head number operator ++ (call_text call ++ line_end reply)
 
 -- the line of an entry, given its number and its operator's name
 abbrev pub entry_text : ℕ → List ℕ → EntryData → List ℕ

@@ -3,7 +3,7 @@
 ghost use Rattle.std.specs.Prelude.{◌≡◌, ◌<◌, ◌^◌, [], length, slice_index_or, IfErr, IfOk};
 ghost use Rattle.crush_bytes.specs.Writes.{Writes};
 ghost use Rattle.crush_calls.specs.Entries.{AreOf};
-ghost use Rattle.crush_calls.specs.HistoryText.{digit_of, line_front, refusal_text, refused_at_text, line_end, line_text, entries_text, names_of};
+ghost use Rattle.crush_calls.specs.HistoryText.{digit_of, line_head, refusal_text, refused_at_text, line_end, line_text, entries_text, names_of};
 ghost use Rattle.crush_calls.specs.Script.{scripts_data};
 
 use crate::call::{Call, Reply};
@@ -17,10 +17,10 @@ use std::alloc::{AllocError, Global};
 use std::io::Write;
 
 /// Writes what stands before the call.
-#[tactic(auto, unfolding(crate::specs::HistoryText::line_front))]
-fn write_front<W: Write>(number: u32, operator: &[u8], out: &mut W) -> Result<(), WriteFault>
+#[tactic(auto, unfolding(crate::specs::HistoryText::line_head))]
+fn write_head<W: Write>(number: u32, operator: &[u8], out: &mut W) -> Result<(), WriteFault>
     ensures writes { Writes result (W.contents out.old) (W.contents out.new)
-        (line_front number operator.now) }
+        (line_head number operator.now) }
     ensures fault { IfErr result (λ fault. fault ≡ WriteFault.Write) }
 {
     let mut buffer = Buffer::new();
@@ -184,7 +184,7 @@ fn write_reply<W: Write>(reply: Reply, out: &mut W) -> Result<(), WriteFault>
 /// The line begins with `#`, and so is a comment by the grammar of a map's text.
 ///
 /// It takes no memory, so the one fault is [`WriteFault::Write`], after which the writer holds a
-/// front of the line.
+/// prefix of the line.
 pub fn write_entry<W: Write>(
     number: u32,
     operator: &[u8],
@@ -196,7 +196,7 @@ pub fn write_entry<W: Write>(
         (line_text number operator.now call.now reply) }
     ensures fault { IfErr result (λ fault. fault ≡ WriteFault.Write) }
 {
-    write_front(number, operator, out)?;
+    write_head(number, operator, out)?;
     write_call(call, out)?;
     write_reply(reply, out)
 }

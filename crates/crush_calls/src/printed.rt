@@ -132,7 +132,7 @@ fn write_move<W: Write>(name: &Name<Global>, at: &Location, out: &mut W) -> Resu
 /// pair of a location.
 ///
 /// It takes no memory, so the one fault is [`WriteFault::Write`], after which the writer holds a
-/// front of the command.
+/// prefix of the command.
 pub fn write_edit<W: Write>(edit: &Edit, out: &mut W) -> Result<(), WriteFault>
     ensures writes { Writes result (W.contents out.old) (W.contents out.new) (edit_text edit.now) }
     ensures fault { IfErr result (λ fault. fault ≡ WriteFault.Write) }

@@ -24,7 +24,7 @@ use Rattle.crush_calls.specs.declared.call.Call.TheVariants.{One, Batch, Guarded
 use Rattle.crush_calls.specs.declared.call.Reply.{Reply}
 use Rattle.crush_calls.specs.declared.call.Reply.TheVariants.{Done, Dones, Refused, BatchRefused, Stale}
 use Rattle.crush_calls.specs.History.{EntryData}
-use Rattle.crush_calls.specs.HistoryText.{pair_text, pairs_text, one_name, two_names, weighed, edit_text, edits_text, rest_text, guard_text, call_text, digit_of, line_front, refusal_text, refused_at_text, line_end, line_text, entries_text}
+use Rattle.crush_calls.specs.HistoryText.{pair_text, pairs_text, one_name, two_names, weighed, edit_text, edits_text, rest_text, guard_text, call_text, digit_of, line_head, refusal_text, refused_at_text, line_end, line_text, entries_text}
 use Rattle.crush_laws.specs.Written.{IsNamed, IsNamedCall, HistoryLinesAreComments, WhatIsWrittenIsReadBack}
 
 -- no byte ends the line
@@ -192,7 +192,7 @@ abbrev IsLine : List ℕ → Type 0
 IsLine text = (rest : List ℕ) → are_comments false (text ++ rest) ≡ are_comments false rest
 
 line_is_comment : (number : ℕ) (operator : List ℕ) (c : Call) (r : Reply) → IsInLine operator → IsNamedCall c → IsLine (line_text number operator c r)
-unfolding line_front
+unfolding line_head
 line_is_comment number operator c r h is rest =
     ends (codes " " ++ decimal number ++ codes " " ++ operator ++ codes " ") (call_text c ++ line_end r)
     (five_in_line (codes " ") (decimal number) (codes " ") operator (codes " ") refl (number_in_line number) refl h refl)

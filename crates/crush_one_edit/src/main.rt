@@ -14,7 +14,7 @@ ghost use Rattle.crush_edits.specs.Edit.{edit};
 ghost use Rattle.crush_edits.specs.Setting.{SettingData};
 ghost use Rattle.crush_text.specs.declared.fault.TextFault.{TextFault as DeclaredFlaw};
 ghost use Rattle.crush_text.specs.Document.{IsMapText};
-ghost use Rattle.crush_text.specs.Flaw.{IsFlawOrWant};
+ghost use Rattle.crush_text.specs.Flaw.{IsFlawOrOutOfMemory};
 ghost use Rattle.crush_print.specs.MapText.{map_text};
 
 use crush_map::{Done, Edit, EditFault};
@@ -84,7 +84,7 @@ fn edit_text<W: Write>(alloc: Global, text: &[u8], asked: &Edit, out: &mut W) ->
         → edit s t asked.now ≡ refused r }
 
     // A fault that is told of the text is a flaw of it, or memory was refused.
-    ensures flaw { (f : DeclaredFlaw) → result ≡ Err (Fault.Text f) → IsFlawOrWant text.now f }
+    ensures flaw { (f : DeclaredFlaw) → result ≡ Err (Fault.Text f) → IsFlawOrOutOfMemory text.now f }
 
     // Of an edit that isn't made nothing is written.
     ensures nothing { (f : DeclaredFault) → result ≡ Err (Fault.Edit f)

@@ -28,7 +28,7 @@ use tunables::push_tunables;
 /// bucket names it as the map does now.
 ///
 /// The text is laid out in the given memory first. With [`WriteFault::OutOfMemory`] nothing is
-/// written, with [`WriteFault::Write`] a front of the text.
+/// written, with [`WriteFault::Write`] a prefix of the text.
 pub fn write_map<A: Allocator, W: Write>(
     alloc: Global,
     map: &CrushMap<A>,

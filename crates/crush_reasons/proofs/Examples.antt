@@ -6,7 +6,7 @@ use Rattle.crush_edits.specs.declared.edit.Edit.TheVariants.{Move, Reweight, Rem
 use Rattle.crush_edits.specs.declared.refusal.Refusal.TheVariants.{NotEmpty, NoSuchItem}
 use Rattle.crush_calls.specs.declared.call.Call.TheVariants.{One, Batch, Guarded}
 use Rattle.crush_calls.specs.declared.call.Reply.TheVariants.{Done, Dones, Refused, BatchRefused, Stale}
-use Rattle.crush_calls.specs.HistoryText.{line_front, line_end}
+use Rattle.crush_calls.specs.HistoryText.{line_head, line_end}
 use Rattle.crush_script.specs.declared.fault.JobFault.TheVariants as job
 use Rattle.crush_text.specs.declared.fault.TextFaultKind.TheVariants.{UnknownType}
 use Rattle.crush_reasons.specs.Ceph.{ceph_heading, ceph_line, ceph_text}
@@ -49,7 +49,7 @@ explained : explained_text (codes "a" ∷ []) 1 (
     ∷ (record { operator = 0; call = Batch (Remove (codes "osd.0") ∷ Remove (codes "default") ∷ []); reply = BatchRefused 1 NotEmpty })
     ∷ [])
     ≡ codes "# 1 a rm default = refused NotEmpty 39\n  the bucket holds items: move or remove them first\n# 3 a begin at 0 ; rm x ; commit = refused Stale 11 changes 1\n  the map has changed since: look at it again, and name the number of changes that is told\n# 4 a begin ; rm osd.0 ; rm default ; commit = refused at 1 NotEmpty 39\n  the bucket holds items: move or remove them first (the edits of a batch count from 0)\n"
-unfolding explained_text line_front line_end digits
+unfolding explained_text line_head line_end digits
 explained = refl
 
 -- a type that isn't declared, behind a tab in a second line

@@ -45,12 +45,12 @@ abbrev pub shown_before : List ℕ → ℕ
 shown_before before = min (behind_feed before) 40
 
 -- the name of a file, where there is one, and a space
-abbrev pub name_front : List ℕ → List ℕ
-name_front name = if length name == 0 then [] else name ++ codes " "
+abbrev pub name_head : List ℕ → List ℕ
+name_head name = if length name == 0 then [] else name ++ codes " "
 
 -- the number of a line in its own file, and the column of a place in it
 unfoldable pub column_line : OriginData → ℕ → ℕ → List ℕ
-column_line origin line column = codes "  " ++ name_front origin.name ++ codes "line " ++ decimal (own_line origin line) ++ codes ", column " ++ decimal column ++ codes "\n"
+column_line origin line column = codes "  " ++ name_head origin.name ++ codes "line " ++ decimal (own_line origin line) ++ codes ", column " ++ decimal column ++ codes "\n"
 
 -- the sign below a place, behind which so many bytes of the line are shown
 abbrev pub sign_line : ℕ → List ℕ
@@ -76,7 +76,7 @@ from_line (suc n) bytes = behind_line (from_line n bytes)
 
 -- the number of a line in its own file
 unfoldable pub number_line : OriginData → ℕ → List ℕ
-number_line origin line = codes "  " ++ name_front origin.name ++ codes "line " ++ decimal (own_line origin line) ++ codes "\n"
+number_line origin line = codes "  " ++ name_head origin.name ++ codes "line " ++ decimal (own_line origin line) ++ codes "\n"
 
 -- A LINE of a job, counted from 1, and below it what was wanted
 abbrev pub at_line : OriginData → List ℕ → ℕ → List ℕ → List ℕ

@@ -2,7 +2,7 @@
 
 ghost use Rattle.std.specs.Prelude.{◌≡◌, ◌≤◌, ◌<◌, ◌^◌, ◌+◌, ◌-◌, ◌++◌, ◌==◌, IfOk, OnOk, if◌then◌else◌, length, map, replicate, take};
 ghost use Rattle.crush_reasons.specs.Explained.{reason_line};
-ghost use Rattle.crush_reasons.specs.Place.{at_line, at_place, behind_feed, behind_line, column_line, fault_line, fault_text, from_line, last_line, name_front, number_line, origin_data, own_line, place_text, shown_before, shown_byte, shown_line, sign_line, to_feed};
+ghost use Rattle.crush_reasons.specs.Place.{at_line, at_place, behind_feed, behind_line, column_line, fault_line, fault_text, from_line, last_line, name_head, number_line, origin_data, own_line, place_text, shown_before, shown_byte, shown_line, sign_line, to_feed};
 
 use crate::sentences::job_sentence;
 use crate::words::{push_all, push_reason};
@@ -146,7 +146,7 @@ fn push_sign(shown: usize, text: &mut Vec<u8>) -> Result<(), AllocError>
 
 /// The name of a file and a space, or nothing.
 fn push_name(name: &[u8], text: &mut Vec<u8>) -> Result<(), AllocError>
-    ensures { OnOk result (text.new.items ≡ text.old.items ++ name_front name.now) }
+    ensures { OnOk result (text.new.items ≡ text.old.items ++ name_head name.now) }
 {
     if name.is_empty() {
         return Ok(());

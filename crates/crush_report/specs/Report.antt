@@ -4,7 +4,7 @@ use Rattle.crush_text.specs.declared.fault.TextFault.{TextFault}
 use Rattle.crush_text.specs.Fault.{fault_name}
 use Rattle.crush_script.specs.declared.fault.JobFault.{JobFault}
 use Rattle.crush_script.specs.declared.fault.JobFault.TheVariants.{BadLine, NoSuchCommand, OpenBatch, TooManyOperators, DuplicateOperator, Text, OutOfMemory, TooLong, TooManyCalls}
-use Rattle.crush_script.specs.Fault.{is_want, lacks_memory}
+use Rattle.crush_script.specs.Fault.{is_out_of_memory, lacks_memory}
 use Rattle.crush_run.specs.declared.fault.RunFault.{RunFault}
 use Rattle.crush_run.specs.declared.fault.RunFault.TheVariants as run
 use Rattle.crush_run.specs.declared.fault.SinceFault.{SinceFault}
@@ -49,7 +49,7 @@ since_text_fault f = codes "crushedit: since: byte " ++ decimal f.place ++ codes
 
 -- a fault of that map
 abbrev pub since_fault : SinceFault → List ℕ
-since_fault (since.Text f) = if is_want f.kind then out_of_memory else since_text_fault f
+since_fault (since.Text f) = if is_out_of_memory f.kind then out_of_memory else since_text_fault f
 since_fault since.TooLong = codes "crushedit: since: TooLong\n"
 since_fault since.Read = codes "crushedit: since: read fault\n"
 
@@ -74,7 +74,7 @@ abbrev pub memory_reason : List ℕ
 memory_reason = codes "  there is less memory than the job wants\n"
 
 abbrev pub since_reason : SinceFault → List ℕ
-since_reason (since.Text f) = if is_want f.kind then memory_reason else []
+since_reason (since.Text f) = if is_out_of_memory f.kind then memory_reason else []
 since_reason since.TooLong = codes "  the file of --since has at most 16777216 bytes\n"
 since_reason since.Read = codes "  the file of --since is to be there, and to be read to its end\n"
 
@@ -100,7 +100,7 @@ abbrev pub report_text : Bool → Result Summary RunFault → List ℕ → List 
 report_text explain outcome notes = report_lines explain outcome ++ notes
 
 abbrev pub since_status : SinceFault → ℕ
-since_status (since.Text f) = if is_want f.kind then 4 else 1
+since_status (since.Text f) = if is_out_of_memory f.kind then 4 else 1
 since_status since.TooLong = 1
 since_status since.Read = 3
 

@@ -265,7 +265,7 @@ fn put_told<E: Write>(outcome: &Result<Summary, RunFault>, explain: bool, notes:
 }
 
 /// Puts the bytes, or what of them standard error takes.
-fn put_front<E: Write>(bytes: &[u8], err: &mut E)
+fn put_prefix<E: Write>(bytes: &[u8], err: &mut E)
     ensures { AppendsFront (E.contents err.old) (E.contents err.new) bytes.now }
 {
     let _ = put(err, bytes);
@@ -353,7 +353,7 @@ pub fn tell<W: Write, E: Write>(fault: &OptionsFault, out: &mut W, err: &mut E) 
             }
         },
         OptionsFault::Refused(text) => {
-            put_front(text.as_bytes(), err);
+            put_prefix(text.as_bytes(), err);
             2
         }
         OptionsFault::Memory => {

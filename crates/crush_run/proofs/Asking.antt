@@ -5,8 +5,8 @@ use mathlib.Core.Logic.{dite}
 use native.Mathlib.Decide.{dec_le}
 use Rattle.crush_map.specs.MapData.{MapData}
 use Rattle.crush_text.specs.declared.fault.TextFault.{TextFault}
-use Rattle.crush_text.specs.Flaw.{IsFlawOrWant, IsMapFlaw}
-use Rattle.crush_script.specs.Fault.{is_want}
+use Rattle.crush_text.specs.Flaw.{IsFlawOrOutOfMemory, IsMapFlaw}
+use Rattle.crush_script.specs.Fault.{is_out_of_memory}
 use Rattle.crush_script.specs.Job.{HasJob, JobData}
 use Rattle.crush_options.specs.declared.asked.Options.{Options}
 use Rattle.crush_options.specs.declared.asked.Printed.{Printed}
@@ -26,8 +26,8 @@ use Rattle.crush_run.specs.Run.{Ends}
 use Rattle.crush_run.specs.Stages.{IsEarlyFault, IsInputFault, IsNoJob, IsOutcomeFault, IsReadFault}
 
 -- a fault of a text that isn't out of memory is a flaw of it
-pub flaw_where : (bytes : List ℕ) (f : TextFault) → is_want f.kind ≡ false → IsFlawOrWant bytes f → IsMapFlaw bytes f
-flaw_where bytes f room (inl want) = let e = ap is_want want in absurd cc
+pub flaw_where : (bytes : List ℕ) (f : TextFault) → is_out_of_memory f.kind ≡ false → IsFlawOrOutOfMemory bytes f → IsMapFlaw bytes f
+flaw_where bytes f room (inl want) = let e = ap is_out_of_memory want in absurd cc
 flaw_where bytes f room (inr flaw) = flaw
 
 -- what is told of one is its place, and nothing where no reasons are asked for

@@ -10,7 +10,7 @@ use Rattle.crush_units.specs.declared.limits.TheConstants.{LONGEST_JOB}
 use Rattle.crush_script.specs.Job.{HasJob, IsJob, IsJobFault, JobData}
 use Rattle.crush_script.specs.declared.fault.JobFault.{JobFault}
 use Rattle.crush_script.specs.declared.fault.JobFault.TheVariants.{BadLine, NoSuchCommand, OpenBatch, TooManyOperators, DuplicateOperator, Text, OutOfMemory, TooLong, TooManyCalls}
-use Rattle.crush_script.specs.Fault.{is_want}
+use Rattle.crush_script.specs.Fault.{is_out_of_memory}
 use Rattle.crush_options.specs.declared.asked.Mode.{Mode}
 use Rattle.crush_run.specs.declared.input.TheConstants.{MOST_BYTES}
 use Rattle.crush_run.specs.Faults.{of_job}
@@ -133,11 +133,11 @@ is_no_job bytes (OpenBatch n) h = (refl, h)
 is_no_job bytes (TooManyOperators n) h = (refl, h)
 is_no_job bytes (DuplicateOperator n) h = (refl, h)
 is_no_job bytes (TooManyCalls n) h = (refl, h)
-is_no_job bytes (Text f) h = by_want (is_want f.kind) refl
+is_no_job bytes (Text f) h = by_kind (is_out_of_memory f.kind) refl
   where
-    by_want : (b : Bool) → is_want f.kind ≡ b → IsNoJob (Some bytes) (cond b run.Memory (run.Job (Text f)))
-    by_want true k = tt
-    by_want false k = (k, h)
+    by_kind : (b : Bool) → is_out_of_memory f.kind ≡ b → IsNoJob (Some bytes) (cond b run.Memory (run.Job (Text f)))
+    by_kind true k = tt
+    by_kind false k = (k, h)
 is_no_job bytes TooLong h = (refl, h)
 is_no_job bytes OutOfMemory h = tt
 

@@ -1,7 +1,7 @@
 //! The map since which changes are asked for.
 
 ghost use Rattle.std.specs.Prelude.{◌≡◌, ◌≤◌, ℕ, Bool, List, Option, Some, IfOk, IfErr, IfSome, length};
-ghost use Rattle.crush_text.specs.Flaw.{IsFlawOrWant};
+ghost use Rattle.crush_text.specs.Flaw.{IsFlawOrOutOfMemory};
 ghost use Rattle.crush_run.specs.Notes.{IsFileNoted, IsMapNoted, flaw_notes};
 ghost use Rattle.crush_run.specs.Options.{IsMapFault, IsTextOf};
 ghost use Rattle.crush_run.specs.Stages.{IsInputFault};
@@ -44,7 +44,7 @@ fn flaw_notes(
 /// Why a text is no map, and where; or out of memory, also where there is none to tell it.
 fn stopped_at(alloc: Global, explain: bool, name: &str, text: &[u8], fault: TextFault) -> Stopped
     requires few { length text.now ≤ LONGEST_JOB }
-    requires flaw { IsFlawOrWant text.now fault }
+    requires flaw { IsFlawOrOutOfMemory text.now fault }
     ensures fault { IsMapFault (Some text.now) result.fault }
     ensures noted { IsMapNoted explain name.now (Some text.now) result.fault result.notes.items }
 {

@@ -6,12 +6,12 @@ use Rattle.crush_script.specs.declared.fault.JobFault.{JobFault}
 use Rattle.crush_script.specs.declared.fault.JobFault.TheVariants.{Text, OutOfMemory}
 
 -- whether a fault of a text tells that memory lacked, and is no flaw of it
-abbrev pub is_want : TextFaultKind → Bool
-is_want kinds.OutOfMemory = true
-is_want kind = false
+abbrev pub is_out_of_memory : TextFaultKind → Bool
+is_out_of_memory kinds.OutOfMemory = true
+is_out_of_memory kind = false
 
 -- whether a fault of a job tells that memory lacked, for it or for its text
 abbrev pub lacks_memory : JobFault → Bool
 lacks_memory OutOfMemory = true
-lacks_memory (Text fault) = is_want fault.kind
+lacks_memory (Text fault) = is_out_of_memory fault.kind
 lacks_memory fault = false

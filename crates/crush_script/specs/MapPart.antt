@@ -4,8 +4,8 @@ use Rattle.crush_table.specs.Table.{Row}
 use Rattle.crush_edits.specs.Setting.{SettingData}
 use Rattle.crush_text.specs.declared.fault.TextFault.{TextFault}
 use Rattle.crush_text.specs.Document.{IsMapText}
-use Rattle.crush_text.specs.Flaw.{IsMapFlaw, IsWant}
-use Rattle.crush_text.specs.Want.{IsToldInTime}
+use Rattle.crush_text.specs.Flaw.{IsMapFlaw, IsOutOfMemory}
+use Rattle.crush_text.specs.InTime.{IsToldInTime}
 
 -- the text has this flaw, and so is that of no map
 pub record IsNoMap (text : List ℕ) (fault : TextFault) : Type 0 where
@@ -13,10 +13,10 @@ pub record IsNoMap (text : List ℕ) (fault : TextFault) : Type 0 where
   pub none : (s : SettingData) (t : List Row) (adjusted : ℕ) → IsMapText text s t adjusted → ⊥
 
 -- memory was refused, and told at a word that is right, as all before it, or where no word stands
-pub record IsTextWant (text : List ℕ) (fault : TextFault) : Type 0 where
-  pub want : IsWant fault
+pub record IsTextOutOfMemory (text : List ℕ) (fault : TextFault) : Type 0 where
+  pub memory : IsOutOfMemory fault
   pub told : IsToldInTime text fault
 
 -- one of both is what is told of a text
 abbrev pub IsTextFault : List ℕ → TextFault → Type 0
-IsTextFault text fault = IsNoMap text fault ⊎ IsTextWant text fault
+IsTextFault text fault = IsNoMap text fault ⊎ IsTextOutOfMemory text fault

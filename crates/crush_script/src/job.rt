@@ -55,7 +55,7 @@ pub fn read_job(alloc: Global, hashing: Hashing, bytes: &[u8]) -> Result<Job, Jo
         → IfOk result (λ read. JobStands read job) }
 
     // A job is refused out of memory alone, and other bytes for what is wrong with them.
-    ensures want { (job : JobData) → IsJob bytes.now job
+    ensures memory { (job : JobData) → IsJob bytes.now job
         → IfErr result (λ fault. lacks_memory fault ≡ true) }
     ensures fault { IfErr result (IsJobFault bytes.now) }
 

@@ -15,8 +15,8 @@ use Rattle.crush_text.specs.Tests.{word_tests, word_for}
 use Rattle.crush_text.specs.Rows.{IsFault, IsRight}
 use Rattle.crush_text.specs.Flow.{State, between, amid, ◌>>=◌, arrive, take, step, placed, unfinished, stop_at, run, outcome, takes_statement, Reaches}
 use Rattle.crush_text.specs.Document.{SpellsForm, SpellsNext, Spell, IsWhole, start, IsDocument}
-use Rattle.crush_text.specs.Flaw.{FaultyForm, FaultyNext, IsFaulty, IsFlaw, IsWant}
-use Rattle.crush_text.specs.Want.{IsRightUpTo}
+use Rattle.crush_text.specs.Flaw.{FaultyForm, FaultyNext, IsFaulty, IsFlaw, IsOutOfMemory}
+use Rattle.crush_text.specs.InTime.{IsRightUpTo}
 use Rattle.crush_text.proofs.Judged.{fires, first_fires, none_fires}
 use Rattle.crush_text.proofs.TheTable.{in_order, told}
 
@@ -245,7 +245,7 @@ pub fault_of : (t : Text) (f : TextFault) → IsFlaw t f → outcome start t ≡
 unfolding outcome
 fault_of t f h = ap (λ (l : List Word). run start l t.stop) h.all ∙ spelled_run h.before h.next start h.so_far t.stop h.spelled ∙ faulty_run h.so_far h.next t.stop f h.fault
 
--- no word is at fault for want of memory
+-- no word is at fault for memory
 no_want_of : (d : Draft) (g : Form) (w : List ℕ) → FaultyForm OutOfMemory d g w → ⊥
 no_want_of d (word r more) w h = h.0
 no_want_of d (done p) w h = absurd cc
@@ -253,8 +253,8 @@ no_want_of d (optional k x y) w h = absurd cc
 no_want_of d (ahead k x y) w h = absurd cc
 
 -- and so no flaw is one
-pub no_want : (t : Text) (f : TextFault) → IsFlaw t f → IsWant f → ⊥
-no_want t f h want = by_it h.so_far h.next t.stop h.fault
+pub no_flaw_of_memory : (t : Text) (f : TextFault) → IsFlaw t f → IsOutOfMemory f → ⊥
+no_flaw_of_memory t f h want = by_it h.so_far h.next t.stop h.fault
   where
     by_form : (s : State) (w : List ℕ) → FaultyNext OutOfMemory s w → ⊥
     by_form (between p) w e = no_want_of p.draft (next p) w e

@@ -9,6 +9,6 @@ pub mod Reserved
 pub mod Steps
 pub mod TheTable
 pub mod Unbegun
-pub mod Wants
+pub mod MemoryAlone
 pub mod Weighed
 pub mod Whole

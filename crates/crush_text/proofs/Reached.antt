@@ -12,7 +12,7 @@ use Rattle.crush_text.specs.Form.{Mode, first, Progress, at, Form, done, word, o
 use Rattle.crush_text.specs.Grammar.{line_forms}
 use Rattle.crush_text.specs.Tests.{◌when◌, unless, word_for}
 use Rattle.crush_text.specs.Flow.{State, ◌>>=◌, placed, between, amid, arrive, step, takes_statement, outcome, Reaches}
-use Rattle.crush_text.specs.Flaw.{IsWant}
+use Rattle.crush_text.specs.Flaw.{IsOutOfMemory}
 use Rattle.crush_text.specs.Reads.{and_rest, next_of, next_at, word_at, line_at, then_on, LeadsOn, Fails, FailsIn}
 use Rattle.crush_text.specs.ReadsWords.{StoodAt}
 use Rattle.crush_text.specs.ReadsLines.{Goes}
@@ -135,8 +135,8 @@ pub no_words : (s : State) (t : Text) → LeadsOn s t s t
 no_words s t = record { same = refl; reaches = λ p h. h }
 
 -- memory that was refused at a place that is reached
-pub want_here : (f : TextFault) (p : ℕ) (s : State) (ws : List Word) → f ≡ record { kind = OutOfMemory; place = p } → Reaches p s ws → IsWant f × Reaches f.place s ws
-want_here f p s ws e h = (ap (λ (x : TextFault). x.kind) e, subst (λ (q : ℕ). Reaches q s ws) (sym (ap (λ (x : TextFault). x.place) e)) h)
+pub out_of_memory_here : (f : TextFault) (p : ℕ) (s : State) (ws : List Word) → f ≡ record { kind = OutOfMemory; place = p } → Reaches p s ws → IsOutOfMemory f × Reaches f.place s ws
+out_of_memory_here f p s ws e h = (ap (λ (x : TextFault). x.kind) e, subst (λ (q : ℕ). Reaches q s ws) (sym (ap (λ (x : TextFault). x.place) e)) h)
 
 -- a fault behind words that lead on is one of all
 pub fails_then : (f : TextFault) (s m : State) (t u : Text) → LeadsOn s t m u → Fails f m u → Fails f s t

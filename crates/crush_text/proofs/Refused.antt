@@ -19,7 +19,7 @@ use Rattle.crush_text.specs.ReadsWords.{ReadsWord, ReadsValue, FindsWord, FindsV
 use Rattle.crush_text.specs.ReadsLines.{ReadsLine, ReadsOn}
 use Rattle.crush_text.specs.ReadsRules.{ReadsHead, ReadsSize, GivesStep, ReadsStepLine, ReadsSteps}
 use Rattle.crush_text.specs.ReadsStatements.{behind, ReadsNext, ReadsAll}
-use Rattle.crush_text.proofs.Reached.{want_here}
+use Rattle.crush_text.proofs.Reached.{out_of_memory_here}
 
 -- no name was read
 pub no_name : (r : Role) (drafts : Draft → Type 0) (old new : Text) (f : TextFault) → ((d : Draft) → drafts d → word_at d r old ≡ Err f) → ReadsWord r drafts old new (Err f)
@@ -41,24 +41,24 @@ pub no_line : {A : _} {X : Type 0} (form : Draft → Form) (mode : X → Mode) (
 no_line form mode old new f h = record { reads = h; stands = tt; shorter = tt }
 
 -- the builder makes what a line says, or lacks memory, which is told at a place that the line reaches
-pub line_or_want : {A : _} {E P : Type 0} {form : Draft → Form} {mode : Unit {0} → Mode} {old new : MapReader A} (made : Result (Unit {0}) E) (told : E → TextFault → Type 0) (x : Result (Unit {0}) TextFault) (place : ℕ)
+pub line_or_memory : {A : _} {E P : Type 0} {form : Draft → Form} {mode : Unit {0} → Mode} {old new : MapReader A} (made : Result (Unit {0}) E) (told : E → TextFault → Type 0) (x : Result (Unit {0}) TextFault) (place : ℕ)
     → MatchResult made (λ u. x ≡ Ok u) (λ e. IsErrAnd x (told e)) → ((e : E) (f : TextFault) → told e f → f ≡ record { kind = OutOfMemory; place = place }) → ((d : Draft) → IsDraft old.builder d → Reaches place (arrive d old.text.words (form d)) old.text.words)
     → OnOk made P → (P → ReadsLine form mode old new (Ok tt)) → ReadsLine form mode old new x
-line_or_want (Ok u) told x place is want here ok reads = rw is (reads ok)
-line_or_want (Err e) told (Ok u) place is want here ok reads = absurd is
-line_or_want {form = form} {mode = mode} {old = old} {new = new} (Err e) told (Err f) place is want here ok reads = no_line form mode old new f (λ d h. inl (want_here f place (arrive d old.text.words (form d)) old.text.words (want e f is) (here d h)))
+line_or_memory (Ok u) told x place is want here ok reads = rw is (reads ok)
+line_or_memory (Err e) told (Ok u) place is want here ok reads = absurd is
+line_or_memory {form = form} {mode = mode} {old = old} {new = new} (Err e) told (Err f) place is want here ok reads = no_line form mode old new f (λ d h. inl (out_of_memory_here f place (arrive d old.text.words (form d)) old.text.words (want e f is) (here d h)))
 
 -- no lines
 pub no_lines : {A : _} {X : Type 0} (from : Draft → State) (mode : X → Mode) (old new : MapReader A) (f : TextFault) → ((d : Draft) → IsDraft old.builder d → Fails f (from d) old.text) → ReadsOn from mode old new (Err f)
 no_lines from mode old new f h = record { reads = h; stands = tt; shorter = tt }
 
 -- the builder makes what lines say, or lacks memory
-pub lines_or_want : {A : _} {E P : Type 0} {from : Draft → State} {mode : Unit {0} → Mode} {old new : MapReader A} (made : Result (Unit {0}) E) (told : E → TextFault → Type 0) (x : Result (Unit {0}) TextFault) (place : ℕ)
+pub lines_or_memory : {A : _} {E P : Type 0} {from : Draft → State} {mode : Unit {0} → Mode} {old new : MapReader A} (made : Result (Unit {0}) E) (told : E → TextFault → Type 0) (x : Result (Unit {0}) TextFault) (place : ℕ)
     → MatchResult made (λ u. x ≡ Ok u) (λ e. IsErrAnd x (told e)) → ((e : E) (f : TextFault) → told e f → f ≡ record { kind = OutOfMemory; place = place }) → ((d : Draft) → IsDraft old.builder d → Reaches place (from d) old.text.words)
     → OnOk made P → (P → ReadsOn from mode old new (Ok tt)) → ReadsOn from mode old new x
-lines_or_want (Ok u) told x place is want here ok reads = rw is (reads ok)
-lines_or_want (Err e) told (Ok u) place is want here ok reads = absurd is
-lines_or_want {from = from} {mode = mode} {old = old} {new = new} (Err e) told (Err f) place is want here ok reads = no_lines from mode old new f (λ d h. inl (want_here f place (from d) old.text.words (want e f is) (here d h)))
+lines_or_memory (Ok u) told x place is want here ok reads = rw is (reads ok)
+lines_or_memory (Err e) told (Ok u) place is want here ok reads = absurd is
+lines_or_memory {from = from} {mode = mode} {old = old} {new = new} (Err e) told (Err f) place is want here ok reads = no_lines from mode old new f (λ d h. inl (out_of_memory_here f place (from d) old.text.words (want e f is) (here d h)))
 
 -- no head of a rule, no size
 pub no_head : {A : _} (old new : MapReader A) (f : TextFault) → new.builder ≡ old.builder → ((d : Draft) → IsDraft old.builder d → FailsIn f d (rule_line d) old.text) → ReadsHead old new (Err f)

@@ -19,7 +19,7 @@ use Rattle.crush_text.specs.Role.{StepWord, bucket_of_word, taken_bucket, key, a
 use Rattle.crush_text.specs.Form.{numbered, ruled, at, Progress, Form, done, word}
 use Rattle.crush_text.specs.Grammar.{id_or_alg_line, new_rule, rule_line, sizes, step_behind, step_or_brace, line_forms}
 use Rattle.crush_text.specs.Flow.{◌>>=◌, arrive, Reaches}
-use Rattle.crush_text.specs.Flaw.{IsWant}
+use Rattle.crush_text.specs.Flaw.{IsOutOfMemory}
 use Rattle.crush_text.specs.Reads.{Gives, GivesLine, FailsIn, word_at, line_at}
 use Rattle.crush_text.specs.ReadsWords.{StoodAt}
 use Rattle.crush_text.specs.ReadsRules.{IsRightSoFar}
@@ -106,7 +106,7 @@ kept_head d x n k least most r h = rw (h.name, h.id, h.kind, h.min_size, h.max_s
 
 -- which is what its words say
 pub head_made : (d : Draft) (x : List ℕ) (n : ℕ) (k : List ℕ) (least most : Option ℕ) (r : Result Rule TextFault) (t u : Text) (a b : ℕ) → line_at d (rule_line d) t ≡ line_at d (done (at (ruled (new_rule x n k least most)) d)) u
-    → Reaches a (arrive d t.words (rule_line d)) t.words → Reaches b (arrive d t.words (rule_line d)) t.words → IfOk r (IsHead x n k least most) → IfErr r (λ f. IsWant f × ((f.place ≡ a) ⊎ (f.place ≡ b)))
+    → Reaches a (arrive d t.words (rule_line d)) t.words → Reaches b (arrive d t.words (rule_line d)) t.words → IfOk r (IsHead x n k least most) → IfErr r (λ f. IsOutOfMemory f × ((f.place ≡ a) ⊎ (f.place ≡ b)))
     → GivesLine (λ q. (at (ruled (kept_rule d q)) d, u)) r d (rule_line d) t
 head_made d x n k least most (Ok r) t u a b e ra rb h m = e ∙ done_reads d _ u ∙ ap (λ v. Ok (at (ruled v) d, u)) (sym (kept_head d x n k least most r h))
 head_made d x n k least most (Err f) t u a b e ra rb h (w, inl q) = inl (w, subst (λ (p : ℕ). Reaches p (arrive d t.words (rule_line d)) t.words) (sym q) ra)

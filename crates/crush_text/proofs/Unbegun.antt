@@ -40,8 +40,8 @@ pub first_fails : (place : ℕ) (w : List ℕ) (o k s : Bool) (f : TextFaultKind
 first_fails place w o k s f a b c e = inr (ap (placed place) (word_judged w ∙ (λ i. verdict (a i) (b i) (c i) (opened empty_draft w)) ∙ e))
 
 -- one that isn't
-pub first_wants : (place : ℕ) (w : List ℕ) → is_out_of_place false w ≡ false → bytes_eq w (codes "choose_args") ≡ false → opens_alone w ≡ true → FailsFirst (record { kind = OutOfMemory; place = place }) place w
-first_wants place w a b c = inl (refl, refl, (opened empty_draft w, word_judged w ∙ (λ i. verdict (a i) (b i) (c i) (opened empty_draft w))))
+pub first_memory : (place : ℕ) (w : List ℕ) → is_out_of_place false w ≡ false → bytes_eq w (codes "choose_args") ≡ false → opens_alone w ≡ true → FailsFirst (record { kind = OutOfMemory; place = place }) place w
+first_memory place w a b c = inl (refl, refl, (opened empty_draft w, word_judged w ∙ (λ i. verdict (a i) (b i) (c i) (opened empty_draft w))))
 
 -- what a first word tells is told of the text
 pub text_unopened : (t rest : Text) (place : ℕ) (w : List ℕ) (f : TextFault) → t ≡ first_word place w rest → FailsFirst f place w → FailsText f t

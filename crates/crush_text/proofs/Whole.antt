@@ -7,11 +7,11 @@ use Rattle.crush_bytes.specs.Words.{Text, words}
 use Rattle.crush_text.specs.declared.fault.TextFault.{TextFault}
 use Rattle.crush_text.specs.Flow.{outcome, Reaches}
 use Rattle.crush_text.specs.Document.{start, IsMapText}
-use Rattle.crush_text.specs.Flaw.{IsWant, IsFlawOrWant}
-use Rattle.crush_text.specs.Want.{IsToldInTime}
+use Rattle.crush_text.specs.Flaw.{IsOutOfMemory, IsFlawOrOutOfMemory}
+use Rattle.crush_text.specs.InTime.{IsToldInTime}
 use Rattle.crush_text.specs.Reads.{Fails}
 use Rattle.crush_text.specs.ReadsStatements.{FailsText}
-use Rattle.crush_text.proofs.Laws.{document_of, outcome_of, flaw_of, right_up_to, no_want}
+use Rattle.crush_text.proofs.Laws.{document_of, outcome_of, flaw_of, right_up_to, no_flaw_of_memory}
 
 -- one draft comes of a text
 pub one_draft : (d e : Draft) (t : Text) → outcome start t ≡ Ok d → outcome start t ≡ Ok e → d ≡ e
@@ -29,18 +29,18 @@ module _ (bytes : List ℕ) (t : Text) (is : t ≡ words 0 bytes) where
   same h = ap (outcome start) (sym is) ∙ h
 
   -- a fault is a flaw
-  pub is_flaw : (f : TextFault) → FailsText f t → IsFlawOrWant bytes f
+  pub is_flaw : (f : TextFault) → FailsText f t → IsFlawOrOutOfMemory bytes f
   is_flaw f (inl h) = inl h.0
   is_flaw f (inr h) = inr (flaw_of (words 0 bytes) f (same h))
 
-  -- and want of memory is told in time
+  -- and out of memory is told in time
   pub in_time : (f : TextFault) → FailsText f t → IsToldInTime bytes f
   in_time f (inl (want, inl h)) k = inl (right_up_to (words 0 bytes) f.place (subst (λ (u : Text). Reaches f.place start u.words) is h))
   in_time f (inl (want, inr h)) k = inr (sym is ∙ h)
-  in_time f (inr h) want = absurd (no_want (words 0 bytes) f (flaw_of (words 0 bytes) f (same h)) want)
+  in_time f (inr h) want = absurd (no_flaw_of_memory (words 0 bytes) f (flaw_of (words 0 bytes) f (same h)) want)
 
   -- and then none is spelled
-  pub no_map : (f : TextFault) (s : SettingData) (u : List Row) (n : ℕ) → FailsText f t → IsMapText bytes s u n → IsWant f
+  pub no_map : (f : TextFault) (s : SettingData) (u : List Row) (n : ℕ) → FailsText f t → IsMapText bytes s u n → IsOutOfMemory f
   no_map f s u n (inl h) m = h.0
   no_map f s u n (inr h) m = let k = sym (outcome_of (words 0 bytes) m.draft m.document) ∙ same h in absurd cc
 

@@ -56,9 +56,9 @@ abbrev pub IsMapFlaw : List ℕ → TextFault → Type 0
 IsMapFlaw bytes f = IsFlaw (words 0 bytes) f
 
 -- memory was refused
-abbrev pub IsWant : TextFault → Type 0
-IsWant f = f.kind ≡ OutOfMemory
+abbrev pub IsOutOfMemory : TextFault → Type 0
+IsOutOfMemory f = f.kind ≡ OutOfMemory
 
 -- memory was refused, or it is a flaw
-abbrev pub IsFlawOrWant : List ℕ → TextFault → Type 0
-IsFlawOrWant bytes f = IsWant f ⊎ IsMapFlaw bytes f
+abbrev pub IsFlawOrOutOfMemory : List ℕ → TextFault → Type 0
+IsFlawOrOutOfMemory bytes f = IsOutOfMemory f ⊎ IsMapFlaw bytes f

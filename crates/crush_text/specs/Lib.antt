@@ -13,4 +13,4 @@ pub mod Role
 pub mod Room
 pub mod Rows
 pub mod Tests
-pub mod Want
+pub mod InTime

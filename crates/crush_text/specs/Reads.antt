@@ -19,7 +19,7 @@ use Rattle.crush_text.specs.Form.{ruled, Progress, at, Form, done, word, optiona
 use Rattle.crush_text.specs.Tests.{unless, weight_tests, word_for}
 use Rattle.crush_text.specs.Grammar.{with_step}
 use Rattle.crush_text.specs.Flow.{State, ◌>>=◌, placed, between, arrive, outcome, Reaches}
-use Rattle.crush_text.specs.Flaw.{IsWant}
+use Rattle.crush_text.specs.Flaw.{IsOutOfMemory}
 
 -- a word that was read
 abbrev pub word_of : PlacedWord → Word
@@ -98,11 +98,11 @@ pub record LeadsOn (s : State) (old : Text) (m : State) (new : Text) : Type 0 wh
 
 -- a fault is that of reading, or memory was refused at a word that has none
 abbrev pub Fails : TextFault → State → Text → Type 0
-Fails f s t = (IsWant f × Reaches f.place s t.words) ⊎ (outcome s t ≡ Err f)
+Fails f s t = (IsOutOfMemory f × Reaches f.place s t.words) ⊎ (outcome s t ≡ Err f)
 
 -- the same of a line
 abbrev pub FailsIn : TextFault → Draft → Form → Text → Type 0
-FailsIn f d g t = (IsWant f × Reaches f.place (arrive d t.words g) t.words) ⊎ (line_at d g t ≡ Err f)
+FailsIn f d g t = (IsOutOfMemory f × Reaches f.place (arrive d t.words g) t.words) ⊎ (line_at d g t ≡ Err f)
 
 -- what a function returned is what the line gives
 abbrev pub GivesLine : {X : Type 0} → (X → Progress × Text) → Result X TextFault → Draft → Form → Text → Type 0

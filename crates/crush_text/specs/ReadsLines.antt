@@ -13,7 +13,7 @@ use Rattle.crush_text.specs.declared.reader.MapReader.{MapReader}
 use Rattle.crush_text.specs.declared.opening.Opening.TheVariants as openings
 use Rattle.crush_text.specs.Form.{Mode, second, begun, numbered, filling, at, Form}
 use Rattle.crush_text.specs.Flow.{State, placed, between}
-use Rattle.crush_text.specs.Flaw.{IsWant}
+use Rattle.crush_text.specs.Flaw.{IsOutOfMemory}
 use Rattle.crush_text.specs.Room.{HasRoom, IsFreeItem}
 use Rattle.crush_text.specs.Reads.{line_at, unless_heavy, LeadsOn, Fails, FailsIn}
 
@@ -67,7 +67,7 @@ behind_item more = if more then filling true else second
 -- an item is added by a line that ends with the word at this place, and the map is what was to come of it
 abbrev pub Adds : Result (Unit {0}) TextFault → BuilderData → Draft → ℕ → Result Draft TextFaultKind → Type 0
 Adds (Ok x) builder e place read = IsDraft builder e × (read ≡ Ok e)
-Adds (Err f) builder e place read = (IsWant f × (f.place ≡ place) × (is_too_heavy e.table ≡ false)) ⊎ (placed place read ≡ Err f)
+Adds (Err f) builder e place read = (IsOutOfMemory f × (f.place ≡ place) × (is_too_heavy e.table ≡ false)) ⊎ (placed place read ≡ Err f)
 
 -- an item that can come into the bucket that is being filled
 pub record CanTake (i : ItemId) (b : BuilderData) : Type 0 where

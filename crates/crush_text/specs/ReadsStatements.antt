@@ -14,7 +14,7 @@ use Rattle.crush_text.specs.Form.{Mode, first, second, at}
 use Rattle.crush_text.specs.Tests.{word_for, comes_first}
 use Rattle.crush_text.specs.Flow.{State, placed, between, outcome, Reaches}
 use Rattle.crush_text.specs.Document.{start}
-use Rattle.crush_text.specs.Flaw.{IsWant}
+use Rattle.crush_text.specs.Flaw.{IsOutOfMemory}
 use Rattle.crush_text.specs.Room.{HasRoom}
 use Rattle.crush_text.specs.Reads.{LeadsOn, Fails}
 use Rattle.crush_text.specs.ReadsLines.{IsIdle}
@@ -68,8 +68,8 @@ opens_alone w = comes_first w || bytes_eq w (codes "rule")
 
 -- a first word has this fault, or memory was refused where it has none
 abbrev pub FailsFirst : TextFault → ℕ → List ℕ → Type 0
-FailsFirst f place w = (IsWant f × (f.place ≡ place) × ((o : Opening) × (word_for empty_draft (opening false) w ≡ Ok o))) ⊎ (placed place (word_for empty_draft (opening false) w) ≡ Err f)
+FailsFirst f place w = (IsOutOfMemory f × (f.place ≡ place) × ((o : Opening) × (word_for empty_draft (opening false) w ≡ Ok o))) ⊎ (placed place (word_for empty_draft (opening false) w) ≡ Err f)
 
 -- the fault of a text is that of reading, or memory was refused at a word that has none, or at the end of a text without words
 abbrev pub FailsText : TextFault → Text → Type 0
-FailsText f t = (IsWant f × (Reaches f.place start t.words ⊎ (t ≡ stopped (ended f.place)))) ⊎ (outcome start t ≡ Err f)
+FailsText f t = (IsOutOfMemory f × (Reaches f.place start t.words ⊎ (t ≡ stopped (ended f.place)))) ⊎ (outcome start t ≡ Err f)

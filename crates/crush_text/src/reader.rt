@@ -6,8 +6,8 @@ ghost use Rattle.crush_table.specs.Table.{Row};
 ghost use Rattle.crush_table.specs.Stands.{Stands};
 ghost use Rattle.crush_map.specs.MapData.{MapStands};
 ghost use Rattle.crush_text.specs.Document.{IsMapText};
-ghost use Rattle.crush_text.specs.Flaw.{IsWant, IsFlawOrWant};
-ghost use Rattle.crush_text.specs.Want.{IsToldInTime};
+ghost use Rattle.crush_text.specs.Flaw.{IsOutOfMemory, IsFlawOrOutOfMemory};
+ghost use Rattle.crush_text.specs.InTime.{IsToldInTime};
 
 mod bucket;
 mod device;
@@ -53,15 +53,15 @@ pub fn read_map(alloc: Global, text: &[u8]) -> Result<(CrushMap<Global>, u32), T
     ensures spelled { (s : SettingData) (t : List Row) (n : ℕ) → IsMapText text.now s t n
         → IfOk result (λ m. MapStands m.0 s t × (m.1 ≡ n)) }
 
-    // A text that spells a map is refused only for want of memory.
+    // A text that spells a map is refused out of memory alone.
     ensures only { (s : SettingData) (t : List Row) (n : ℕ) → IsMapText text.now s t n
-        → IfErr result IsWant }
+        → IfErr result IsOutOfMemory }
 
     // Where none is read the text has a flaw, which is told.
-    ensures flaw { IfErr result (IsFlawOrWant text.now) }
+    ensures flaw { IfErr result (IsFlawOrOutOfMemory text.now) }
 
-    // Want of memory is told at a word that is right, as all before it, or where no word stands.
-    ensures want { IfErr result (IsToldInTime text.now) }
+    // Out of memory is told at a word that is right, as all before it, or where no word stands.
+    ensures memory { IfErr result (IsToldInTime text.now) }
 {
     read_map_in(alloc, Hashing::plain(), alloc, text)
 }
@@ -83,15 +83,15 @@ pub fn read_map_in<A: Allocator + Clone>(
     ensures spelled { (s : SettingData) (t : List Row) (n : ℕ) → IsMapText text.now s t n
         → IfOk result (λ m. MapStands m.0 s t × (m.1 ≡ n)) }
 
-    // A text that spells a map is refused only for want of memory.
+    // A text that spells a map is refused out of memory alone.
     ensures only { (s : SettingData) (t : List Row) (n : ℕ) → IsMapText text.now s t n
-        → IfErr result IsWant }
+        → IfErr result IsOutOfMemory }
 
     // Where none is read the text has a flaw, which is told.
-    ensures flaw { IfErr result (IsFlawOrWant text.now) }
+    ensures flaw { IfErr result (IsFlawOrOutOfMemory text.now) }
 
-    // Want of memory is told at a word that is right, as all before it, or where no word stands.
-    ensures want { IfErr result (IsToldInTime text.now) }
+    // Out of memory is told at a word that is right, as all before it, or where no word stands.
+    ensures memory { IfErr result (IsToldInTime text.now) }
 {
     let mut words = Reader::new(text);
     let Ok(builder) = MapBuilder::with_hashing(machine, hashing, alloc) else {

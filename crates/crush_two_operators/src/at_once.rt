@@ -52,7 +52,9 @@ fn work_together<N: Desk + Send + Sync, R: Threads + Wait + Sync>(
     ensures all { IfOk result (λ r. MakesAll N.opening r.0.map r.0.history.items) }
     ensures calls { IfOk result (λ r. AreTheirs first.now second.now r.0.history.items) }
 {
-    let (editor, mut seats) = Editor::<N>::open(started, alloc).ok().context("out of memory")?;
+    let (editor, mut seats) = Editor::<N>::open(started, alloc)
+        .ok()
+        .context("out of memory")?;
     let two = seats.pop().context("no seat")?;
     let one = seats.pop().context("no seat")?;
 

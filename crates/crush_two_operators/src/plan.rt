@@ -49,7 +49,9 @@ fn follow_together<N: Desk + Send + Sync, R: Threads + Wait + Sync>(
     ensures all { IfOk result (λ c. MakesAll N.opening c.map c.history.items) }
     ensures plan { IfOk result (λ c. IsFollowed plan.now c.history.items) }
 {
-    let (editor, mut seats) = Editor::<N>::open(started, alloc).ok().context("out of memory")?;
+    let (editor, mut seats) = Editor::<N>::open(started, alloc)
+        .ok()
+        .context("out of memory")?;
     let two = seats.pop().context("no seat")?;
     let one = seats.pop().context("no seat")?;
     let shared = &editor;

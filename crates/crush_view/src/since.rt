@@ -39,7 +39,7 @@ use words::{push_counts, push_totals};
 /// differ; the totals; and how many items differ in which way.
 ///
 /// Items are told apart by their ids, as CRUSH does. The text is laid out in the given memory
-/// first. With [`WriteFault::OutOfMemory`] nothing is written, with [`WriteFault::Write`] a front of
+/// first. With [`WriteFault::OutOfMemory`] nothing is written, with [`WriteFault::Write`] a prefix of
 /// the text.
 pub fn write_since<A: Allocator, B: Allocator, W: Write>(
     alloc: Global,

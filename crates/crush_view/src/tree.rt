@@ -36,7 +36,7 @@ pub(crate) struct Widths {
 /// Writes the tree of a map: a heading, and a line for each item in the order of [`walk`].
 ///
 /// The text is laid out in the given memory first. With [`WriteFault::OutOfMemory`] nothing is
-/// written, with [`WriteFault::Write`] a front of the text.
+/// written, with [`WriteFault::Write`] a prefix of the text.
 pub fn write_tree<A: Allocator, W: Write>(
     alloc: Global,
     map: &CrushMap<A>,

@@ -200,4 +200,3 @@ fn no_word_behind_the_help_is_looked_at(rt: HostRuntime) {
     drop(twice);
     drop(fly);
 }
-

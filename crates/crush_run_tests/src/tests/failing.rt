@@ -137,7 +137,7 @@ fn stops_at_a_failed_read(rt: HostRuntime) {
     }
 }
 
-/// Whether a front of the whole output is written where there is room for so many bytes.
+/// Whether a prefix of the whole output is written where there is room for so many bytes.
 fn leaves_a_front(
     rt: &(impl AllocGlobal + RandomSource + Threads + Wait + Sync),
     job: &[u8],

@@ -14,7 +14,7 @@ ghost use Rattle.crush_text.specs.ReadsLines.{IsAmid, behind_id, ReadsLine, Read
 use crate::fault::{TextFault, TextFaultKind};
 use crate::reader::MapReader;
 use crate::reader::roles::{read_key, read_number, read_word};
-use crate::reader::word::{PlacedWord, next_word, want_at};
+use crate::reader::word::{PlacedWord, next_word, out_of_memory_at};
 use crush_bytes::Reader;
 use crush_bytes::number::number_up_to;
 use crush_units::limits::FARTHEST_BUCKET_ID;
@@ -44,7 +44,7 @@ impl<'a, A: Allocator + Clone> MapReader<'a, A> {
         let name = self.new_name()?;
         self.builder
             .begin(kind, name.text)
-            .map_err(|fault| want_at(name.place, fault))
+            .map_err(|fault| out_of_memory_at(name.place, fault))
     }
 
     /// The opening brace of a bucket and its id.
@@ -98,7 +98,7 @@ impl<'a, A: Allocator + Clone> MapReader<'a, A> {
         let class = self.id_class()?;
         self.builder
             .class_id(id, class.text)
-            .map_err(|fault| want_at(class.place, fault))
+            .map_err(|fault| out_of_memory_at(class.place, fault))
     }
 
     /// The algorithm of a bucket, and its hash where that is given, behind the word `alg`.
@@ -111,7 +111,9 @@ impl<'a, A: Allocator + Clone> MapReader<'a, A> {
         if self.text.take_key(b"hash") {
             read_number(&mut self.text, 0)?;
         }
-        self.builder.alg(alg).map_err(|fault| want_at(place, fault))
+        self.builder
+            .alg(alg)
+            .map_err(|fault| out_of_memory_at(place, fault))
     }
 
     /// A bucket's id that is free, `-` and a number from 1 to 2147483648.

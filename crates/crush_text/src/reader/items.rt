@@ -16,7 +16,7 @@ ghost use Rattle.crush_text.specs.ReadsLines.{IsAmid, behind_item, ReadsLine, Re
 
 use crate::fault::{TextFault, TextFaultKind};
 use crate::reader::MapReader;
-use crate::reader::word::{PlacedWord, next_word, want_at};
+use crate::reader::word::{PlacedWord, next_word, out_of_memory_at};
 use crush_builder::{BuildFault, MapBuilder};
 use crush_bytes::Reader;
 use crush_units::{ItemId, Weight};
@@ -90,7 +90,7 @@ fn add_item<A: Allocator>(
     match builder.item(item, weight) {
         Ok(()) => Ok(()),
         Err(BuildFault::SumTooLarge) => Err(word.fault(TextFaultKind::SumTooLarge)),
-        Err(fault) => Err(want_at(word.place, fault)),
+        Err(fault) => Err(out_of_memory_at(word.place, fault)),
     }
 }
 

@@ -6,7 +6,7 @@ ghost use Rattle.crush_builder.specs.Built.{Draft};
 ghost use Rattle.crush_builder.specs.Rules.{IsRuleForm};
 ghost use Rattle.crush_units.specs.declared.limits.TheConstants.{LARGEST_RULE_NUMBER};
 ghost use Rattle.crush_units.specs.declared.limits.TheConstants.{MOST_STEPS};
-ghost use Rattle.crush_text.specs.Flaw.{IsWant};
+ghost use Rattle.crush_text.specs.Flaw.{IsOutOfMemory};
 ghost use Rattle.crush_text.specs.Room.{IsHead};
 ghost use Rattle.crush_text.specs.Role.{rule_name, rule_id_key, rule_id, step_or_end};
 ghost use Rattle.crush_text.specs.Form.{second};
@@ -21,7 +21,7 @@ use crate::fault::{TextFault, TextFaultKind};
 use crate::opening::Opening;
 use crate::reader::MapReader;
 use crate::reader::roles::{read_key, read_number, read_word};
-use crate::reader::word::{PlacedWord, next_word, want_at};
+use crate::reader::word::{PlacedWord, next_word, out_of_memory_at};
 use crush_bytes::Reader;
 use crush_bytes::number::number_up_to;
 use crush_map::{Rule, Step};
@@ -39,7 +39,7 @@ impl<'a, A: Allocator> MapReader<'a, A> {
         let place = self.steps(&mut draft)?;
         self.builder
             .rule(&draft)
-            .map_err(|refused| want_at(place, refused.fault))
+            .map_err(|refused| out_of_memory_at(place, refused.fault))
     }
 
     /// The head of a rule, up to its first step.
@@ -133,7 +133,7 @@ fn own_head(
     ensures head { IfOk result
         (IsHead name.entry.text.now id kind.entry.text.now min_size max_size) }
     ensures memory { IfErr result
-        (λ f. IsWant f × ((f.place ≡ name.entry.place) ⊎ (f.place ≡ kind.entry.place))) }
+        (λ f. IsOutOfMemory f × ((f.place ≡ name.entry.place) ⊎ (f.place ≡ kind.entry.place))) }
 {
     let name = name.own_name(machine)?;
     let kind = kind.own_name(machine)?;

@@ -10,7 +10,7 @@ use crate::fault::{TextFault, TextFaultKind};
 use crate::opening::Opening;
 use crate::reader::MapReader;
 use crate::reader::roles::{read_number, read_word};
-use crate::reader::word::{PlacedWord, want_at};
+use crate::reader::word::{PlacedWord, out_of_memory_at};
 use crush_units::limits::LARGEST_TUNABLE;
 use std::alloc::Allocator;
 
@@ -25,7 +25,7 @@ impl<'a, A: Allocator> MapReader<'a, A> {
         let value = read_number(&mut self.text, LARGEST_TUNABLE)?;
         self.builder
             .tunable(name.text, value)
-            .map_err(|fault| want_at(name.place, fault))
+            .map_err(|fault| out_of_memory_at(name.place, fault))
     }
 
     /// A name that no tunable has.

@@ -10,7 +10,7 @@ use crate::fault::{TextFault, TextFaultKind};
 use crate::opening::Opening;
 use crate::reader::MapReader;
 use crate::reader::roles::read_word;
-use crate::reader::word::{PlacedWord, next_word, want_at};
+use crate::reader::word::{PlacedWord, next_word, out_of_memory_at};
 use crush_bytes::number::number_up_to;
 use crush_map::is_reserved;
 use crush_units::TypeId;
@@ -28,7 +28,7 @@ impl<'a, A: Allocator> MapReader<'a, A> {
         let name = self.type_name(number)?;
         self.builder
             .kind(number, name.text)
-            .map_err(|fault| want_at(name.place, fault))
+            .map_err(|fault| out_of_memory_at(name.place, fault))
     }
 
     /// The number of a type that isn't there.

@@ -1,4 +1,4 @@
-//! What is told of a text where memory lacks even for an empty map.
+//! What is told of a text where memory runs out even for an empty map.
 
 ghost use Rattle.std.specs.Prelude.{◌≡◌};
 ghost use Rattle.crush_text.specs.ReadsStatements.{FailsText, FailsFirst, opens_alone};
@@ -23,7 +23,7 @@ pub(crate) fn unbegun(reader: &mut Reader<'_>) -> TextFault
     }
 }
 
-/// The fault of a first word, or want of memory there. Before the first type it opens no bucket.
+/// The fault of a first word, or out of memory there. Before the first type it opens no bucket.
 fn unopened(word: PlacedWord<'_>) -> TextFault
     ensures { FailsFirst result word.entry.place word.entry.text.now }
 {

@@ -37,7 +37,7 @@ pub(crate) fn next_word<'a>(reader: &mut Reader<'a>) -> Result<PlacedWord<'a>, T
     }
 }
 
-/// Want of memory at a place.
+/// Out of memory at a place.
 pub(crate) fn memory_at(place: usize) -> TextFault
     ensures { result ≡ record { kind = OutOfMemory; place = place } }
 {
@@ -48,7 +48,7 @@ pub(crate) fn memory_at(place: usize) -> TextFault
 }
 
 /// What the builder refuses at a place, where nothing is left that it can lack but memory.
-pub(crate) fn want_at(place: usize, fault: BuildFault) -> TextFault
+pub(crate) fn out_of_memory_at(place: usize, fault: BuildFault) -> TextFault
     requires { fault ≡ BuildFault.OutOfMemory }
     ensures { result ≡ record { kind = OutOfMemory; place = place } }
 {

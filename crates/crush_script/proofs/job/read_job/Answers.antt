@@ -4,10 +4,10 @@ use Rattle.std.proofs.lemmas.Result.{err_from_is_err_and}
 use Rattle.crush_bytes.specs.Words.{words}
 use Rattle.crush_text.specs.declared.fault.TextFault.{TextFault}
 use Rattle.crush_text.specs.Document.{IsMapText}
-use Rattle.crush_text.specs.Flaw.{IsFlawOrWant, IsWant}
-use Rattle.crush_text.specs.Want.{IsToldInTime}
-use Rattle.crush_text.proofs.Laws.{no_want}
-use Rattle.crush_script.specs.Fault.{is_want, lacks_memory}
+use Rattle.crush_text.specs.Flaw.{IsFlawOrOutOfMemory, IsOutOfMemory}
+use Rattle.crush_text.specs.InTime.{IsToldInTime}
+use Rattle.crush_text.proofs.Laws.{no_flaw_of_memory}
+use Rattle.crush_script.specs.Fault.{is_out_of_memory, lacks_memory}
 use Rattle.crush_script.specs.MapPart.{IsTextFault}
 use Rattle.crush_script.specs.Lines.{lines, line_feeds, map_part, section_part, section_line}
 use Rattle.crush_calls.specs.Script.{ScriptData, script_data, scripts_data}
@@ -34,16 +34,16 @@ ok_is_no_err : (said : SectionsData) (fault : JobFault) (given : Result Sections
 ok_is_no_err said fault given ok err = true≢false (sym (ap is_ok ok) ∙ ap is_ok err)
 
 -- they are refused out of memory alone
-want_alone : (fault : JobFault) (said : SectionsData) (given : Result SectionsData JobFault) → given ≡ Ok said → FailsAs fault given → fault ≡ OutOfMemory
-want_alone (BadLine number) said given ok err = absurd (ok_is_no_err said (BadLine number) given ok err)
-want_alone (NoSuchCommand number) said given ok err = absurd (ok_is_no_err said (NoSuchCommand number) given ok err)
-want_alone (OpenBatch number) said given ok err = absurd (ok_is_no_err said (OpenBatch number) given ok err)
-want_alone (TooManyOperators number) said given ok err = absurd (ok_is_no_err said (TooManyOperators number) given ok err)
-want_alone (DuplicateOperator number) said given ok err = absurd (ok_is_no_err said (DuplicateOperator number) given ok err)
-want_alone (TooManyCalls number) said given ok err = absurd (ok_is_no_err said (TooManyCalls number) given ok err)
-want_alone (Text fault) said given ok err = absurd err
-want_alone OutOfMemory said given ok err = refl
-want_alone TooLong said given ok err = absurd err
+memory_alone : (fault : JobFault) (said : SectionsData) (given : Result SectionsData JobFault) → given ≡ Ok said → FailsAs fault given → fault ≡ OutOfMemory
+memory_alone (BadLine number) said given ok err = absurd (ok_is_no_err said (BadLine number) given ok err)
+memory_alone (NoSuchCommand number) said given ok err = absurd (ok_is_no_err said (NoSuchCommand number) given ok err)
+memory_alone (OpenBatch number) said given ok err = absurd (ok_is_no_err said (OpenBatch number) given ok err)
+memory_alone (TooManyOperators number) said given ok err = absurd (ok_is_no_err said (TooManyOperators number) given ok err)
+memory_alone (DuplicateOperator number) said given ok err = absurd (ok_is_no_err said (DuplicateOperator number) given ok err)
+memory_alone (TooManyCalls number) said given ok err = absurd (ok_is_no_err said (TooManyCalls number) given ok err)
+memory_alone (Text fault) said given ok err = absurd err
+memory_alone OutOfMemory said given ok err = refl
+memory_alone TooLong said given ok err = absurd err
 
 -- other sections behind a map's text have the fault that is told
 fault_of_lines : (fault : JobFault) (bytes : List ℕ) (s : SettingData) (t : List Row) (n : ℕ) → length bytes ≤ LONGEST_JOB → IsMapText (map_part bytes) s t n → FailsAs fault (sections_of bytes) → IsJobFault bytes fault
@@ -100,22 +100,22 @@ returns-clause-operators c =
     omega (arith, few, length-map c.in_ok-sections.sections.scripts.items script_data)
 
 -- a text that isn't read has a flaw, and so is that of no map, or memory was refused in time
-text_fault : (text : List ℕ) (fault : TextFault) → IsFlawOrWant text fault → IsToldInTime text fault → ((s : SettingData) (t : List Row) (n : ℕ) → IsMapText text s t n → IsWant fault) → IsTextFault text fault
-text_fault text fault (inl want) told only = inr (record { want = want; told = told })
-text_fault text fault (inr flaw) told only = inl (record { flaw = flaw; none = λ s t n map. no_want (words 0 text) fault flaw (only s t n map) })
+text_fault : (text : List ℕ) (fault : TextFault) → IsFlawOrOutOfMemory text fault → IsToldInTime text fault → ((s : SettingData) (t : List Row) (n : ℕ) → IsMapText text s t n → IsOutOfMemory fault) → IsTextFault text fault
+text_fault text fault (inl want) told only = inr (record { memory = want; told = told })
+text_fault text fault (inr flaw) told only = inl (record { flaw = flaw; none = λ s t n map. no_flaw_of_memory (words 0 text) fault flaw (only s t n map) })
 
-pub returns-in_err-map-clause-want : goal.returns-in_err-map-clause-want
-returns-in_err-map-clause-want c =
+pub returns-in_err-map-clause-memory : goal.returns-in_err-map-clause-memory
+returns-in_err-map-clause-memory c =
     let p = err_from_is_err_and c.from_residual.result c.from_residual.ensures.1 in
     λ job is.
     let want = c.in_err-map.ensures.only job.setting job.table job.adjusted (subst (λ (x : List ℕ). IsMapText x job.setting job.table job.adjusted) (sym c.cut_job.ensures.map) is.map) in
-    rw (p.1, p.2) (ap is_want want)
+    rw (p.1, p.2) (ap is_out_of_memory want)
 
 pub returns-in_err-map-clause-fault : goal.returns-in_err-map-clause-fault
 returns-in_err-map-clause-fault c =
     let p = err_from_is_err_and c.from_residual.result c.from_residual.ensures.1 in
     let fault = c.in_err-map.field-0.0 in
-    let is = text_fault _ fault c.in_err-map.ensures.flaw c.in_err-map.ensures.want c.in_err-map.ensures.only in
+    let is = text_fault _ fault c.in_err-map.ensures.flaw c.in_err-map.ensures.memory c.in_err-map.ensures.only in
     rw (p.1, p.2) (record { short = omega arith; map = subst (λ (x : List ℕ). IsTextFault x fault) c.cut_job.ensures.map is })
 
 -- what the lines behind the cut fail as
@@ -123,10 +123,10 @@ cut_fails : (fault : JobFault) (bytes text rest : List ℕ) (feeds : ℕ) → te
     → FailsAs fault (with_lines (feeds + 1) no_sections (lines rest)) → FailsAs fault (sections_of bytes)
 cut_fails fault bytes text rest feeds front back counted = subst (FailsAs fault) (sym (sections_of-cut bytes text rest feeds (with_lines (feeds + 1) no_sections (lines rest)) front back counted refl))
 
-pub returns-in_err-sections-clause-want : goal.returns-in_err-sections-clause-want
-returns-in_err-sections-clause-want c =
+pub returns-in_err-sections-clause-memory : goal.returns-in_err-sections-clause-memory
+returns-in_err-sections-clause-memory c =
     let p = err_from_is_err_and c.from_residual-in_err-sections.result c.from_residual-in_err-sections.ensures.1 in
-    λ job is. rw (p.1, p.2) (ap lacks_memory (want_alone c.in_err-sections.field-0.0 is.said (sections_of c.args.bytes.now) is.sections (cut_fails c.in_err-sections.field-0.0 c.args.bytes.now _ _ _ c.cut_job.ensures.map c.cut_job.ensures.sections c.line_feeds.ensures.count c.in_err-sections.ensures)))
+    λ job is. rw (p.1, p.2) (ap lacks_memory (memory_alone c.in_err-sections.field-0.0 is.said (sections_of c.args.bytes.now) is.sections (cut_fails c.in_err-sections.field-0.0 c.args.bytes.now _ _ _ c.cut_job.ensures.map c.cut_job.ensures.sections c.line_feeds.ensures.count c.in_err-sections.ensures)))
 
 pub returns-in_err-sections-clause-fault : goal.returns-in_err-sections-clause-fault
 returns-in_err-sections-clause-fault c =

@@ -18,8 +18,8 @@ returns-in_err-statements-clause-flaw g c =
     let p = err_from_is_err_and c.from_residual.result c.from_residual.ensures.1 in
     rw (p.1, p.2) (is_flaw c.args.text.now c.new-words.result c.new-words.ensures _ (text_fails _ _ (c.in_err-statements.ensures.reads empty_draft c.in-Ok.ensures)))
 
-pub returns-in_err-statements-clause-want : goal.returns-in_err-statements-clause-want
-returns-in_err-statements-clause-want g c =
+pub returns-in_err-statements-clause-memory : goal.returns-in_err-statements-clause-memory
+returns-in_err-statements-clause-memory g c =
     let p = err_from_is_err_and c.from_residual.result c.from_residual.ensures.1 in
     rw (p.1, p.2) (in_time c.args.text.now c.new-words.result c.new-words.ensures _ (text_fails _ _ (c.in_err-statements.ensures.reads empty_draft c.in-Ok.ensures)))
 
@@ -44,5 +44,5 @@ returns-in_default-clause-only g c = λ s t n k. no_map c.args.text.now c.new-wo
 pub returns-in_default-clause-flaw : goal.returns-in_default-clause-flaw
 returns-in_default-clause-flaw g c = is_flaw c.args.text.now c.new-words.result c.new-words.ensures c.unbegun.result c.unbegun.ensures
 
-pub returns-in_default-clause-want : goal.returns-in_default-clause-want
-returns-in_default-clause-want g c = in_time c.args.text.now c.new-words.result c.new-words.ensures c.unbegun.result c.unbegun.ensures
+pub returns-in_default-clause-memory : goal.returns-in_default-clause-memory
+returns-in_default-clause-memory g c = in_time c.args.text.now c.new-words.result c.new-words.ensures c.unbegun.result c.unbegun.ensures

@@ -8,7 +8,7 @@ use Rattle.crush_text.proofs.LineByLine.{fails_so}
 use Rattle.crush_text.proofs.LineEnds.{word_fails, word_reads}
 use Rattle.crush_text.proofs.Reached.{part_taken, reaches_word}
 use Rattle.crush_text.proofs.Steps.{done_reads}
-use Rattle.crush_text.proofs.Refused.{no_line, line_or_want}
+use Rattle.crush_text.proofs.Refused.{no_line, line_or_memory}
 use Rattle.crush_text.proofs.reader.MapReader.alg.Goals as goal
 use Rattle.crush_text.proofs.reader.MapReader.alg.Goals.{then-take_key+in_ok-read_number, else-take_key}
 
@@ -24,7 +24,7 @@ returns-in_err-read_number g c =
 
 pub returns : goal.returns
 returns g c =
-    line_or_want c.alg.result _ c.map_err.result c.in_ok-alg.place c.map_err.ensures.cases (λ e f told. search rules)
+    line_or_memory c.alg.result _ c.map_err.result c.in_ok-alg.place c.map_err.ensures.cases (λ e f told. search rules)
     (λ d h. reaches_word d _ _ _ _ _ _ _ (c.in_ok-alg.ensures.alg.gives d tt) c.in_ok-alg.ensures.stood)
     c.alg.ensures.ok
     (λ ok. elim c.if-take_key.branch [

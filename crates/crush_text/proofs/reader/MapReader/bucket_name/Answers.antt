@@ -9,21 +9,21 @@ use Rattle.crush_builder.specs.declared.fault.BuildFault.TheVariants.{DuplicateN
 use Rattle.crush_text.specs.Reads.{line_at}
 use Rattle.crush_text.proofs.LineEnds.{still}
 use Rattle.crush_text.proofs.Reached.{reaches_word}
-use Rattle.crush_text.proofs.Wants.{want_of_three}
-use Rattle.crush_text.proofs.Refused.{line_or_want}
+use Rattle.crush_text.proofs.MemoryAlone.{memory_of_three}
+use Rattle.crush_text.proofs.Refused.{line_or_memory}
 use Rattle.crush_text.proofs.reader.MapReader.bucket_name.Goals as goal
 
 pub map_err-requires : goal.map_err-requires
 map_err-requires g c =
     let d = c.requires.idle.some in
     let k = c.requires.known d.0 d.1 in
-    let want : (f : BuildFault) → c.begin.result ≡ Err f → f ≡ OutOfMemory = λ f is. want_of_three DuplicateName UnknownType TooMany _ _ _ f (c.in_ok-name.ensures.reads.free d.0 d.1) (ap not (ap is_some_above_zero k.1 ∙ k.2.0)) k.2.1 (IfErr-at_err _ is c.begin.ensures.refused d.0 (still c.in_ok-name.ensures.kept d.1)) in
+    let want : (f : BuildFault) → c.begin.result ≡ Err f → f ≡ OutOfMemory = λ f is. memory_of_three DuplicateName UnknownType TooMany _ _ _ f (c.in_ok-name.ensures.reads.free d.0 d.1) (ap not (ap is_some_above_zero k.1 ∙ k.2.0)) k.2.1 (IfErr-at_err _ is c.begin.ensures.refused d.0 (still c.in_ok-name.ensures.kept d.1)) in
     search (want)
 
 pub returns : goal.returns
 unfolding line_at
 returns g c =
-    line_or_want c.begin.result _ c.map_err.result c.in_ok-name.name.place c.map_err.ensures.cases (λ e f told. search rules)
+    line_or_memory c.begin.result _ c.map_err.result c.in_ok-name.name.place c.map_err.ensures.cases (λ e f told. search rules)
     (λ d h. reaches_word d _ _ _ _ _ _ _ (c.in_ok-name.ensures.reads.gives d h) (_, c.in_ok-name.ensures.reads.next))
     c.begin.ensures.ok
     (λ ok. record {

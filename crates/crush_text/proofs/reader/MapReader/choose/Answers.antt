@@ -3,7 +3,7 @@ use Rattle.std.proofs.Common.{◌∙◌, refl, inl}
 use Rattle.std.proofs.lemmas.Result.{err_from_is_err_and}
 use Rattle.crush_text.proofs.LineByLine.{fails_so}
 use Rattle.crush_text.proofs.LineEnds.{word_fails, word_reads}
-use Rattle.crush_text.proofs.Reached.{want_here, reaches_word, reaches_on}
+use Rattle.crush_text.proofs.Reached.{out_of_memory_here, reaches_word, reaches_on}
 use Rattle.crush_text.proofs.Refused.{no_step}
 use Rattle.crush_text.proofs.reader.MapReader.choose.Goals as goal
 
@@ -36,7 +36,7 @@ returns-in_err-kind-2 g c =
     let p = err_from_is_err_and c.from_residual-in_err-kind-2.result c.from_residual-in_err-kind-2.ensures.1 in
     rw (p.1, p.2) (no_step _ _ _ _ c.in_ok-kind.ensures.kept (λ d r h.
     (
-    inl (want_here _ _ _ _ c.in_err-kind-2.ensures.memory
+    inl (out_of_memory_here _ _ _ _ c.in_err-kind-2.ensures.memory
     (reaches_on d _ _ _ _ _ _ (c.in_ok-firstn.ensures.gives d tt)
     (reaches_on d _ _ _ _ _ _ (c.in_ok-count.ensures.gives d tt)
     (reaches_on d _ _ _ _ _ _ (c.in_ok-read_key.ensures.gives d tt)

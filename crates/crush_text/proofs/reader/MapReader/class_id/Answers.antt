@@ -1,4 +1,4 @@
--- A class id's line word by word, and what the builder refuses is want of memory.
+-- A class id's line word by word, and what the builder refuses is out of memory.
 use Rattle.std.proofs.Common.{◌≡◌, ◌∙◌, Err, rules}
 use Rattle.std.proofs.lemmas.Result.{err_from_is_err_and, IfErr-at_err}
 use Rattle.crush_builder.specs.Built.{with_class_id}
@@ -7,8 +7,8 @@ use Rattle.crush_builder.specs.declared.fault.BuildFault.TheVariants.{DuplicateI
 use Rattle.crush_text.proofs.LineByLine.{fails_so}
 use Rattle.crush_text.proofs.LineEnds.{still, word_fails, word_reads, class_id_reads}
 use Rattle.crush_text.proofs.Reached.{reaches_word, reaches_on}
-use Rattle.crush_text.proofs.Wants.{want_of_three}
-use Rattle.crush_text.proofs.Refused.{no_line, line_or_want}
+use Rattle.crush_text.proofs.MemoryAlone.{memory_of_three}
+use Rattle.crush_text.proofs.Refused.{no_line, line_or_memory}
 use Rattle.crush_text.proofs.reader.MapReader.class_id.Goals as goal
 
 pub returns-in_err-id : goal.returns-in_err-id
@@ -33,12 +33,12 @@ pub map_err-requires : goal.map_err-requires
 map_err-requires g c =
     let d = c.requires.numbered.some in
     let h = still c.in_ok-id.ensures.kept d.1 in
-    let want : (f : BuildFault) → c.class_id.result ≡ Err f → f ≡ OutOfMemory = λ f is. want_of_three DuplicateId DuplicateName TooMany _ _ _ f (c.in_ok-id.ensures.reads.free d.0 d.1) (c.in_ok-class.ensures.reads.free d.0 h) (c.requires.room d.0 d.1) (IfErr-at_err _ is c.class_id.ensures.refused d.0 (still c.in_ok-class.ensures.kept h)) in
+    let want : (f : BuildFault) → c.class_id.result ≡ Err f → f ≡ OutOfMemory = λ f is. memory_of_three DuplicateId DuplicateName TooMany _ _ _ f (c.in_ok-id.ensures.reads.free d.0 d.1) (c.in_ok-class.ensures.reads.free d.0 h) (c.requires.room d.0 d.1) (IfErr-at_err _ is c.class_id.ensures.refused d.0 (still c.in_ok-class.ensures.kept h)) in
     search (want)
 
 pub returns : goal.returns
 returns g c =
-    line_or_want c.class_id.result _ c.map_err.result c.in_ok-class.class.place c.map_err.ensures.cases (λ e f told. search rules)
+    line_or_memory c.class_id.result _ c.map_err.result c.in_ok-class.class.place c.map_err.ensures.cases (λ e f told. search rules)
     (λ d h. reaches_on d _ _ _ _ _ _ (c.in_ok-id.ensures.reads.gives d h) (reaches_on d _ _ _ _ _ _ (c.in_ok-read_key.ensures.gives d tt) (reaches_word d _ _ _ _ _ _ _ (c.in_ok-class.ensures.reads.gives d (still c.in_ok-id.ensures.kept h)) (_, c.in_ok-class.ensures.reads.next))))
     c.class_id.ensures.ok
     (λ ok. record {

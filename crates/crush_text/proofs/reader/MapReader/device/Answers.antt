@@ -10,8 +10,8 @@ use Rattle.crush_text.proofs.LineByLine.{fails_so}
 use Rattle.crush_text.proofs.LineEnds.{still, still_idle, word_fails, word_reads, device_reads, class_reads}
 use Rattle.crush_text.proofs.Reached.{part_taken, reaches_word, reaches_on, reaches_taken}
 use Rattle.crush_text.proofs.Steps.{done_reads}
-use Rattle.crush_text.proofs.Wants.{free_device}
-use Rattle.crush_text.proofs.Refused.{no_line, line_or_want}
+use Rattle.crush_text.proofs.MemoryAlone.{free_device}
+use Rattle.crush_text.proofs.Refused.{no_line, line_or_memory}
 use Rattle.crush_text.proofs.reader.MapReader.device.Goals as goal
 
 pub returns-in_err-id : goal.returns-in_err-id
@@ -45,7 +45,7 @@ device_unchecked-requires-2-clause-clear g c d u =
 
 pub returns-then-take_key : goal.returns-then-take_key
 returns-then-take_key g c =
-    line_or_want c.device_unchecked.result _ c.map_err.result c.in_ok-class.class.place c.map_err.ensures.cases (λ e f told. search rules)
+    line_or_memory c.device_unchecked.result _ c.map_err.result c.in_ok-class.class.place c.map_err.ensures.cases (λ e f told. search rules)
     (λ d h.
     reaches_on d _ _ _ _ _ _ (c.in_ok-id.ensures.reads.gives d h)
     (reaches_on d _ _ _ _ _ _ (c.in_ok-name.ensures.reads.gives d (still c.in_ok-id.ensures.kept h))
@@ -62,7 +62,7 @@ returns-then-take_key g c =
 
 pub returns : goal.returns
 returns g c =
-    line_or_want c.device_unchecked-2.result _ c.map_err-2.result c.in_ok-name.name.place c.map_err-2.ensures.cases (λ e f told. search rules)
+    line_or_memory c.device_unchecked-2.result _ c.map_err-2.result c.in_ok-name.name.place c.map_err-2.ensures.cases (λ e f told. search rules)
     (λ d h. reaches_on d _ _ _ _ _ _ (c.in_ok-id.ensures.reads.gives d h) (reaches_word d _ _ _ _ _ _ _ (c.in_ok-name.ensures.reads.gives d (still c.in_ok-id.ensures.kept h)) (_, c.in_ok-name.ensures.reads.next)))
     c.device_unchecked-2.ensures.ok
     (λ ok. record {

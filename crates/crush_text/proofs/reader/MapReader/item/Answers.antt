@@ -3,7 +3,7 @@ use Rattle.std.proofs.Common.{rules, ◌∙◌, Bool, sym, ap}
 use Rattle.std.specs.Prelude.{if◌then◌else◌}
 use Rattle.crush_bytes.specs.Words.{past}
 use Rattle.std.proofs.lemmas.Result.{err_from_is_err_and}
-use Rattle.crush_text.proofs.Wants.{light_unwritten}
+use Rattle.crush_text.proofs.MemoryAlone.{light_unwritten}
 use Rattle.crush_text.proofs.Weighed.{item_err, item_fault, weighed_reads, lone_reads}
 use Rattle.crush_text.proofs.Refused.{no_line}
 use Rattle.crush_text.proofs.reader.MapReader.item.Goals as goal

@@ -1,4 +1,4 @@
--- A type's line word by word, and what the builder refuses is want of memory.
+-- A type's line word by word, and what the builder refuses is out of memory.
 use Rattle.std.proofs.Common.{◌≡◌, ◌∙◌, Err, rules, refl}
 use Rattle.std.proofs.lemmas.Result.{err_from_is_err_and, IfErr-at_err}
 use Rattle.crush_builder.specs.Built.{with_kind}
@@ -7,8 +7,8 @@ use Rattle.crush_builder.specs.declared.fault.BuildFault.TheVariants.{DuplicateI
 use Rattle.crush_text.proofs.LineByLine.{fails_so}
 use Rattle.crush_text.proofs.LineEnds.{still, still_idle, word_fails, word_reads, type_reads}
 use Rattle.crush_text.proofs.Reached.{reaches_word, reaches_on}
-use Rattle.crush_text.proofs.Wants.{want_of_three}
-use Rattle.crush_text.proofs.Refused.{no_line, line_or_want}
+use Rattle.crush_text.proofs.MemoryAlone.{memory_of_three}
+use Rattle.crush_text.proofs.Refused.{no_line, line_or_memory}
 use Rattle.crush_text.proofs.reader.MapReader.kind.Goals as goal
 
 pub returns-in_err-number : goal.returns-in_err-number
@@ -32,12 +32,12 @@ pub map_err-requires : goal.map_err-requires
 map_err-requires g c =
     let d = c.requires.idle.some in
     let h = still c.in_ok-number.ensures.kept d.1 in
-    let want : (f : BuildFault) → c.kind.result ≡ Err f → f ≡ OutOfMemory = λ f is. want_of_three DuplicateId DuplicateName TooMany _ _ _ f (c.in_ok-number.ensures.reads.free d.0 d.1) (c.in_ok-name.ensures.reads.free d.0 h).1 (c.requires.room d.0 d.1) (IfErr-at_err _ is c.kind.ensures.refused d.0 (still c.in_ok-name.ensures.kept h)) in
+    let want : (f : BuildFault) → c.kind.result ≡ Err f → f ≡ OutOfMemory = λ f is. memory_of_three DuplicateId DuplicateName TooMany _ _ _ f (c.in_ok-number.ensures.reads.free d.0 d.1) (c.in_ok-name.ensures.reads.free d.0 h).1 (c.requires.room d.0 d.1) (IfErr-at_err _ is c.kind.ensures.refused d.0 (still c.in_ok-name.ensures.kept h)) in
     search (want)
 
 pub returns : goal.returns
 returns g c =
-    line_or_want c.kind.result _ c.map_err.result c.in_ok-name.name.place c.map_err.ensures.cases (λ e f told. search rules)
+    line_or_memory c.kind.result _ c.map_err.result c.in_ok-name.name.place c.map_err.ensures.cases (λ e f told. search rules)
     (λ d h. reaches_on d _ _ _ _ _ _ (c.in_ok-number.ensures.reads.gives d h) (reaches_word d _ _ _ _ _ _ _ (c.in_ok-name.ensures.reads.gives d (still c.in_ok-number.ensures.kept h)) (_, c.in_ok-name.ensures.reads.next)))
     c.kind.ensures.ok
     (λ ok. record {

@@ -6,9 +6,9 @@ use Rattle.crush_builder.specs.declared.fault.RuleFault.{RuleFault}
 use Rattle.crush_builder.specs.Rules.{with_rule}
 use Rattle.crush_text.specs.Grammar.{rule_line}
 use Rattle.crush_text.proofs.LineEnds.{still, still_idle}
-use Rattle.crush_text.proofs.Wants.{want_of_rule}
+use Rattle.crush_text.proofs.MemoryAlone.{memory_of_rule}
 use Rattle.crush_text.proofs.Reached.{line_leads, leads_then, fails_then, fails_line}
-use Rattle.crush_text.proofs.Refused.{no_lines, lines_or_want}
+use Rattle.crush_text.proofs.Refused.{no_lines, lines_or_memory}
 use Rattle.crush_text.proofs.reader.MapReader.rule.Goals as goal
 
 pub returns-in_err-draft : goal.returns-in_err-draft
@@ -27,12 +27,12 @@ pub map_err-requires : goal.map_err-requires
 map_err-requires g c =
     let d = c.requires.idle.some in
     let h = still (c.in_ok-place.ensures.kept ∙ c.in_ok-draft.ensures.kept) d.1 in
-    let want : (f : RuleFault) → c.rule.result ≡ Err f → f.fault ≡ OutOfMemory = λ f is. want_of_rule d.0 _ _ (c.requires.room d.0 d.1) (c.in_ok-place.ensures.right.free d.0 h) (IfErr-at_err _ is c.rule.ensures.refused d.0 h) in
+    let want : (f : RuleFault) → c.rule.result ≡ Err f → f.fault ≡ OutOfMemory = λ f is. memory_of_rule d.0 _ _ (c.requires.room d.0 d.1) (c.in_ok-place.ensures.right.free d.0 h) (IfErr-at_err _ is c.rule.ensures.refused d.0 h) in
     search (want)
 
 pub returns : goal.returns
 returns g c =
-    lines_or_want c.rule.result _ c.map_err.result c.in_ok-place.place c.map_err.ensures.cases (λ e f told. search rules)
+    lines_or_memory c.rule.result _ c.map_err.result c.in_ok-place.place c.map_err.ensures.cases (λ e f told. search rules)
     (λ d h. (line_leads d (rule_line d) _ _ _ (c.in_ok-draft.ensures.gives d h)).reaches _ (c.in_ok-place.ensures.reads d (still c.in_ok-draft.ensures.kept h)).1)
     c.rule.ensures.ok
     (λ ok. record {

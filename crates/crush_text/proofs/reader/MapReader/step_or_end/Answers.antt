@@ -9,7 +9,7 @@ use Rattle.crush_builder.specs.Building.{IsDraft}
 use Rattle.crush_builder.specs.Rules.{kept_rule, kept_step}
 use Rattle.crush_text.specs.Form.{ruled, at}
 use Rattle.crush_text.proofs.LineEnds.{still}
-use Rattle.crush_text.proofs.Reached.{want_here}
+use Rattle.crush_text.proofs.Reached.{out_of_memory_here}
 use Rattle.crush_text.proofs.Steps.{step_or_end_goes, step_or_end_reached, step_fails, done_reads, steps_kept, steps_free}
 use Rattle.crush_text.proofs.Refused.{no_step_line}
 use Rattle.crush_text.proofs.reader.MapReader.step_or_end.Goals as goal
@@ -34,7 +34,7 @@ returns-then-not-is_step g c = record {
 pub returns-in_default : goal.returns-in_default
 returns-in_default g c =
     no_step_line _ _ _ _ _ c.in_ok-step.ensures.kept (λ d h.
-    inl (want_here _ _ _ _ c.fault.ensures (step_or_end_reached d (kept_rule d c.args.rule.now) _ _ _ _ _ (ap length c.deref.ensures.value ∙ sym (length-map c.args.rule.now.steps.items (kept_step d))) (c.in_ok-word.ensures.gives d) (_, c.in_ok-word.ensures.next))))
+    inl (out_of_memory_here _ _ _ _ c.fault.ensures (step_or_end_reached d (kept_rule d c.args.rule.now) _ _ _ _ _ (ap length c.deref.ensures.value ∙ sym (length-map c.args.rule.now.steps.items (kept_step d))) (c.in_ok-word.ensures.gives d) (_, c.in_ok-word.ensures.next))))
 
 pub returns : goal.returns
 returns g c = record {

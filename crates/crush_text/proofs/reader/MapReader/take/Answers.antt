@@ -8,7 +8,7 @@ use Rattle.crush_builder.specs.Rules.{complete_bucket_named, taken_number}
 use Rattle.crush_text.specs.Grammar.{step_done}
 use Rattle.crush_text.proofs.LineByLine.{fails_so}
 use Rattle.crush_text.proofs.LineEnds.{word_fails, word_reads}
-use Rattle.crush_text.proofs.Reached.{part_taken, want_here, reaches_word, reaches_on, reaches_taken}
+use Rattle.crush_text.proofs.Reached.{part_taken, out_of_memory_here, reaches_word, reaches_on, reaches_taken}
 use Rattle.crush_text.proofs.Steps.{done_reads, bucket_taken}
 use Rattle.crush_text.proofs.Refused.{no_step}
 use Rattle.crush_text.proofs.reader.MapReader.take.Goals as goal
@@ -29,14 +29,14 @@ pub returns-in_err-bucket-2 : goal.returns-in_err-bucket-2
 returns-in_err-bucket-2 g c =
     let p = err_from_is_err_and c.from_residual-in_err-bucket-2.result c.from_residual-in_err-bucket-2.ensures.1 in
     rw (p.1, p.2) (no_step _ _ _ _ c.in_ok-bucket.ensures.kept (λ d r h.
-    (inl (want_here _ _ _ _ c.in_err-bucket-2.ensures.memory (reaches_word d _ _ _ _ _ _ _ (bucket_taken d c.in_ok-bucket.bucket.text.now _ _ (c.in_ok-bucket.ensures.reads.gives d h)) (_, c.in_ok-bucket.ensures.reads.next))))))
+    (inl (out_of_memory_here _ _ _ _ c.in_err-bucket-2.ensures.memory (reaches_word d _ _ _ _ _ _ _ (bucket_taken d c.in_ok-bucket.bucket.text.now _ _ (c.in_ok-bucket.ensures.reads.gives d h)) (_, c.in_ok-bucket.ensures.reads.next))))))
 
 pub returns-in_err-class-2 : goal.returns-in_err-class-2
 returns-in_err-class-2 g c =
     let p = err_from_is_err_and c.from_residual-in_err-class-2.result c.from_residual-in_err-class-2.ensures.1 in
     rw (p.1, p.2) (no_step _ _ _ _ c.in_ok-bucket.ensures.kept (λ d r h.
     (
-    inl (want_here _ _ _ _ c.in_err-class-2.ensures.memory
+    inl (out_of_memory_here _ _ _ _ c.in_err-class-2.ensures.memory
     (reaches_on d _ _ _ _ _ _ (bucket_taken d c.in_ok-bucket.bucket.text.now _ _ (c.in_ok-bucket.ensures.reads.gives d h))
     (reaches_taken d _ _ (step_done d r (take (taken_number (complete_bucket_named d c.in_ok-bucket.bucket.text.now)) None)) _ _ _ _ (sym c.if-not-take_key.false ∙ c.take_key.ensures.answer) (c.take_key.ensures.rest ∙ ap (λ (b : Bool). if b then past c.taken_bucket.new.self.text else c.taken_bucket.new.self.text) c.if-not-take_key.false) (reaches_word d _ _ _ _ _ _ _ (c.in_ok-class.ensures.gives d tt) (_, c.in_ok-class.ensures.next)))))
     )))

@@ -1,7 +1,7 @@
 -- The builder's answer, as an option.
 use Rattle.std.proofs.Common.{sym, ◌∙◌}
 use Rattle.crush_builder.specs.Building.{item_named}
-use Rattle.crush_text.proofs.Wants.{closed_so}
+use Rattle.crush_text.proofs.MemoryAlone.{closed_so}
 use Rattle.crush_text.proofs.Weighed.{some_named, none_named}
 use Rattle.crush_text.proofs.reader.items.item_named.Goals as goal
 

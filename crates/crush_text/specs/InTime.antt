@@ -4,7 +4,7 @@ use Rattle.crush_bytes.specs.Words.{Word, Text, words, stopped, ended}
 use Rattle.crush_text.specs.declared.fault.TextFault.{TextFault}
 use Rattle.crush_text.specs.Flow.{State}
 use Rattle.crush_text.specs.Document.{Spell, start}
-use Rattle.crush_text.specs.Flaw.{IsWant}
+use Rattle.crush_text.specs.Flaw.{IsOutOfMemory}
 
 -- A WORD OF A TEXT that is right, as all before it: they spell lines and a part of one, and it stands at this place
 pub record IsRightUpTo (t : Text) (place : ℕ) : Type 0 where
@@ -18,4 +18,4 @@ pub record IsRightUpTo (t : Text) (place : ℕ) : Type 0 where
 
 -- memory that was refused is told at such a word, so before any flaw; or at the end of a text without words
 abbrev pub IsToldInTime : List ℕ → TextFault → Type 0
-IsToldInTime bytes f = IsWant f → IsRightUpTo (words 0 bytes) f.place ⊎ (words 0 bytes ≡ stopped (ended f.place))
+IsToldInTime bytes f = IsOutOfMemory f → IsRightUpTo (words 0 bytes) f.place ⊎ (words 0 bytes ≡ stopped (ended f.place))

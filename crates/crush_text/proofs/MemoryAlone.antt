@@ -14,29 +14,29 @@ use Rattle.crush_builder.specs.Rules.{is_full_of_rules, rule_fault, rule_told}
 use Rattle.crush_text.specs.Room.{IsFreeRule}
 use Rattle.crush_builder.specs.Faults.{fault_told, first_fault, device_fault, is_heavy_device, is_closed}
 
--- what isn't told is want of memory
-is_want : (f : BuildFault) → None ≡ fault_told f → f ≡ OutOfMemory
-is_want BadWeight e = absurd (let no : ◌≡◌ {A = Option BuildFault} None (Some BadWeight) = e in cc)
-is_want DuplicateId e = absurd (let no : ◌≡◌ {A = Option BuildFault} None (Some DuplicateId) = e in cc)
-is_want DuplicateName e = absurd (let no : ◌≡◌ {A = Option BuildFault} None (Some DuplicateName) = e in cc)
-is_want UnknownType e = absurd (let no : ◌≡◌ {A = Option BuildFault} None (Some UnknownType) = e in cc)
-is_want UnknownItem e = absurd (let no : ◌≡◌ {A = Option BuildFault} None (Some UnknownItem) = e in cc)
-is_want SecondParent e = absurd (let no : ◌≡◌ {A = Option BuildFault} None (Some SecondParent) = e in cc)
-is_want UnknownBucketInRule e = absurd (let no : ◌≡◌ {A = Option BuildFault} None (Some UnknownBucketInRule) = e in cc)
-is_want TooMany e = absurd (let no : ◌≡◌ {A = Option BuildFault} None (Some TooMany) = e in cc)
-is_want SumTooLarge e = absurd (let no : ◌≡◌ {A = Option BuildFault} None (Some SumTooLarge) = e in cc)
-is_want OutOfMemory e = refl
+-- what isn't told is out of memory
+is_out_of_memory : (f : BuildFault) → None ≡ fault_told f → f ≡ OutOfMemory
+is_out_of_memory BadWeight e = absurd (let no : ◌≡◌ {A = Option BuildFault} None (Some BadWeight) = e in cc)
+is_out_of_memory DuplicateId e = absurd (let no : ◌≡◌ {A = Option BuildFault} None (Some DuplicateId) = e in cc)
+is_out_of_memory DuplicateName e = absurd (let no : ◌≡◌ {A = Option BuildFault} None (Some DuplicateName) = e in cc)
+is_out_of_memory UnknownType e = absurd (let no : ◌≡◌ {A = Option BuildFault} None (Some UnknownType) = e in cc)
+is_out_of_memory UnknownItem e = absurd (let no : ◌≡◌ {A = Option BuildFault} None (Some UnknownItem) = e in cc)
+is_out_of_memory SecondParent e = absurd (let no : ◌≡◌ {A = Option BuildFault} None (Some SecondParent) = e in cc)
+is_out_of_memory UnknownBucketInRule e = absurd (let no : ◌≡◌ {A = Option BuildFault} None (Some UnknownBucketInRule) = e in cc)
+is_out_of_memory TooMany e = absurd (let no : ◌≡◌ {A = Option BuildFault} None (Some TooMany) = e in cc)
+is_out_of_memory SumTooLarge e = absurd (let no : ◌≡◌ {A = Option BuildFault} None (Some SumTooLarge) = e in cc)
+is_out_of_memory OutOfMemory e = refl
 
 -- nor is anything told where none of two tests holds
-pub want_of_two : (f g : BuildFault) (a b : Bool) (h : BuildFault) → a ≡ false → b ≡ false → first_fault ((f, a) ∷ ((g, b) ∷ [])) ≡ fault_told h → h ≡ OutOfMemory
-want_of_two f g true b h x y e = absurd (let no : true ≡ false = x in cc)
-want_of_two f g false true h x y e = absurd (let no : true ≡ false = y in cc)
-want_of_two f g false false h x y e = is_want h e
+pub memory_of_two : (f g : BuildFault) (a b : Bool) (h : BuildFault) → a ≡ false → b ≡ false → first_fault ((f, a) ∷ ((g, b) ∷ [])) ≡ fault_told h → h ≡ OutOfMemory
+memory_of_two f g true b h x y e = absurd (let no : true ≡ false = x in cc)
+memory_of_two f g false true h x y e = absurd (let no : true ≡ false = y in cc)
+memory_of_two f g false false h x y e = is_out_of_memory h e
 
 -- or of three
-pub want_of_three : (f g k : BuildFault) (a b c : Bool) (h : BuildFault) → a ≡ false → b ≡ false → c ≡ false → first_fault ((f, a) ∷ ((g, b) ∷ ((k, c) ∷ []))) ≡ fault_told h → h ≡ OutOfMemory
-want_of_three f g k true b c h x y z e = absurd (let no : true ≡ false = x in cc)
-want_of_three f g k false b c h x y z e = want_of_two g k b c h y z e
+pub memory_of_three : (f g k : BuildFault) (a b c : Bool) (h : BuildFault) → a ≡ false → b ≡ false → c ≡ false → first_fault ((f, a) ∷ ((g, b) ∷ ((k, c) ∷ []))) ≡ fault_told h → h ≡ OutOfMemory
+memory_of_three f g k true b c h x y z e = absurd (let no : true ≡ false = x in cc)
+memory_of_three f g k false b c h x y z e = memory_of_two g k b c h y z e
 
 -- an item without a written weight isn't too heavy for a device
 pub light_unwritten : (i : ItemId) → is_heavy_device i None ≡ false
@@ -47,9 +47,9 @@ light_unwritten (Bucket b) = refl
 pub closed_so : (b : BuilderData) (d : Draft) (i : ItemId) → IsDraft b d → is_there d.table i ≡ true → is_open b.pending i ≡ false → is_closed d i ≡ true
 closed_so b d i h there shut = rw (there, ← h.pending, shut) refl
 
--- a rule that has room and is free has no fault, so what isn't told of it is want of memory
-pub want_of_rule : (d : Draft) (r : Rule) (f : RuleFault) → is_full_of_rules d ≡ false → IsFreeRule d r → rule_fault d r ≡ rule_told f → f.fault ≡ OutOfMemory
-want_of_rule d r f room free e = is_want f.fault (untold (fault_told f.fault) (sym none ∙ e))
+-- a rule that has room and is free has no fault, so what isn't told of it is out of memory
+pub memory_of_rule : (d : Draft) (r : Rule) (f : RuleFault) → is_full_of_rules d ≡ false → IsFreeRule d r → rule_fault d r ≡ rule_told f → f.fault ≡ OutOfMemory
+memory_of_rule d r f room free e = is_out_of_memory f.fault (untold (fault_told f.fault) (sym none ∙ e))
   where
     none : rule_fault d r ≡ None
     none = rw (room, free.name, free.id, free.steps) refl
