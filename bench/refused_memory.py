@@ -105,8 +105,12 @@ static void tell_starts(void) {
     close(file);
 }
 
-/* Where the program ends otherwise, this is told: else nothing would be looked at. */
-__attribute__((destructor)) static void end(void) { tell(left, "other", 0, 0); }
+/* Where the program ends otherwise than by `_exit`, this is told, since threads aren't looked at. A program that starts none
+   does so. */
+__attribute__((destructor)) static void end(void) {
+    tell(counted, "", atomic_load(&asked), 0);
+    tell(left, "other", 0, 0);
+}
 
 static int threads(void) {
     int count = 0;
