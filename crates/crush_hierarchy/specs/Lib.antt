@@ -1,2 +1,5 @@
+pub mod Counted
 pub mod Given
 pub mod Indexed
+pub mod Placed
+pub mod Retold

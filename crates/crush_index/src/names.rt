@@ -38,7 +38,7 @@ impl Names {
         }
     }
 
-    /// The name of an item that comes. An Err is want of memory, and nothing has changed then.
+    /// The name of an item that comes. An Err is out of memory, and nothing has changed then.
     pub fn insert(&mut self, name: Name<Global>, id: ItemId) -> Result<(), AllocError>
         ensures ok { OnOk result (TellsOne self.old self.new name (Some id)) }
         ensures err { OnErr result (TellsSame self.old self.new) }
@@ -56,7 +56,7 @@ impl Names {
         self.ids.swap_remove(Asked { bytes: name });
     }
 
-    /// Another name for the item that has the first one. An Err is want of memory, and nothing has
+    /// Another name for the item that has the first one. An Err is out of memory, and nothing has
     /// changed then.
     pub fn rename(&mut self, from: &[u8], to: Name<Global>, id: ItemId) -> Result<(), AllocError>
         requires there { id_told self.old from.now ≡ Some id }

@@ -13,6 +13,16 @@ pub(crate) enum Among {
     Slot(u32),
 }
 
+impl Among {
+    /// The slot that is named, or the first one.
+    pub(crate) fn slot(self) -> u32 {
+        match self {
+            Among::Roots | Among::Unplaced => 0,
+            Among::Slot(slot) => slot,
+        }
+    }
+}
+
 /// What is kept of an item that is there.
 #[derive(Clone, Copy)]
 pub(crate) struct Kept {

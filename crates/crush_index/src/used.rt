@@ -50,7 +50,7 @@ impl UsedIds {
         }
     }
 
-    /// An id that comes into use. An Err is want of memory, and nothing has changed then.
+    /// An id that comes into use. An Err is out of memory, and nothing has changed then.
     pub fn insert(&mut self, id: u32) -> Result<(), AllocError>
         ensures ok { OnOk result (UsesOne self.old self.new id true) }
         ensures err { OnErr result (UsesSame self.old self.new) }
@@ -114,7 +114,7 @@ fn word_at(words: &[u64], place: usize) -> u64
     }
 }
 
-/// Makes a word be there: those that lack are put last, without bits. An Err is want of memory.
+/// Makes a word be there: those that lack are put last, without bits. An Err is out of memory.
 fn reach(words: &mut Vec<u64>, place: usize) -> Result<(), AllocError>
     requires within { place < 1089 }
     requires few { length words.old.items ≤ 1089 }

@@ -1,3 +1,5 @@
+pub mod Asked
+pub mod Changed
 pub mod Climbed
 pub mod Memory
 pub mod NewWeights
@@ -6,6 +8,7 @@ pub mod Sameness
 pub mod SeenForest
 pub mod Shrunk
 pub mod Taken
+pub mod Told
 pub mod Tops
 pub use Rattle.crush_nodes.specs.Apart
 pub use Rattle.crush_nodes.specs.Attachable

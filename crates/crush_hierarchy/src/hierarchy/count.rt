@@ -1,10 +1,9 @@
 //! How many items there are and what they weigh, known from change to change.
 
-ghost use Rattle.std.specs.Prelude.{◌≡◌, ◌<◌, ◌≤◌, ◌+◌, ◌^◌, ◌∷◌, []};
+ghost use Rattle.std.specs.Prelude.{◌≡◌, ◌≤◌, ◌+◌, ◌∷◌, []};
 ghost use Rattle.crush_units.specs.declared.limits.TheConstants.{HEAVIEST_MAP};
-ghost use Rattle.crush_table.specs.Items.{size_of};
-ghost use Rattle.crush_nodes.specs.Search.{devices_in};
 ghost use Rattle.crush_tree.specs.Seen.{items_of};
+ghost use Rattle.crush_hierarchy.specs.Counted.{AddUp, AreAtMost, AreCountsIn, AreFew, AreFewTogether};
 
 use crush_tree::{Bucket, Counts, Node, counts_in};
 use crush_units::Weight;
@@ -12,10 +11,8 @@ use std::alloc::Allocator;
 
 /// How many devices and buckets an item is, with all that is below it.
 pub(super) fn counts_of<A: Allocator>(node: &Node<A>) -> Counts
-    requires devices { devices_in (items_of (node.now ∷ [])) < 2 ^ 32 }
-    requires buckets { size_of (items_of (node.now ∷ [])) < 2 ^ 32 }
-    ensures devices { result.devices ≡ devices_in (items_of (node.now ∷ [])) }
-    ensures buckets { result.buckets ≡ size_of (items_of (node.now ∷ [])) }
+    requires { AreFew (items_of (node.now ∷ [])) }
+    ensures { AreCountsIn (items_of (node.now ∷ [])) result }
 {
     match node {
         Node::Device(_) => Counts {
@@ -35,10 +32,8 @@ pub(super) fn counts_of<A: Allocator>(node: &Node<A>) -> Counts
 
 /// The counts with those of items that have come.
 pub(super) fn with_counts(counts: Counts, come: Counts) -> Counts
-    requires devices { counts.devices + come.devices < 2 ^ 32 }
-    requires buckets { counts.buckets + come.buckets < 2 ^ 32 }
-    ensures devices { result.devices ≡ counts.devices + come.devices }
-    ensures buckets { result.buckets ≡ counts.buckets + come.buckets }
+    requires { AreFewTogether counts come }
+    ensures { AddUp counts come result }
 {
     Counts {
         devices: counts.devices + come.devices,
@@ -48,10 +43,8 @@ pub(super) fn with_counts(counts: Counts, come: Counts) -> Counts
 
 /// The counts without those of items that have gone.
 pub(super) fn without_counts(counts: Counts, gone: Counts) -> Counts
-    requires devices { gone.devices ≤ counts.devices }
-    requires buckets { gone.buckets ≤ counts.buckets }
-    ensures devices { result.devices + gone.devices ≡ counts.devices }
-    ensures buckets { result.buckets + gone.buckets ≡ counts.buckets }
+    requires { AreAtMost gone counts }
+    ensures { AddUp result gone counts }
 {
     Counts {
         devices: counts.devices - gone.devices,

@@ -1,7 +1,7 @@
 //! Where items stand, and the hint where among their bucket's items.
 
 use crush_index::{Hashing, Places};
-use crush_nodes::guide::{Guide, Spot};
+use crush_nodes::guide::{Found, Guide, Spot};
 use crush_nodes::place::Place;
 use crush_units::{BucketId, DeviceId, ItemId};
 
@@ -58,6 +58,33 @@ fn places_come_and_go(rt: HostRuntime) {
     assert!(rt; stands(&places, bucket(2), below(1, 0)) && stands(&places, device(2), below(2, 1)));
     // A device and a bucket of the same number are two items.
     assert!(rt; stands(&places, device(1), None));
+    drop(places);
+}
+
+/// Whether this is found of an item by a slot.
+fn finds(places: &Places, id: &Option<ItemId>, slot: u32, found: &Found) -> bool {
+    match id {
+        Some(id) => places.spot_from(*id, slot) == *found,
+        None => false,
+    }
+}
+
+/// Whether an item is found there, and the slot of its bucket, by its own slot and by others.
+fn leads(places: &Places, id: Option<ItemId>, spot: Option<Spot>, slot: u32) -> bool {
+    let id = &id;
+    let found = Found { spot, slot };
+    finds(places, id, 0, &found)
+        && finds(places, id, 1, &found)
+        && finds(places, id, u32::MAX, &found)
+}
+
+#[test]
+fn a_slot_is_never_trusted(rt: HostRuntime) {
+    let mut places = Places::new(rt.alloc(), Hashing::plain());
+    assert!(rt; add_four(&mut places));
+    // The root has slot 0, and the host slot 1.
+    assert!(rt; leads(&places, device(2), below(2, 1), 1));
+    assert!(rt; leads(&places, bucket(2), below(1, 0), 0) && leads(&places, bucket(3), None, 0));
     drop(places);
 }
 

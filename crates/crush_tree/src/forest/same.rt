@@ -1,6 +1,6 @@
 //! Whether two forests are the same.
 
-ghost use Rattle.std.specs.Prelude.{◌≡◌, ◌↔◌, IsTrue};
+ghost use Rattle.std.specs.Prelude.{◌↔◌, IsTrue};
 ghost use Rattle.crush_tree.specs.Sameness.{IsSameForest};
 
 use super::Forest;

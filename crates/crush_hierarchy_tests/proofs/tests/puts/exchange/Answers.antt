@@ -1,4 +1,4 @@
-use Rattle.std.proofs.Common.{sym}
+use Rattle.std.proofs.Common.{rules, sym}
 use Rattle.crush_units.specs.declared.id.ItemId.TheVariants.{Bucket}
 use Rattle.crush_table.specs.Forest.{rows_of}
 use Rattle.crush_table.specs.Table.{row_of}
@@ -7,10 +7,15 @@ use Rattle.crush_table.proofs.Swapped.{Lawful-swap}
 use Rattle.crush_hierarchy_tests.proofs.Passed.{found, passed}
 use Rattle.crush_hierarchy_tests.proofs.tests.puts.exchange.Goals as goal
 
-pub swap-requires-clause-fits : goal.swap-requires-clause-fits
-swap-requires-clause-fits c =
-    let f = c.args.hierarchy.now in
-    let t = rows_of f in
-    let r = found (row_of t (Bucket c.args.a)) (sym c.if-not-has_item.ensures) in
-    let s = found (row_of t (Bucket c.args.b)) (sym c.if-not-has_item-2.ensures) in
-    Lawful-swap t c.args.a c.args.b r.0 s.0 c.recall_invariant.ensures.lawful r.1 s.1 (sym c.if-are_nested.ensures) (passed _ (c.if-not-fits_swap.ensures t (stands_for_rows f c.recall_invariant.ensures)))
+pub swap-requires : goal.swap-requires
+swap-requires c = record {
+  there_a = search rules;
+  there_b = search rules;
+  apart = search rules;
+  fits =
+      let f = c.args.hierarchy.now in
+      let t = rows_of f in
+      let r = found (row_of t (Bucket c.args.a)) (sym c.if-not-has_item.ensures) in
+      let s = found (row_of t (Bucket c.args.b)) (sym c.if-not-has_item-2.ensures) in
+      Lawful-swap t c.args.a c.args.b r.0 s.0 c.recall_invariant.ensures.lawful r.1 s.1 (sym c.if-are_nested.ensures) (passed _ (c.if-not-fits_swap.ensures t (stands_for_rows f c.recall_invariant.ensures)));
+}

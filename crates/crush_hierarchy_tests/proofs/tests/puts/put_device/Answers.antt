@@ -1,16 +1,18 @@
-use Rattle.std.proofs.Common.{sym}
+use Rattle.std.proofs.Common.{rules, sym}
 use Rattle.crush_table.specs.Forest.{rows_of, all_items}
 use Rattle.crush_table.proofs.Stands.{stands_for_rows}
 use Rattle.crush_hierarchy_tests.proofs.Moving.{left_there, put_lawful}
 use Rattle.crush_hierarchy_tests.proofs.tests.puts.put_device.Goals as goal
 
-pub put-requires-clause-place : goal.put-requires-clause-place
-put-requires-clause-place c = left_there (rows_of c.args.hierarchy.now) c.args.device c.args.bucket (sym c.if-not-has_item-2.ensures)
-
-pub put-requires-clause-fits : goal.put-requires-clause-fits
-put-requires-clause-fits c =
-    let f = c.args.hierarchy.now in
-    let t = rows_of f in
-    let st = stands_for_rows f c.recall_invariant.ensures in
-    put_lawful t c.args.device c.args.bucket c.args.weight (all_items f) c.recall_invariant.ensures.lawful (sym c.if-not-has_item.ensures) (sym c.if-not-has_item-2.ensures) (c.is_device_weight.ensures.0 c.if-not-is_device_weight.false)
-    c.recall_part.ensures.one (c.recall_part.ensures.rows t st) (c.if-not-fits_move.ensures t st)
+pub put-requires : goal.put-requires
+put-requires c = record {
+  there = search rules;
+  place = left_there (rows_of c.args.hierarchy.now) c.args.device c.args.bucket (sym c.if-not-has_item-2.ensures);
+  room = search rules;
+  fits =
+      let f = c.args.hierarchy.now in
+      let t = rows_of f in
+      let st = stands_for_rows f c.recall_invariant.ensures in
+      put_lawful t c.args.device c.args.bucket c.args.weight (all_items f) c.recall_invariant.ensures.lawful (sym c.if-not-has_item.ensures) (sym c.if-not-has_item-2.ensures) (c.is_device_weight.ensures.0 c.if-not-is_device_weight.false)
+      c.recall_part.ensures.one (c.recall_part.ensures.rows t st) (c.if-not-fits_move.ensures t st);
+}
