@@ -23,7 +23,7 @@ use Rattle.crush_apply.specs.Answered.{AnswersAs, last_answer}
 use Rattle.crush_apply.specs.Destination.{DestinationData, Leads}
 use Rattle.crush_apply.proofs.Refused.{same_refusal, no_want, no_refusal}
 
--- THE WAYS to end: done, refused, or for want of memory
+-- THE WAYS to end: done, refused, or out of memory
 pub when_done : (a : List Row → Answer) (f g : ForestData) (d : Done) → (d.changed ≡ false → g ≡ f) → ((t : List Row) → Stands f t → IsDone (Stands g) (a t) d) → AnswersAs a f g (Ok d)
 when_done a f g d still h = record { done = h; refused = λ r is. absurd cc; change = λ is. absurd cc; unchanged = tt; still = still }
 

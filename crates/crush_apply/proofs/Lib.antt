@@ -22,3 +22,4 @@ pub mod Found
 pub mod Names
 pub mod Singles
 pub mod Batching
+pub mod TakenBack

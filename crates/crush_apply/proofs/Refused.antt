@@ -15,12 +15,12 @@ pub same_refusal : {X : Type 0} (q r : Refusal) (x : Result X EditFault) → IsE
 same_refusal q r (Ok d) h is = elim h [ ]
 same_refusal q r (Err e) h is = let one : e ≡ Refused r = cc in let other : Refused q ≡ Refused r = sym h ∙ one in cc
 
--- and isn't want of memory
+-- and isn't out of memory
 pub no_want : {X : Type 0} (q : Refusal) (x : Result X EditFault) → IsErrAnd x (λ e. e ≡ Refused q) → x ≡ Err OutOfMemory → ⊥
 no_want q (Ok d) h is = elim h [ ]
 no_want q (Err e) h is = let one : e ≡ OutOfMemory = cc in let other : Refused q ≡ OutOfMemory = sym h ∙ one in cc
 
--- want of memory is no refusal
+-- out of memory is no refusal
 pub no_refusal : {X : Type 0} (r : Refusal) (x : Result X EditFault) → IsErrAnd x (λ e. e ≡ OutOfMemory) → x ≡ Err (Refused r) → ⊥
 no_refusal r (Ok d) h is = elim h [ ]
 no_refusal r (Err e) h is = let one : e ≡ Refused r = cc in let other : OutOfMemory ≡ Refused r = sym h ∙ one in cc

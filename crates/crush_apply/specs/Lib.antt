@@ -6,4 +6,6 @@ pub mod Stopped
 pub mod Weighed
 pub mod Alone
 pub mod Batched
+pub mod AsBefore
+pub mod Noted
 pub mod Blamed

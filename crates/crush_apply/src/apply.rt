@@ -30,7 +30,7 @@ use std::alloc::Allocator;
 
 /// Makes the edit on the hierarchy, by the setting, or tells why it isn't made.
 ///
-/// Where several refusals hold, the one of least number is told. Want of memory is told only of an
+/// Where several refusals hold, the one of least number is told. Out of memory is told only of an
 /// edit that takes memory, where nothing speaks against it and the hierarchy would be another after
 /// it: so never of new weights, of an exchange or of a removal, also of a class. After an Err the
 /// hierarchy is as before, also its room, as it is where the edit changes nothing.

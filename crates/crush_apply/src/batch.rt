@@ -1,6 +1,6 @@
 //! Several edits, of which all are made or none.
 
-ghost use Rattle.std.specs.Prelude.{◌≡◌, ℕ, ◌+◌, ◌*◌, ◌<◌, ◌≤◌, List, length, IfOk, OnErr};
+ghost use Rattle.std.specs.Prelude.{◌≡◌, ◌≢◌, ℕ, ◌+◌, ◌*◌, ◌<◌, ◌≤◌, List, [], length, IfOk, OnErr, true, false, vec_len, vec_capacity};
 ghost use Rattle.crush_units.specs.declared.limits.TheConstants.{MOST_EDITS};
 ghost use Rattle.crush_table.specs.Table.{Row};
 ghost use Rattle.crush_table.specs.Forest.{rows_of};
@@ -8,20 +8,29 @@ ghost use Rattle.crush_table.specs.Stands.{Stands};
 ghost use Rattle.crush_edits.specs.declared.refusal.Refusal.{Refusal as DeclaredRefusal};
 ghost use Rattle.crush_edits.specs.Batch.{batch, batch_refused, with_done};
 ghost use Rattle.crush_edits.specs.Fits.{Fits};
+ghost use Rattle.crush_edits.specs.Answer.{refused};
+ghost use Rattle.crush_edits.specs.Edit.{edit, takes_memory};
+ghost use Rattle.crush_apply.specs.Answered.{KeepsRooms};
+ghost use Rattle.crush_apply.specs.AsBefore.{IsAsBefore};
 ghost use Rattle.crush_apply.specs.Batched.{IsBatchDone};
+ghost use Rattle.crush_apply.specs.Noted.{is_reweight, are_in_place, GiveBack, IsDoneNoted};
 
 use crate::apply::apply_edit;
+use crate::noted::{Noted, are_in_place, note, put_noted, take_back};
 use crush_edits::{BatchFault, Done, Dones, Edit, EditFault, Setting};
 use crush_hierarchy::Hierarchy;
-use std::alloc::Allocator;
+use std::alloc::{AllocError, Allocator};
 
 /// Makes the edits one after the other, each on what the ones before it made, or none of them: at
 /// most 65,536.
 ///
-/// They are made on a copy of the hierarchy, which takes its place when all are done; so there is
-/// memory for no more items than there are. A single edit needs no copy. Where one is refused, its
-/// index, from 0, and its refusal are told, and the hierarchy is as before the first. Want of memory
-/// may be told of a batch of which a later edit would be refused.
+/// Where memory is taken for none of them, and all but the last give single devices another weight,
+/// they are made in place, and taken back where one is refused. Others are made on a copy of the
+/// hierarchy, which takes its place when all are done; so there is memory for no more items than
+/// there are. A single edit needs no copy. Where one is refused, its index, from 0, and its refusal
+/// are told, and the hierarchy stands for the tables for which it stood before the first, with the
+/// room that it had. Out of memory may be told of a batch of which a later edit would be refused,
+/// and has changed nothing.
 pub fn apply_batch<A: Allocator + Clone>(
     hierarchy: &mut Hierarchy<A>,
     setting: &Setting,
@@ -34,11 +43,16 @@ pub fn apply_batch<A: Allocator + Clone>(
     ensures refused { (index : ℕ) (r : DeclaredRefusal)
         → result ≡ Err (BatchFault.Refused index r) → (t : List Row) → Stands hierarchy.old t
         → batch setting.now t edits.now ≡ batch_refused index r }
-    ensures unchanged { OnErr result (hierarchy.new ≡ hierarchy.old) }
+    ensures memory { result ≡ Err BatchFault.OutOfMemory → hierarchy.new ≡ hierarchy.old }
+    ensures as_before { OnErr result (IsAsBefore hierarchy.old hierarchy.new) }
+    ensures single { length edits.now ≤ 1 → OnErr result (hierarchy.new ≡ hierarchy.old) }
     ensures fits { Fits setting.now (rows_of hierarchy.new) }
 {
     if edits.len() <= 1 {
         return make_all(hierarchy, setting, edits);
+    }
+    if are_in_place(edits) {
+        return make_in_place(hierarchy, setting, edits);
     }
     let Ok(mut copy) = hierarchy.try_copy() else {
         return Err(BatchFault::OutOfMemory);
@@ -80,6 +94,122 @@ fn make_all<A: Allocator + Clone>(
         }
     }
     Ok(dones)
+}
+
+/// Makes edits in place, or none of them: the last as it is, since behind it nothing is taken back.
+fn make_in_place<A: Allocator + Clone>(
+    hierarchy: &mut Hierarchy<A>,
+    setting: &Setting,
+    edits: &[Edit],
+) -> Result<Dones, BatchFault>
+    requires few { length edits.now ≤ MOST_EDITS }
+    requires fits { Fits setting.now (rows_of hierarchy.old) }
+    requires in_place { are_in_place edits.now ≡ true }
+    ensures done { IfOk result (λ d. (t : List Row) → Stands hierarchy.old t
+        → IsBatchDone (Stands hierarchy.new) (batch setting.now t edits.now) d) }
+    ensures refused { (index : ℕ) (r : DeclaredRefusal)
+        → result ≡ Err (BatchFault.Refused index r) → (t : List Row) → Stands hierarchy.old t
+        → batch setting.now t edits.now ≡ batch_refused index r }
+    ensures memory { result ≡ Err BatchFault.OutOfMemory → hierarchy.new ≡ hierarchy.old }
+    ensures as_before { OnErr result (IsAsBefore hierarchy.old hierarchy.new) }
+    ensures fits { Fits setting.now (rows_of hierarchy.new) }
+{
+    hierarchy.recall_invariant();
+    let Ok(mut log) = new_log(hierarchy, edits.len()) else {
+        return Err(BatchFault::OutOfMemory);
+    };
+    match make_noted(hierarchy, setting, edits, &mut log) {
+        Ok(dones) => Ok(dones),
+        Err(fault) => {
+            take_back(hierarchy, log);
+            Err(fault)
+        }
+    }
+}
+
+/// A log with room for what is noted of so many edits. An Err is out of memory.
+fn new_log<A: Allocator + Clone>(
+    hierarchy: &Hierarchy<A>,
+    room: usize,
+) -> Result<Vec<Noted, A>, AllocError>
+    ensures items { IfOk result (λ log. log.items ≡ []) }
+    ensures len { IfOk result (λ log. vec_len log ≡ 0) }
+    ensures capacity { IfOk result (λ log. vec_capacity log ≡ room) }
+{
+    Vec::with_capacity(hierarchy.allocator().clone()?, room)
+}
+
+/// Makes the edits one after the other until one isn't made. What those that are made have changed
+/// is in the log then.
+fn make_noted<A: Allocator + Clone>(
+    hierarchy: &mut Hierarchy<A>,
+    setting: &Setting,
+    edits: &[Edit],
+    log: &mut Vec<Noted, A>,
+) -> Result<Dones, BatchFault>
+    requires few { length edits.now ≤ MOST_EDITS }
+    requires fits { Fits setting.now (rows_of hierarchy.old) }
+    requires in_place { are_in_place edits.now ≡ true }
+    requires empty { log.old.items ≡ [] }
+    requires len { vec_len log.old ≡ 0 }
+    requires capacity { length edits.now ≤ vec_capacity log.old }
+    ensures done { IfOk result (λ d. (t : List Row) → Stands hierarchy.old t
+        → IsBatchDone (Stands hierarchy.new) (batch setting.now t edits.now) d) }
+    ensures refused { (index : ℕ) (r : DeclaredRefusal)
+        → result ≡ Err (BatchFault.Refused index r) → (t : List Row) → Stands hierarchy.old t
+        → batch setting.now t edits.now ≡ batch_refused index r }
+    ensures memory { result ≢ Err BatchFault.OutOfMemory }
+    ensures log { OnErr result ((t : List Row) → Stands hierarchy.old t
+        → (u : List Row) × Stands hierarchy.new u × GiveBack log.new.items u t) }
+    ensures rooms { OnErr result (KeepsRooms hierarchy.old hierarchy.new) }
+    ensures fits { Fits setting.now (rows_of hierarchy.new) }
+{
+    let mut dones = Dones {
+        edits: 0,
+        changed: 0,
+        made: 0,
+    };
+    for asked in edits {
+        match make_one(hierarchy, setting, asked, log) {
+            Ok(done) => dones = with_done(dones, done),
+            Err(EditFault::Refused(refusal)) => {
+                return Err(BatchFault::Refused(dones.edits, refusal));
+            }
+            Err(EditFault::OutOfMemory) => return Err(BatchFault::OutOfMemory),
+        }
+    }
+    Ok(dones)
+}
+
+/// Makes the edit, and puts what it changes last in the log, where it can be taken back.
+fn make_one<A: Allocator + Clone>(
+    hierarchy: &mut Hierarchy<A>,
+    setting: &Setting,
+    asked: &Edit,
+    log: &mut Vec<Noted, A>,
+) -> Result<Done, EditFault>
+    requires fits { Fits setting.now (rows_of hierarchy.old) }
+    requires room { vec_len log.old < vec_capacity log.old }
+    ensures done { IfOk result (λ d. (t : List Row) → Stands hierarchy.old t
+        → IsDoneNoted log.old.items log.new.items hierarchy.new setting.now t asked.now d) }
+    ensures refused { (r : DeclaredRefusal) → result ≡ Err (EditFault.Refused r)
+        → (t : List Row) → Stands hierarchy.old t → edit setting.now t asked.now ≡ refused r }
+    ensures memory { takes_memory asked.now ≡ false → result ≢ Err EditFault.OutOfMemory }
+    ensures rooms { is_reweight asked.now ≡ true → KeepsRooms hierarchy.old hierarchy.new }
+    ensures unchanged { OnErr result (hierarchy.new ≡ hierarchy.old) }
+    ensures log { OnErr result (log.new.items ≡ log.old.items) }
+    ensures len { vec_len log.new ≤ vec_len log.old + 1 }
+    ensures capacity { vec_capacity log.new ≡ vec_capacity log.old }
+    ensures fits { Fits setting.now (rows_of hierarchy.new) }
+{
+    let noted = note(hierarchy, asked);
+    match apply_edit(hierarchy, setting, asked) {
+        Ok(done) => {
+            put_noted(log, noted);
+            Ok(done)
+        }
+        Err(fault) => Err(fault),
+    }
 }
 
 /// What was done with one edit more.

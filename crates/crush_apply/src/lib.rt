@@ -1,5 +1,9 @@
 //! Edits made on the hierarchy of a map: each is the table's edit, for every table for which the
 //! hierarchy stands.
+//!
+//! [`apply_edit`] makes one, by a module for each command, [`apply_batch`] several or none. What
+//! the table makes of an edit stands in `crush_edits`; how much of it a call promises, in
+//! `specs/Answered.antt` and `specs/Batched.antt`. `crush_map` calls both for a whole map.
 #![tactic(auto)]
 
 mod add_bucket;
@@ -9,6 +13,7 @@ mod blaming;
 mod classes;
 mod create_or_move;
 mod insert;
+mod noted;
 mod relocate;
 mod remove;
 mod rename;

@@ -83,7 +83,7 @@ impl Edits {
         self.edits.len() < MOST_EDITS
     }
 
-    /// Adds an edit behind the others. An Err is out of memory.
+    /// Adds an edit behind the others. An `Err` says that memory ran out.
     pub fn push(&mut self, edit: Edit) -> Result<(), AllocFailed<Edit>>
         requires { length self.old < MOST_EDITS }
         ensures { OnOk result (self.new ≡ self.old ++ edit ∷ []) }
@@ -91,7 +91,7 @@ impl Edits {
         self.edits.push(edit)
     }
 
-    /// A copy of the batch. An Err is out of memory.
+    /// A copy of the batch. An `Err` says that memory ran out.
     pub(crate) fn try_copy(&self, alloc: Global) -> Result<Edits, AllocError>
         ensures { IfOk result (λ copy. copy ≡ self.now) }
     {
@@ -101,8 +101,8 @@ impl Edits {
 }
 
 impl Call {
-    /// A copy of the call, as a history keeps one of a call that an operator lends. An Err is out of
-    /// memory.
+    /// A copy of the call, as a history keeps one of a call that an operator lends. An `Err` says
+    /// that memory ran out.
     pub fn try_copy(&self, alloc: Global) -> Result<Call, AllocError>
         ensures { IfOk result (λ copy. copy ≡ self.now) }
     {
@@ -117,7 +117,7 @@ impl Call {
     }
 }
 
-/// Copies of the edits, in their order. An Err is out of memory.
+/// Copies of the edits, in their order. An `Err` says that memory ran out.
 fn copy_edits(alloc: Global, edits: &[Edit]) -> Result<Vec<Edit>, AllocError>
     ensures { IfOk result (λ copies. copies.items ≡ edits.now) }
 {

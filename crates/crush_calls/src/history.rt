@@ -178,7 +178,7 @@ fn write_reply<W: Write>(reply: Reply, out: &mut W) -> Result<(), WriteFault>
 /// Writes the line of an entry: `# NUMBER OPERATOR CALL = REPLY`.
 ///
 /// Entries count from 1. An edit shows as its command, its weight with five decimals, and a batch
-/// as `begin ; EDIT ; .. ; commit`, a guarded one with `begin at N` in front. The reply is
+/// as `begin ; EDIT ; .. ; commit`, a guarded one begins by `begin at N`. The reply is
 /// `done changed C made M`, where C is 1 or 0, `dones N changed C made M`, `refused NAME ERROR`,
 /// `refused at INDEX NAME ERROR` or `refused Stale 11 changes N`; `docs/FORMATS.md` has the form.
 /// The line begins with `#`, and so is a comment by the grammar of a map's text.

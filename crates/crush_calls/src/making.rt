@@ -60,7 +60,7 @@ fn make_guarded<A: Allocator + Clone>(
 /// plain table gives, of each table for which the map stands, and the map then stands for the table
 /// after; so a refused edit or batch changes nothing, nor does a stale one.
 ///
-/// An `Err` is out of memory. The map is then as before, also its room.
+/// An `Err` says that memory ran out. The map is then as before, also its room.
 pub fn make_call<A: Allocator + Clone>(
     map: &mut CrushMap<A>,
     count: u32,

@@ -1,5 +1,5 @@
 //! The calls of a job, made by a book whose maps are in memory that refuses requests. What answers
-//! that memory lacked counts that in `answers`.
+//! that memory ran out counts that in `answers`.
 
 ghost use Rattle.std.specs.Prelude.{◌≡◌, ◌<◌, IfOk};
 ghost use Rattle.crush_units.specs.declared.limits.TheConstants.{MOST_OPERATORS};
@@ -23,7 +23,12 @@ pub fn run_by_book<A: Allocator + Clone>(
     answers: &mut usize,
 ) -> anyhow::Result<usize> {
     let (gauge, mut book) = open_again(alloc, map, parts.printed, answers)?;
-    commit_all(alloc, &gauge, &mut book, scripts, answers)?;
+    let committing = Committing {
+        alloc,
+        gauge: &gauge,
+        scripts,
+    };
+    committing.commit_all(&mut book, answers)?;
     ensure!(
         is_book_written(alloc, &book, scripts, parts.output)?,
         "another output of a book"
@@ -31,7 +36,7 @@ pub fn run_by_book<A: Allocator + Clone>(
     Ok(fewest_requests(book.map()))
 }
 
-/// A book of the map with its gauge, made once more where memory lacked. The map that comes back is
+/// A book of the map with its gauge, made once more where memory ran out. The map that comes back is
 /// then the one that was printed like this.
 fn open_again<A: Allocator + Clone>(
     alloc: Global,
@@ -66,52 +71,58 @@ fn open_returned<A: Allocator + Clone>(
     Ok(started.into_book())
 }
 
-/// Commits the calls of all scripts in order.
-fn commit_all<A: Allocator + Clone>(
+/// What the calls of all scripts are committed with.
+#[derive(Clone, Copy)]
+struct Committing<'c> {
     alloc: Global,
-    gauge: &MapGauge,
-    book: &mut Book<A>,
-    scripts: &[Script],
-    answers: &mut usize,
-) -> anyhow::Result<()>
-    requires { book.old.table ≡ gauge.now.table.shared.table_id }
-{
-    for (operator, script) in scripts.iter().enumerate() {
-        ensure!(operator < MOST_OPERATORS, "too many operators");
-        for call in script.calls.as_slice() {
-            let lacked = commit_again(alloc, gauge, book, scripts, operator, call)?;
-            *answers = answers.saturating_add(usize::from(lacked));
-        }
-    }
-    Ok(())
+    gauge: &'c MapGauge,
+    scripts: &'c [Script],
 }
 
-/// Commits a call, once more where memory lacked, and answers whether it did. Map and history are
-/// then written as before.
-fn commit_again<A: Allocator + Clone>(
-    alloc: Global,
-    gauge: &MapGauge,
-    book: &mut Book<A>,
-    scripts: &[Script],
-    operator: usize,
-    call: &Call,
-) -> anyhow::Result<bool>
-    requires operator { operator < MOST_OPERATORS }
-    requires gauge { book.old.table ≡ gauge.now.table.shared.table_id }
-    ensures { book.new.table ≡ book.old.table }
-{
-    let before = book_text(alloc, book, scripts)?;
-    match book.commit(alloc, gauge, operator, call) {
-        Ok(_reply) => return Ok(false),
-        Err(fault) => ensure!(fault == SubmitFault::OutOfMemory, "a full history"),
+impl Committing<'_> {
+    /// Commits the calls of all scripts in order.
+    fn commit_all<A: Allocator + Clone>(
+        &self,
+        book: &mut Book<A>,
+        answers: &mut usize,
+    ) -> anyhow::Result<()>
+        requires { book.old.table ≡ self.now.gauge.now.table.shared.table_id }
+    {
+        for (operator, script) in self.scripts.iter().enumerate() {
+            ensure!(operator < MOST_OPERATORS, "too many operators");
+            for call in script.calls.as_slice() {
+                let lacked = self.commit_again(book, operator, call)?;
+                *answers = answers.saturating_add(usize::from(lacked));
+            }
+        }
+        Ok(())
     }
-    ensure!(
-        is_book_written(alloc, book, scripts, before.as_slice())?,
-        "another book after memory ran out"
-    );
-    let reply = book.commit(alloc, gauge, operator, call);
-    ensure!(reply.is_ok(), "no memory");
-    Ok(true)
+
+    /// Commits a call, once more where memory ran out, and answers whether it did. Map and history
+    /// are then written as before.
+    fn commit_again<A: Allocator + Clone>(
+        &self,
+        book: &mut Book<A>,
+        operator: usize,
+        call: &Call,
+    ) -> anyhow::Result<bool>
+        requires operator { operator < MOST_OPERATORS }
+        requires gauge { book.old.table ≡ self.now.gauge.now.table.shared.table_id }
+        ensures { book.new.table ≡ book.old.table }
+    {
+        let before = book_text(self.alloc, book, self.scripts)?;
+        match book.commit(self.alloc, self.gauge, operator, call) {
+            Ok(_reply) => return Ok(false),
+            Err(fault) => ensure!(fault == SubmitFault::OutOfMemory, "a full history"),
+        }
+        ensure!(
+            is_book_written(self.alloc, book, self.scripts, before.as_slice())?,
+            "another book after memory ran out"
+        );
+        let reply = book.commit(self.alloc, self.gauge, operator, call);
+        ensure!(reply.is_ok(), "no memory");
+        Ok(true)
+    }
 }
 
 /// The text of a book's map, with the lines of its history behind it.

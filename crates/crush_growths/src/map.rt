@@ -1,4 +1,4 @@
-//! The calls of a job, made on a map whose memory refuses requests. What answers that memory lacked
+//! The calls of a job, made on a map whose memory refuses requests. What answers that memory ran out
 //! counts that in `answers`.
 
 use anyhow::ensure;
@@ -35,7 +35,7 @@ pub fn fewest_requests<A: Allocator>(map: &CrushMap<A>) -> usize {
     counts.buckets as usize + usize::from(counts.devices > 0)
 }
 
-/// The map of the text, which is read once more where memory lacked.
+/// The map of the text, which is read once more where memory ran out.
 pub fn read_again<A: Allocator + Clone>(
     alloc: Global,
     memory: A,

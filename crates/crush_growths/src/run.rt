@@ -19,7 +19,7 @@ pub enum Maker {
     Book,
 }
 
-/// In how many runs it was told that memory lacked, and the fewest requests that the map can make. In
+/// In how many runs it was told that memory ran out, and the fewest requests that the map can make. In
 /// each run a later request was refused; where a list asked for a smaller block that is told to nobody.
 pub fn run_each(
     alloc: Global,
@@ -33,7 +33,7 @@ pub fn run_each(
         memory.refuse(number);
         let (answers, fewest) = run_refused(alloc, memory, parts, scripts.as_slice(), maker)?;
         let refused = memory.has_refused();
-        ensure!(answers <= usize::from(refused), "memory lacked once more");
+        ensure!(answers <= usize::from(refused), "memory ran out once more");
         told = told.saturating_add(answers);
         if !refused {
             return Ok((told, fewest));
@@ -42,7 +42,7 @@ pub fn run_each(
     bail!("no end of requests")
 }
 
-/// Runs the scripts once, and answers how often it was told that memory lacked, and the fewest
+/// Runs the scripts once, and answers how often it was told that memory ran out, and the fewest
 /// requests that the map then there can make. Its output is the known one.
 fn run_refused(
     alloc: Global,

@@ -9,6 +9,7 @@ ghost use Rattle.crush_edits.specs.Answer.{refused};
 ghost use Rattle.crush_edits.specs.Batch.{batch, batch_refused};
 ghost use Rattle.crush_edits.specs.Edit.{edit, takes_memory, sets_weights};
 ghost use Rattle.crush_apply.specs.Answered.{KeepsRooms};
+ghost use Rattle.crush_apply.specs.AsBefore.{IsAsBefore};
 ghost use Rattle.crush_apply.specs.Batched.{IsBatchDone};
 ghost use Rattle.crush_apply.specs.Blamed.{blamed};
 ghost use Rattle.crush_edits.specs.Outcome.{IsDone, IsChange};
@@ -63,9 +64,13 @@ impl<A: Allocator> CrushMap<A> {
     /// Makes the edits one after the other, each on what the ones before it made, or none of them:
     /// at most 65,536.
     ///
-    /// Where one is refused, its index, from 0, and its refusal are told. The map is then as before
-    /// the first, and so it is where memory ran out, which may be told of a batch of which a
-    /// later edit would be refused.
+    /// Where one is refused, its index, from 0, and its refusal are told, and the map stands for the
+    /// tables for which it stood before the first, with the room that it had. Out of memory may be
+    /// told of a batch of which a later edit would be refused, and has changed nothing.
+    ///
+    /// Where memory is taken for none of them, and all but the last give single devices another
+    /// weight, they are made in place, and taken back where one is refused. Other batches of several
+    /// edits are made on a copy of the map's hierarchy.
     pub fn apply_batch(&mut self, edits: &[Edit]) -> Result<Dones, BatchFault>
     where
         A: Clone,
@@ -76,7 +81,9 @@ impl<A: Allocator> CrushMap<A> {
             → result ≡ Err (BatchFault.Refused index r)
             → (t : List Row) → Stands self.old.forest t
             → batch self.old.setting t edits.now ≡ batch_refused index r }
-        ensures unchanged { OnErr result (self.new ≡ self.old) }
+        ensures memory { result ≡ Err BatchFault.OutOfMemory → self.new ≡ self.old }
+        ensures as_before { OnErr result (IsAsBefore self.old.forest self.new.forest) }
+        ensures single { length edits.now ≤ 1 → OnErr result (self.new ≡ self.old) }
         ensures setting { self.new.setting ≡ self.old.setting }
     {
         apply_batch(&mut self.hierarchy, &self.setting, edits)

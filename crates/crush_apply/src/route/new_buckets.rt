@@ -74,7 +74,7 @@ fn new_bucket<A: Allocator + Clone>(
 }
 
 /// The new buckets of stops, the lowest first, as one item: each in the next, and the lowest with
-/// room for one item. They weigh nothing. An Err is want of memory.
+/// room for one item. They weigh nothing. An Err says that memory ran out.
 pub(crate) fn new_buckets<A: Allocator + Clone>(
     alloc: &A,
     ids: &[BucketId],
@@ -92,7 +92,7 @@ pub(crate) fn new_buckets<A: Allocator + Clone>(
 }
 
 /// An item in the new buckets of stops, the lowest first, each in the next; where there are no
-/// stops, as it is. An Err is want of memory.
+/// stops, as it is. An Err says that memory ran out.
 pub(crate) fn in_new_buckets<A: Allocator + Clone>(
     alloc: &A,
     ids: &[BucketId],

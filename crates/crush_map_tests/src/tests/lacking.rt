@@ -63,7 +63,7 @@ fn answer_with(
 }
 
 /// Whether memory lacked.
-fn is_want_of_memory(told: Told) -> bool {
+fn is_out_of_memory(told: Told) -> bool {
     match told {
         Told::One(answer) => answer == Err(EditFault::OutOfMemory),
         Told::Batch(answer) => answer == Err(BatchFault::OutOfMemory),
@@ -84,51 +84,51 @@ fn is_the_example_map(rt: &impl Abort, alloc: Global, map: &CrushMap<&LocalHeap>
     assert!(rt; same);
 }
 
-/// Whether memory lacked for the call, which was answered so. The map is then as before. With memory
-/// again the same call is made.
+/// One of the calls, with its place among them and its edits.
+#[derive(Clone, Copy)]
+struct Asking<'a> {
+    place: usize,
+    call: &'a Call,
+    edits: &'a [Edit],
+}
+
+/// Whether memory ran out for the call, which was answered so. The map is then as before. With
+/// memory again the same call is made.
 fn lacked(
     rt: &impl Abort,
     alloc: Global,
     map: &mut CrushMap<&LocalHeap>,
-    place: usize,
-    call: &Call,
-    edits: &[Edit],
+    asking: &Asking<'_>,
     told: Told,
 ) -> bool {
-    let lacks = is_want_of_memory(told);
+    let lacks = is_out_of_memory(told);
     let mut made = told;
     if lacks {
         is_the_example_map(rt, alloc, map);
-        made = answer(rt, map, edits);
+        made = answer(rt, map, asking.edits);
     }
-    is_made(rt, map, place, call, made);
+    is_made(rt, map, asking.place, asking.call, made);
     lacks
 }
 
 /// Whether memory runs out for the call on the example map in a heap whose largest piece is then
 /// `spare` bytes.
-fn lacks_with(
-    rt: &impl Abort,
-    alloc: Global,
-    spare: usize,
-    place: usize,
-    call: &Call,
-    edits: &[Edit],
-) -> bool {
+fn lacks_with(rt: &impl Abort, alloc: Global, spare: usize, asking: &Asking<'_>) -> bool {
     let heap = LocalHeap::new(alloc, HEAP).expect(rt, "a heap");
     let mut map = whole_example_map_in(rt, alloc, &heap).expect(rt, "a map");
-    let told = answer_with(rt, &heap, spare, &mut map, edits);
-    let lacks = lacked(rt, alloc, &mut map, place, call, edits, told);
+    let told = answer_with(rt, &heap, spare, &mut map, asking.edits);
+    let lacks = lacked(rt, alloc, &mut map, asking, told);
     drop(map);
     lacks
 }
 
 /// Asserts how often memory runs out at least for the call in a heap that has hardly any memory left,
 /// then 64 bytes more, and so on until there is enough.
-fn lacks_often(rt: &impl Abort, alloc: Global, place: usize, call: &Call, edits: &[Edit]) {
+fn lacks_often(rt: &impl Abort, alloc: Global, asking: &Asking<'_>) {
+    let place = asking.place;
     for times in 0..256 {
-        if !lacks_with(rt, alloc, 64 * times, place, call, edits) {
-            assert!(rt; times >= call.least, "call {place}");
+        if !lacks_with(rt, alloc, 64 * times, asking) {
+            assert!(rt; times >= asking.call.least, "call {place}");
             return;
         }
     }
@@ -139,7 +139,12 @@ fn lacks_often(rt: &impl Abort, alloc: Global, place: usize, call: &Call, edits:
 fn lack_at_each_growth(rt: &impl Abort, alloc: Global, calls: &[Call]) {
     for (place, call) in calls.iter().enumerate() {
         let edits = edits(rt, alloc, call.asked);
-        lacks_often(rt, alloc, place, call, edits.as_slice());
+        let asking = Asking {
+            place,
+            call,
+            edits: edits.as_slice(),
+        };
+        lacks_often(rt, alloc, &asking);
         drop(edits);
     }
 }
@@ -325,22 +330,70 @@ fn memory_lacks_for_batches(rt: HostRuntime) {
     lack_at_each_growth(&rt, rt.alloc(), BATCHES);
 }
 
-/// As many new weights as a batch may have.
-fn new_weights(rt: &impl Abort, alloc: Global) -> Vec<Edit> {
+/// So many new weights of one device, from 0 units up.
+fn new_weights(rt: &impl Abort, alloc: Global, count: u32) -> Vec<Edit> {
     let mut made = Vec::new(alloc);
-    for number in 0..65536 {
+    for number in 0..count {
         let edit = edit(rt, alloc, Asked::Reweight("osd.0", number));
         made.push(edit).expect(rt, "memory");
     }
     made
 }
 
-/// What is true after the last of them.
+/// 512 new weights, and the same with a last edit that is refused.
+const WEIGHTS: &[Call] = &[
+    Call {
+        asked: &[],
+        told: Told::Batch(Ok(Dones {
+            edits: 512,
+            changed: 512,
+            made: 0,
+        })),
+        then: &[
+            Fact::Weighs("osd.0", 511),
+            Fact::Holds("default", &["h1", "h2"], 98815),
+        ],
+        least: 1,
+    },
+    Call {
+        asked: &[Asked::Remove("h2")],
+        told: Told::Batch(Err(BatchFault::Refused(512, Refusal::NotEmpty))),
+        then: &[
+            Fact::Weighs("osd.0", 65536),
+            Fact::Holds("default", &["h1", "h2"], 163840),
+        ],
+        least: 1,
+    },
+];
+
+/// Asserts of each call, behind 512 new weights, how often memory runs out for it at least.
+fn lack_behind_weights(rt: &impl Abort, alloc: Global, calls: &[Call]) {
+    for (place, call) in calls.iter().enumerate() {
+        let mut edits = new_weights(rt, alloc, 512);
+        for asked in call.asked {
+            edits.push(edit(rt, alloc, *asked)).expect(rt, "memory");
+        }
+        let asking = Asking {
+            place,
+            call,
+            edits: edits.as_slice(),
+        };
+        lacks_often(rt, alloc, &asking);
+        drop(edits);
+    }
+}
+
+#[test]
+fn memory_lacks_for_batches_of_weights(rt: HostRuntime) {
+    lack_behind_weights(&rt, rt.alloc(), WEIGHTS);
+}
+
+/// What is true after as many of them as a batch may have.
 const LAST: &[Fact] = &[Fact::Holds("default", &["h1", "h2"], 163839)];
 
 #[test]
 fn as_many_edits_as_there_may_be(rt: HostRuntime) {
-    let edits = new_weights(&rt, rt.alloc());
+    let edits = new_weights(&rt, rt.alloc(), 65536);
     let mut map = whole_example_map(&rt, rt.alloc());
     let told = make_batch(&rt, &mut map, edits.as_slice());
     drop(edits);

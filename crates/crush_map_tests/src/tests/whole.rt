@@ -56,19 +56,17 @@ fn steps(rt: &impl Abort, alloc: Global, all: &[Said]) -> Vec<Step>
     made
 }
 
-/// `rule NAME { id ID type replicated min_size 1 max_size 10 STEPS }`
+/// `rule replicated_rule { id 0 type replicated min_size 1 max_size 10 STEPS }`
 fn add_rule<A: Allocator>(
     rt: &impl Abort,
     alloc: Global,
     builder: &mut MapBuilder<A>,
-    text: &str,
-    id: u32,
     all: &[Said],
 ) -> Result<(), RuleFault> {
-    assert!(rt; id <= 2147483647 && builder.is_idle());
+    assert!(rt; builder.is_idle());
     let rule = Rule {
-        name: name(rt, alloc, text),
-        id,
+        name: name(rt, alloc, "replicated_rule"),
+        id: 0,
         kind: name(rt, alloc, "replicated"),
         min_size: Some(1),
         max_size: Some(10),
@@ -116,7 +114,7 @@ fn make_whole<A: Allocator + Clone>(
     builder: &mut MapBuilder<A>,
 ) -> Result<(), BuildFault> {
     make_all(rt, builder, BEFORE_RULE)?;
-    add_rule(rt, alloc, builder, "replicated_rule", 0, REPLICATED).expect(rt, "a rule");
+    add_rule(rt, alloc, builder, REPLICATED).expect(rt, "a rule");
     Ok(())
 }
 

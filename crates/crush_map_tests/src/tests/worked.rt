@@ -388,3 +388,50 @@ const BATCHES: &[Line] = &[
 fn what_batches_do_is_looked_up(rt: HostRuntime) {
     make_all(&rt, rt.alloc(), BATCHES);
 }
+
+/// New weights, of one device two: a batch that is refused at its last edit, one that is refused
+/// before, and one that is made, whose last edit is an exchange.
+const BATCHES_OF_WEIGHTS: &[Line] = &[
+    Line {
+        asked: &[
+            Asked::Reweight("osd.0", 196608),
+            Asked::Reweight("osd.2", 0),
+            Asked::Reweight("osd.0", 16384),
+            Asked::Remove("h2"),
+        ],
+        told: Told::Batch(Err(BatchFault::Refused(3, Refusal::NotEmpty))),
+        then: EXAMPLE,
+    },
+    Line {
+        asked: &[
+            Asked::Reweight("osd.1", 131072),
+            Asked::Reweight("h1", 65536),
+            Asked::Reweight("osd.2", 65536),
+        ],
+        told: Told::Batch(Err(BatchFault::Refused(1, Refusal::NotADevice))),
+        then: EXAMPLE,
+    },
+    Line {
+        asked: &[
+            Asked::Reweight("osd.0", 196608),
+            Asked::Reweight("osd.0", 131072),
+            Asked::Swap("h1", "h2"),
+        ],
+        told: Told::Batch(Ok(Dones {
+            edits: 3,
+            changed: 3,
+            made: 0,
+        })),
+        then: &[
+            Kids::Roots(&[("default", -1, 229376)]),
+            Kids::Of("default", &[("h2", -2, 32768), ("h1", -3, 196608)]),
+            Kids::Of("h2", &[("osd.2", 2, 32768)]),
+            Kids::Of("h1", &[("osd.0", 0, 131072), ("osd.1", 1, 65536)]),
+        ],
+    },
+];
+
+#[test]
+fn what_batches_of_weights_do_is_looked_up(rt: HostRuntime) {
+    make_all(&rt, rt.alloc(), BATCHES_OF_WEIGHTS);
+}

@@ -1,4 +1,4 @@
-use Rattle.std.proofs.Common.{List, [], ◌∷◌, ◌++◌, sym, subst, refl}
+use Rattle.std.proofs.Common.{rules, List, [], ◌∷◌, ◌++◌, sym, subst, refl}
 use Rattle.std.specs.Prelude.{None}
 use Rattle.crush_table.specs.Items.{Items}
 use Rattle.crush_table.specs.ItemRows.{rows, bucket_row}
@@ -29,12 +29,17 @@ returns-in_err-add g c =
     when_lacking _ _ _ _ c.from_residual-in_err-add.ensures.1 c.in_err-add.ensures.err
     (λ t st. (1, _, add_bucket_done c.args.setting.now t c.args.name.now c.args.kind.now c.in_ok-number.number c.first_free-id.result st.lawful (c.in_ok-number.ensures.can t st) (c.first_free-id.ensures t st)))
 
-pub add-requires-clause-fits : goal.add-requires-clause-fits
-add-requires-clause-fits g c =
-    let t : List Row = rows_of c.args.hierarchy.now in
-    let st = stands_for_rows c.args.hierarchy.now c.recall_invariant.ensures in
-    let lawful = add_bucket_lawful c.args.setting.now t c.args.name.now c.args.kind.now c.in_ok-number.number c.first_free-id.result c.recall_invariant.ensures.lawful c.requires c.as_bytes-form.ensures.name (c.in_ok-number.ensures.can t st) (c.first_free-id.ensures t st) in
-    subst (λ (n : Items). Lawful (t ++ rows None n)) (sym c.in_ok-node.ensures) lawful
+pub add-requires : goal.add-requires
+add-requires g c = record {
+  there = refl;
+  sums = search rules;
+  kind = search rules;
+  fits =
+      let t : List Row = rows_of c.args.hierarchy.now in
+      let st = stands_for_rows c.args.hierarchy.now c.recall_invariant.ensures in
+      let lawful = add_bucket_lawful c.args.setting.now t c.args.name.now c.args.kind.now c.in_ok-number.number c.first_free-id.result c.recall_invariant.ensures.lawful c.requires c.as_bytes-form.ensures.name (c.in_ok-number.ensures.can t st) (c.first_free-id.ensures t st) in
+      subst (λ (n : Items). Lawful (t ++ rows None n)) (sym c.in_ok-node.ensures) lawful;
+}
 
 pub returns : goal.returns
 returns g c =

@@ -27,16 +27,15 @@ returns-in_err-name g c = λ s.
     when_lacking _ _ _ _ c.from_residual-in_err-name.ensures.1 refl
     (λ t st. (0, set_name (Bucket c.in_ok-bucket.bucket) c.args.to.now t, rename_done s t c.args.from.now c.args.to.now c.in_ok-bucket.bucket st.lawful (c.in_ok-bucket.ensures.can t st)))
 
-pub rename-requires-clause-there : goal.rename-requires-clause-there
-rename-requires-clause-there g c =
-    there_by_name (rows_of c.args.hierarchy.now) c.args.from.now (Bucket c.in_ok-bucket.bucket) (c.in_ok-bucket.ensures.can (rows_of c.args.hierarchy.now) (stands_for_rows c.args.hierarchy.now c.recall_invariant.ensures)).named
-
-pub rename-requires-clause-fits : goal.rename-requires-clause-fits
-rename-requires-clause-fits g c =
-    let t : List Row = rows_of c.args.hierarchy.now in
-    let can = c.in_ok-bucket.ensures.can t (stands_for_rows c.args.hierarchy.now c.recall_invariant.ensures) in
-    subst (λ n. Lawful (set_name (Bucket c.in_ok-bucket.bucket) n t)) (sym c.in_ok-name.ensures)
-    (rename_lawful t c.args.from.now c.args.to.now c.in_ok-bucket.bucket c.recall_invariant.ensures.lawful c.as_bytes-form.ensures.name can)
+pub rename-requires : goal.rename-requires
+rename-requires g c = record {
+  there = there_by_name (rows_of c.args.hierarchy.now) c.args.from.now (Bucket c.in_ok-bucket.bucket) (c.in_ok-bucket.ensures.can (rows_of c.args.hierarchy.now) (stands_for_rows c.args.hierarchy.now c.recall_invariant.ensures)).named;
+  fits =
+      let t : List Row = rows_of c.args.hierarchy.now in
+      let can = c.in_ok-bucket.ensures.can t (stands_for_rows c.args.hierarchy.now c.recall_invariant.ensures) in
+      subst (λ n. Lawful (set_name (Bucket c.in_ok-bucket.bucket) n t)) (sym c.in_ok-name.ensures)
+      (rename_lawful t c.args.from.now c.args.to.now c.in_ok-bucket.bucket c.recall_invariant.ensures.lawful c.as_bytes-form.ensures.name can);
+}
 
 pub returns-in_err-rename : goal.returns-in_err-rename
 returns-in_err-rename g c = λ s.

@@ -18,21 +18,15 @@ returns-in_err-first-clause-answers g c = λ s.
 pub returns-in_err-first-clause-memory : goal.returns-in_err-first-clause-memory
 returns-in_err-first-clause-memory g c = no_want _ _ c.from_residual.ensures.1
 
-pub swap-requires-clause-there_a : goal.swap-requires-clause-there_a
-swap-requires-clause-there_a g c =
-    there_by_name (rows_of c.args.hierarchy.now) c.args.a.now (Bucket c.in_ok-first.first) (c.in_ok-first.ensures.can (rows_of c.args.hierarchy.now) (stands_for_rows c.args.hierarchy.now c.recall_invariant.ensures)).first
-
-pub swap-requires-clause-there_b : goal.swap-requires-clause-there_b
-swap-requires-clause-there_b g c =
-    there_by_name (rows_of c.args.hierarchy.now) c.args.b.now (Bucket c.in_ok-first.second) (c.in_ok-first.ensures.can (rows_of c.args.hierarchy.now) (stands_for_rows c.args.hierarchy.now c.recall_invariant.ensures)).second
-
-pub swap-requires-clause-apart : goal.swap-requires-clause-apart
-swap-requires-clause-apart g c = (c.in_ok-first.ensures.can (rows_of c.args.hierarchy.now) (stands_for_rows c.args.hierarchy.now c.recall_invariant.ensures)).apart
-
-pub swap-requires-clause-fits : goal.swap-requires-clause-fits
-swap-requires-clause-fits g c =
-    swap_lawful (rows_of c.args.hierarchy.now) c.args.a.now c.args.b.now c.in_ok-first.first c.in_ok-first.second c.recall_invariant.ensures.lawful
-    (c.in_ok-first.ensures.can (rows_of c.args.hierarchy.now) (stands_for_rows c.args.hierarchy.now c.recall_invariant.ensures))
+pub swap-requires : goal.swap-requires
+swap-requires g c = record {
+  there_a = there_by_name (rows_of c.args.hierarchy.now) c.args.a.now (Bucket c.in_ok-first.first) (c.in_ok-first.ensures.can (rows_of c.args.hierarchy.now) (stands_for_rows c.args.hierarchy.now c.recall_invariant.ensures)).first;
+  there_b = there_by_name (rows_of c.args.hierarchy.now) c.args.b.now (Bucket c.in_ok-first.second) (c.in_ok-first.ensures.can (rows_of c.args.hierarchy.now) (stands_for_rows c.args.hierarchy.now c.recall_invariant.ensures)).second;
+  apart = (c.in_ok-first.ensures.can (rows_of c.args.hierarchy.now) (stands_for_rows c.args.hierarchy.now c.recall_invariant.ensures)).apart;
+  fits =
+      swap_lawful (rows_of c.args.hierarchy.now) c.args.a.now c.args.b.now c.in_ok-first.first c.in_ok-first.second c.recall_invariant.ensures.lawful
+      (c.in_ok-first.ensures.can (rows_of c.args.hierarchy.now) (stands_for_rows c.args.hierarchy.now c.recall_invariant.ensures));
+}
 
 pub returns-clause-answers : goal.returns-clause-answers
 returns-clause-answers g c = λ s. when_changed _ _ _ _ (λ t st.

@@ -21,35 +21,29 @@ use Rattle.crush_apply.specs.Stopped.{stops_data}
 use Rattle.crush_apply.proofs.Destinations.{parent_of_place, stops-length, placed_boxes, lowest_is, lowest_room, of_first, new_place, room_kept}
 use Rattle.crush_apply.proofs.route.put.attach_new.Goals as goal
 
-pub add-requires-clause-there : goal.add-requires-clause-there
-add-requires-clause-there g c = subst (λ p. is_place (rows_of c.args.hierarchy.now) p ≡ true) (sym c.place_of.ensures) c.requires.there
-
-pub add-requires-clause-sums : goal.add-requires-clause-sums
-add-requires-clause-sums g c =
-    subst StoresSums (sym c.in_ok-node.ensures) (StoresSums-boxes 1 none (with_ids c.free_ids.new.ids (stops_data c.args.at.now c.args.stops.now)) tt)
-
-pub add-requires-clause-kind : goal.add-requires-clause-kind
-add-requires-clause-kind g c =
+pub add-requires : goal.add-requires
+add-requires g c =
+    let f = c.args.hierarchy.now in
     let ps = stops_data c.args.at.now c.args.stops.now in
     let ids = c.free_ids.new.ids in
     let some = c.requires.some in
     let many = stops-length c.args.at.now c.args.stops.now in
-    let as_many : length ids ≡ length c.args.stops.now = c.free_ids.ensures.as_many ∙ length-take-le (length c.args.stops.now) _ (subst (λ n. length c.args.stops.now ≤ n) (sym c.new_slots-slots.ensures) c.requires.few) in
-    subst (λ p. FitsPlace p (items_of (c.in_ok-node.node ∷ []))) (sym c.place_of.ensures)
-    (subst (FitsPlace (place_at c.args.receiver)) (sym c.in_ok-node.ensures)
-    (placed_boxes c.args.receiver 1 none (with_ids ids ps) (get_or ids 0 0) (lowest_is ids ps 0 c.args.receiver (omega (arith, as_many, some)) (omega (arith, many, some)))))
-
-pub add-requires-clause-fits : goal.add-requires-clause-fits
-add-requires-clause-fits g c =
-    let f = c.args.hierarchy.now in
-    let ps = stops_data c.args.at.now c.args.stops.now in
-    let as_many = length-take-le (length c.args.stops.now) _ (subst (λ n. length c.args.stops.now ≤ n) (sym c.new_slots-slots.ensures) c.requires.few) in
-    let ids : c.free_ids.new.ids ≡ free_ids (rows_of f) (length ps) =
-    c.free_ids.ensures.first (rows_of f) (stands_for_rows f c.recall_invariant.ensures) ∙ ap (free_ids (rows_of f)) (as_many ∙ sym (stops-length c.args.at.now c.args.stops.now)) in
-    let are : items_of (c.in_ok-node.node ∷ []) ≡ new_boxes (rows_of f) ps = c.in_ok-node.ensures ∙ ap (λ i. boxes 1 none (with_ids i ps)) ids in
+    let length_is = length-take-le (length c.args.stops.now) _ (subst (λ n. length c.args.stops.now ≤ n) (sym c.new_slots-slots.ensures) c.requires.few) in
+    let as_many : length ids ≡ length c.args.stops.now = c.free_ids.ensures.as_many ∙ length_is in
+    let free : ids ≡ free_ids (rows_of f) (length ps) = c.free_ids.ensures.first (rows_of f) (stands_for_rows f c.recall_invariant.ensures) ∙ ap (free_ids (rows_of f)) (length_is ∙ sym many) in
+    let are : items_of (c.in_ok-node.node ∷ []) ≡ new_boxes (rows_of f) ps = c.in_ok-node.ensures ∙ ap (λ i. boxes 1 none (with_ids i ps)) free in
     let at : parent_at c.place_of.result ≡ c.args.receiver = ap parent_at c.place_of.ensures ∙ parent_of_place c.args.receiver in
-    subst (λ n. Lawful (rows_of f ++ rows (parent_at c.place_of.result) n)) (sym are)
-    (subst (λ p. Lawful (rows_of f ++ rows p (new_boxes (rows_of f) ps))) (sym at) c.requires.fits)
+    record {
+      there = subst (λ p. is_place (rows_of f) p ≡ true) (sym c.place_of.ensures) c.requires.there;
+      sums = subst StoresSums (sym c.in_ok-node.ensures) (StoresSums-boxes 1 none (with_ids ids ps) tt);
+      kind =
+          subst (λ p. FitsPlace p (items_of (c.in_ok-node.node ∷ []))) (sym c.place_of.ensures)
+          (subst (FitsPlace (place_at c.args.receiver)) (sym c.in_ok-node.ensures)
+          (placed_boxes c.args.receiver 1 none (with_ids ids ps) (get_or ids 0 0) (lowest_is ids ps 0 c.args.receiver (omega (arith, as_many, some)) (omega (arith, many, some)))));
+      fits =
+          subst (λ n. Lawful (rows_of f ++ rows (parent_at c.place_of.result) n)) (sym are)
+          (subst (λ p. Lawful (rows_of f ++ rows p (new_boxes (rows_of f) ps))) (sym at) c.requires.fits);
+    }
 
 pub returns-clause-lowest : goal.returns-clause-lowest
 returns-clause-lowest g c = λ t st.

@@ -1,4 +1,4 @@
-use Rattle.std.proofs.Common.{◌++◌, List, refl, sym, subst}
+use Rattle.std.proofs.Common.{rules, ◌++◌, List, refl, sym, subst}
 use Rattle.std.specs.Prelude.{Some, None}
 use Rattle.crush_units.specs.declared.id.ItemId.TheVariants.{Device, Bucket}
 use Rattle.crush_table.specs.Columns.{table_without, part}
@@ -33,29 +33,8 @@ recall_part-requires g c =
     stands_there c.make_room.new.hierarchy (t ++ rows_made t c.args.to.now.stops) i (c.in_ok-bucket.ensures.stands t st)
     (still_there t st.lawful i c.args.to.now (c.requires.moves t st).leads row.0 c.args.weight row.1 (c.requires.can t row.0 st row.1))
 
-pub put-requires-clause-there : goal.put-requires-clause-there
-put-requires-clause-there g c =
-    let f = c.args.hierarchy.now in
-    let t : List Row = rows_of f in
-    let st : Stands f t = stands_for_rows f c.recall_invariant.ensures in
-    let i = Device c.args.device in
-    let row = some_row t i (c.requires.moves t st).there in
-    stands_there c.make_room.new.hierarchy (t ++ rows_made t c.args.to.now.stops) i (c.in_ok-bucket.ensures.stands t st)
-    (still_there t st.lawful i c.args.to.now (c.requires.moves t st).leads row.0 c.args.weight row.1 (c.requires.can t row.0 st row.1))
-
-pub put-requires-clause-place : goal.put-requires-clause-place
-put-requires-clause-place g c =
-    let f = c.args.hierarchy.now in
-    let t : List Row = rows_of f in
-    let st : Stands f t = stands_for_rows f c.recall_invariant.ensures in
-    let i = Device c.args.device in
-    let row = some_row t i (c.requires.moves t st).there in
-    let b = c.in_ok-bucket.bucket in
-    stands_left c.make_room.new.hierarchy (t ++ rows_made t c.args.to.now.stops) i (Bucket b) (c.in_ok-bucket.ensures.stands t st)
-    (next_there t st.lawful i c.args.to.now (c.requires.moves t st).leads row.0 c.args.weight row.1 (c.requires.can t row.0 st row.1) b (c.in_ok-bucket.ensures.next t st))
-
-pub put-requires-clause-fits : goal.put-requires-clause-fits
-put-requires-clause-fits g c =
+pub put-requires : goal.put-requires
+put-requires g c =
     let f = c.args.hierarchy.now in
     let t : List Row = rows_of f in
     let st : Stands f t = stands_for_rows f c.recall_invariant.ensures in
@@ -67,14 +46,21 @@ put-requires-clause-fits g c =
     let can = c.requires.can t row.0 st row.1 in
     let h = c.make_room.new.hierarchy in
     let b = c.in_ok-bucket.bucket in
+    let next = c.in_ok-bucket.ensures.next t st in
     let mid : Stands h (t ++ rows_made t ps) = c.in_ok-bucket.ensures.stands t st in
     let l = one_device (part_of i (all_items h)) (part_devices c.args.device (all_items h)) c.recall_part.ensures.one in
     let d : LeafData = record l.0 { weight = w } in
     let whole : Same (rows None (device l.0 none)) (part i (t ++ rows_made t ps)) = subst (λ n. Same (rows None n) (part i (t ++ rows_made t ps))) l.1 (c.recall_part.ensures.rows (t ++ rows_made t ps) mid) in
-    subst (λ (n : Items). Lawful (table_without i (rows_of h) ++ rows (Some b) (with_first_weight w n))) (sym l.1)
-    (placed_lawful h (t ++ rows_made t ps) (put t (record row.0 { weight = w }) ps) (rows (Some b) (device d none)) i mid
-    (device_same t st.lawful i c.args.to.now leads row.0 w row.1 can l.0 b (c.in_ok-bucket.ensures.next t st) whole)
-    (put_lawful t st.lawful i c.args.to.now leads row.0 w row.1 can (device_form t st.lawful i c.args.to.now leads row.0 w row.1 can c.args.device refl c.requires.weight)))
+    record {
+      there = stands_there h (t ++ rows_made t ps) i mid (still_there t st.lawful i c.args.to.now leads row.0 w row.1 can);
+      place = stands_left h (t ++ rows_made t ps) i (Bucket b) mid (next_there t st.lawful i c.args.to.now leads row.0 w row.1 can b next);
+      room = search rules;
+      fits =
+          subst (λ (n : Items). Lawful (table_without i (rows_of h) ++ rows (Some b) (with_first_weight w n))) (sym l.1)
+          (placed_lawful h (t ++ rows_made t ps) (put t (record row.0 { weight = w }) ps) (rows (Some b) (device d none)) i mid
+          (device_same t st.lawful i c.args.to.now leads row.0 w row.1 can l.0 b next whole)
+          (put_lawful t st.lawful i c.args.to.now leads row.0 w row.1 can (device_form t st.lawful i c.args.to.now leads row.0 w row.1 can c.args.device refl c.requires.weight)));
+    }
 
 pub returns-clause-stands : goal.returns-clause-stands
 returns-clause-stands g c = λ t r st found.

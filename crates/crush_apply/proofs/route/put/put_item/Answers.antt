@@ -1,4 +1,4 @@
-use Rattle.std.proofs.Common.{◌++◌, List}
+use Rattle.std.proofs.Common.{rules, ◌++◌, List}
 use Rattle.std.specs.Prelude.{Some}
 use Rattle.crush_units.specs.declared.id.ItemId.TheVariants.{Bucket}
 use Rattle.crush_table.specs.Columns.{table_without}
@@ -28,41 +28,30 @@ recall_part-requires g c =
     stands_there c.make_room.new.hierarchy (t ++ rows_made t c.args.to.now.stops) c.args.id (c.in_ok-bucket.ensures.stands t st)
     (still_there t st.lawful c.args.id c.args.to.now (c.requires.moves t st).leads row.0 row.0.weight row.1 (c.requires.can t row.0 st row.1))
 
-pub put-requires-clause-there : goal.put-requires-clause-there
-put-requires-clause-there g c =
-    let f = c.args.hierarchy.now in
-    let t : List Row = rows_of f in
-    let st : Stands f t = stands_for_rows f c.recall_invariant.ensures in
-    let row = some_row t c.args.id (c.requires.moves t st).there in
-    stands_there c.make_room.new.hierarchy (t ++ rows_made t c.args.to.now.stops) c.args.id (c.in_ok-bucket.ensures.stands t st)
-    (still_there t st.lawful c.args.id c.args.to.now (c.requires.moves t st).leads row.0 row.0.weight row.1 (c.requires.can t row.0 st row.1))
-
-pub put-requires-clause-place : goal.put-requires-clause-place
-put-requires-clause-place g c =
-    let f = c.args.hierarchy.now in
-    let t : List Row = rows_of f in
-    let st : Stands f t = stands_for_rows f c.recall_invariant.ensures in
-    let row = some_row t c.args.id (c.requires.moves t st).there in
-    let b = c.in_ok-bucket.bucket in
-    stands_left c.make_room.new.hierarchy (t ++ rows_made t c.args.to.now.stops) c.args.id (Bucket b) (c.in_ok-bucket.ensures.stands t st)
-    (next_there t st.lawful c.args.id c.args.to.now (c.requires.moves t st).leads row.0 row.0.weight row.1 (c.requires.can t row.0 st row.1) b (c.in_ok-bucket.ensures.next t st))
-
-pub put-requires-clause-fits : goal.put-requires-clause-fits
-put-requires-clause-fits g c =
+pub put-requires : goal.put-requires
+put-requires g c =
     let f = c.args.hierarchy.now in
     let t : List Row = rows_of f in
     let st : Stands f t = stands_for_rows f c.recall_invariant.ensures in
     let ps = c.args.to.now.stops in
-    let row = some_row t c.args.id (c.requires.moves t st).there in
+    let i = c.args.id in
+    let row = some_row t i (c.requires.moves t st).there in
     let leads = (c.requires.moves t st).leads in
     let can = c.requires.can t row.0 st row.1 in
     let h = c.make_room.new.hierarchy in
     let b = c.in_ok-bucket.bucket in
-    let n = part_of c.args.id (all_items h) in
+    let next = c.in_ok-bucket.ensures.next t st in
     let mid : Stands h (t ++ rows_made t ps) = c.in_ok-bucket.ensures.stands t st in
-    placed_lawful h (t ++ rows_made t ps) (put t row.0 ps) (rows (Some b) n) c.args.id mid
-    (item_same t st.lawful c.args.id c.args.to.now leads row.0 row.1 can n b (c.in_ok-bucket.ensures.next t st) c.recall_part.ensures.one (c.recall_part.ensures.rows (t ++ rows_made t ps) mid))
-    (put_lawful t st.lawful c.args.id c.args.to.now leads row.0 row.0.weight row.1 can (item_form t st.lawful c.args.id c.args.to.now leads row.0 row.1 can))
+    let n = part_of i (all_items h) in
+    record {
+      there = stands_there h (t ++ rows_made t ps) i mid (still_there t st.lawful i c.args.to.now leads row.0 row.0.weight row.1 can);
+      place = stands_left h (t ++ rows_made t ps) i (Bucket b) mid (next_there t st.lawful i c.args.to.now leads row.0 row.0.weight row.1 can b next);
+      room = search rules;
+      fits =
+          placed_lawful h (t ++ rows_made t ps) (put t row.0 ps) (rows (Some b) n) i mid
+          (item_same t st.lawful i c.args.to.now leads row.0 row.1 can n b next c.recall_part.ensures.one (c.recall_part.ensures.rows (t ++ rows_made t ps) mid))
+          (put_lawful t st.lawful i c.args.to.now leads row.0 row.0.weight row.1 can (item_form t st.lawful i c.args.to.now leads row.0 row.1 can));
+    }
 
 pub returns-clause-stands : goal.returns-clause-stands
 returns-clause-stands g c = λ t r st found.

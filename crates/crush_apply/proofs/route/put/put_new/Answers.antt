@@ -25,33 +25,8 @@ in_new_buckets-requires-clause-forms g c =
     let f = c.args.hierarchy.now in
     fresh_forms (rows_of f) c.new_stops.result.0.now c.new_stops.result.1.now c.args.to.now c.new_stops.ensures.stops (c.requires.leads (rows_of f) (stands_for_rows f c.recall_invariant.ensures))
 
-pub add-requires-clause-there : goal.add-requires-clause-there
-add-requires-clause-there g c =
-    let f = c.args.hierarchy.now in
-    subst (λ p. is_place (rows_of f) p ≡ true) (sym c.place.ensures) (place_there (rows_of f) c.args.to.now (c.requires.leads (rows_of f) (stands_for_rows f c.recall_invariant.ensures)))
-
-pub add-requires-clause-sums : goal.add-requires-clause-sums
-add-requires-clause-sums g c =
-    subst StoresSums (sym c.in_ok-node.ensures) (StoresSums-boxes 1 (device (leaf_data c.args.leaf) none) (with_ids c.free_ids.new.ids (stops_data c.new_stops.result.0.now c.new_stops.result.1.now)) tt)
-
-pub add-requires-clause-kind : goal.add-requires-clause-kind
-add-requires-clause-kind g c =
-    let f = c.args.hierarchy.now in
-    let t : List Row = rows_of f in
-    let st : Stands f t = stands_for_rows f c.recall_invariant.ensures in
-    let l = c.new_stops.result.0.now in
-    let xs = c.new_stops.result.1.now in
-    let to = c.args.to.now in
-    let leads = c.requires.leads t st in
-    let d = leaf_data c.args.leaf in
-    let can = c.requires.can t st in
-    let few : length xs ≤ length c.new_slots-slots.result = subst (λ n. length xs ≤ n) (sym c.new_slots-slots.ensures) c.new_stops.ensures.few in
-    let ids : c.free_ids.new.ids ≡ free_ids t (length (stops_data l xs)) = c.free_ids.ensures.first t st ∙ ap (free_ids t) (length-take-le (length xs) c.new_slots-slots.result few ∙ sym (stops-length l xs)) in
-    let is : items_of (c.in_ok-node.node ∷ []) ≡ new_item t st.lawful to leads d can = c.in_ok-node.ensures ∙ boxes_are t l xs to c.new_stops.ensures.stops leads (device d none) c.free_ids.new.ids ids in
-    subst (λ p. FitsPlace p (items_of (c.in_ok-node.node ∷ []))) (sym c.place.ensures) (subst (FitsPlace (place_at to.receiver)) (sym is) (new_fits t st.lawful to leads d can))
-
-pub add-requires-clause-fits : goal.add-requires-clause-fits
-add-requires-clause-fits g c =
+pub add-requires : goal.add-requires
+add-requires g c =
     let f = c.args.hierarchy.now in
     let t : List Row = rows_of f in
     let st : Stands f t = stands_for_rows f c.recall_invariant.ensures in
@@ -65,7 +40,13 @@ add-requires-clause-fits g c =
     let ids : c.free_ids.new.ids ≡ free_ids t (length (stops_data l xs)) = c.free_ids.ensures.first t st ∙ ap (free_ids t) (length-take-le (length xs) c.new_slots-slots.result few ∙ sym (stops-length l xs)) in
     let is : items_of (c.in_ok-node.node ∷ []) ≡ new_item t st.lawful to leads d can = c.in_ok-node.ensures ∙ boxes_are t l xs to c.new_stops.ensures.stops leads (device d none) c.free_ids.new.ids ids in
     let at : parent_at c.place.result ≡ to.receiver = ap parent_at c.place.ensures ∙ parent_of_place to.receiver in
-    subst (λ (n : Items). Lawful (t ++ rows (parent_at c.place.result) n)) (sym is) (subst (λ p. Lawful (t ++ rows p (new_item t st.lawful to leads d can))) (sym at) (new_lawful t st.lawful to leads d can))
+    record {
+      there = subst (λ p. is_place (rows_of f) p ≡ true) (sym c.place.ensures) (place_there t to leads);
+      sums = subst StoresSums (sym c.in_ok-node.ensures) (StoresSums-boxes 1 (device d none) (with_ids c.free_ids.new.ids (stops_data l xs)) tt);
+      kind = subst (λ p. FitsPlace p (items_of (c.in_ok-node.node ∷ []))) (sym c.place.ensures) (subst (FitsPlace (place_at to.receiver)) (sym is) (new_fits t st.lawful to leads d can));
+      fits =
+          subst (λ (n : Items). Lawful (t ++ rows (parent_at c.place.result) n)) (sym is) (subst (λ p. Lawful (t ++ rows p (new_item t st.lawful to leads d can))) (sym at) (new_lawful t st.lawful to leads d can));
+    }
 
 pub returns-clause-stands : goal.returns-clause-stands
 returns-clause-stands g c =

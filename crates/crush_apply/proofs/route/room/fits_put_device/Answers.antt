@@ -22,14 +22,14 @@ recall_part-requires g c =
     let f = c.args.hierarchy.now in
     (c.requires.can (rows_of f) (stands_for_rows f c.recall_invariant.ensures)).there
 
-pub fits_move-requires-clause-place : goal.fits_move-requires-clause-place
-fits_move-requires-clause-place g c =
-    let f = c.args.hierarchy.now in
-    let can = c.requires.can (rows_of f) (stands_for_rows f c.recall_invariant.ensures) in
-    subst (λ p. is_place (rows_of f) p ≡ true) (sym c.place.ensures) (place_there (rows_of f) c.args.to.now can.leads)
-
-pub fits_move-requires-clause-apart : goal.fits_move-requires-clause-apart
-fits_move-requires-clause-apart g c = device_apart (rows_of c.args.hierarchy.now) c.args.device (parent_at c.place.result)
+pub fits_move-requires : goal.fits_move-requires
+fits_move-requires g c = record {
+  place =
+      let f = c.args.hierarchy.now in
+      let can = c.requires.can (rows_of f) (stands_for_rows f c.recall_invariant.ensures) in
+      subst (λ p. is_place (rows_of f) p ≡ true) (sym c.place.ensures) (place_there (rows_of f) c.args.to.now can.leads);
+  apart = device_apart (rows_of c.args.hierarchy.now) c.args.device (parent_at c.place.result);
+}
 
 pub returns : goal.returns
 returns g c = λ t r st found room.

@@ -19,17 +19,17 @@ recall_part-requires g c =
     let f = c.args.hierarchy.now in
     (c.requires (rows_of f) (stands_for_rows f c.recall_invariant.ensures)).there
 
-pub fits_move-requires-clause-place : goal.fits_move-requires-clause-place
-fits_move-requires-clause-place g c =
-    let f = c.args.hierarchy.now in
-    let can = c.requires (rows_of f) (stands_for_rows f c.recall_invariant.ensures) in
-    subst (λ p. is_place (rows_of f) p ≡ true) (sym c.place.ensures) (place_there (rows_of f) c.args.to.now can.leads)
-
-pub fits_move-requires-clause-apart : goal.fits_move-requires-clause-apart
-fits_move-requires-clause-apart g c =
-    let f = c.args.hierarchy.now in
-    let can = c.requires (rows_of f) (stands_for_rows f c.recall_invariant.ensures) in
-    subst (λ p. IfSome (parent_at p) (λ b. is_part (rows_of f) c.args.id (Bucket b) ≡ false)) (sym c.place.ensures) (receiver_apart (rows_of f) c.args.id c.args.to.now can.leads can.apart)
+pub fits_move-requires : goal.fits_move-requires
+fits_move-requires g c = record {
+  place =
+      let f = c.args.hierarchy.now in
+      let can = c.requires (rows_of f) (stands_for_rows f c.recall_invariant.ensures) in
+      subst (λ p. is_place (rows_of f) p ≡ true) (sym c.place.ensures) (place_there (rows_of f) c.args.to.now can.leads);
+  apart =
+      let f = c.args.hierarchy.now in
+      let can = c.requires (rows_of f) (stands_for_rows f c.recall_invariant.ensures) in
+      subst (λ p. IfSome (parent_at p) (λ b. is_part (rows_of f) c.args.id (Bucket b) ≡ false)) (sym c.place.ensures) (receiver_apart (rows_of f) c.args.id c.args.to.now can.leads can.apart);
+}
 
 pub unreachable-requires : goal.unreachable-requires
 unreachable-requires g c =

@@ -1,9 +1,10 @@
 use Rattle.std.proofs.Common.{◌≡◌, List, ap, sym, subst, ◌∙◌}
-use Rattle.std.specs.Prelude.{IfOk}
+use Rattle.std.specs.Prelude.{IfOk, OnErr}
 use Rattle.crush_table.specs.Table.{Row}
 use Rattle.crush_table.specs.Forest.{ForestData}
 use Rattle.crush_table.specs.Stands.{Stands}
 use Rattle.crush_edits.specs.Batch.{batch}
+use Rattle.crush_apply.specs.AsBefore.{IsAsBefore}
 use Rattle.crush_apply.specs.Batched.{IsBatchDone}
 use Rattle.crush_map.specs.MapData.{MapData}
 use Rattle.crush_map.proofs.map.CrushMap.apply_batch.Goals as goal
@@ -19,3 +20,7 @@ returns-clause-done g c =
 pub returns-clause-refused : goal.returns-clause-refused
 returns-clause-refused g c = λ k r is t st.
     ap (λ (m : MapData). batch m.setting t c.args.edits.now) (sym c.self.view_is) ∙ c.apply_batch.ensures.refused k r is t (of_forest _ _ t c.self.view_is st)
+
+pub returns-clause-as_before : goal.returns-clause-as_before
+returns-clause-as_before g c =
+    subst (λ (m : MapData). OnErr c.apply_batch.result (IsAsBefore m.forest c.apply_batch.new.hierarchy)) c.self.view_is c.apply_batch.ensures.as_before
