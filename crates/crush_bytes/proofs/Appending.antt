@@ -1,11 +1,11 @@
--- Texts written one after the other, and the front that stands there after a failure.
+-- Texts written one after the other, and the prefix that stands there after a failure.
 use Rattle.std.proofs.Common.{◌≡◌, ℕ, ◌+◌, ◌<◌, Result, Ok, Err, arith, refl, List, [], ◌∷◌, ◌++◌, Option, Some, None, length, take, drop, get_or, sym, ap, subst, ◌∙◌, append_assoc}
 use Rattle.std.proofs.lemmas.List.{append-nil, length-append, take-append-drop, drop_more}
 use Rattle.std.proofs.lemmas.List.Concat.{flat_map-append}
 use Rattle.std.specs.Prelude.{flat_map}
 use Rattle.std.proofs.Math.Seq.{take-add}
 use Rattle.std.specs.Io.KnownBytes.{Appends}
-use Rattle.crush_bytes.specs.Writes.{AppendsFront, AppendsLess, Writes}
+use Rattle.crush_bytes.specs.Writes.{AppendsPrefix, AppendsLess, Writes}
 
 -- nothing is appended by no write
 pub appends_nothing : (a : Option (List ℕ)) → Appends a a []
@@ -44,7 +44,7 @@ parts_stop {X = X} f a b c xs i d lt first less =
     ap (flat_map f) (sym (take-append-drop i xs) ∙ ap (λ (r : List X). take i xs ++ r) (drop_more xs i d lt)) ∙ flat_map-append f (take i xs) (get_or xs i d ∷ drop (i + 1) xs) in
     subst (AppendsLess a c) (sym cut) (then_less a b c (flat_map f (take i xs)) _ first (less_of_both b c (f (get_or xs i d)) _ less))
 
--- however a write ends, a front of the text was written
-pub front_of_writes : {X E : Type 0} (r : Result X E) (a b : Option (List ℕ)) (x : List ℕ) → Writes r a b x → AppendsFront a b x
-front_of_writes (Ok v) a b x whole = (x, [], sym (append-nil x), whole)
-front_of_writes (Err e) a b x less = (less.0, less.1, less.2, less.4)
+-- however a write ends, a prefix of the text was written
+pub prefix_of_writes : {X E : Type 0} (r : Result X E) (a b : Option (List ℕ)) (x : List ℕ) → Writes r a b x → AppendsPrefix a b x
+prefix_of_writes (Ok v) a b x whole = (x, [], sym (append-nil x), whole)
+prefix_of_writes (Err e) a b x less = (less.0, less.1, less.2, less.4)

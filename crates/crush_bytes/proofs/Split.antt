@@ -1,4 +1,4 @@
--- What comes off the front of a text, by the kind of its first byte.
+-- What a text begins with, by the kind of its first byte.
 use Rattle.std.proofs.Common.{◌≡◌, ◌≢◌, ℕ, suc, ◌+◌, ◌<◌, ◌≤◌, Bool, true, false, ltb, eqb, inl, inr, List, [], ◌∷◌, length, get_or, take, drop, refl, sym, ap, subst, ◌∙◌, arith}
 use Rattle.std.proofs.lemmas.Bool.Decides.{nat_tests}
 use Rattle.std.proofs.lemmas.Bool.{le-ltb, lt-ltb, ne_eqb}
@@ -144,7 +144,7 @@ moves_blank v w text i whole lt so e m b f =
 pub is_end : (p : ℕ) (rest : List ℕ) → rest ≡ [] → words p rest ≡ stopped (ended p)
 is_end p rest e = rw e (at_end false p)
 
--- a brace stands at the front of the rest
+-- a brace is what the rest begins with
 pub is_brace_next : (p b : ℕ) (rest tail : List ℕ) → rest ≡ b ∷ tail → IsClear rest → is_brace b ≡ true → words p rest ≡ first p (take 1 rest) (words (p + 1) (drop 1 rest))
 is_brace_next p b rest tail e clear h =
     let k : IsClear (b ∷ tail) = subst IsClear e clear in
@@ -156,7 +156,7 @@ bad_next true p b tail l clear h long fits =
     elim long [ inl zero_long ↦ absurd (omega (arith, rw l at zero_long)) | inr more ↦ long_word p b tail l more fits ]
 bad_next false p b tail l clear h long fits = other p b tail clear.0 (ne_eqb _ _ clear.1) h l
 
--- no word stands at the front of the rest
+-- no word is what the rest begins with
 pub is_bad_next : (p b n : ℕ) (rest tail : List ℕ) → rest ≡ b ∷ tail → IsClear rest → is_brace b ≡ false → n ≡ run_length rest → n ≤ length rest → (n ≡ 0) ⊎ (LONGEST_NAME < n) → words p rest ≡ stopped (bad p)
 is_bad_next p b n rest tail e clear h count fits long =
     let is : n ≡ run_length (b ∷ tail) = count ∙ ap run_length e in
@@ -167,7 +167,7 @@ starts : (t : Bool) (b : ℕ) (tail : List ℕ) → is_name_byte b ≡ t → 0 <
 starts true b tail e lt = e
 starts false b tail e lt = absurd (omega (arith, rw e at lt))
 
--- a word stands at the front of the rest
+-- a word is what the rest begins with
 pub is_word_next : (p b n : ℕ) (rest tail : List ℕ) → rest ≡ b ∷ tail → n ≡ run_length rest → n ≢ 0 → n ≤ LONGEST_NAME → words p rest ≡ first p (take n rest) (words (p + n) (drop n rest))
 is_word_next p b n rest tail e count some short =
     let is : n ≡ run_length (b ∷ tail) = count ∙ ap run_length e in

@@ -72,7 +72,7 @@ words_in inside place bytes = up_to_long (split place (without_comments inside b
 abbrev pub words : ℕ → List ℕ → Text
 words place bytes = words_in false place bytes
 
--- how many name bytes stand at the front
+-- how many name bytes a text begins with
 abbrev pub run_length : List ℕ → ℕ
 run_length [] = 0
 run_length (b ∷ bs) = if is_name_byte b then 1 + run_length bs else 0

@@ -26,7 +26,7 @@ fn value_of(digits: &[u8]) -> u64
 }
 
 /// The number that 1 to 10 digits write, where it is at most `most`; `None` for any other text.
-/// Zeros may stand in front.
+/// Zeros may stand before it.
 pub fn number_up_to(most: u32, text: &[u8]) -> Option<u32>
     ensures { result ≡ (if is_number most text.now then Some (digits_value 10 text.now) else None) }
 {

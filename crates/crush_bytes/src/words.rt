@@ -51,7 +51,7 @@ fn is_word_byte(byte: u8) -> bool
     matches!(byte, b'0'..=b'9' | b'a'..=b'z') || is_name_byte(byte)
 }
 
-/// How many name bytes stand at the front.
+/// How many name bytes the text begins with.
 fn run_length(bytes: &[u8]) -> usize
     ensures count { result ≡ run_length bytes.now }
     ensures within { result ≤ length bytes.now }

@@ -9,7 +9,7 @@ use thiserror::Error;
 /// Why a text isn't written.
 #[derive(Clone, Copy, Debug, PartialEq, Eq, Error)]
 pub enum WriteFault {
-    /// The writer failed or took no byte. What it holds now is a front of the text, possibly none
+    /// The writer failed or took no byte. What it holds now is a prefix of the text, possibly none
     /// of it.
     #[error("the writer failed")]
     Write,

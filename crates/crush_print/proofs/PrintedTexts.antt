@@ -118,7 +118,7 @@ name_found (k ∷ ks) n a h = by_test (bytes_eq k.name n) refl h (λ r. name_fou
     by_test true e r rest = let form = All-head IsKind k ks a in subst IsName (bytes_equal k.name n e) form.name
     by_test false e r rest = rest r
 
--- what holds of all holds of a front and of what stands behind it
+-- what holds of all holds of a prefix and of what stands behind it
 pub All-left : {X : Type 0} (P : X → Type 0) (xs ys : List X) → All P (xs ++ ys) → All P xs
 All-left P [] ys h = All-nil P
 All-left P (x ∷ xs) ys h = All-cons P x xs (All-head P x (xs ++ ys) h) (All-left P xs ys (All-tail P x (xs ++ ys) h))

@@ -27,7 +27,7 @@ abbrev pub Rising : List ℕ → Type 0
 Rising [] = Unit {0}
 Rising (x ∷ xs) = AtLeast x xs × Rising xs
 
--- a number at the front is there once more
+-- a number that a list begins with is there once more
 times_here : (n : ℕ) (xs : List ℕ) → times n (n ∷ xs) ≡ 1 + times n xs
 times_here n xs = let one : one_if (n == n) ≡ 1 = ap one_if (eq-eqb n n refl) in omega (arith, one, sum_by-cons (λ x. one_if (x == n)) n xs)
 

@@ -1,6 +1,6 @@
 //! The printer: a map as its text.
 
-ghost use Rattle.std.specs.Prelude.{◌≡◌, List, ◌++◌, OnOk};
+ghost use Rattle.std.specs.Prelude.{IfOk, ◌≡◌, List, ◌++◌, OnOk};
 ghost use Rattle.std.specs.Io.KnownBytes.{Keeps};
 ghost use Rattle.crush_table.specs.Stands.{Stands};
 ghost use Rattle.crush_table.specs.Table.{Row};
@@ -13,6 +13,7 @@ mod kinds;
 mod rules;
 mod tunables;
 
+pub use buckets::nodes_in_order;
 use buckets::push_roots;
 use crush_bytes::{WriteFault, put};
 use crush_map::CrushMap;
@@ -39,10 +40,9 @@ pub fn write_map<A: Allocator, W: Write>(
     ensures none { result ≡ Err WriteFault.OutOfMemory
         → Keeps (W.contents out.old) (W.contents out.new) }
 {
-    let mut text = Vec::new(alloc);
-    if push_map(alloc, map, &mut text).is_err() {
+    let Ok(text) = map_text(alloc, map) else {
         return Err(WriteFault::OutOfMemory);
-    }
+    };
     put(out, text.as_slice())
 }
 
@@ -58,7 +58,24 @@ pub fn taken_buckets_are_named()
     ensures { TakenBucketsAreNamed }
 {}
 
-/// The whole text of a map.
+/// How many bytes tell of a device, and of a bucket, as a rule of thumb.
+const USUAL_DEVICE: usize = 56;
+
+const USUAL_BUCKET: usize = 112;
+
+/// The whole text of a map, for which memory is asked once, unless it is longer than usual.
+fn map_text<A: Allocator>(alloc: Global, map: &CrushMap<A>) -> Result<Vec<u8>, AllocError>
+    ensures { IfOk result (λ text. (t : List Row) → Stands map.now.forest t
+        → text.items ≡ map_text map.now.setting t) }
+{
+    let counts = map.counts();
+    let usual = counts.devices as usize * USUAL_DEVICE + counts.buckets as usize * USUAL_BUCKET;
+    let mut text = Vec::with_capacity(alloc, usual)?;
+    push_map(alloc, map, &mut text)?;
+    Ok(text)
+}
+
+/// The same, behind what there is.
 fn push_map<A: Allocator>(
     alloc: Global,
     map: &CrushMap<A>,

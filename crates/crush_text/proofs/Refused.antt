@@ -40,7 +40,7 @@ finds_no_value r old new f kept h = record { reads = no_value r _ _ _ f h; kept 
 pub no_line : {A : _} {X : Type 0} (form : Draft → Form) (mode : X → Mode) (old new : MapReader A) (f : TextFault) → ((d : Draft) → IsDraft old.builder d → FailsIn f d (form d) old.text) → ReadsLine form mode old new (Err f)
 no_line form mode old new f h = record { reads = h; stands = tt; shorter = tt }
 
--- the builder makes what a line says, or lacks memory, which is told at a place that the line reaches
+-- the builder makes what a line says, or is out of memory, which is told at a place that the line reaches
 pub line_or_memory : {A : _} {E P : Type 0} {form : Draft → Form} {mode : Unit {0} → Mode} {old new : MapReader A} (made : Result (Unit {0}) E) (told : E → TextFault → Type 0) (x : Result (Unit {0}) TextFault) (place : ℕ)
     → MatchResult made (λ u. x ≡ Ok u) (λ e. IsErrAnd x (told e)) → ((e : E) (f : TextFault) → told e f → f ≡ record { kind = OutOfMemory; place = place }) → ((d : Draft) → IsDraft old.builder d → Reaches place (arrive d old.text.words (form d)) old.text.words)
     → OnOk made P → (P → ReadsLine form mode old new (Ok tt)) → ReadsLine form mode old new x
@@ -52,7 +52,7 @@ line_or_memory {form = form} {mode = mode} {old = old} {new = new} (Err e) told 
 pub no_lines : {A : _} {X : Type 0} (from : Draft → State) (mode : X → Mode) (old new : MapReader A) (f : TextFault) → ((d : Draft) → IsDraft old.builder d → Fails f (from d) old.text) → ReadsOn from mode old new (Err f)
 no_lines from mode old new f h = record { reads = h; stands = tt; shorter = tt }
 
--- the builder makes what lines say, or lacks memory
+-- the builder makes what lines say, or is out of memory
 pub lines_or_memory : {A : _} {E P : Type 0} {from : Draft → State} {mode : Unit {0} → Mode} {old new : MapReader A} (made : Result (Unit {0}) E) (told : E → TextFault → Type 0) (x : Result (Unit {0}) TextFault) (place : ℕ)
     → MatchResult made (λ u. x ≡ Ok u) (λ e. IsErrAnd x (told e)) → ((e : E) (f : TextFault) → told e f → f ≡ record { kind = OutOfMemory; place = place }) → ((d : Draft) → IsDraft old.builder d → Reaches place (from d) old.text.words)
     → OnOk made P → (P → ReadsOn from mode old new (Ok tt)) → ReadsOn from mode old new x

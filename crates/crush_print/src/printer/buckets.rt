@@ -28,22 +28,23 @@ pub(crate) fn push_roots<A: Allocator>(
 {
     forest.recall_invariant();
     out.extend_from_slice(b"\n# buckets\n")?;
-    let roots = roots_in_order(alloc, forest.roots())?;
+    let roots = nodes_in_order(alloc, forest.roots())?;
     push_nodes(setting, roots.as_slice(), out)
 }
 
-/// The nodes, by the numbers of their ids from the least.
-fn roots_in_order<A: Allocator>(
+/// References to the nodes, by the numbers of their ids from the least: roots from -1 downward,
+/// devices upward. An `Err` says that memory ran out.
+pub fn nodes_in_order<A: Allocator>(
     alloc: Global,
     nodes: &[Node<A>],
 ) -> Result<Vec<&Node<A>>, AllocError>
-    ensures same { IfOk result (λ roots. IsPermutation nodes.now (map (λ r. r.now) roots.items)) }
-    ensures rising { IfOk result (λ roots. map (λ r. id_number (node_id r.now)) roots.items
+    ensures same { IfOk result (λ sorted. IsPermutation nodes.now (map (λ r. r.now) sorted.items)) }
+    ensures rising { IfOk result (λ sorted. map (λ r. id_number (node_id r.now)) sorted.items
         ≡ ascending (map (λ node. id_number (node_id node)) nodes.now)) }
 {
-    let mut roots = references(alloc, nodes)?;
-    roots.sort_unstable_by_key(|root| number_of(*root));
-    Ok(roots)
+    let mut sorted = references(alloc, nodes)?;
+    sorted.sort_unstable_by_key(|node| number_of(*node));
+    Ok(sorted)
 }
 
 /// References to the nodes, in their order.

@@ -55,7 +55,7 @@ impl<'a, A: Allocator> MapReader<'a, A> {
         let kind = read_word(&mut self.text)?;
         let min_size = read_size(&mut self.text, b"min_size")?;
         let max_size = read_size(&mut self.text, b"max_size")?;
-        own_head(name, id, kind, min_size, max_size, self.machine)
+        own_head(name, id, kind, (min_size, max_size), self.machine)
     }
 
     /// The steps of a rule and its closing brace, whose place is told.
@@ -115,23 +115,23 @@ impl<'a, A: Allocator> MapReader<'a, A> {
     }
 }
 
-/// A rule of these words in the machine's memory, which has no steps yet.
+/// A rule of these words and sizes, the least before the largest, in the machine's memory. It has no
+/// steps yet.
 fn own_head(
     name: PlacedWord<'_>,
     id: u32,
     kind: PlacedWord<'_>,
-    min_size: Option<u32>,
-    max_size: Option<u32>,
+    sizes: (Option<u32>, Option<u32>),
     machine: Global,
 ) -> Result<Rule, TextFault>
     requires name { IsName name.text.now }
     requires id { id ≤ LARGEST_RULE_NUMBER }
     requires kind { IsName kind.text.now }
-    requires least { IfSome min_size (λ n. n ≤ LARGEST_RULE_NUMBER) }
-    requires most { IfSome max_size (λ n. n ≤ LARGEST_RULE_NUMBER) }
+    requires least { IfSome sizes.0 (λ n. n ≤ LARGEST_RULE_NUMBER) }
+    requires most { IfSome sizes.1 (λ n. n ≤ LARGEST_RULE_NUMBER) }
     ensures form { IfOk result IsRuleForm }
     ensures head { IfOk result
-        (IsHead name.entry.text.now id kind.entry.text.now min_size max_size) }
+        (IsHead name.entry.text.now id kind.entry.text.now sizes.0 sizes.1) }
     ensures memory { IfErr result
         (λ f. IsOutOfMemory f × ((f.place ≡ name.entry.place) ⊎ (f.place ≡ kind.entry.place))) }
 {
@@ -141,8 +141,8 @@ fn own_head(
         name,
         id,
         kind,
-        min_size,
-        max_size,
+        min_size: sizes.0,
+        max_size: sizes.1,
         steps: Vec::new(machine),
     })
 }

@@ -1,4 +1,4 @@
-use Rattle.std.proofs.Common.{◌≡◌, ◌++◌, subst, sym, ap, ◌∙◌}
+use Rattle.std.proofs.Common.{rules, refl, ◌≡◌, ◌++◌, subst, sym, ap, ◌∙◌}
 use Rattle.std.specs.Prelude.{None}
 use Rattle.crush_table.specs.Items.{Items, bucket, none}
 use Rattle.crush_table.specs.Lawful.{Lawful}
@@ -13,15 +13,20 @@ use Rattle.crush_builder.proofs.Drafts.{own_is_draft, kept_fits, draft_fits}
 use Rattle.crush_builder.proofs.RowSteps.{bucket_lawful, alg_step}
 use Rattle.crush_builder.proofs.builder.MapBuilder.alg.Goals as goal
 
-pub add-requires-clause-fits : goal.add-requires-clause-fits
-add-requires-clause-fits g c =
-    let b : BuilderData = record { setting = c.self.inside.setting; forest = c.self.inside.hierarchy; pending = pending_data c.self.inside.pending; adjusted = c.self.inside.adjusted } in
-    let own : IsDraft b (own_draft b) = own_is_draft b c.recall_invariant.ensures c.self.invariant in
-    let p : b.pending ≡ numbered c.in-Numbered.kind c.in-Numbered.name c.in-Numbered.id (listed c.in-Numbered.class_ids) = ap pending_data (sym c.replace.ensures.value ∙ c.in-Numbered.is) in
-    let can = subst (λ (x : Pending). IsPending b.setting (rows_of b.forest) x) p own.part in
-    let node = c.in_ok-node.ensures ∙ (λ i. bucket (record { id = c.in-Numbered.id; kind = c.in-Numbered.kind; name = c.in-Numbered.name; alg = c.args.alg; class_ids = c.in_ok-class_ids.ensures i }) 0 1 none none) in
-    subst (λ (n : Items). Lawful (rows_of b.forest ++ rows None n)) (sym node)
-    (bucket_lawful b.setting (rows_of b.forest) c.in-Numbered.kind c.in-Numbered.name c.in-Numbered.id (listed c.in-Numbered.class_ids) c.args.alg own.stands.lawful can.0 can.1)
+pub add-requires : goal.add-requires
+add-requires g c = record {
+  there = refl;
+  sums = search rules;
+  kind = search rules;
+  fits =
+      let b : BuilderData = record { setting = c.self.inside.setting; forest = c.self.inside.hierarchy; pending = pending_data c.self.inside.pending; adjusted = c.self.inside.adjusted } in
+      let own : IsDraft b (own_draft b) = own_is_draft b c.recall_invariant.ensures c.self.invariant in
+      let p : b.pending ≡ numbered c.in-Numbered.kind c.in-Numbered.name c.in-Numbered.id (listed c.in-Numbered.class_ids) = ap pending_data (sym c.replace.ensures.value ∙ c.in-Numbered.is) in
+      let can = subst (λ (x : Pending). IsPending b.setting (rows_of b.forest) x) p own.part in
+      let node = c.in_ok-node.ensures ∙ (λ i. bucket (record { id = c.in-Numbered.id; kind = c.in-Numbered.kind; name = c.in-Numbered.name; alg = c.args.alg; class_ids = c.in_ok-class_ids.ensures i }) 0 1 none none) in
+      subst (λ (n : Items). Lawful (rows_of b.forest ++ rows None n)) (sym node)
+      (bucket_lawful b.setting (rows_of b.forest) c.in-Numbered.kind c.in-Numbered.name c.in-Numbered.id (listed c.in-Numbered.class_ids) c.args.alg own.stands.lawful can.0 can.1);
+}
 
 pub invariant_of-self-in_err-add : goal.invariant_of-self-in_err-add
 invariant_of-self-in_err-add g c =

@@ -1,6 +1,6 @@
 use denote.Ref.{Bor}
 use Rattle.std.specs.Option.{option_copied}
-use Rattle.std.proofs.Common.{◌≡◌, ℕ, List, [], ◌∷◌, ◌++◌, subst, sym, ap, ◌∙◌, arith}
+use Rattle.std.proofs.Common.{rules, refl, ◌≡◌, ℕ, List, [], ◌∷◌, ◌++◌, subst, sym, ap, ◌∙◌, arith}
 use Rattle.std.specs.Prelude.{Option, Some, None, IfSome}
 use Rattle.crush_units.specs.Name.{IsName}
 use Rattle.crush_units.specs.declared.id.ItemId.TheVariants.{Device}
@@ -27,17 +27,22 @@ class_form : (o : Option (Bor (List ℕ))) → IfSome o (λ c. IsName c.now) →
 class_form None h = tt
 class_form (Some c) h = h
 
-pub add-requires-clause-fits : goal.add-requires-clause-fits
-add-requires-clause-fits g c =
-    let b : BuilderData = record { setting = c.self.inside.setting; forest = c.self.inside.hierarchy; pending = pending_data c.self.inside.pending; adjusted = c.self.inside.adjusted } in
-    let d : Draft = own_draft b in
-    let at : IsDraft c.args.self.now d = subst (λ (x : BuilderData). IsDraft x d) c.self.view_is (own_is_draft b c.recall_invariant.ensures c.self.invariant) in
-    let node : ◌≡◌ {A = Items} (device (record { id = c.args.id; name = c.args.name.now; weight = 0; class = option_copied c.args.class }) none) (items_of (c.device-node.result ∷ [])) =
-    sym (c.device-node.ensures ∙ (λ i. device (record { id = c.args.id; name = c.in_ok-name.ensures i; weight = c.from_units.ensures i; class = c.in_ok-class.ensures i }) none)) in
-    let clear : device_fault d c.args.id c.args.name.now ≡ None = c.requires.clear d at in
-    let none = none_of_three DuplicateId DuplicateName TooMany (is_there d.table (Device c.args.id)) (has_name d c.args.name.now) (is_full_of_devices d) clear in
-    subst (λ (n : Items). Lawful (d.table ++ rows None n)) node
-    (device_lawful d.table c.args.id c.args.name.now (option_copied c.args.class) at.stands.lawful (omega arith) c.requires.name (class_form c.args.class c.requires.class) none.0 (or_left _ _ none.1.0) none.1.1)
+pub add-requires : goal.add-requires
+add-requires g c = record {
+  there = refl;
+  sums = search rules;
+  kind = search rules;
+  fits =
+      let b : BuilderData = record { setting = c.self.inside.setting; forest = c.self.inside.hierarchy; pending = pending_data c.self.inside.pending; adjusted = c.self.inside.adjusted } in
+      let d : Draft = own_draft b in
+      let at : IsDraft c.args.self.now d = subst (λ (x : BuilderData). IsDraft x d) c.self.view_is (own_is_draft b c.recall_invariant.ensures c.self.invariant) in
+      let node : ◌≡◌ {A = Items} (device (record { id = c.args.id; name = c.args.name.now; weight = 0; class = option_copied c.args.class }) none) (items_of (c.device-node.result ∷ [])) =
+      sym (c.device-node.ensures ∙ (λ i. device (record { id = c.args.id; name = c.in_ok-name.ensures i; weight = c.from_units.ensures i; class = c.in_ok-class.ensures i }) none)) in
+      let clear : device_fault d c.args.id c.args.name.now ≡ None = c.requires.clear d at in
+      let none = none_of_three DuplicateId DuplicateName TooMany (is_there d.table (Device c.args.id)) (has_name d c.args.name.now) (is_full_of_devices d) clear in
+      subst (λ (n : Items). Lawful (d.table ++ rows None n)) node
+      (device_lawful d.table c.args.id c.args.name.now (option_copied c.args.class) at.stands.lawful (omega arith) c.requires.name (class_form c.args.class c.requires.class) none.0 (or_left _ _ none.1.0) none.1.1);
+}
 
 pub invariant_of-self : goal.invariant_of-self
 invariant_of-self g c =

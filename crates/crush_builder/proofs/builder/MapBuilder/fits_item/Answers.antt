@@ -1,4 +1,4 @@
-use Rattle.std.proofs.Common.{◌≡◌, true, false, subst, sym, ap, ◌∙◌}
+use Rattle.std.proofs.Common.{rules, ◌≡◌, true, false, subst, sym, ap, ◌∙◌}
 use Rattle.crush_table.specs.Table.{is_there}
 use Rattle.crush_units.specs.declared.id.ItemId.{ItemId}
 use Rattle.crush_table.specs.Forest.{all_items, rows_of, IsSound}
@@ -25,11 +25,14 @@ weight_to_come-coming-requires g c =
     let at : IsDraft c.args.self.now (own_draft b) = subst (λ (x : BuilderData). IsDraft x (own_draft b)) c.self.view_is (own_is_draft b c.recall_invariant.ensures c.self.invariant) in
     subst (λ (x : BuilderData). is_there (rows_of x.forest) c.args.id ≡ true) c.self.view_is (closed_there _ _ (c.requires.closed (own_draft b) at))
 
-pub fits_move-requires-clause-apart : goal.fits_move-requires-clause-apart
-fits_move-requires-clause-apart g c =
-    let b : BuilderData = record { setting = c.self.inside.setting; forest = c.self.inside.hierarchy; pending = pending_data c.self.inside.pending; adjusted = c.self.inside.adjusted } in
-    let came = part_comes b c.args.self.now c.args.id c.args.bucket c.self.view_is c.recall_invariant.ensures c.self.invariant (ap (λ (x : BuilderData). x.pending) c.self.view_is ∙ c.requires.fills) (shut b c.self.view_is c.recall_invariant.ensures c.self.invariant c.requires.closed) (λ d i. closed_there _ _ (c.requires.closed d i)) c.requires.free in
-    apart_at b c.args.id c.args.bucket _ came (own_draft b) came.own
+pub fits_move-requires : goal.fits_move-requires
+fits_move-requires g c = record {
+  place = search rules;
+  apart =
+      let b : BuilderData = record { setting = c.self.inside.setting; forest = c.self.inside.hierarchy; pending = pending_data c.self.inside.pending; adjusted = c.self.inside.adjusted } in
+      let came = part_comes b c.args.self.now c.args.id c.args.bucket c.self.view_is c.recall_invariant.ensures c.self.invariant (ap (λ (x : BuilderData). x.pending) c.self.view_is ∙ c.requires.fills) (shut b c.self.view_is c.recall_invariant.ensures c.self.invariant c.requires.closed) (λ d i. closed_there _ _ (c.requires.closed d i)) c.requires.free in
+      apart_at b c.args.id c.args.bucket _ came (own_draft b) came.own;
+}
 
 pub returns : goal.returns
 returns g c = λ d i.

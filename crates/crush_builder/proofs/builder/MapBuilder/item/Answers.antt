@@ -1,5 +1,5 @@
 -- The item as it stands in the forest, by what `ItemTaken` says of it.
-use Rattle.std.proofs.Common.{◌≡◌, ℕ, ◌+◌, ◌++◌, true, List, subst, sym, ap, arith}
+use Rattle.std.proofs.Common.{rules, ◌≡◌, ℕ, ◌+◌, ◌++◌, true, List, subst, sym, ap, arith}
 use Rattle.std.specs.Prelude.{Some}
 use Rattle.crush_table.specs.Items.{Items}
 use Rattle.crush_table.specs.Table.{Row, is_there}
@@ -28,25 +28,8 @@ recall_part-requires g c =
     let clear : IsClear (own_draft b) c.args.id c.args.written = item_clear (own_draft b) c.args.id c.args.written (sym (c.in_default-item_fault.ensures (own_draft b) own_at)) in
     subst (λ t. is_there t c.args.id ≡ true) (sym c.reserve.ensures.rows) (closed_there (is_there (rows_of b.forest) c.args.id) (is_open b.pending c.args.id) clear.closed)
 
-pub put-requires-clause-there : goal.put-requires-clause-there
-put-requires-clause-there g c =
-    let b : BuilderData = record { setting = c.self.inside.setting; forest = c.self.inside.hierarchy; pending = pending_data c.self.inside.pending; adjusted = c.self.inside.adjusted } in
-    let own : IsDraft b (own_draft b) = own_is_draft b c.recall_invariant.ensures c.self.invariant in
-    let own_at : IsDraft c.args.self.now (own_draft b) = subst (λ (x : BuilderData). IsDraft x (own_draft b)) c.self.view_is own in
-    let clear : IsClear (own_draft b) c.args.id c.args.written = item_clear (own_draft b) c.args.id c.args.written (sym (c.in_default-item_fault.ensures (own_draft b) own_at)) in
-    subst (λ t. is_there t c.args.id ≡ true) (sym c.reserve.ensures.rows) (closed_there (is_there (rows_of b.forest) c.args.id) (is_open b.pending c.args.id) clear.closed)
-
-pub put-requires-clause-place : goal.put-requires-clause-place
-put-requires-clause-place g c =
-    let b : BuilderData = record { setting = c.self.inside.setting; forest = c.self.inside.hierarchy; pending = pending_data c.self.inside.pending; adjusted = c.self.inside.adjusted } in
-    let k : ℕ = c.in-Filling.bucket in
-    let h : ForestData = c.reserve.new.self in
-    let n : Items = part_of c.args.id (all_items h) in
-    let took : Coming b c.args.id k n = clear_comes b c.args.self.now c.args.id k n c.args.written c.self.view_is c.recall_invariant.ensures c.self.invariant (ap pending_data c.in-Filling.is) (λ d i. sym (c.in_default-item_fault.ensures d i)) (λ t st. c.recall_part.ensures.rows t (c.reserve.ensures.stands t st)) c.recall_part.ensures.one c.recall_part.ensures.sums in
-    subst (λ (t : List Row). is_there (table_without c.args.id t) (Bucket k) ≡ true) (sym c.reserve.ensures.rows) (left_there b c.args.id k n took (own_draft b) took.own)
-
-pub put-requires-clause-fits : goal.put-requires-clause-fits
-put-requires-clause-fits g c =
+pub put-requires : goal.put-requires
+put-requires g c =
     let b : BuilderData = record { setting = c.self.inside.setting; forest = c.self.inside.hierarchy; pending = pending_data c.self.inside.pending; adjusted = c.self.inside.adjusted } in
     let own : IsDraft b (own_draft b) = own_is_draft b c.recall_invariant.ensures c.self.invariant in
     let own_at : IsDraft c.args.self.now (own_draft b) = subst (λ (x : BuilderData). IsDraft x (own_draft b)) c.self.view_is own in
@@ -55,9 +38,15 @@ put-requires-clause-fits g c =
     let h : ForestData = c.reserve.new.self in
     let n : Items = part_of c.args.id (all_items h) in
     let took : Coming b c.args.id k n = clear_comes b c.args.self.now c.args.id k n c.args.written c.self.view_is c.recall_invariant.ensures c.self.invariant (ap pending_data c.in-Filling.is) (λ d i. sym (c.in_default-item_fault.ensures d i)) (λ t st. c.recall_part.ensures.rows t (c.reserve.ensures.stands t st)) c.recall_part.ensures.one c.recall_part.ensures.sums in
-    subst (λ w. Lawful (table_without c.args.id (rows_of h) ++ rows (Some k) (with_first_weight w n))) (sym c.device_weight-weight.ensures)
-    (subst (λ (t : List Row). Lawful (table_without c.args.id t ++ rows (Some k) (with_first_weight (weight_or_one c.args.written) n))) (sym c.reserve.ensures.rows)
-    (can_put b c.args.id k n took (weight_or_one c.args.written) (light_device c.args.id c.args.written clear.light) clear.sums))
+    record {
+      there = subst (λ t. is_there t c.args.id ≡ true) (sym c.reserve.ensures.rows) (closed_there (is_there (rows_of b.forest) c.args.id) (is_open b.pending c.args.id) clear.closed);
+      place = subst (λ (t : List Row). is_there (table_without c.args.id t) (Bucket k) ≡ true) (sym c.reserve.ensures.rows) (left_there b c.args.id k n took (own_draft b) took.own);
+      room = search rules;
+      fits =
+          subst (λ w. Lawful (table_without c.args.id (rows_of h) ++ rows (Some k) (with_first_weight w n))) (sym c.device_weight-weight.ensures)
+          (subst (λ (t : List Row). Lawful (table_without c.args.id t ++ rows (Some k) (with_first_weight (weight_or_one c.args.written) n))) (sym c.reserve.ensures.rows)
+          (can_put b c.args.id k n took (weight_or_one c.args.written) (light_device c.args.id c.args.written clear.light) clear.sums));
+    }
 
 pub overflow_add-self : goal.overflow_add-self
 overflow_add-self g c =

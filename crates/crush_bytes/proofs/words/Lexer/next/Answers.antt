@@ -1,4 +1,4 @@
--- What stands at the front of the rest is what is answered.
+-- What the rest begins with is what is answered.
 use Rattle.std.proofs.Common.{◌∙◌, sym, subst, ap, inl, inr}
 use Rattle.crush_bytes.specs.Words.{IsClear}
 use Rattle.crush_bytes.specs.Lexer.{left}

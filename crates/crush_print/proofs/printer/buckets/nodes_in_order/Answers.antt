@@ -6,15 +6,15 @@ use Rattle.crush_print.specs.ItemsText.{id_number}
 use Rattle.crush_print.specs.MapText.{ascending}
 use Rattle.crush_print.proofs.InOrder.{numbers_seen}
 use Rattle.crush_print.proofs.Sorting.{sorted_is_ascending}
-use Rattle.crush_print.proofs.printer.buckets.roots_in_order.Goals as goal
+use Rattle.crush_print.proofs.printer.buckets.nodes_in_order.Goals as goal
 
 pub returns-clause-same : goal.returns-clause-same
 returns-clause-same g c =
-    subst (λ l. IsPermutation l (map (λ r. r.now) c.sort_unstable_by_key.new.self.items)) c.in_ok-roots.ensures
-    (IsPermutation-map (λ r. r.now) c.in_ok-roots.roots.items c.sort_unstable_by_key.new.self.items c.sort_unstable_by_key.ensures.permutation)
+    subst (λ l. IsPermutation l (map (λ r. r.now) c.sort_unstable_by_key.new.self.items)) c.in_ok-sorted.ensures
+    (IsPermutation-map (λ r. r.now) c.in_ok-sorted.sorted.items c.sort_unstable_by_key.new.self.items c.sort_unstable_by_key.ensures.permutation)
 
 pub returns-clause-rising : goal.returns-clause-rising
 returns-clause-rising g c =
-    sorted_is_ascending (λ r. id_number (node_id r.now)) c.in_ok-roots.roots.items c.sort_unstable_by_key.new.self.items c.sort_unstable_by_key.ensures.permutation
+    sorted_is_ascending (λ r. id_number (node_id r.now)) c.in_ok-sorted.sorted.items c.sort_unstable_by_key.new.self.items c.sort_unstable_by_key.ensures.permutation
     (IsNonDecreasingBy-from_sort_by_key (λ r. id_number (node_id r.now)) _ c.sort_unstable_by_key.ensures.sorted (λ a r q k. search rules))
-    ∙ ap ascending (numbers_seen (λ n. id_number (node_id n)) (λ r. r.now) c.in_ok-roots.roots.items c.args.nodes.now c.in_ok-roots.ensures)
+    ∙ ap ascending (numbers_seen (λ n. id_number (node_id n)) (λ r. r.now) c.in_ok-sorted.sorted.items c.args.nodes.now c.in_ok-sorted.ensures)
