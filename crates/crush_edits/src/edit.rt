@@ -133,7 +133,7 @@ struct Names {
 }
 
 impl Edit {
-    /// A copy of the edit. An Err is want of memory.
+    /// A copy of the edit. An `Err` says that memory ran out.
     pub fn try_copy(&self, alloc: Global) -> Result<Edit, AllocError>
         ensures { IfOk result (λ copy. copy ≡ self.now) }
     {
@@ -230,7 +230,7 @@ impl Edit {
     }
 }
 
-/// Copies of a name and of where its item comes. An Err is want of memory.
+/// Copies of a name and of where its item comes. An `Err` says that memory ran out.
 fn copy_placed(name: &Name<Global>, at: &Location, alloc: Global) -> Result<Placed, AllocError>
     ensures { IfOk result (λ copy. copy ≡ record { name = name.now; at = at.now }) }
 {
@@ -239,7 +239,7 @@ fn copy_placed(name: &Name<Global>, at: &Location, alloc: Global) -> Result<Plac
     Ok(Placed { name, at })
 }
 
-/// Copies of two names, in their order. An Err is want of memory.
+/// Copies of two names, in their order. An `Err` says that memory ran out.
 fn copy_names(
     first: &Name<Global>,
     second: &Name<Global>,

@@ -85,7 +85,7 @@ impl From<NameFault> for LocationFault {
 }
 
 impl Pair {
-    /// A copy of the pair. An Err is want of memory.
+    /// A copy of the pair. An `Err` says that memory ran out.
     pub fn try_copy(&self, alloc: Global) -> Result<Pair, AllocError>
         ensures { IfOk result (λ copy. copy ≡ self.now) }
     {
@@ -140,7 +140,7 @@ impl Location {
         self.pairs.as_slice()
     }
 
-    /// A copy of the location. An Err is want of memory.
+    /// A copy of the location. An `Err` says that memory ran out.
     pub fn try_copy(&self, alloc: Global) -> Result<Location, AllocError>
         ensures { IfOk result (λ copy. copy ≡ self.now) }
     {

@@ -91,7 +91,7 @@ impl Model for Setting {
 }
 
 impl KeptStep {
-    /// A copy of the step. An Err is want of memory.
+    /// A copy of the step. An `Err` says that memory ran out.
     pub fn try_copy(&self, alloc: Global) -> Result<KeptStep, AllocError>
         ensures { IfOk result (λ copy. copy ≡ self.now) }
     {
@@ -121,7 +121,7 @@ impl KeptStep {
 }
 
 impl KeptRule {
-    /// A copy of the rule. An Err is want of memory.
+    /// A copy of the rule. An `Err` says that memory ran out.
     pub fn try_copy(&self, alloc: Global) -> Result<KeptRule, AllocError>
         ensures { IfOk result (λ copy. rule_data copy ≡ rule_data self.now) }
     {
@@ -155,8 +155,8 @@ impl Setting {
         }
     }
 
-    /// Adds a type of a number that no type has, after those that are there. An Err is want of
-    /// memory; nothing has changed then.
+    /// Adds a type of a number that no type has, after those that are there. An `Err` says
+    /// that memory ran out; nothing has changed then.
     pub fn push_kind(&mut self, number: TypeId, name: Name<Global>) -> Result<(), AllocError>
         requires { kind_name self.old number ≡ None }
         ensures ok { OnOk result (self.new
@@ -167,8 +167,8 @@ impl Setting {
         Ok(())
     }
 
-    /// Adds a tunable of a name that no tunable has, after those that are there. An Err is want of
-    /// memory; nothing has changed then.
+    /// Adds a tunable of a name that no tunable has, after those that are there. An `Err` says
+    /// that memory ran out; nothing has changed then.
     pub fn push_tunable(&mut self, name: Name<Global>, value: u32) -> Result<(), AllocError>
         requires { has_tunable self.old name ≡ false }
         ensures ok { OnOk result (self.new
@@ -179,7 +179,8 @@ impl Setting {
         Ok(())
     }
 
-    /// Adds a rule after those that are there. An Err is want of memory; nothing has changed then.
+    /// Adds a rule after those that are there. An `Err` says that memory ran out; nothing has
+    /// changed then.
     pub fn push_rule(&mut self, rule: KeptRule) -> Result<(), AllocError>
         ensures ok { OnOk result (self.new
             ≡ record self.old { rules = self.old.rules ++ rule_data rule ∷ [] }) }
@@ -229,7 +230,7 @@ impl Setting {
         self.kinds.allocator()
     }
 
-    /// A copy of the setting. An Err is want of memory.
+    /// A copy of the setting. An `Err` says that memory ran out.
     pub fn try_copy(&self, alloc: Global) -> Result<Setting, AllocError>
         ensures { IfOk result (λ copy. copy ≡ self.now) }
     {

@@ -40,7 +40,7 @@ impl<O, E, P: Law<O, E>> Gauge<O, E, P> {
     /// read as are asked for. All have seen the history without an entry.
     ///
     /// The opening is picked by the proof of the call and no argument: it has no change and this
-    /// weight, below 2^43. An `Err` is out of memory.
+    /// weight, below 2^43. An `Err` says that memory ran out.
     pub fn new(
         alloc: Global,
         weight: u64,

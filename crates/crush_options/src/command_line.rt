@@ -221,7 +221,7 @@ fn printed_of(alloc: Global, matches: &ArgMatches<'_>) -> Result<Printed, Option
     }
 }
 
-/// Copies of names, in their order. An Err is out of memory.
+/// Copies of names, in their order. An `Err` says that memory ran out.
 fn copies(alloc: Global, names: &[&str]) -> Result<Vec<String>, AllocError>
     ensures { IfOk result (λ copies. names_text copies.items ≡ map (λ name. name.now) names.now) }
 {

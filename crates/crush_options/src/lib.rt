@@ -1,4 +1,7 @@
 //! The command line of `crushedit`: what its words ask for, and what its help says.
+//!
+//! [`options`] reads [`Options`] from words, or tells by an [`OptionsFault`] what stands in their
+//! place. `crush_run` runs what they ask for, `crush_report` tells the fault.
 #![tactic(auto)]
 
 mod asked;

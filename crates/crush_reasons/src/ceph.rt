@@ -128,7 +128,7 @@ fn push_heading(count: u64, text: &mut Vec<u8>) -> Result<(), AllocError>
 ///
 /// A batch that changed the map shows as all of its edits, one that was refused or changed nothing
 /// as none. A swap ends in ` --yes-i-really-mean-it`, which Ceph asks for where the buckets stand
-/// apart. An Err is out of memory.
+/// apart. An `Err` says that memory ran out.
 pub fn ceph_text(alloc: Global, entries: &[Entry]) -> Result<Vec<u8>, AllocError>
     requires { length entries.now < 2 ^ 32 }
     ensures { IfOk result (λ text. text.items ≡ ceph_text entries.now) }

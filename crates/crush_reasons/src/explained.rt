@@ -74,8 +74,8 @@ fn push_explained(
 /// The lines of the entries that were refused, each as the history has it, with its number there,
 /// and below each two spaces and what was wanted; of a batch, too, that its edits count from 0.
 ///
-/// There are fewer than 2^32 entries, so that each has a number; a job's are at most 65,536. An Err
-/// is out of memory.
+/// There are fewer than 2^32 entries, so that each has a number; a job's are at most 65,536. An
+/// `Err` says that memory ran out.
 pub fn explained_text(
     alloc: Global,
     scripts: &[Script],

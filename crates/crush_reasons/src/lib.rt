@@ -1,4 +1,9 @@
 //! What is told of faults and refusals, and the commands of a history as Ceph's own.
+//!
+//! [`explained_text`] tells of refused calls, [`fault_text`] where a fault of a job is and what
+//! was wanted, [`written_text`] which written weights are no sums, and [`ceph_text`] has the
+//! commands. The sentences stand in `specs/Sentences.antt`; `crush_run` calls these where
+//! `--explain` or `--as-ceph` asks for them.
 #![tactic(auto)]
 
 mod ceph;

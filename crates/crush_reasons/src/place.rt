@@ -336,7 +336,7 @@ pub fn fault_line(bytes: &[u8], fault: JobFault) -> usize
 /// told counts from 1 in that file, and a line that was put before its first is line 0. Columns
 /// count from 1. A line is shown from its beginning, or from 40 bytes before the place, and 72 bytes
 /// of it at most; a tab shows as a space, a byte that isn't from 32 to 126 as `?`. The name of the
-/// file stands before the line's number, unless it is empty. An `Err` is out of memory.
+/// file stands before the line's number, unless it is empty. An `Err` says that memory ran out.
 pub fn fault_text(
     alloc: Global,
     origin: Origin<'_>,

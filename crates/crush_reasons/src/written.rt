@@ -224,7 +224,7 @@ impl<'a> Scan<'a> {
 /// map's text where NAME is a bucket of the map that weighs something else, in the order of the
 /// text. The weight that was written stands there as in the text, the sum with five decimals.
 ///
-/// The map is the one of that text, as it was read. An `Err` is out of memory.
+/// The map is the one of that text, as it was read. An `Err` says that memory ran out.
 pub fn written_text(
     alloc: Global,
     map: &CrushMap<Global>,

@@ -1,7 +1,7 @@
 //! What a run tells on standard error, and the status with which the program ends.
 
 ghost use Rattle.std.specs.Prelude.{◌≡◌, [], IfOk, if◌then◌else◌};
-ghost use Rattle.crush_bytes.specs.Writes.{Writes, AppendsFront};
+ghost use Rattle.crush_bytes.specs.Writes.{Writes, AppendsPrefix};
 ghost use Rattle.crush_report.specs.OptionsReport.{IsHelpWhole, IsOptionsStatus, options_error, options_output};
 ghost use Rattle.crush_report.specs.Report.{adjusted_line, fault_reason, line_fault, text_fault, job_fault, outcome_reason, run_fault, refused_line, report_line, report_lines, report_text, since_fault, since_reason, since_status, since_text_fault, status};
 
@@ -170,7 +170,7 @@ fn write_report<E: Write>(
 
 /// Puts the one line, or what of it standard error takes.
 fn put_report<E: Write>(outcome: &Result<Summary, RunFault>, err: &mut E)
-    ensures { AppendsFront (E.contents err.old) (E.contents err.new)
+    ensures { AppendsPrefix (E.contents err.old) (E.contents err.new)
         (report_line outcome.now) }
 {
     let _ = write_report(outcome, err);
@@ -258,7 +258,7 @@ fn write_told<E: Write>(
 
 /// Puts all that is told, or what of it standard error takes.
 fn put_told<E: Write>(outcome: &Result<Summary, RunFault>, explain: bool, notes: &[u8], err: &mut E)
-    ensures { AppendsFront (E.contents err.old) (E.contents err.new)
+    ensures { AppendsPrefix (E.contents err.old) (E.contents err.new)
         (report_text explain outcome.now notes.now) }
 {
     let _ = write_told(outcome, explain, notes, err);
@@ -266,7 +266,7 @@ fn put_told<E: Write>(outcome: &Result<Summary, RunFault>, explain: bool, notes:
 
 /// Puts the bytes, or what of them standard error takes.
 fn put_prefix<E: Write>(bytes: &[u8], err: &mut E)
-    ensures { AppendsFront (E.contents err.old) (E.contents err.new) bytes.now }
+    ensures { AppendsPrefix (E.contents err.old) (E.contents err.new) bytes.now }
 {
     let _ = put(err, bytes);
 }
@@ -317,7 +317,7 @@ pub fn report<E: Write>(
     err: &mut E,
 ) -> u8
     ensures status { result ≡ status outcome.now }
-    ensures text { AppendsFront (E.contents err.old) (E.contents err.new)
+    ensures text { AppendsPrefix (E.contents err.old) (E.contents err.new)
         (report_text explain outcome.now notes.now) }
 {
     put_told(outcome, explain, notes, err);
@@ -337,9 +337,9 @@ pub fn report<E: Write>(
 /// whole; of a refusal, on standard error, 2; and 4 where there was no memory.
 pub fn tell<W: Write, E: Write>(fault: &OptionsFault, out: &mut W, err: &mut E) -> u8
     ensures status { IsOptionsStatus fault.now result }
-    ensures out { AppendsFront (W.contents out.old) (W.contents out.new)
+    ensures out { AppendsPrefix (W.contents out.old) (W.contents out.new)
         (options_output fault.now) }
-    ensures line { AppendsFront (E.contents err.old) (E.contents err.new)
+    ensures line { AppendsPrefix (E.contents err.old) (E.contents err.new)
         (options_error fault.now) }
     ensures whole { IsHelpWhole fault.now result (W.contents out.old) (W.contents out.new)
         (E.contents err.old) (E.contents err.new) }

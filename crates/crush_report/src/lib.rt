@@ -1,5 +1,8 @@
 //! How the end of a run is told: the line on standard error, and the status of the program; and the
 //! same of a command line that asks for no run.
+//!
+//! [`report`] tells the outcome of `crush_run`, [`tell`] that of `crush_options`. Lines and
+//! statuses stand in `specs/`; `crushedit` calls both.
 #![tactic(auto)]
 
 mod ending;

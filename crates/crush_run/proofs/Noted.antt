@@ -121,7 +121,7 @@ keeps_same : (old : Option (List ℕ)) → Keeps old old
 keeps_same None = tt
 keeps_same (Some xs) = refl
 
--- a run that lacked memory before anything was written
+-- a run that was out of memory before anything was written
 pub memory_ends : (mode : Mode) (what : Asked) (adjusted : ℕ) (m : MapData) (weights : List ℕ) (names : List (List ℕ)) (h : List EntryData) (r : Result Summary RunFault) (old : Option (List ℕ)) (notes : List ℕ) → r ≡ Err run.Memory → notes ≡ []
     → EndsLeft mode what adjusted m weights names h r old old notes
 memory_ends mode what adjusted m weights names h r old notes is none = record {

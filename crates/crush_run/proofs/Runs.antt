@@ -120,7 +120,7 @@ output_is_some asked history job h =
     let some = main_text_is_some asked job.setting (table_after job.setting job.table h) h in
     simp length-append (omega (arith, some))
 
--- where nothing was written of a job, nothing is a front of what its turns would have had written
+-- where nothing was written of a job, nothing is a prefix of what its turns would have had written
 pub ended_early : (mode : Mode) (asked : Asked) (job : JobData) (weights : List ℕ) (r : Result Summary RunFault) (f : RunFault) (old : Option (List ℕ)) (notes : List ℕ) → r ≡ Err f → IsEarlyFault f
     → Ends mode asked job weights r old old notes
 ended_early mode asked job weights r f old notes is early =

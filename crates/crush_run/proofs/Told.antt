@@ -121,7 +121,7 @@ outcome_fault_of_writing mode (Err run.Thread) h = absurd h
 outcome_fault_of_writing mode (Err (run.Refused n)) h = h
 outcome_fault_of_writing mode (Err (run.Since s)) h = h
 
--- after a fault before anything was written, nothing is a front of the output, which isn't empty
+-- after a fault before anything was written, nothing is a prefix of the output, which isn't empty
 pub nothing_written : (r : Result Summary RunFault) (f : RunFault) (old : Option (List ℕ)) (text : List ℕ) → 0 < length text → r ≡ Err f → Writes r old old text
 nothing_written r f old text some e = rw e (nothing_is_less old text some)
 

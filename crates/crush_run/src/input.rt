@@ -32,9 +32,9 @@ const PIECE: usize = 65_536;
 pub(crate) fn read_bytes<R: Read>(alloc: Global, reader: &mut R) -> Result<Vec<u8>, RunFault>
     ensures few { IfOk result (λ bytes. length bytes.items ≤ MOST_BYTES) }
     ensures fault { IfErr result IsInputFault }
-    ensures taken { IfOk result (λ bytes.
+    ensures consumed { IfOk result (λ bytes.
         Consumes (R.remaining reader.old) (R.remaining reader.new) bytes.items) }
-    ensures prefix { IfErr result (λ _.
+    ensures taken { IfErr result (λ _.
         TakesFew (R.remaining reader.old) (R.remaining reader.new)) }
     ensures bytes { IfOk result (λ bytes. IfSome (R.remaining reader.old)
         (λ all. bytes.items ≡ take MOST_BYTES all)) }

@@ -352,8 +352,8 @@ where
 ///
 /// After [`RunFault::Write`] a prefix of the output was written, and never the whole, after any other
 /// fault nothing.
-/// [`RunFault::Job`] says what is wrong with the bytes, and never that memory lacked, which is
-/// [`RunFault::Memory`], also where it lacked for the notes; of bytes that are no job it is never
+/// [`RunFault::Job`] says what is wrong with the bytes, and never that memory ran out, which is
+/// [`RunFault::Memory`], also where it ran out for the notes; of bytes that are no job it is never
 /// told that a write failed, nor that a thread couldn't be started, which is [`RunFault::Thread`]
 /// and never told in turn. The reader is asked for at most 16,777,217 bytes, at most that many
 /// times.

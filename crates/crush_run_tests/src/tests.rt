@@ -85,10 +85,10 @@ fn writes(
     rt: &(impl AllocGlobal + RandomSource + Threads + Wait + Sync),
     mode: Mode,
     job: &[u8],
-    map: &[u8],
-    lines: &[u8],
+    output: (&[u8], &[u8]),
     summary: Summary,
 ) -> bool {
+    let (map, lines) = output;
     let mut out = Vec::new(rt.alloc());
     let outcome = run_map(rt, &NoGate, mode, &mut &*job, &mut out);
     outcome == Ok(summary)
@@ -104,8 +104,8 @@ fn runs_one_operator_at_once(rt: HostRuntime) {
     let lines = b"# 1 a reweight osd.2 1.00000 = done changed 1 made 0\n";
     let sum = summary(0, 1, 1);
     assert!(rt;
-        writes(&rt, MODE, job.as_slice(), REWEIGHED, lines, sum)
-            && writes(&rt, AT_ONCE, job.as_slice(), REWEIGHED, lines, sum)
+        writes(&rt, MODE, job.as_slice(), (REWEIGHED, lines), sum)
+            && writes(&rt, AT_ONCE, job.as_slice(), (REWEIGHED, lines), sum)
     );
 }
 

@@ -28,7 +28,7 @@ pub enum JobFault {
     /// The line begins a section with a name that an earlier section has.
     #[error("line {0}: DuplicateOperator")]
     DuplicateOperator(usize),
-    /// The map's text has a flaw, whose place is one in the job; or memory lacked for its map, at a
+    /// The map's text has a flaw, whose place is one in the job; or memory ran out for its map, at a
     /// word that is right, as all before it.
     #[error("{0}")]
     Text(TextFault),
@@ -46,7 +46,7 @@ pub enum JobFault {
 impl JobFault {
     ghost use Rattle.crush_script.specs.Fault.{lacks_memory};
 
-    /// Whether memory lacked, for the job or for its text.
+    /// Whether memory ran out, for the job or for its text.
     pub fn lacks_memory(self) -> bool
         ensures { result ≡ lacks_memory self }
     {

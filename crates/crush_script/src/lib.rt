@@ -1,4 +1,8 @@
 //! Jobs: a map's text, and behind it the scripts of its operators, a command a line.
+//!
+//! [`read_job`] reads one whole, or tells by a [`JobFault`] the first line that is wrong; the
+//! map's text is read by `crush_text`, the calls are those of `crush_calls`. What a job is stands
+//! in `specs/Job.antt`; `crush_run` runs it.
 #![tactic(auto)]
 
 mod command;

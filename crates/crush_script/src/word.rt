@@ -7,7 +7,7 @@ use crush_bytes::number::number_up_to;
 use crush_units::DeviceId;
 use crush_units::limits::{LAST_DEVICE_ID, MOST_ENTRIES};
 
-/// Whether no digit could be left out at the front of a number.
+/// Whether no digit could be left out at the head of a number.
 fn begins_plain(digits: &[u8]) -> bool
     ensures { result ≡ (length digits.now == 1 || not (slice_index digits.now 0 == 48)) }
 {

@@ -60,15 +60,15 @@ fn is_refused(rt: &impl AllocGlobal, text: &[u8], kind: TextFaultKind, place: us
     fault_of(rt, text) == Some(TextFault { kind, place })
 }
 
-/// Whether the words are refused for this at their first behind the front.
+/// Whether the words are refused for this at their first behind the text.
 fn is_refused_behind(
     rt: &(impl Abort + AllocGlobal),
-    front: &[u8],
+    before: &[u8],
     words: &[u8],
     kind: TextFaultKind,
 ) -> bool {
-    let text = joined(rt, &[front, words]);
-    is_refused(rt, text.as_slice(), kind, front.len())
+    let text = joined(rt, &[before, words]);
+    is_refused(rt, text.as_slice(), kind, before.len())
 }
 
 /// A word of as many bytes as a word may have.

@@ -19,7 +19,7 @@ use std::thread::{Threads, join};
 /// calls in it are exactly those of the two, each operator's in order.
 ///
 /// Beside it stands the later of what the two read after their last calls: who came last has read of
-/// all changes. An `Err` is out of memory.
+/// all changes. An `Err` says that memory ran out.
 pub fn edit_at_once<R: Threads + Wait + Sync>(
     rt: &R,
     alloc: Global,
@@ -88,8 +88,8 @@ struct Worked<N: Desk> {
 }
 
 /// Makes the calls of a seat's operator, one after the other, and reads after each how far the map
-/// is. A reading takes no lock, so it goes on while the other operator is inside a call. `None` for
-/// out of memory.
+/// is. A reading takes no lock, so it goes on while the other operator is inside a call. `None` says
+/// that memory ran out.
 fn work<N: Desk, R: Wait>(
     rt: &R,
     alloc: Global,

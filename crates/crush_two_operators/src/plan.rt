@@ -21,7 +21,8 @@ use std::thread::{Threads, join};
 /// map, its next the second, and so on. Each is made exactly once and in its order, whichever of the
 /// two comes first: no step is made of a map that its operator hasn't seen.
 ///
-/// An `Err` is out of memory, a history that is full, or a step that is refused or changes nothing.
+/// An `Err` says that memory ran out, that the history is full, or that a step is refused or changes
+/// nothing.
 pub fn follow_at_once<R: Threads + Wait + Sync>(
     rt: &R,
     alloc: Global,
@@ -98,7 +99,7 @@ fn follow<N: Desk, R: Wait>(
     None
 }
 
-/// The call that asks for this edit while there are so many changes. `None` is out of memory.
+/// The call that asks for this edit while there are so many changes. `None` says that memory ran out.
 fn step(alloc: Global, seen: u32, edit: &Edit) -> Option<Call>
     ensures { IfSome result (λ call. call ≡ Guarded seen (edit.now ∷ [])) }
 {

@@ -110,8 +110,8 @@ impl<A: Allocator> Name<A> {
         self.text.as_bytes()
     }
 
-    /// A copy in memory of the given allocator, which may be another than the name's own. An Err is
-    /// want of memory there, and a name of at most 30 bytes takes none.
+    /// A copy in memory of the given allocator, which may be another than the name's own. An
+    /// `Err` says that memory ran out there; a name of at most 30 bytes takes none.
     pub fn try_copy<B: Allocator>(&self, alloc: B) -> Result<Name<B>, AllocError>
         ensures { IfOk result (λ copy. copy ≡ self.now) }
     {

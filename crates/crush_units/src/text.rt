@@ -60,7 +60,8 @@ pub(crate) enum Text<A: Allocator> {
 }
 
 impl<A: Allocator> Text<A> {
-    /// The text of these bytes. An `Err` is want of memory for a text that doesn't stand inside.
+    /// The text of these bytes. An `Err` says that memory ran out, for a text that doesn't stand
+    /// inside.
     pub(crate) fn new(alloc: A, bytes: &[u8]) -> Result<Text<A>, AllocError>
         requires { IsUtf8 bytes.now }
         ensures value { IfOk result (λ text. text_bytes text ≡ bytes.now) }

@@ -108,7 +108,7 @@ impl Weight {
         round(number, fraction.len())
     }
 
-    /// Writes the weight to the front of the given bytes and returns the length of the text, 7 to
+    /// Writes the weight to the head of the given bytes and returns the length of the text, 7 to
     /// 11: a whole number, a point and five digits.
     ///
     /// It is rounded to the nearest hundred-thousandth of 1.0, a half going up. Nothing is said of

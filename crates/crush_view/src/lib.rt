@@ -1,4 +1,7 @@
 //! Views of a map: its tree, as a walk and as text.
+//!
+//! [`walk`] and [`walk_below`] list the items, [`write_tree`] prints them, and [`write_since`]
+//! what has changed since another map. The text that a reader takes is written by `crush_print`.
 #![tactic(auto)]
 
 mod columns;

@@ -10,18 +10,17 @@ use std::marker::Brand;
 use std::process::Abort;
 use std::sync::Wait;
 
-/// Submits a batch that sets the weight of the device of this name to 2 where there were so many
-/// changes, and looks whether it is answered like this.
+/// Submits a batch that sets the weight of `osd.1` to 2 where there were so many changes, and looks
+/// whether it is answered like this.
 fn is_answered<N: Desk>(
     rt: &(impl Abort + AllocGlobal + Wait),
     editor: &Editor<N>,
     seat: &mut Seat<N>,
     seen: u32,
-    device: &[u8],
     reply: Reply,
 ) -> bool {
     let mut edits = Vec::new(rt.alloc());
-    edits.push(weight_two(rt, device)).expect(rt, "no memory");
+    edits.push(weight_two(rt, b"osd.1")).expect(rt, "no memory");
     let call = Call::Guarded {
         seen,
         edits: Edits::new(edits),
@@ -47,13 +46,13 @@ fn two_operators<N: Desk>(rt: &(impl Abort + AllocGlobal + Wait), started: Start
     let mut seat = seats.pop().expect(rt, "no seat");
     assert!(rt; reads(editor.reading(&mut seat), 0, 163840));
     weigh_two(rt, &editor, &mut other, b"osd.0");
-    assert!(rt; is_answered(rt, &editor, &mut seat, 0, b"osd.1", Reply::Stale(1)));
+    assert!(rt; is_answered(rt, &editor, &mut seat, 0, Reply::Stale(1)));
     assert!(rt; reads(editor.reading(&mut seat), 1, 229376));
     let made = Reply::Dones(Dones {
         edits: 1,
         changed: 1,
         made: 0,
     });
-    assert!(rt; is_answered(rt, &editor, &mut seat, 1, b"osd.1", made));
+    assert!(rt; is_answered(rt, &editor, &mut seat, 1, made));
     assert!(rt; reads(editor.reading(&mut seat), 2, 294912));
 }

@@ -2,10 +2,14 @@
 //! counts the requests for memory, which have to be as many.
 
 ghost use Rattle.std.specs.Prelude.{◌≡◌};
+ghost use Rattle.crush_editor_tests.specs.Seats.{AreAll};
 
-use super::{PLAIN_EXAMPLE_MAP, opened, read_map, reads, started, weigh_two, weight_two};
+use super::{
+    PLAIN_EXAMPLE_MAP, opened, read_map, reads, started, submit_by, weigh_two, weight_two,
+};
 use crush_calls::{Call, Reply, write_entry};
-use crush_editor::{Desk, Started};
+use crush_editor::{Desk, Editor, Seat, Started};
+use crush_edits::Setting;
 use crush_map::{CrushMap, Done};
 use std::alloc::Global;
 use std::marker::Brand;
@@ -15,14 +19,23 @@ use std::sync::Wait;
 /// How often the second test of a pair makes its calls.
 const OFTEN: u32 = 1000;
 
+/// How many editors are made in each test of the close.
+const EDITORS: u32 = 16;
+
 /// Whether the example map is what it is asked for.
 fn is_example(map: &CrushMap<Global>) -> bool {
+    map.forest().recall_invariant();
     map.locate("osd.1").is_some()
         && map.weight_of("h1").is_some()
-        && map.setting().rules().len() == 0
+        && has_plain_setting(map.setting())
         && map.forest().roots().len() == 1
         && map.counts().devices == 3
         && map.total() == 163840
+}
+
+/// Whether there are the four types of the example map, and neither a tunable nor a rule.
+fn has_plain_setting(setting: &Setting) -> bool {
+    setting.kinds().len() == 4 && setting.tunables().len() == 0 && setting.rules().len() == 0
 }
 
 fn look_at_map(rt: &(impl Abort + AllocGlobal), times: u32) {
@@ -50,6 +63,7 @@ fn look_at_book(rt: &(impl Abort + AllocGlobal), times: u32) {
     let call = Call::One(weight_two(rt, b"osd.0"));
     let mut same = book.commit_copied(&gauge, 0, call).is_ok();
     for _ in 0..times {
+        book.recall_invariant();
         same = same
             && book.opening().total() == 163840
             && book.map().total() == 229376
@@ -96,6 +110,46 @@ fn an_editor_is_read_once(rt: HostRuntime) {
 #[test]
 fn an_editor_is_read_often(rt: HostRuntime) {
     read_editor::<Brand>(&rt, started(&rt, 2), OFTEN);
+}
+
+/// One call is made of an editor, which is closed or dropped.
+fn end_editor<N: Desk>(rt: &(impl Abort + AllocGlobal + Wait), started: Started, closes: bool)
+    requires gauge { started.table ≡ N.gauge }
+    requires opening { started.opening ≡ N.opening }
+    requires name { started.name ≡ N.name }
+    requires parts { started.parts ≡ N.parts }
+{
+    let (editor, mut seats) = opened::<N>(rt, started);
+    let call = Call::One(weight_two(rt, b"osd.0"));
+    let answered = submit_by(rt, &editor, &mut seats, 0, &call).is_ok();
+    drop(call);
+    let ended = !closes || is_closed(editor, seats);
+    assert!(rt; answered && ended);
+}
+
+/// Whether the editor, once closed, has one call.
+fn is_closed<N: Desk>(editor: Editor<N>, seats: Vec<Seat<N>>) -> bool
+    requires { AreAll N.parts seats.items }
+{
+    editor.close(seats).history.len() == 1
+}
+
+/// Of so many editors the first ones are closed.
+fn close_editors(rt: &(impl Abort + AllocGlobal + Wait), times: u32) {
+    for number in 0..EDITORS {
+        let started = started(rt, 2);
+        end_editor::<Brand>(rt, started, number < times);
+    }
+}
+
+#[test]
+fn an_editor_is_closed_once(rt: HostRuntime) {
+    close_editors(&rt, 1);
+}
+
+#[test]
+fn an_editor_is_closed_often(rt: HostRuntime) {
+    close_editors(&rt, EDITORS);
 }
 
 /// The line of an entry, written where there is room for it.

@@ -45,7 +45,7 @@ pub fn puts_make_another_table()
     ensures new { PutNewChanges }
 {}
 
-/// A device that isn't there is refused for want of room alone beside 65,536 devices, and where its
+/// A device that isn't there is refused for lack of room alone beside 65,536 devices, and where its
 /// route makes more buckets than 4,096.
 pub fn full_tables_refuse()
     ensures devices { FullOfDevices }

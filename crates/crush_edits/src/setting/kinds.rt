@@ -51,8 +51,8 @@ impl Kinds {
         }
     }
 
-    /// Adds a type of a number that no type has, after those that are there. An Err is want of
-    /// memory; nothing has changed then.
+    /// Adds a type of a number that no type has, after those that are there. An `Err` says
+    /// that memory ran out; nothing has changed then.
     pub(super) fn push(&mut self, number: TypeId, name: Name<Global>) -> Result<(), AllocError>
         requires { first_name self.old number ≡ None }
         ensures ok { OnOk result (self.new ≡ self.old ++ kind_data (number, name) ∷ []) }
@@ -98,7 +98,7 @@ impl Kinds {
         *self.names.allocator()
     }
 
-    /// A copy of the types. An Err is want of memory.
+    /// A copy of the types. An `Err` says that memory ran out.
     pub(super) fn try_copy(&self, alloc: Global) -> Result<Kinds, AllocError>
         ensures { IfOk result (λ copy. copy ≡ self.now) }
     {
@@ -111,8 +111,8 @@ impl Kinds {
     }
 }
 
-/// Tells the number of a name that has none so far. An Err is want of memory; the same is told
-/// then.
+/// Tells the number of a name that has none so far. An `Err` says that memory ran out; the
+/// same is told then.
 fn tell_first(
     numbers: &mut BTreeMap<Vec<u8>, TypeId>,
     name: Vec<u8>,

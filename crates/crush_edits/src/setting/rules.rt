@@ -50,7 +50,8 @@ impl Rules {
         }
     }
 
-    /// Adds a rule after those that are there. An Err is want of memory; nothing has changed then.
+    /// Adds a rule after those that are there. An `Err` says that memory ran out; nothing has
+    /// changed then.
     pub(super) fn push(&mut self, rule: KeptRule) -> Result<(), AllocError>
         ensures ok { OnOk result (self.new ≡ self.old ++ rule_data rule ∷ []) }
         ensures err { OnErr result (self.new ≡ self.old) }
@@ -76,7 +77,7 @@ impl Rules {
         self.taken.contains(&bucket.distance())
     }
 
-    /// A copy of the rules. An Err is want of memory.
+    /// A copy of the rules. An `Err` says that memory ran out.
     pub(super) fn try_copy(&self, alloc: Global) -> Result<Rules, AllocError>
         ensures { IfOk result (λ copy. copy ≡ self.now) }
     {
@@ -87,8 +88,8 @@ impl Rules {
     }
 }
 
-/// Puts the buckets that the steps take among those that are taken. After an Err, which is want of
-/// memory, some of them may lack.
+/// Puts the buckets that the steps take among those that are taken. After an `Err`, which says that
+/// memory ran out, some of them may be missing.
 fn take_all(taken: &mut BTreeSet<u32>, steps: &[KeptStep]) -> Result<(), AllocError>
     ensures { OnOk result (ComeAsTaken steps.now taken.old taken.new) }
 {

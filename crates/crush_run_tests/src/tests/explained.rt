@@ -1,7 +1,7 @@
 //! What is told where reasons are asked for: places of faults, and what was wanted.
 
 use super::scripts::ends_with;
-use super::strict::ends_so;
+use super::strict::{End, ends_so, refused_two};
 use super::{PLAIN, joined, summary};
 use crush_options::Mode;
 use crush_report::report;
@@ -37,26 +37,16 @@ const STRICT_REASONS: &[u8] =
 #[test]
 fn refused_commands_are_told_with_reasons(rt: HostRuntime) {
     let job = joined(&rt, PLAIN, TWO_REFUSED);
+    let done = End {
+        outcome: Ok(summary(0, 3, 0)),
+        output: PLAIN,
+        told: REASONS,
+        status: 0,
+    };
+    let refused = refused_two(STRICT_REASONS);
     assert!(rt;
-        ends_so(
-            &rt,
-            EXPLAIN,
-            Asked::Map,
-            job.as_slice(),
-            Ok(summary(0, 3, 0)),
-            PLAIN,
-            REASONS,
-            0
-        ) && ends_so(
-            &rt,
-            STRICTLY,
-            Asked::Map,
-            job.as_slice(),
-            Err(RunFault::Refused(2)),
-            b"",
-            STRICT_REASONS,
-            5
-        )
+        ends_so(&rt, EXPLAIN, Asked::Map, job.as_slice(), &done)
+            && ends_so(&rt, STRICTLY, Asked::Map, job.as_slice(), &refused)
     );
 }
 
@@ -74,14 +64,24 @@ const PLACE: &[u8] =
 const LINE: &[u8] =
     b"crushedit: line 43: NoSuchCommand\n  line 43\n    fly x\n  the first word of a line is to be a command: --help has all of them\n";
 
+/// The end of a run of what is no job, of which this is told.
+fn no_job(fault: JobFault, told: &[u8]) -> End<'_> {
+    End {
+        outcome: Err(RunFault::Job(fault)),
+        output: b"",
+        told,
+        status: 1,
+    }
+}
+
 #[test]
 fn faults_of_a_job_are_told_with_their_places(rt: HostRuntime) {
     let job = joined(&rt, PLAIN, b"%operator a\nfly x\n");
-    let text = Err(RunFault::Job(JobFault::Text(UNKNOWN)));
-    let line = Err(RunFault::Job(JobFault::NoSuchCommand(43)));
+    let text = no_job(JobFault::Text(UNKNOWN), PLACE);
+    let line = no_job(JobFault::NoSuchCommand(43), LINE);
     assert!(rt;
-        ends_so(&rt, EXPLAIN, Asked::Map, FLAWED, text, b"", PLACE, 1)
-            && ends_so(&rt, EXPLAIN, Asked::Map, job.as_slice(), line, b"", LINE, 1)
+        ends_so(&rt, EXPLAIN, Asked::Map, FLAWED, &text)
+            && ends_so(&rt, EXPLAIN, Asked::Map, job.as_slice(), &line)
     );
 }
 
@@ -93,7 +93,7 @@ fn a_fault_of_the_other_map_is_told_with_its_file(rt: HostRuntime) {
     let files: &[(&str, &[u8])] = &[("m", PLAIN), ("x", FLAWED)];
     let flaw = Err(RunFault::Since(SinceFault::Text(UNKNOWN)));
     let words = ["--explain", "--since", "x", "m"];
-    assert!(rt; ends_with(&rt, &words, files, flaw, b"", OTHER_PLACE));
+    assert!(rt; ends_with(&rt, &words, files, flaw, (b"", OTHER_PLACE)));
 }
 
 /// A script whose second line has no such command.
@@ -117,8 +117,8 @@ fn a_fault_of_a_script_is_told_in_its_own_file(rt: HostRuntime) {
     let words = ["--explain", "m", "-s", "a.txt", "-s", "b.txt"];
     let again = ["--explain", "m", "-s", "a.txt", "-s", "c/a.txt"];
     assert!(rt;
-        ends_with(&rt, &words, files, slip, b"", SLIP_LINE)
-            && ends_with(&rt, &again, files, twice, b"", TWICE_LINE)
+        ends_with(&rt, &words, files, slip, (b"", SLIP_LINE))
+            && ends_with(&rt, &again, files, twice, (b"", TWICE_LINE))
     );
 }
 
@@ -128,24 +128,22 @@ fn a_file_that_cannot_be_opened_is_told_with_the_reason(rt: HostRuntime) {
     let (read, since) = (Err(RunFault::Read), Err(RunFault::Since(SinceFault::Read)));
     let told = b"  x/y: entity not found\n";
     assert!(rt;
-        ends_with(&rt, &["--explain", "x/y"], files, read, b"", told)
+        ends_with(&rt, &["--explain", "x/y"], files, read, (b"", told))
             && ends_with(
                 &rt,
                 &["m", "-s", "x/y", "--explain"],
                 files,
                 read,
-                b"",
-                told
+                (b"", told)
             )
             && ends_with(
                 &rt,
                 &["m", "--since", "x/y", "--explain"],
                 files,
                 since,
-                b"",
-                told
+                (b"", told)
             )
-            && ends_with(&rt, &["m", "-s", "x/y"], files, read, b"", b"")
+            && ends_with(&rt, &["m", "-s", "x/y"], files, read, (b"", b""))
     );
 }
 
@@ -167,9 +165,8 @@ fn written_weights_are_told_where_reasons_are_asked_for(rt: HostRuntime) {
             &["m", "--since", "m", "--explain"],
             files,
             done,
-            NO_CHANGE,
-            told
-        ) && ends_with(&rt, &["m", "--since", "m"], files, done, NO_CHANGE, b"")
+            (NO_CHANGE, told)
+        ) && ends_with(&rt, &["m", "--since", "m"], files, done, (NO_CHANGE, b""))
     );
 }
 

@@ -137,15 +137,16 @@ fn stops_at_a_failed_read(rt: HostRuntime) {
     }
 }
 
-/// Whether a prefix of the whole output is written where there is room for so many bytes.
-fn leaves_a_front(
+/// Whether of a job, which comes before its output, a prefix of the output is written where there is
+/// room for so many bytes.
+fn leaves_a_prefix(
     rt: &(impl AllocGlobal + RandomSource + Threads + Wait + Sync),
-    job: &[u8],
-    whole: &[u8],
+    run: (&[u8], &[u8]),
     room: usize,
     answers_error: bool,
     way: Failing,
 ) -> bool {
+    let (job, whole) = run;
     let taken = Vec::new(rt.alloc());
     let mut writer = FailingWriter {
         taken,
@@ -161,16 +162,16 @@ fn leaves_a_front(
 }
 
 #[test]
-fn leaves_a_front_at_a_failed_write(rt: HostRuntime) {
+fn leaves_a_prefix_at_a_failed_write(rt: HostRuntime) {
     let job = joined(&rt, PLAIN, SCRIPT);
     let line = b"# 1 a reweight osd.2 1.00000 = done changed 1 made 0\n";
     let whole = joined(&rt, REWEIGHED, line);
-    let (job, whole) = (job.as_slice(), whole.as_slice());
-    for room in 0..whole.len() {
+    let run = (job.as_slice(), whole.as_slice());
+    for room in 0..run.1.len() {
         for way in WAYS {
             assert!(rt;
-                leaves_a_front(&rt, job, whole, room, true, way)
-                    && leaves_a_front(&rt, job, whole, room, false, way)
+                leaves_a_prefix(&rt, run, room, true, way)
+                    && leaves_a_prefix(&rt, run, room, false, way)
             );
         }
     }

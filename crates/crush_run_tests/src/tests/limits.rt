@@ -53,8 +53,8 @@ fn edits_the_most_buckets(rt: HostRuntime) {
     let before = chain(&rt, "1.00000");
     let job = joined(&rt, before.as_slice(), SCRIPT);
     let after = chain(&rt, "2.00000");
-    let summary = summary(0, 6, 3);
-    assert!(rt; writes(&rt, MODE, job.as_slice(), after.as_slice(), LINES, summary));
+    let output = (after.as_slice(), LINES);
+    assert!(rt; writes(&rt, MODE, job.as_slice(), output, summary(0, 6, 3)));
 }
 
 /// What two operators call by turns in the chain: the innermost device and the innermost bucket are

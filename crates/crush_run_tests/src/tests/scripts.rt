@@ -40,17 +40,16 @@ pub(super) fn ends_so(
     outcome: Result<Summary, RunFault>,
     output: &[u8],
 ) -> bool {
-    ends_with(rt, words, files, outcome, output, b"")
+    ends_with(rt, words, files, outcome, (output, b""))
 }
 
-/// Whether it does, and notes this.
+/// Whether it comes to this outcome, and writes and notes these.
 pub(super) fn ends_with(
     rt: &(impl Abort + AllocGlobal + RandomSource + Threads + Wait + Sync),
     words: &[&str],
     files: &[(&str, &[u8])],
     outcome: Result<Summary, RunFault>,
-    output: &[u8],
-    notes: &[u8],
+    texts: (&[u8], &[u8]),
 ) -> bool {
     let Ok(options) = options(rt.alloc(), words) else {
         panic!(rt; "the words are refused")
@@ -60,9 +59,9 @@ pub(super) fn ends_with(
     let mut input: &[u8] = b"";
     let ending = run_options(rt, &shelf, &options, &mut input, &mut out);
     drop(options);
-    let came = ending.outcome == outcome && ending.notes.as_slice() == notes;
+    let came = ending.outcome == outcome && ending.notes.as_slice() == texts.1;
     drop(ending);
-    came && out.as_slice() == output
+    came && out.as_slice() == texts.0
 }
 
 /// A script that names no operator, behind a comment and blanks.

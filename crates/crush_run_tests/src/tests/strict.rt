@@ -16,16 +16,22 @@ const STRICT: Mode = Mode {
     explain: false,
 };
 
-/// Whether a run of the job comes to this outcome, writes this, and tells this with this status.
+/// What a run comes to, what it writes, and what it tells with which status.
+#[derive(Clone, Copy)]
+pub(super) struct End<'a> {
+    pub(super) outcome: Result<Summary, RunFault>,
+    pub(super) output: &'a [u8],
+    pub(super) told: &'a [u8],
+    pub(super) status: u8,
+}
+
+/// Whether a run of the job ends like this.
 pub(super) fn ends_so(
     rt: &(impl AllocGlobal + RandomSource + Threads + Wait + Sync),
     mode: Mode,
     asked: Asked,
     job: &[u8],
-    outcome: Result<Summary, RunFault>,
-    output: &[u8],
-    told: &[u8],
-    status: u8,
+    end: &End<'_>,
 ) -> bool {
     let mut out = Vec::new(rt.alloc());
     let mut err = Vec::new(rt.alloc());
@@ -37,10 +43,30 @@ pub(super) fn ends_so(
         mode.explain,
         ending.notes.as_slice(),
         &mut err,
-    ) == status;
-    let came = ending.outcome == outcome;
+    ) == end.status;
+    let came = ending.outcome == end.outcome;
     drop(ending);
-    came && told_so && out.as_slice() == output && err.as_slice() == told
+    came && told_so && out.as_slice() == end.output && err.as_slice() == end.told
+}
+
+/// The end of a strict run in which two calls are refused, whose lines are these.
+pub(super) fn refused_two(lines: &[u8]) -> End<'_> {
+    End {
+        outcome: Err(RunFault::Refused(2)),
+        output: b"",
+        told: lines,
+        status: 5,
+    }
+}
+
+/// The end of a run of so many calls that change nothing, which writes this.
+fn unchanged(calls: u32, output: &[u8]) -> End<'_> {
+    End {
+        outcome: Ok(summary(0, calls, 0)),
+        output,
+        told: b"",
+        status: 0,
+    }
 }
 
 /// A bucket that isn't empty, a new weight, and an item that isn't there.
@@ -52,33 +78,16 @@ const TWO_LINES: &[u8] =
 #[test]
 fn a_strict_run_tells_all_that_is_refused(rt: HostRuntime) {
     let job = joined(&rt, PLAIN, TWO_REFUSED);
-    let outcome = Err(RunFault::Refused(2));
     let alone = Mode {
         in_turn: false,
         history: false,
         strict: true,
         explain: false,
     };
+    let end = refused_two(TWO_LINES);
     assert!(rt;
-        ends_so(
-            &rt,
-            STRICT,
-            Asked::Map,
-            job.as_slice(),
-            outcome,
-            b"",
-            TWO_LINES,
-            5
-        ) && ends_so(
-            &rt,
-            alone,
-            Asked::Tree,
-            job.as_slice(),
-            outcome,
-            b"",
-            TWO_LINES,
-            5
-        )
+        ends_so(&rt, STRICT, Asked::Map, job.as_slice(), &end)
+            && ends_so(&rt, alone, Asked::Tree, job.as_slice(), &end)
     );
 }
 
@@ -92,19 +101,8 @@ const BATCH_LINES: &[u8] =
 #[test]
 fn refused_batches_are_refused_entries(rt: HostRuntime) {
     let job = joined(&rt, PLAIN, BATCHES);
-    let outcome = Err(RunFault::Refused(2));
-    assert!(rt;
-        ends_so(
-            &rt,
-            STRICT,
-            Asked::Map,
-            job.as_slice(),
-            outcome,
-            b"",
-            BATCH_LINES,
-            5
-        )
-    );
+    let end = refused_two(BATCH_LINES);
+    assert!(rt; ends_so(&rt, STRICT, Asked::Map, job.as_slice(), &end));
 }
 
 /// The tree of the plain example map.
@@ -116,26 +114,9 @@ fn the_tree_is_written_in_the_place_of_the_map(rt: HostRuntime) {
     let job = joined(&rt, PLAIN, b"%operator a\nbegin\ncommit\n");
     let lines = b"# 1 a begin ; commit = dones 0 changed 0 made 0\n";
     let output = joined(&rt, TREE, lines);
-    let outcome = Ok(summary(0, 1, 0));
+    let (once, never) = (unchanged(1, output.as_slice()), unchanged(0, TREE));
     assert!(rt;
-        ends_so(
-            &rt,
-            STRICT,
-            Asked::Tree,
-            job.as_slice(),
-            outcome,
-            output.as_slice(),
-            b"",
-            0
-        ) && ends_so(
-            &rt,
-            MODE,
-            Asked::Tree,
-            PLAIN,
-            Ok(summary(0, 0, 0)),
-            TREE,
-            b"",
-            0
-        )
+        ends_so(&rt, STRICT, Asked::Tree, job.as_slice(), &once)
+            && ends_so(&rt, MODE, Asked::Tree, PLAIN, &never)
     );
 }

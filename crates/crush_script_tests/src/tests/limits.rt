@@ -35,14 +35,14 @@ fn put_lines(
     }
 }
 
-/// Such lines for each of the numbers behind the front.
+/// Such lines for each of the numbers behind the text.
 fn with_lines(
     rt: &(impl Abort + AllocGlobal),
-    front: &[u8],
+    before: &[u8],
     line: &[u8],
     numbers: Range<u32>,
 ) -> Vec<u8> {
-    let mut text = joined(rt, &[front]);
+    let mut text = joined(rt, &[before]);
     put_lines(rt, &mut text, line, numbers);
     text
 }
@@ -65,9 +65,9 @@ fn at_most_65536_devices(rt: HostRuntime) {
 /// A text with a chain of the buckets 1 to 4,096, each but the first with the one before it as its item:
 /// a bucket stands before it is an item, so the first is the lowest.
 fn chain(rt: &(impl Abort + AllocGlobal)) -> Vec<u8> {
-    let front = b"type 1 host\nhost b1 { id -1 alg straw2 }\n";
+    let before = b"type 1 host\nhost b1 { id -1 alg straw2 }\n";
     let line = b"host b@ { id -@ alg straw2 item b~ weight 0 }\n";
-    with_lines(rt, front, line, 2..4097)
+    with_lines(rt, before, line, 2..4097)
 }
 
 /// What is refused behind 4,096 buckets, with what for: one more bucket, unless its first word names
@@ -116,14 +116,14 @@ fn heaviest(rt: &(impl Abort + AllocGlobal)) -> Vec<u8> {
 
 #[test]
 fn a_total_of_at_most_8796093022207_units(rt: HostRuntime) {
-    let front = heaviest(&rt);
-    let most = joined(&rt, &[front.as_slice(), b"0.03123 }"]);
+    let before = heaviest(&rt);
+    let most = joined(&rt, &[before.as_slice(), b"0.03123 }"]);
     let map = map_of(&rt, most.as_slice());
     let total = map.total();
     drop(map);
     let is_refused = is_refused_behind(
         &rt,
-        front.as_slice(),
+        before.as_slice(),
         b"0.03125 }",
         TextFaultKind::SumTooLarge,
     );

@@ -26,15 +26,15 @@ fn copied(rt: &(impl Abort + AllocGlobal), call: Call) -> Call {
     copy
 }
 
-/// Whether the call of an operator, so answered, makes the line.
+/// Whether the call of a number and an operator, so answered, makes the line.
 fn has_line(
     rt: &impl AllocGlobal,
     call: &Call,
-    number: u32,
-    operator: &[u8],
+    of: (u32, &[u8]),
     reply: Reply,
     line: &[u8],
 ) -> bool {
+    let (number, operator) = of;
     let mut out = Vec::new(rt.alloc());
     let written = write_entry(number, operator, call, reply, &mut out);
     written.is_ok() && out.as_slice() == line
@@ -49,14 +49,14 @@ fn is_single(rt: &impl AllocGlobal, call: &Call) -> bool {
     let refused = Reply::Refused(Refusal::NotPlaced);
     let line = b"# 4 b reweight osd.0 0.33299 = done changed 0 made 2\n";
     let last = b"# 65536 op-1 reweight osd.0 0.33299 = refused NotPlaced 2\n";
-    has_line(rt, call, 4, b"b", done, line) && has_line(rt, call, 65536, b"op-1", refused, last)
+    has_line(rt, call, (4, b"b"), done, line) && has_line(rt, call, (65536, b"op-1"), refused, last)
 }
 
 /// Whether a batch that reweights osd.2 makes its line where it is refused as a single call is.
 fn is_batch(rt: &impl AllocGlobal, call: &Call) -> bool {
     let refused = Reply::Refused(Refusal::Loop);
     let line = b"# 1 a begin ; reweight osd.2 1.00000 ; commit = refused Loop 40\n";
-    has_line(rt, call, 1, b"a", refused, line)
+    has_line(rt, call, (1, b"a"), refused, line)
 }
 
 /// Whether a batch without edits makes its line where it is answered like one that has many.
@@ -67,7 +67,7 @@ fn is_empty_batch(rt: &impl AllocGlobal, call: &Call) -> bool {
         made: 4096,
     });
     let line = b"# 65536 b begin ; commit = dones 65536 changed 12 made 4096\n";
-    has_line(rt, call, 65536, b"b", done, line)
+    has_line(rt, call, (65536, b"b"), done, line)
 }
 
 #[test]

@@ -46,7 +46,7 @@ fn parts_go_out_one_after_the_other(rt: HostRuntime) {
     );
 }
 
-/// Whether the front of a line for which there is room is written of its two parts, with this answer.
+/// Whether the prefix of a line for which there is room is written of its two parts, with this answer.
 fn is_answer(
     rt: &impl AllocGlobal,
     room: usize,
@@ -61,11 +61,11 @@ fn is_answer(
         && b"item osd.0 weight 1.00000".starts_with(out.held.as_slice())
 }
 
-/// Rooms for a front of that line, and how a write behind it ends: by a failure, or with no byte taken.
+/// Rooms for a prefix of that line, and how a write behind it ends: by a failure, or with no byte taken.
 const ROOMS: &[(usize, bool)] = &[(0, true), (7, true), (12, false), (24, true), (24, false)];
 
 #[test]
-fn a_front_stands_after_a_failure(rt: HostRuntime) {
+fn a_prefix_stands_after_a_failure(rt: HostRuntime) {
     for (room, fails) in ROOMS {
         assert!(rt; is_answer(&rt, *room, *fails, Err(WriteFault::Write)));
     }

@@ -58,7 +58,7 @@ pub(crate) fn push_line(
     Ok(())
 }
 
-/// Parts without the mark in front of the first.
+/// Parts without the mark before the first.
 fn after_mark(parts: &[u8]) -> &[u8]
     requires { 2 ≤ length parts.now }
     ensures { result.now ≡ drop 2 parts.now }

@@ -1,16 +1,16 @@
 use Rattle.std.proofs.Common.{List, [], Option, ℕ, refl, sym, ◌∙◌}
 use Rattle.std.proofs.lemmas.List.{append-nil}
-use Rattle.crush_bytes.specs.Writes.{AppendsFront}
+use Rattle.crush_bytes.specs.Writes.{AppendsPrefix}
 use Rattle.crush_bytes.proofs.Appending.{appends_nothing}
 use Rattle.crush_report.proofs.ending.tell.Goals as goal
 
--- nothing is a front of any text
-no_front : (old : Option (List ℕ)) (text : List ℕ) → AppendsFront old old text
-no_front old text = ([], text, refl, appends_nothing old)
+-- nothing is a prefix of any text
+no_prefix : (old : Option (List ℕ)) (text : List ℕ) → AppendsPrefix old old text
+no_prefix old text = ([], text, refl, appends_nothing old)
 
 pub returns-in-Ok-clause-out : goal.returns-in-Ok-clause-out
 returns-in-Ok-clause-out g c =
     rw c.in-Help.is (c.as_bytes.result.now, [], sym c.as_bytes.ensures.value ∙ sym (append-nil c.as_bytes.result.now), c.in-Ok.ensures.writes)
 
 pub returns-in-Ok-clause-line : goal.returns-in-Ok-clause-line
-returns-in-Ok-clause-line g c = rw c.in-Help.is (no_front _ _)
+returns-in-Ok-clause-line g c = rw c.in-Help.is (no_prefix _ _)

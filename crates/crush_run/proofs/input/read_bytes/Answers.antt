@@ -27,20 +27,20 @@ loop-preserved g c = record {
 pub returns-in-Err-clause-bytes : goal.returns-in-Err-clause-bytes
 returns-in-Err-clause-bytes g c = tt
 
-pub returns-in-Err-clause-prefix : goal.returns-in-Err-clause-prefix
-returns-in-Err-clause-prefix g c = few_kept _ _ _ c.loop.bytes.items c.loop.invariant.taken c.in-Err.ensures.bytes (omega (arith, c.loop.invariant.few))
+pub returns-in-Err-clause-taken : goal.returns-in-Err-clause-taken
+returns-in-Err-clause-taken g c = few_kept _ _ _ c.loop.bytes.items c.loop.invariant.taken c.in-Err.ensures.bytes (omega (arith, c.loop.invariant.few))
 
-pub returns-in-Ok-eq0-clause-taken : goal.returns-in-Ok-eq0-clause-taken
-returns-in-Ok-eq0-clause-taken g c =
+pub returns-in-Ok-eq0-clause-consumed : goal.returns-in-Ok-eq0-clause-consumed
+returns-in-Ok-eq0-clause-consumed g c =
     Consumes-no_more _ _ _ _ c.read.new.buf _ c.loop.invariant.taken c.in-Ok-eq0.ensures.bytes.0 c.in-Ok-eq0.field-0-test
 
-pub returns-then-len-eq-MOST_BYTES-clause-taken : goal.returns-then-len-eq-MOST_BYTES-clause-taken
-returns-then-len-eq-MOST_BYTES-clause-taken g c =
+pub returns-then-len-eq-MOST_BYTES-clause-consumed : goal.returns-then-len-eq-MOST_BYTES-clause-consumed
+returns-then-len-eq-MOST_BYTES-clause-consumed g c =
     Consumes-piece _ _ _ _ _ _ c.loop.invariant.taken c.in-Ok.ensures.bytes.0 c.in_ok-extend_from_slice-in-Ok.ensures.items
 
 -- a piece for which there is no room was taken too
-pub returns-in_err-extend_from_slice-in-Ok-clause-prefix : goal.returns-in_err-extend_from_slice-in-Ok-clause-prefix
-returns-in_err-extend_from_slice-in-Ok-clause-prefix g c =
+pub returns-in_err-extend_from_slice-in-Ok-clause-taken : goal.returns-in_err-extend_from_slice-in-Ok-clause-taken
+returns-in_err-extend_from_slice-in-Ok-clause-taken g c =
     let p = err_from_is_err_and c.from_residual.result c.from_residual.ensures.1 in
     let few : length c.loop.bytes.items + length (take c.in-Ok.count c.read.new.buf) ≤ MOST_BYTES = search rules in
     rw p.1 (few_then _ _ _ c.loop.bytes.items _ c.loop.invariant.taken c.in-Ok.ensures.bytes.0 few)

@@ -21,7 +21,7 @@ returns-in-Ok-clause-fault g c = run_fault_of_all c.args.plan.now.mode c.run_byt
 
 -- what was read is what was taken of the reader
 pub returns-in-Ok-clause-taken : goal.returns-in-Ok-clause-taken
-returns-in-Ok-clause-taken g c = (c.in-Ok.bytes.items, c.in-Ok.ensures.few, c.in-Ok.ensures.taken)
+returns-in-Ok-clause-taken g c = (c.in-Ok.bytes.items, c.in-Ok.ensures.few, c.in-Ok.ensures.consumed)
 
 -- a fault of the reader comes before there is a job
 pub returns-in-Err-clause-output : goal.returns-in-Err-clause-output
@@ -35,4 +35,4 @@ pub returns-in-Err-clause-fault : goal.returns-in-Err-clause-fault
 returns-in-Err-clause-fault g c = rw c.quietly.ensures.outcome (run_fault_of_input c.args.plan.now.mode _ _ c.in-Err.ensures.fault)
 
 pub returns-in-Err-clause-taken : goal.returns-in-Err-clause-taken
-returns-in-Err-clause-taken g c = c.in-Err.ensures.prefix
+returns-in-Err-clause-taken g c = c.in-Err.ensures.taken
