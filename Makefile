@@ -64,6 +64,7 @@ trials: $(PROGRAM)
 	python3 bench/at_once.py $(PROGRAM) 200
 	python3 bench/refused_memory.py $(PROGRAM)
 	python3 bench/limits.py $(PROGRAM) --fits 1024
+	python3 bench/colliding.py $(PROGRAM)
 	python3 bench/streams.py $(PROGRAM)
 
 clean:

@@ -144,7 +144,7 @@ def moves_at_the_foot(size, first_id=1):
 
 
 def moves_at_the_foot_of_far_ids(size):
-    """The same, with ids that no table has, so that each level of a climb is hashed."""
+    """The same, with ids that no table has, so that a climb begins with a hash."""
     return moves_at_the_foot(size, FAR)
 
 

@@ -430,7 +430,8 @@ def main():
             refuse_all(pool, program, library, jobs, tests)
             print(f"{take_none(program, library)} kinds of call that take no memory of a map: none asks for any")
             if of_editor:
-                print(f"{look_often(of_editor, library)} pairs of tests: 1,000 looks ask for no more memory than one")
+                print(f"{look_often(of_editor, library)} pairs of tests: 1,000 looks, and 16 closes, ask for no more "
+                      "memory than one")
         except Ending as ending:
             pool.shutdown(cancel_futures=True)
             sys.exit(str(ending))

@@ -59,7 +59,7 @@ VERSIONS = {
 TO_COME = "To come"
 # The clauses that say which of several faults is told, and those that say what is left of what a call was lent.
 TOLD = {"refused", "fault", "flaw", "full", "none", "memory"}
-LEFT = {"unchanged", "err", "nothing", "writes"}
+LEFT = {"unchanged", "as_before", "err", "nothing", "writes"}
 # Crates whose functions are public for the tree alone, and those of which nobody calls a function.
 INSIDE = {"crush_nodes", "crush_changes"}
 PROGRAMS = {"crush_examples", "crush_growths", "crush_one_edit", "crush_two_operators", "crushedit"}
@@ -255,16 +255,27 @@ def told_of(head):
     return found[1] if found else next((ENDINGS[name] for name in ENDINGS if re.search(rf"-> {name}\b", head)), None)
 
 
+def fields_of_records():
+    """The fields of each record of specs/ by its name: where a clause cites one, each of them counts as a clause."""
+    fields = {}
+    for path in crate_files():
+        if path.suffix == ".antt" and "specs" in path.parts:
+            for name, body in re.findall(r"(?m)^pub record (\w+)[^\n]*\n((?:  pub [^\n]*\n)+)", path.read_text()):
+                fields.setdefault(name, set()).update(re.findall(r"(?m)^  pub (\w+) :", body))
+    return fields
+
+
 def call_faults():
     """Which calls have no clause that says which of several faults is told, or what is left, and aren't told of in PROVED.md."""
     section = sections_of("PROVED.md")["Each public call"]
     sources, named, waiting = "".join(path.read_text() for path in crate_files()), set(quoted(section)), set()
-    without = set(quoted(re.search(r"(?m)^Without such a clause.*$", section)[0]))
+    without, records = set(quoted(re.search(r"(?m)^Without such a clause.*$", section)[0])), fields_of_records()
     for _, name, text in contracts():
         fault, head = told_of(text), re.split(r"\bensures\b|\brequires\b", text)[0]
         body = re.search(rf"pub enum {fault}(?:Kind)?\b[^{{]*\{{(.*?)\n\}}", sources, re.S) if fault else None
         several = body and len(re.findall(r"(?m)^    [A-Z]", body[1])) > 1
         clauses = set(re.findall(r"\bensures (\w+) \{", text))
+        clauses.update(*(records.get(name, ()) for name in re.findall(r"\bensures (?:\w+ )?\{ (\w+)", text)))
         for wanted, asked in ((TOLD, several), (LEFT, fault and "&mut" in head)):
             if asked and not clauses & wanted and not {name, name.split("::")[0]} & without:
                 yield f"{name} has no clause of {', '.join(sorted(wanted))}"

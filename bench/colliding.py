@@ -1,0 +1,75 @@
+"""Whether names that collide without keys of hashing take longer than others.
+
+    python3 bench/colliding.py crates/crushedit/out/crushedit
+
+Keys are drawn anew for each run, so that nobody can work out names that collide. A run that lost them answers the same,
+and only takes longer: so each job is run with names that all hash alike without keys, and with as many others of the
+same length. The jobs read a map and look for names that aren't there; read a map that `--since` names; and make batches
+on copies of a map. Printed are the processor seconds of each, the least of three runs; the status is 1 where the first
+are more than three times the second.
+"""
+
+import os
+import pathlib
+import subprocess
+import sys
+import tempfile
+
+from hostile import OPERATOR, colliding
+
+MOST = 3
+
+
+def devices(names):
+    return [f"device {number} {name}" for number, name in enumerate(names)]
+
+
+def reading(names, absent):
+    return devices(names) + [OPERATOR] + [f"rm {name}" for name in absent * 8], []
+
+
+def since(names, absent):
+    return [OPERATOR], devices(names + absent)
+
+
+def batches(names, absent):
+    names = names[:2000]
+    lines = [line for number in range(300) for line in
+             ("begin", f"set-device-class c{number} {names[0]}", f"rm {absent[0]}", "commit")]
+    return devices(names) + [OPERATOR] + lines, []
+
+
+def seconds(program, job, earlier):
+    """The least processor time of three runs of a job, with the map of `--since`, if there is one."""
+    taken = []
+    for _ in range(3):
+        with open(job, "rb") as stdin:
+            run = subprocess.Popen([program, *earlier], stdin=stdin, stdout=subprocess.DEVNULL)
+            _, how, used = os.wait4(run.pid, 0)
+            run.returncode = os.waitstatus_to_exitcode(how)
+        if run.returncode:
+            sys.exit(f"{job.name}: status {run.returncode}")
+        taken.append(used.ru_utime + used.ru_stime)
+    return min(taken)
+
+
+def main():
+    program, count = os.path.abspath(sys.argv[1]), 8000
+    sets = colliding(count), [f"{number:020x}" for number in range(count)]
+    is_slow = False
+    with tempfile.TemporaryDirectory() as folder:
+        job, other = pathlib.Path(folder, "job"), pathlib.Path(folder, "map")
+        for kind in (reading, since, batches):
+            taken = []
+            for names in sets:
+                lines, earlier = kind(names[:-1000], names[-1000:])
+                job.write_text("\n".join(lines) + "\n")
+                other.write_text("\n".join(earlier) + "\n")
+                taken.append(seconds(program, job, ["--since", str(other)] if earlier else []))
+            print(f"{kind.__name__:10}{taken[0]:8.3f}{taken[1]:8.3f}", flush=True)
+            is_slow |= taken[0] > MOST * taken[1]
+    sys.exit(is_slow)
+
+
+if __name__ == "__main__":
+    main()
