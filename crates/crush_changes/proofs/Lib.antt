@@ -8,6 +8,7 @@ pub mod MoveLaws
 pub mod MoveSteps
 pub mod NewNameLaws
 pub mod PutLastLaws
+pub mod RangeLaws
 pub mod RenameLaws
 pub mod ShuffleLaws
 pub mod SubtreeLaws

@@ -3,6 +3,7 @@ pub mod Classed
 pub mod Moving
 pub mod Named
 pub mod Putting
+pub mod Replaced
 pub mod Shuffled
 pub mod Subtree
 pub mod Swapping

@@ -54,7 +54,7 @@ weight_sent : IsSend (as_row Weight.the_field)
 weight_sent = search sendable depth 10
 
 bucket_sent : IsSend (Bucket.the_row Global.the_row GlobalImpl.ghosts)
-bucket_sent = send-Bucket Global.the_row GlobalImpl.ghosts header_sent weight_sent (λ h s. Vec-send h s) (as_row_send (Leaf.the_field Global.the_row GlobalImpl.ghosts) leaf_sent) (λ h s. Box-send h s)
+bucket_sent = send-Bucket Global.the_row GlobalImpl.ghosts (λ h s. Vec-send h s) weight_sent header_sent (as_row_send (Leaf.the_field Global.the_row GlobalImpl.ghosts) leaf_sent) (λ h s. Box-send h s)
 
 node_sent : IsSend (Node.the_row Global.the_row GlobalImpl.ghosts)
 node_sent = as_row_send (Node.the_field Global.the_row GlobalImpl.ghosts) (send-Node Global.the_row GlobalImpl.ghosts leaf_sent (λ h s. Box-send h s) bucket_sent)

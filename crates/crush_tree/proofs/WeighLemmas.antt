@@ -1,3 +1,4 @@
 pub mod OneDevice
 pub mod Subtree
 pub mod Others
+pub mod Replaced
