@@ -1,5 +1,5 @@
 -- What is told of slots, and how they change.
-use Rattle.std.specs.Prelude.{◌≡◌, ◌<◌, ◌≤◌, ◌==◌, ℕ, Option, if◌then◌else◌, length}
+use Rattle.std.specs.Prelude.{◌≡◌, ◌<◌, ◌≤◌, ◌==◌, ℕ, Option, Some, None, Result, IfOk, IfSome, if◌then◌else◌, length}
 use Rattle.crush_table.specs.Columns.{exchange_id}
 use Rattle.crush_index.specs.NumberedTold.{told_at, numbered_hashing}
 use Rattle.crush_index.specs.SlotsKept.{slot_in, kept_of, IsWithin}
@@ -46,3 +46,24 @@ pub record Exchanges (a b : ℕ) (old new : Slots) : Type 0 where
   pub bucket : (s : ℕ) → s < count old → (slot_at new s).bucket ≡ exchange_id (slot_at old a).bucket (slot_at old b).bucket (slot_at old s).bucket
   pub within : (n : ℕ) → ((s : ℕ) → IsWithin n (slot_at old s).kept) → (s : ℕ) → IsWithin n (slot_at new s).kept
   pub told : (c : ℕ) → kept_told new c ≡ kept_told old c
+
+-- there are no slots, and those that come will be hashed so
+pub record IsBare (h : Hashing) (slots : Slots) : Type 0 where
+  pub none : (b : ℕ) → kept_told slots b ≡ None
+  pub empty : (s : ℕ) → (slot_at slots s).kept ≡ None
+  pub hashing : slots_hashing slots ≡ h
+
+-- the answer is the slot of a bucket, which is one of those that there are, the bucket's own, with what is kept of the bucket
+pub record TellsSlot (b : ℕ) (slots : Slots) (answer : Option ℕ) : Type 0 where
+  pub told : answer ≡ slot_told slots b
+  pub within : IfSome answer (λ s. s < count slots)
+  pub bucket : IfSome answer (λ s. (slot_at slots s).bucket ≡ b)
+  pub kept : IfSome answer (λ s. kept_told slots b ≡ (slot_at slots s).kept)
+
+-- slots may have come, and the answer is the slot of a bucket
+pub record Adds {E : Type 0} (b : ℕ) (old new : Slots) (answer : Result ℕ E) : Type 0 where
+  pub grows : Grows old new
+  pub within : IfOk answer (λ s. s < count new)
+  pub bucket : IfOk answer (λ s. (slot_at new s).bucket ≡ b)
+  pub told : IfOk answer (λ s. slot_told new b ≡ Some s)
+  pub hashing : slots_hashing new ≡ slots_hashing old

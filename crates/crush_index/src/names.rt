@@ -1,9 +1,10 @@
 //! The ids of names.
 
-ghost use Rattle.std.specs.Prelude.{◌≡◌, true, false, Some, None, OnOk, OnErr, List, ℕ, ◌++◌, ◌∷◌, [], bytes_eq};
+ghost use Rattle.std.specs.Prelude.{◌≡◌, true, false, Some, None, List, ℕ, ◌++◌, ◌∷◌, [], bytes_eq};
 ghost use Rattle.crush_table.specs.Table.{Row, is_named, name_of};
 ghost use Rattle.crush_index.specs.Hashings.{names_hashing};
-ghost use Rattle.crush_index.specs.NamesTold.{id_told, TellsSame, TellsOne, TellsTwo};
+ghost use Rattle.crush_index.specs.NamesChanged.{Inserts, Renames};
+ghost use Rattle.crush_index.specs.NamesTold.{id_told, TellsOne, TellsTwo};
 
 use crate::hashing::Hashing;
 use crate::key::{Asked, Key};
@@ -40,9 +41,7 @@ impl Names {
 
     /// The name of an item that comes. An Err is out of memory, and nothing has changed then.
     pub fn insert(&mut self, name: Name<Global>, id: ItemId) -> Result<(), AllocError>
-        ensures ok { OnOk result (TellsOne self.old self.new name (Some id)) }
-        ensures err { OnErr result (TellsSame self.old self.new) }
-        ensures hashing { names_hashing self.new ≡ names_hashing self.old }
+        ensures { Inserts name id self.old self.new result }
     {
         self.ids.insert(Key::of(name), id)?;
         Ok(())
@@ -61,9 +60,7 @@ impl Names {
     pub fn rename(&mut self, from: &[u8], to: Name<Global>, id: ItemId) -> Result<(), AllocError>
         requires there { id_told self.old from.now ≡ Some id }
         requires free { id_told self.old to ≡ None }
-        ensures ok { OnOk result (TellsTwo self.old self.new to (Some id) from.now None) }
-        ensures err { OnErr result (TellsSame self.old self.new) }
-        ensures hashing { names_hashing self.new ≡ names_hashing self.old }
+        ensures { Renames from.now to id self.old self.new result }
     {
         self.ids.insert(Key::of(to), id)?;
         self.ids.swap_remove(Asked { bytes: from });

@@ -1,6 +1,6 @@
 //! Which ids buckets and class ids use.
 
-ghost use Rattle.std.specs.Prelude.{◌≡◌, ◌+◌, ◌*◌, ◌/◌, ◌≤◌, ◌<◌, ℕ, true, false, OnOk, OnErr, IfSome, IfNone, length, slice_index};
+ghost use Rattle.std.specs.Prelude.{◌≡◌, ◌+◌, ◌*◌, ◌/◌, ◌≤◌, ◌<◌, ℕ, false, OnOk, IfSome, IfNone, length, slice_index};
 
 use crate::hashing::Hashing;
 use crate::word::{first_clear, is_set, with_bit, without_bit};
@@ -26,7 +26,8 @@ pub struct UsedIds {
 
 impl UsedIds {
     ghost use Rattle.crush_index.specs.Hashings.{used_hashing};
-    ghost use Rattle.crush_index.specs.UsedTold.{used_told, UsesSame, UsesOne, AreAllUsed, IsFirstFree};
+    ghost use Rattle.crush_index.specs.UsedChanged.{Inserts};
+    ghost use Rattle.crush_index.specs.UsedTold.{used_told, UsesOne, AreAllUsed, IsFirstFree};
 
     /// No ids. It takes no memory.
     pub fn new(alloc: Global, hashing: Hashing) -> UsedIds
@@ -52,9 +53,7 @@ impl UsedIds {
 
     /// An id that comes into use. An Err is out of memory, and nothing has changed then.
     pub fn insert(&mut self, id: u32) -> Result<(), AllocError>
-        ensures ok { OnOk result (UsesOne self.old self.new id true) }
-        ensures err { OnErr result (UsesSame self.old self.new) }
-        ensures hashing { used_hashing self.new ≡ used_hashing self.old }
+        ensures { Inserts id self.old self.new result }
     {
         if id < NEAR {
             let place = id as usize / 64;

@@ -1,0 +1,10 @@
+-- What became of what is kept of numbers: old is it before a call, new after it.
+use Rattle.std.specs.Prelude.{◌≡◌, ℕ, Some, Result, OnOk, OnErr}
+use Rattle.crush_index.specs.NumberedTold.{NumberedSame, NumberedWith, numbered_hashing}
+use Rattle.crush_index.specs.declared.numbered.Numbered.{Numbered}
+
+-- this is kept of the number; after an error the same of each number as before
+pub record Inserts {T X E : Type 0} (number : ℕ) (kept : T) (old new : Numbered T) (answer : Result X E) : Type 0 where
+  pub ok : OnOk answer (NumberedWith old new number (Some kept))
+  pub err : OnErr answer (NumberedSame old new)
+  pub hashing : numbered_hashing new ≡ numbered_hashing old

@@ -1,0 +1,13 @@
+-- What became of an index of places: old is the one before a call, new the one after it.
+use Rattle.std.specs.Prelude.{◌≡◌, Some, Result, OnOk, OnErr}
+use Rattle.crush_units.specs.declared.id.ItemId.{ItemId}
+use Rattle.crush_nodes.specs.declared.place.Place.{Place}
+use Rattle.crush_index.specs.Hashings.{places_hashings}
+use Rattle.crush_index.specs.PlacesTold.{StandsSame, StandsAt}
+use Rattle.crush_index.specs.declared.places.Places.{Places}
+
+-- the item stands at the place; after an error each item stands where it stood
+pub record Inserts {X E : Type 0} (i : ItemId) (place : Place) (old new : Places) (answer : Result X E) : Type 0 where
+  pub ok : OnOk answer (StandsAt old new i (Some place))
+  pub err : OnErr answer (StandsSame old new)
+  pub hashing : places_hashings new ≡ places_hashings old

@@ -1,0 +1,11 @@
+-- What became of an index of used ids: old is the one before a call, new the one after it.
+use Rattle.std.specs.Prelude.{◌≡◌, ℕ, true, Result, OnOk, OnErr}
+use Rattle.crush_index.specs.Hashings.{used_hashing}
+use Rattle.crush_index.specs.UsedTold.{UsesSame, UsesOne}
+use Rattle.crush_index.specs.declared.used.UsedIds.{UsedIds}
+
+-- the id is in use; after an error the same ids are in use as before
+pub record Inserts {X E : Type 0} (id : ℕ) (old new : UsedIds) (answer : Result X E) : Type 0 where
+  pub ok : OnOk answer (UsesOne old new id true)
+  pub err : OnErr answer (UsesSame old new)
+  pub hashing : used_hashing new ≡ used_hashing old
