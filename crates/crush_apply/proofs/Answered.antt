@@ -53,6 +53,11 @@ when_lacking a f g (Err e) h same changes = record {
   still = tt;
 }
 
+-- an Err that is passed on
+pub when_passed : (a : List Row → Answer) (f g : ForestData) (e : EditFault) (x : Result Done EditFault) → IsErrAnd x (λ z. z ≡ e) → AnswersAs a f g (Err e) → AnswersAs a f g x
+when_passed a f g e (Ok d) h told = elim h [ ]
+when_passed a f g e (Err z) h told = subst (λ y. AnswersAs a f g (Err y)) (sym h) told
+
 -- what the table answers alike
 pub when_same : (a b : List Row → Answer) (f g : ForestData) (x : Result Done EditFault) → ((t : List Row) → Stands f t → a t ≡ b t) → AnswersAs b f g x → AnswersAs a f g x
 when_same a b f g (Ok d) same told = record {

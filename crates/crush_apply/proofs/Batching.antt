@@ -1,25 +1,28 @@
 -- A batch, edit by edit.
 use Rattle.std.proofs.Common.{◌≡◌, ℕ, ◌+◌, ◌<◌, Bool, true, false, not, List, [], ◌∷◌, length, drop, ap, sym, subst, ◌∙◌, refl, arith}
-use Rattle.std.specs.Prelude.{Result, Ok, Err, IsErrAnd, OnErr}
+use Rattle.std.specs.Prelude.{Result, Ok, Err, IsErrAnd, IfOk, OnErr}
 use Rattle.std.proofs.lemmas.Bool.{and_parts}
 use Rattle.std.proofs.lemmas.List.{length-drop}
 use Rattle.crush_table.specs.Table.{Row}
 use Rattle.crush_table.specs.Forest.{ForestData}
 use Rattle.crush_table.specs.Stands.{Stands}
 use Rattle.crush_edits.specs.declared.refusal.Refusal.{Refusal}
+use Rattle.crush_edits.specs.declared.refusal.Done.{Done}
 use Rattle.crush_edits.specs.declared.refusal.Dones.{Dones}
+use Rattle.crush_edits.specs.declared.refusal.EditFault.{EditFault}
+use Rattle.crush_edits.specs.Outcome.{IsDone}
 use Rattle.crush_edits.specs.declared.refusal.BatchFault.{BatchFault}
 use Rattle.crush_edits.specs.declared.refusal.BatchFault.TheVariants.{Refused as RefusedAt}
 use Rattle.crush_edits.specs.declared.edit.Edit.{Edit}
 use Rattle.crush_edits.specs.declared.edit.Edit.TheVariants.{Insert, CreateOrMove, Update, Move, Swap, Reweight, ReweightSubtree, Remove, AddBucket, Rename, SetClass, RemoveClass}
 use Rattle.crush_edits.specs.Setting.{SettingData}
 use Rattle.crush_edits.specs.Answer.{refused, done}
-use Rattle.crush_edits.specs.Edit.{edit, takes_memory, sets_weights}
+use Rattle.crush_edits.specs.Edit.{edit, takes_memory}
 use Rattle.crush_edits.specs.Batch.{batch_refused, with_done, and_then, batch, batch_from}
 use Rattle.crush_nodes.specs.Room.{room}
 use Rattle.crush_apply.specs.AsBefore.{IsAsBefore}
 use Rattle.crush_apply.specs.declared.noted.Noted.{Noted}
-use Rattle.crush_apply.specs.Noted.{is_reweight, stays, are_in_place, GiveBack}
+use Rattle.crush_apply.specs.Noted.{is_reweight, stays, are_in_place, GiveBack, IsDoneNoted}
 
 -- index and refusal of a fault are those of one that is equal
 pub fault_parts : {X : Type 0} (k index : ℕ) (q r : Refusal) → ◌≡◌ {A = Result X BatchFault} (Err (RefusedAt k q)) (Err (RefusedAt index r)) → (k ≡ index) × (q ≡ r)
@@ -55,20 +58,23 @@ first_stays e left rest is in_place = (and_parts (stays e rest) (are_in_place re
 pub rest_stays : (e : Edit) (left rest : List Edit) → left ≡ e ∷ rest → are_in_place left ≡ true → are_in_place rest ≡ true
 rest_stays e left rest is in_place = (and_parts (stays e rest) (are_in_place rest) (ap are_in_place (sym is) ∙ in_place)).1
 
--- takes no memory
+-- a new weight of one device, which takes no memory
+pub weighs_one : (e : Edit) → is_reweight e ≡ true → (n : List ℕ) × (w : ℕ) × (e ≡ Reweight n w)
+weighs_one (Reweight n w) h = (n, w, refl)
+weighs_one (ReweightSubtree n w) h = absurd cc
+weighs_one (Swap m n) h = absurd cc
+weighs_one (Remove n) h = absurd cc
+weighs_one (Insert d n w l) h = absurd cc
+weighs_one (CreateOrMove d n w l) h = absurd cc
+weighs_one (Update d n w l) h = absurd cc
+weighs_one (Move n l) h = absurd cc
+weighs_one (AddBucket n kind) h = absurd cc
+weighs_one (Rename from to) h = absurd cc
+weighs_one (SetClass n c) h = absurd cc
+weighs_one (RemoveClass n) h = absurd cc
+
 weight_lacks_none : (e : Edit) → is_reweight e ≡ true → takes_memory e ≡ false
-weight_lacks_none (Reweight n w) h = refl
-weight_lacks_none (ReweightSubtree n w) h = refl
-weight_lacks_none (Swap m n) h = refl
-weight_lacks_none (Remove n) h = refl
-weight_lacks_none (Insert d n w l) h = absurd cc
-weight_lacks_none (CreateOrMove d n w l) h = absurd cc
-weight_lacks_none (Update d n w l) h = absurd cc
-weight_lacks_none (Move n l) h = absurd cc
-weight_lacks_none (AddBucket n kind) h = absurd cc
-weight_lacks_none (Rename from to) h = absurd cc
-weight_lacks_none (SetClass n c) h = absurd cc
-weight_lacks_none (RemoveClass n) h = refl
+weight_lacks_none e h = let one = weighs_one e h in ap takes_memory one.2
 
 takes_none : (b : Bool) → not b ≡ true → b ≡ false
 takes_none true h = absurd cc
@@ -86,20 +92,16 @@ more_behind e (f ∷ later) h some = h
 pub weighs_before : (e : Edit) (es : List Edit) (k : ℕ) → stays e (drop (k + 1) es) ≡ true → k + 1 < length es → is_reweight e ≡ true
 weighs_before e es k h more = more_behind e (drop (k + 1) es) h (omega (arith, more, length-drop (k + 1) es))
 
--- new weights alone are set
-pub weighs_alone : (e : Edit) → is_reweight e ≡ true → sets_weights e ≡ true
-weighs_alone (Reweight n w) h = refl
-weighs_alone (ReweightSubtree n w) h = absurd cc
-weighs_alone (Swap m n) h = absurd cc
-weighs_alone (Remove n) h = absurd cc
-weighs_alone (Insert d n w l) h = absurd cc
-weighs_alone (CreateOrMove d n w l) h = absurd cc
-weighs_alone (Update d n w l) h = absurd cc
-weighs_alone (Move n l) h = absurd cc
-weighs_alone (AddBucket n kind) h = absurd cc
-weighs_alone (Rename from to) h = absurd cc
-weighs_alone (SetClass n c) h = absurd cc
-weighs_alone (RemoveClass n) h = absurd cc
+-- an edit of another kind is done, and nothing is noted
+pub done_unnoted : (x : Result Done EditFault) (f g : ForestData) (s : SettingData) (e : Edit) (log : List Noted) → (is_reweight e ≡ true → ⊥) → IfOk x (λ d. (t : List Row) → Stands f t → IsDone (Stands g) (edit s t e) d)
+    → IfOk x (λ d. (t : List Row) → Stands f t → IsDoneNoted log log g s t e d)
+done_unnoted (Ok d) f g s e log other made = λ t st. let one = made t st in (one.0, one.1, one.2, λ weight. absurd (other weight))
+done_unnoted (Err z) f g s e log other made = tt
+
+-- what holds anyway
+pub anyway : {X Y : Type 0} {P : Type 0} (x : Result X Y) → P → OnErr x P
+anyway (Ok d) p = tt
+anyway (Err e) p = p
 
 -- where an edit isn't made, the log gives back what was done before it
 pub stopped_before : (s : SettingData) (es : List Edit) (f : ForestData) (k : ℕ) (d : Dones) (g h : ForestData) (log now : List Noted) → k < length es → IsBegunNoted s es f k d g log → h ≡ g → now ≡ log

@@ -5,7 +5,6 @@ use Rattle.std.specs.List.{list_all, list_any}
 use Rattle.std.specs.Option.{option_map, option_eq}
 use Rattle.crush_units.specs.declared.id.ItemId.{ItemId}
 use Rattle.crush_units.specs.declared.id.ItemId.TheVariants.{Device}
-use Rattle.crush_units.specs.Id.{same_id}
 use Rattle.crush_table.specs.Table.{Row, is_device, is_below, row_of, own_weight_of, weight_of, is_placed, item_weight}
 use Rattle.crush_table.specs.Columns.{set_weight, set_subtree}
 use Rattle.crush_table.specs.Lawful.{is_too_heavy}
@@ -57,12 +56,9 @@ weight_stays t w d v placed once is =
     let own = weight_there t (Device d) placed in
     same_weight (Device d) w own.0 t once own.1 ∙ ap (λ z. option_eq nat_eq z (Some w)) (sym (ap (option_map (item_weight t (Device d))) own.1) ∙ is)
 
--- what the table answers then, and where it becomes another
-pub reweight_still : (s : SettingData) (t : List Row) (n : List ℕ) (w d : ℕ) → CanReweight t n w d → is_too_heavy (set_weight (Device d) w t) ≡ false → same_table t (set_weight (Device d) w t) ≡ true → edit s t (Reweight n w) ≡ done false 0 t
-reweight_still s t n w d c fits same = reweight_done s t n w d c fits ∙ (λ i. done (not (same i)) 0 (weights_kept (λ (r : Row). same_id r.id (Device d)) w t same i))
-
-pub reweight_changed : (s : SettingData) (t : List Row) (n : List ℕ) (w d : ℕ) → CanReweight t n w d → is_too_heavy (set_weight (Device d) w t) ≡ false → let u = set_weight (Device d) w t in same_table t u ≡ false → edit s t (Reweight n w) ≡ done true 0 u
-reweight_changed s t n w d c fits other = reweight_done s t n w d c fits ∙ ap (λ b. done (not b) 0 (set_weight (Device d) w t)) other
+-- what the table answers then
+pub reweight_made : (s : SettingData) (t : List Row) (n : List ℕ) (w d v : ℕ) → CanReweight t n w d → is_too_heavy (set_weight (Device d) w t) ≡ false → times (Device d) t ≤ 1 → weight_of t (Device d) ≡ Some v → edit s t (Reweight n w) ≡ done (not (nat_eq v w)) 0 (set_weight (Device d) w t)
+reweight_made s t n w d v c fits once is = reweight_done s t n w d c fits ∙ ap (λ b. done (not b) 0 (set_weight (Device d) w t)) (weight_stays t w d v c.placed once is)
 
 -- THE SUBTREE
 -- the one refusal that is left: the sums

@@ -1,5 +1,5 @@
 -- Batches that are made in place: what is noted before an edit, and what it makes of the table after it.
-use Rattle.std.specs.Prelude.{◌≡◌, ℕ, ◌≤◌, List, [], ◌∷◌, Option, Some, None, Bool, true, false, not, ◌&&◌}
+use Rattle.std.specs.Prelude.{◌≡◌, ℕ, ◌≤◌, List, [], ◌∷◌, Result, Ok, Err, IfOk, Bool, true, false, not, ◌&&◌}
 use Rattle.crush_units.specs.declared.id.ItemId.TheVariants.{Device}
 use Rattle.crush_units.specs.declared.limits.TheConstants.{HEAVIEST_DEVICE}
 use Rattle.crush_table.specs.Table.{Row, is_placed}
@@ -10,10 +10,12 @@ use Rattle.crush_table.specs.Stands.{Stands}
 use Rattle.crush_edits.specs.declared.edit.Edit.{Edit}
 use Rattle.crush_edits.specs.declared.edit.Edit.TheVariants.{Insert, CreateOrMove, Update, Move, Swap, Reweight, ReweightSubtree, Remove, AddBucket, Rename, SetClass, RemoveClass}
 use Rattle.crush_edits.specs.declared.refusal.Done.{Done}
+use Rattle.crush_edits.specs.declared.refusal.EditFault.{EditFault}
 use Rattle.crush_edits.specs.Setting.{SettingData}
-use Rattle.crush_edits.specs.Answer.{done}
+use Rattle.crush_edits.specs.Answer.{Answer, done}
 use Rattle.crush_edits.specs.Edit.{edit, takes_memory}
 use Rattle.crush_apply.specs.declared.noted.Noted.{Noted}
+use Rattle.crush_apply.specs.Answered.{AnswersAs}
 
 -- whether the edit gives one device another weight
 abbrev pub is_reweight : Edit → Bool
@@ -47,11 +49,7 @@ pub record GivesBack (x : Noted) (u t : List Row) : Type 0 where
   pub lawful : Lawful t
   pub is : set_weight (Device x.device) x.weight u ≡ t
 
--- where a weight was noted at all, and where all of a log are given back, the last first
-abbrev pub GoesBack : Option Noted → List Row → List Row → Type 0
-GoesBack None u t = u ≡ t
-GoesBack (Some x) u t = GivesBack x u t
-
+-- where all of a log are given back, the last first
 abbrev pub GiveBack : List Noted → List Row → List Row → Type 0
 GiveBack [] u t = u ≡ t
 GiveBack (x ∷ log) u t = (v : List Row) × GiveBack log u v × GivesBack x v t
@@ -63,9 +61,19 @@ CanGiveBack x f = (u : List Row) × (t : List Row) × Stands f u × GivesBack x 
 abbrev pub CanTakeBack : List Noted → ForestData → Type 0
 CanTakeBack log f = (u : List Row) × (t : List Row) × Stands f u × GiveBack log u t
 
--- where the edit is done, what was noted gives back the table before
-abbrev pub TellsBefore : SettingData → List Row → Edit → Option Noted → Type 0
-TellsBefore s t e x = (changed : Bool) (made : ℕ) (u : List Row) → edit s t e ≡ done changed made u → GoesBack x u t
+-- where the table t answers that it becomes another, what was noted gives back t
+abbrev pub TellsBefore : Answer → Noted → List Row → Type 0
+TellsBefore a x t = (changed : Bool) (made : ℕ) (u : List Row) → a ≡ done changed made u → GivesBack x u t
+
+-- what was done, without what was noted
+abbrev pub done_alone : Result (Done × Noted) EditFault → Result Done EditFault
+done_alone (Ok x) = Ok x.0
+done_alone (Err e) = Err e
+
+-- the call answers what the table answers, and what it notes gives back each table for which the hierarchy f stood
+pub record AnswersNoted (a : List Row → Answer) (f g : ForestData) (x : Result (Done × Noted) EditFault) : Type 0 where
+  pub answers : AnswersAs a f g (done_alone x)
+  pub noted : IfOk x (λ z. (t : List Row) → Stands f t → TellsBefore (a t) z.1 t)
 
 -- the edit is done on t, what was edited stands for its table u, and of a new weight the new log gives back from u what the old one gives back from t
 abbrev pub IsDoneNoted : List Noted → List Noted → ForestData → SettingData → List Row → Edit → Done → Type 0

@@ -16,7 +16,8 @@ ghost use Rattle.crush_apply.specs.Batched.{IsBatchDone};
 ghost use Rattle.crush_apply.specs.Noted.{is_reweight, are_in_place, GiveBack, IsDoneNoted};
 
 use crate::apply::apply_edit;
-use crate::noted::{Noted, are_in_place, note, put_noted, take_back};
+use crate::noted::{Noted, are_in_place, take_back};
+use crate::reweight::reweight_noted;
 use crush_edits::{BatchFault, Done, Dones, Edit, EditFault, Setting};
 use crush_hierarchy::Hierarchy;
 use std::alloc::{AllocError, Allocator};
@@ -96,7 +97,8 @@ fn make_all<A: Allocator + Clone>(
     Ok(dones)
 }
 
-/// Makes edits in place, or none of them: the last as it is, since behind it nothing is taken back.
+/// Makes edits in place, or none of them. The last may be another than a new weight, since behind it
+/// nothing is taken back.
 fn make_in_place<A: Allocator + Clone>(
     hierarchy: &mut Hierarchy<A>,
     setting: &Setting,
@@ -181,7 +183,7 @@ fn make_noted<A: Allocator + Clone>(
     Ok(dones)
 }
 
-/// Makes the edit, and puts what it changes last in the log, where it can be taken back.
+/// Makes the edit. Where it gives a device another weight, the one before is put last in the log.
 fn make_one<A: Allocator + Clone>(
     hierarchy: &mut Hierarchy<A>,
     setting: &Setting,
@@ -202,14 +204,13 @@ fn make_one<A: Allocator + Clone>(
     ensures capacity { vec_capacity log.new ≡ vec_capacity log.old }
     ensures fits { Fits setting.now (rows_of hierarchy.new) }
 {
-    let noted = note(hierarchy, asked);
-    match apply_edit(hierarchy, setting, asked) {
-        Ok(done) => {
-            put_noted(log, noted);
-            Ok(done)
-        }
-        Err(fault) => Err(fault),
-    }
+    hierarchy.recall_invariant();
+    let Edit::Reweight { name, weight } = asked else {
+        return apply_edit(hierarchy, setting, asked);
+    };
+    let (done, noted) = reweight_noted(hierarchy, name, *weight)?;
+    log.push_reserved(noted);
+    Ok(done)
 }
 
 /// What was done with one edit more.

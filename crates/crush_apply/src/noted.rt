@@ -1,23 +1,22 @@
-//! Weights that are noted before edits set others, so that the edits can be taken back.
+//! Weights before edits that set others, noted so that the edits can be taken back.
 
-ghost use Rattle.std.specs.Prelude.{◌≡◌, ◌++◌, ◌+◌, ◌≤◌, ◌<◌, List, true, option_to_list, vec_len, vec_capacity};
+ghost use Rattle.std.specs.Prelude.{◌≡◌, List};
 ghost use Rattle.crush_table.specs.Table.{Row};
 ghost use Rattle.crush_table.specs.Stands.{Stands};
-ghost use Rattle.crush_edits.specs.Setting.{SettingData};
 ghost use Rattle.crush_edits.specs.Edit.{takes_memory};
 ghost use Rattle.crush_apply.specs.Answered.{KeepsRooms};
-ghost use Rattle.crush_apply.specs.Noted.{is_reweight, stays, are_in_place, TellsBefore, GivesBack, GiveBack, CanGiveBack, CanTakeBack};
+ghost use Rattle.crush_apply.specs.Noted.{is_reweight, stays, are_in_place, GivesBack, GiveBack, CanGiveBack, CanTakeBack};
 
 use crush_edits::Edit;
 use crush_hierarchy::Hierarchy;
-use crush_units::{DeviceId, ItemId, Weight};
+use crush_units::{DeviceId, Weight};
 use std::alloc::Allocator;
 
 /// The weight of a device before an edit.
 #[derive(Clone, Copy)]
 pub(crate) struct Noted {
-    device: DeviceId,
-    weight: Weight,
+    pub(crate) device: DeviceId,
+    pub(crate) weight: Weight,
 }
 
 /// Whether the edit gives one device another weight.
@@ -64,38 +63,6 @@ pub(crate) fn are_in_place(edits: &[Edit]) -> bool
         }
     }
     true
-}
-
-/// The weight before an edit that gives a device that is there another.
-pub(crate) fn note<A: Allocator>(hierarchy: &Hierarchy<A>, asked: &Edit) -> Option<Noted>
-    ensures { is_reweight asked.now ≡ true → (s : SettingData) (t : List Row)
-        → Stands hierarchy.now t → TellsBefore s t asked.now result }
-{
-    let Edit::Reweight { name, .. } = asked else {
-        return None;
-    };
-    let Some(id) = hierarchy.id_of(name.as_str()) else {
-        return None;
-    };
-    let ItemId::Device(device) = id else {
-        return None;
-    };
-    let Some(weight) = hierarchy.weight(id) else {
-        return None;
-    };
-    Some(Noted { device, weight })
-}
-
-/// Puts what was noted last, if anything was.
-pub(crate) fn put_noted<A: Allocator>(log: &mut Vec<Noted, A>, noted: Option<Noted>)
-    requires { vec_len log.old < vec_capacity log.old }
-    ensures items { log.new.items ≡ log.old.items ++ option_to_list noted }
-    ensures len { vec_len log.new ≤ vec_len log.old + 1 }
-    ensures capacity { vec_capacity log.new ≡ vec_capacity log.old }
-{
-    if let Some(noted) = noted {
-        log.push_reserved(noted);
-    }
 }
 
 /// Gives the device the weight that it had.

@@ -7,8 +7,10 @@ ghost use Rattle.crush_edits.specs.Setting.{SettingData};
 ghost use Rattle.crush_edits.specs.declared.edit.Edit.TheVariants.{Reweight};
 ghost use Rattle.crush_edits.specs.Edit.{edit, refusal};
 ghost use Rattle.crush_apply.specs.Answered.{AnswersAs, KeepsRooms};
+ghost use Rattle.crush_apply.specs.Noted.{AnswersNoted};
 ghost use Rattle.crush_apply.specs.Weighed.{CanReweight};
 
+use crate::noted::Noted;
 use crush_edits::{Done, EditFault, Refusal};
 use crush_hierarchy::Hierarchy;
 use crush_units::{DeviceId, ItemId, Name, Weight};
@@ -52,19 +54,34 @@ pub(crate) fn reweight<A: Allocator>(
     ensures memory { result ≢ Err EditFault.OutOfMemory }
     ensures rooms { KeepsRooms hierarchy.old hierarchy.new }
 {
+    let (done, _noted) = reweight_noted(hierarchy, name, weight)?;
+    Ok(done)
+}
+
+/// Sets the weight of the placed device of this name, and hands out what was done with the weight
+/// before, or tells why it isn't set.
+pub(crate) fn reweight_noted<A: Allocator>(
+    hierarchy: &mut Hierarchy<A>,
+    name: &Name<Global>,
+    weight: Weight,
+) -> Result<(Done, Noted), EditFault>
+    ensures answers { (s : SettingData) → AnswersNoted (λ t. edit s t (Reweight name.now weight))
+        hierarchy.old hierarchy.new result }
+    ensures memory { result ≢ Err EditFault.OutOfMemory }
+    ensures rooms { KeepsRooms hierarchy.old hierarchy.new }
+{
     hierarchy.recall_invariant();
     let device = check_reweight(hierarchy, name, weight)?;
     let Some(before) = hierarchy.replace_weight(device, weight) else {
         return Err(EditFault::Refused(Refusal::SumTooLarge));
     };
-    if before == weight {
-        return Ok(Done {
-            changed: false,
-            made: 0,
-        });
-    }
-    Ok(Done {
-        changed: true,
+    let done = Done {
+        changed: before != weight,
         made: 0,
-    })
+    };
+    let noted = Noted {
+        device,
+        weight: before,
+    };
+    Ok((done, noted))
 }

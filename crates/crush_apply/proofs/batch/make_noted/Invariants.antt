@@ -1,4 +1,4 @@
-use Rattle.std.specs.Prelude.{◌≡◌, ◌<◌, ◌≤◌, List, true, drop, length, vec_len, vec_capacity}
+use Rattle.std.specs.Prelude.{◌≡◌, ◌<◌, ◌≤◌, true, drop, length, vec_len, vec_capacity}
 use Rattle.crush_table.specs.Forest.{rows_of}
 use Rattle.crush_edits.specs.Fits.{Fits}
 use Rattle.crush_apply.specs.Answered.{KeepsRooms}
