@@ -1,4 +1,5 @@
-//! Tests of the crate `crush_editor`: one editor of a map of three devices, for one to three operators.
+//! Tests of the editor: one of a map of three devices, for one to three operators, and one gauge
+//! over a list of pairs.
 #![tactic(auto)]
 
 #[cfg(test)]

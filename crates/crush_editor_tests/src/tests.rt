@@ -21,6 +21,7 @@ use std::sync::Wait;
 
 mod closing;
 mod full;
+mod gauge;
 mod guarded;
 mod no_memory;
 mod unkept;

@@ -1,4 +1,4 @@
-//! Tests of a hierarchy with its index: each call of one, on one that is built item by item.
+//! Tests of a hierarchy and of its index: each call of one, on items that are put in one by one.
 #![tactic(auto)]
 
 #[cfg(test)]

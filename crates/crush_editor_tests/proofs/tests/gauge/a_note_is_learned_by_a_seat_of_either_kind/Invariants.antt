@@ -1,4 +1,4 @@
-use Rattle.crush_gauge_tests.proofs.tests.the_largest_pair_is_read_as_it_was_published.Given as goal
+use Rattle.crush_editor_tests.proofs.tests.gauge.a_note_is_learned_by_a_seat_of_either_kind.Given as goal
 
 abbrev pub ghost-new : goal.ghost-new
 ghost-new g a = a.weight

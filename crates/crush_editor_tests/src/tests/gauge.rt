@@ -12,7 +12,7 @@ use crush_gauge::{Gauge, Law};
 struct Pairs;
 
 impl Law<u64, (u64, u64)> for Pairs {
-    ghost use Rattle.crush_gauge_tests.specs.Pairs.{changes_of, weight_behind};
+    ghost use Rattle.crush_editor_tests.specs.Pairs.{changes_of, weight_behind};
 
     ghost legal = { λ o h. Unit {0} };
 
