@@ -121,7 +121,7 @@ impl Call {
 fn copy_edits(alloc: Global, edits: &[Edit]) -> Result<Vec<Edit>, AllocError>
     ensures { IfOk result (λ copies. copies.items ≡ edits.now) }
 {
-    let mut copies = Vec::new(alloc);
+    let mut copies = Vec::with_capacity(alloc, edits.len())?;
     for edit in edits {
         let copy = edit.try_copy(alloc)?;
         copies.push(copy)?;

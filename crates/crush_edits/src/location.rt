@@ -126,10 +126,11 @@ impl Location {
         }
         let kind = Name::read(self.alloc, type_name)?;
         let name = Name::read(self.alloc, name)?;
-        match self.pairs.push(Pair { kind, name }) {
-            Ok(()) => Ok(()),
-            Err(_) => Err(LocationFault::OutOfMemory),
+        if self.pairs.reserve_exact(1).is_err() {
+            return Err(LocationFault::OutOfMemory);
         }
+        self.pairs.push_reserved(Pair { kind, name });
+        Ok(())
     }
 
     /// The pairs, in the order in which they were added: at most 16, and their names are names.
@@ -144,11 +145,11 @@ impl Location {
     pub fn try_copy(&self, alloc: Global) -> Result<Location, AllocError>
         ensures { IfOk result (λ copy. copy ≡ self.now) }
     {
-        let mut copy = Location::new(alloc);
+        let mut pairs = Vec::with_capacity(alloc, self.pairs.len())?;
         for pair in &self.pairs {
             let pair = pair.try_copy(alloc)?;
-            copy.pairs.push(pair)?;
+            pairs.push(pair)?;
         }
-        Ok(copy)
+        Ok(Location { pairs, alloc })
     }
 }

@@ -137,7 +137,7 @@ impl<A: Allocator> MapBuilder<A> {
     }
 
     /// Whether all sums stay in range where the item is put into the bucket that is being filled.
-    fn fits_item(&self, bucket: BucketId, id: ItemId, weight: Weight) -> bool
+    pub(super) fn fits_item(&self, bucket: BucketId, id: ItemId, weight: Weight) -> bool
         requires fills { self.now.pending ≡ filling bucket }
         requires closed { (d : Draft) → IsDraft self.now d → is_closed d id ≡ true }
         requires free { (d : Draft) → IsDraft self.now d → is_placed d.table id ≡ false }

@@ -87,7 +87,7 @@ fn add_item<A: Allocator>(
     requires light { is_heavy_device item weight ≡ false }
     ensures { PutsItem item weight word.entry.place builder.old builder.new result }
 {
-    match builder.item(item, weight) {
+    match builder.item_unchecked(item, weight) {
         Ok(()) => Ok(()),
         Err(BuildFault::SumTooLarge) => Err(word.fault(TextFaultKind::SumTooLarge)),
         Err(fault) => Err(out_of_memory_at(word.place, fault)),
