@@ -1,5 +1,4 @@
 pub mod ClassLemmas
-pub mod FrontLemmas
 pub mod GivenLemmas
 pub mod GuideLemmas
 pub mod IndexLemmas

@@ -1,25 +1,11 @@
--- What an index is told of items that come, and of changes that are still to come.
-use Rattle.std.specs.Prelude.{◌≡◌, ◌++◌, ℕ, List, None, Result, OnOk, OnErr}
+-- What an index is told of changes that are still to come.
+use Rattle.std.specs.Prelude.{◌≡◌, ℕ, List, Result, OnOk, OnErr}
 use Rattle.crush_units.specs.declared.id.ItemId.{ItemId}
 use Rattle.crush_table.specs.Columns.{set_name}
-use Rattle.crush_table.specs.ItemRows.{rows}
-use Rattle.crush_table.specs.Items.{Items}
-use Rattle.crush_table.specs.Lawful.{Lawful}
 use Rattle.crush_table.specs.Table.{Row}
-use Rattle.crush_index.specs.Hashings.{hashings, IsHashed}
+use Rattle.crush_index.specs.Hashings.{hashings}
 use Rattle.crush_index.specs.IndexTold.{IsIndexOf}
-use Rattle.crush_index.specs.declared.hashing.Hashing.{Hashing}
 use Rattle.crush_index.specs.declared.index.Index.{Index}
-
--- TOLD: the index is one of the table and hashes so
-pub record IsTold (h : Hashing) (t : List Row) (index : Index) : Type 0 where
-  pub told : IsIndexOf t index
-  pub hashing : IsHashed h index
-
--- TOLD OF MORE: an index of a table is one of the table with these items, which no bucket holds, if that is lawful; it hashes as before
-pub record IsToldOf {X E : Type 0} (n : Items) (old new : Index) (answer : Result X E) : Type 0 where
-  pub told : OnOk answer ((t : List Row) → Lawful t → IsIndexOf t old → Lawful (t ++ rows None n) → IsIndexOf (t ++ rows None n) new)
-  pub hashing : hashings new ≡ hashings old
 
 -- TELLS THE SAME: an index of a table is still one of it, and hashes as before
 pub record TellsSame (old new : Index) : Type 0 where

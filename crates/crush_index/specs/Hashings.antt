@@ -1,6 +1,5 @@
 -- How an index hashes: each of its tables by the hashing that it was made with.
 use Rattle.std.specs.Prelude.{◌≡◌}
-use Rattle.indexmap.specs.IndexMap.{hasher_of}
 use Rattle.indexmap.specs.IndexSet.{hasher_of as set_hasher_of}
 use Rattle.crush_index.specs.NumberedTold.{numbered_hashing}
 use Rattle.crush_index.specs.SlotsTold.{slots_hashing}
@@ -12,7 +11,7 @@ use Rattle.crush_index.specs.declared.used.UsedIds.{UsedIds}
 
 -- how names and used ids are hashed
 abbrev pub names_hashing : Names → Hashing
-names_hashing names = hasher_of names.ids
+names_hashing names = names.hashing
 
 abbrev pub used_hashing : UsedIds → Hashing
 used_hashing used = set_hasher_of used.far

@@ -32,3 +32,8 @@ pub record InsertsRow {X E : Type 0} (r : Row) (old new : Index) (answer : Resul
   pub ok : OnOk answer (told new ≡ with_row r (told old))
   pub err : OnErr answer (without_rows (r ∷ []) (told new) ≡ without_rows (r ∷ []) (told old))
   pub hashing : hashings new ≡ hashings old
+
+-- the same is told of each name, item and number, and hashed so
+pub record IsCopyOf (index copy : Index) : Type 0 where
+  pub told : told copy ≡ told index
+  pub hashing : hashings copy ≡ hashings index

@@ -3,6 +3,7 @@ pub mod Hashings
 pub mod IndexChanged
 pub mod IndexLaw
 pub mod IndexTold
+pub mod Keys
 pub mod NamesChanged
 pub mod NamesLaw
 pub mod NamesTold

@@ -16,3 +16,8 @@ pub record Renames {X E : Type 0} (from to : List ℕ) (id : ItemId) (old new : 
   pub ok : OnOk answer (TellsTwo old new to (Some id) from None)
   pub err : OnErr answer (TellsSame old new)
   pub hashing : names_hashing new ≡ names_hashing old
+
+-- the same of each name, and hashed so
+pub record IsCopyOf (names copy : Names) : Type 0 where
+  pub told : TellsSame names copy
+  pub hashing : names_hashing copy ≡ names_hashing names

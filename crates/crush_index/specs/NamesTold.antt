@@ -3,11 +3,12 @@ use Rattle.std.specs.Prelude.{◌≡◌, ℕ, List, Option, if◌then◌else◌,
 use Rattle.indexmap.specs.IndexMap.{get}
 use Rattle.crush_units.specs.declared.id.ItemId.{ItemId}
 use Rattle.crush_table.specs.Table.{Row, id_named}
+use Rattle.crush_index.specs.Keys.{key_of, same_key}
 use Rattle.crush_index.specs.declared.names.Names.{Names}
 
 -- the id of a name
 abbrev pub id_told : Names → List ℕ → Option ItemId
-id_told names n = get bytes_eq names.ids n
+id_told names n = get same_key names.ids (key_of names.hashing n)
 
 -- NAMES OF A TABLE: each name has the id that the table says, and no other name has one
 abbrev pub AreNamesOf : List Row → Names → Type 0

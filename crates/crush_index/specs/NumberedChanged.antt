@@ -8,3 +8,8 @@ pub record Inserts {T X E : Type 0} (number : ℕ) (kept : T) (old new : Numbere
   pub ok : OnOk answer (NumberedWith old new number (Some kept))
   pub err : OnErr answer (NumberedSame old new)
   pub hashing : numbered_hashing new ≡ numbered_hashing old
+
+-- the same is kept of each number, and hashed so
+pub record IsCopyOf {T : Type 0} (numbered copy : Numbered T) : Type 0 where
+  pub told : NumberedSame numbered copy
+  pub hashing : numbered_hashing copy ≡ numbered_hashing numbered

@@ -11,3 +11,8 @@ pub record Inserts {X E : Type 0} (i : ItemId) (place : Place) (old new : Places
   pub ok : OnOk answer (StandsAt old new i (Some place))
   pub err : OnErr answer (StandsSame old new)
   pub hashing : places_hashings new ≡ places_hashings old
+
+-- each item stands where it stood, and hashed so
+pub record IsCopyOf (places copy : Places) : Type 0 where
+  pub told : StandsSame places copy
+  pub hashing : places_hashings copy ≡ places_hashings places

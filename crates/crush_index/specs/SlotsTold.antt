@@ -67,3 +67,9 @@ pub record Adds {E : Type 0} (b : ℕ) (old new : Slots) (answer : Result ℕ E)
   pub bucket : IfOk answer (λ s. (slot_at new s).bucket ≡ b)
   pub told : IfOk answer (λ s. slot_told new b ≡ Some s)
   pub hashing : slots_hashing new ≡ slots_hashing old
+
+-- the slots are the same, each bucket has the same one, and hashed so
+pub record IsCopyOf (slots copy : Slots) : Type 0 where
+  pub same : copy.slots.items ≡ slots.slots.items
+  pub told : (b : ℕ) → slot_told copy b ≡ slot_told slots b
+  pub hashing : slots_hashing copy ≡ slots_hashing slots

@@ -9,3 +9,8 @@ pub record Inserts {X E : Type 0} (id : ℕ) (old new : UsedIds) (answer : Resul
   pub ok : OnOk answer (UsesOne old new id true)
   pub err : OnErr answer (UsesSame old new)
   pub hashing : used_hashing new ≡ used_hashing old
+
+-- the same ids are in use, and hashed so
+pub record IsCopyOf (used copy : UsedIds) : Type 0 where
+  pub told : UsesSame used copy
+  pub hashing : used_hashing copy ≡ used_hashing used

@@ -1,49 +1,70 @@
-//! Names as keys, each hashed by one call of the hasher.
+//! Names as keys, each with its digest.
 
-ghost use Rattle.std.specs.Prelude.{◌≡◌, ◌∷◌, [], bytes_eq};
-ghost use Rattle.std.specs.Cmp.Rules.{comparing};
-ghost use Rattle.std.specs.Cmp.Lexicographic.{bytes_decides, nat_list_eq_equiv};
+ghost use Rattle.std.specs.Prelude.{◌≡◌};
+ghost use Rattle.std.specs.Cmp.Rules.{comparing, hashing as hashed};
+ghost use Rattle.std.specs.Hash as fed;
 ghost use Rattle.std.proofs.Common.{ap, rules};
-ghost use Rattle.crush_index.specs.Hashed.{at_once};
+ghost use Rattle.crush_index.specs.Keys.{asked_key, digest, key_of, same_digests, same_key, same_key_equiv};
 
+use crate::hashing::Hashing;
 use crush_units::Name;
 use indexmap::Equivalent;
-use std::alloc::Global;
-use std::hash::{Hash, Hasher};
+use std::alloc::{AllocError, Global};
+use std::hash::{BuildHasher, Hash, Hasher};
 use std::marker::Model;
 
-/// A name that an index keeps. Contracts see its bytes.
-///
-/// [`Name`] itself is hashed as a slice is, byte by byte, which takes some five times as long.
+/// A name that an index keeps, with its digest, so that a copy of the index digests no name anew.
+/// A table hashes the digest alone: keys that no stranger knows have gone into that already.
+/// Contracts see both.
 #[derive(Drop)]
 pub(crate) struct Key {
+    machine: Global,
+    digest: u64,
     name: Name<Global>,
 }
 
 impl Model for Key {
     ghost use Rattle.std.specs.Prelude.{List, ℕ};
 
-    ghost Value = { List ℕ };
+    ghost Value = { ℕ × List ℕ };
 
-    ghost view = { λ key. key.name };
+    ghost view = { λ key. (key.digest, key.name) };
 }
 
 impl Key {
-    /// The key that a name is.
-    pub(crate) fn of(name: Name<Global>) -> Key
-        ensures { result ≡ name }
+    /// The key of a name, where names are hashed so. Copies of it are in the machine's memory.
+    pub(crate) fn of(machine: Global, name: Name<Global>, hashing: &Hashing) -> Key
+        ensures { result ≡ key_of hashing.now name }
     {
-        Key { name }
+        let digest = digest(name.as_bytes(), hashing);
+        Key {
+            machine,
+            digest,
+            name,
+        }
+    }
+}
+
+impl Clone for Key {
+    ghost is_clone = { λ key copy. copy ≡ key };
+
+    fn clone(&self) -> Result<Key, AllocError> {
+        let name = self.name.try_copy(self.machine)?;
+        Ok(Key {
+            machine: self.machine,
+            digest: self.digest,
+            name,
+        })
     }
 }
 
 impl PartialEq for Key {
-    ghost eq = { bytes_eq };
+    ghost eq = { same_key };
 
     ghost laws = { Prim.search (comparing, rules) };
 
     fn eq(&self, other: &Key) -> bool {
-        self.name.as_bytes() == other.name.as_bytes()
+        self.digest == other.digest && self.name.as_bytes() == other.name.as_bytes()
     }
 }
 
@@ -52,28 +73,41 @@ impl Eq for Key {
 }
 
 impl Hash for Key {
-    ghost hash_input = { at_once };
+    ghost hash_input = { λ key. fed.u64 key.0 };
 
-    ghost respects_eq = { λ x y h. ap at_once ((bytes_decides x y).0 h) };
+    ghost respects_eq = { Prim.search (hashed, rules) };
 
     fn hash<H: Hasher>(&self, state: &mut H) {
-        state.write(self.name.as_bytes());
+        self.digest.hash(state);
     }
 }
 
-/// The bytes by which an index of names is asked.
+/// The bytes by which an index of names is asked, with their digest.
 #[derive(Clone, Copy)]
 pub(crate) struct Asked<'a> {
-    pub(crate) bytes: &'a [u8],
+    digest: u64,
+    bytes: &'a [u8],
+}
+
+impl<'a> Asked<'a> {
+    /// The key of a name that is given by its bytes, where names are hashed so.
+    pub(crate) fn of(bytes: &'a [u8], hashing: &Hashing) -> Asked<'a>
+        ensures { asked_key result ≡ key_of hashing.now bytes.now }
+    {
+        Asked {
+            digest: digest(bytes, hashing),
+            bytes,
+        }
+    }
 }
 
 impl<'a> PartialEq for Asked<'a> {
-    ghost eq = { λ x y. bytes_eq x.bytes.now y.bytes.now };
+    ghost eq = { λ x y. same_key (asked_key x) (asked_key y) };
 
     ghost laws = { Prim.search (comparing, rules) };
 
     fn eq(&self, other: &Asked<'a>) -> bool {
-        self.bytes == other.bytes
+        self.digest == other.digest && self.bytes == other.bytes
     }
 }
 
@@ -82,23 +116,35 @@ impl<'a> Eq for Asked<'a> {
 }
 
 impl<'a> Hash for Asked<'a> {
-    ghost hash_input = { λ asked. at_once asked.bytes.now };
+    ghost hash_input = { λ asked. fed.u64 asked.digest };
 
-    ghost respects_eq = { λ x y h. ap at_once ((bytes_decides x.bytes.now y.bytes.now).0 h) };
+    ghost respects_eq = { Prim.search (hashed, rules) };
 
     fn hash<H: Hasher>(&self, state: &mut H) {
-        state.write(self.bytes);
+        self.digest.hash(state);
     }
 }
 
 impl<'a> Equivalent<Key> for Asked<'a> {
-    ghost equivalent = { λ asked. bytes_eq asked.bytes.now };
+    ghost equivalent = { λ asked. same_key (asked_key asked) };
 
-    ghost respects_hash = { λ asked key h. ap at_once ((bytes_decides asked.bytes.now key).0 h) };
+    ghost respects_hash = { λ asked key h. ap fed.u64 (same_digests (asked_key asked) key h) };
 
-    ghost respects_eq = { λ asked. nat_list_eq_equiv.congr asked.bytes.now };
+    ghost respects_eq = { λ asked. same_key_equiv.congr (asked_key asked) };
 
     fn equivalent(&self, key: &Key) -> bool {
-        self.bytes == key.name.as_bytes()
+        self.digest == key.digest && self.bytes == key.name.as_bytes()
     }
+}
+
+/// The digest of a name, written at once.
+///
+/// [`Name`] itself is hashed as a slice is, byte by byte, which takes some five times as long.
+#[tactic(auto, unfolding(crate::specs::Keys::digest))]
+fn digest(name: &[u8], hashing: &Hashing) -> u64
+    ensures { result ≡ digest hashing.now name.now }
+{
+    let mut state = hashing.build_hasher();
+    state.write(name);
+    state.finish()
 }

@@ -14,6 +14,8 @@
 //! and no hash is seen by a contract.
 #![tactic(auto)]
 
+mod copied;
+mod digests;
 mod hashing;
 mod index;
 mod key;

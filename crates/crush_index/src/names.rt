@@ -1,11 +1,12 @@
 //! The ids of names.
 
-ghost use Rattle.std.specs.Prelude.{◌≡◌, true, false, Some, None, List, ℕ, ◌++◌, ◌∷◌, [], bytes_eq};
+ghost use Rattle.std.specs.Prelude.{◌≡◌, true, false, Some, None, List, ℕ, ◌++◌, ◌∷◌, [], bytes_eq, IfOk};
 ghost use Rattle.crush_table.specs.Table.{Row, is_named, name_of};
 ghost use Rattle.crush_index.specs.Hashings.{names_hashing};
-ghost use Rattle.crush_index.specs.NamesChanged.{Inserts, Renames};
+ghost use Rattle.crush_index.specs.NamesChanged.{IsCopyOf, Inserts, Renames};
 ghost use Rattle.crush_index.specs.NamesTold.{id_told, TellsOne, TellsTwo};
 
+use crate::digests::Digests;
 use crate::hashing::Hashing;
 use crate::key::{Asked, Key};
 use crush_units::{ItemId, Name};
@@ -15,7 +16,9 @@ use std::alloc::{AllocError, Global};
 /// The id of each name. It has names of its own, in the machine's memory.
 #[derive(Drop)]
 pub struct Names {
-    ids: IndexMap<Key, ItemId, Hashing>,
+    machine: Global,
+    hashing: Hashing,
+    ids: IndexMap<Key, ItemId, Digests>,
 }
 
 impl Names {
@@ -25,15 +28,29 @@ impl Names {
         ensures hashing { names_hashing result ≡ hashing }
     {
         Names {
-            ids: IndexMap::with_hasher(alloc, hashing),
+            machine: alloc,
+            hashing,
+            ids: IndexMap::with_hasher(alloc, Digests),
         }
+    }
+
+    /// A copy that tells the same and hashes so. An Err is out of memory.
+    pub fn try_copy(&self) -> Result<Names, AllocError>
+        ensures { IfOk result (IsCopyOf self.now) }
+    {
+        let ids = self.ids.clone()?;
+        Ok(Names {
+            machine: self.machine,
+            hashing: self.hashing,
+            ids,
+        })
     }
 
     /// The id of a name, given by its bytes: `None` where no item has it.
     pub fn id_of(&self, name: &[u8]) -> Option<ItemId>
         ensures { result ≡ id_told self.now name.now }
     {
-        match self.ids.get(Asked { bytes: name }) {
+        match self.ids.get(Asked::of(name, &self.hashing)) {
             Some(id) => Some(*id),
             None => None,
         }
@@ -43,7 +60,8 @@ impl Names {
     pub fn insert(&mut self, name: Name<Global>, id: ItemId) -> Result<(), AllocError>
         ensures { Inserts name id self.old self.new result }
     {
-        self.ids.insert(Key::of(name), id)?;
+        self.ids
+            .insert(Key::of(self.machine, name, &self.hashing), id)?;
         Ok(())
     }
 
@@ -52,7 +70,7 @@ impl Names {
         ensures told { TellsOne self.old self.new name.now None }
         ensures hashing { names_hashing self.new ≡ names_hashing self.old }
     {
-        self.ids.swap_remove(Asked { bytes: name });
+        self.ids.swap_remove(Asked::of(name, &self.hashing));
     }
 
     /// Another name for the item that has the first one. An Err is out of memory, and nothing has
@@ -62,8 +80,9 @@ impl Names {
         requires free { id_told self.old to ≡ None }
         ensures { Renames from.now to id self.old self.new result }
     {
-        self.ids.insert(Key::of(to), id)?;
-        self.ids.swap_remove(Asked { bytes: from });
+        self.ids
+            .insert(Key::of(self.machine, to, &self.hashing), id)?;
+        self.ids.swap_remove(Asked::of(from, &self.hashing));
         Ok(())
     }
 
@@ -74,10 +93,10 @@ impl Names {
         ensures told { TellsTwo self.old self.new a.now (Some second) b.now (Some first) }
         ensures hashing { names_hashing self.new ≡ names_hashing self.old }
     {
-        if let Some(id) = self.ids.get_mut(Asked { bytes: b }) {
+        if let Some(id) = self.ids.get_mut(Asked::of(b, &self.hashing)) {
             *id = first;
         }
-        if let Some(id) = self.ids.get_mut(Asked { bytes: a }) {
+        if let Some(id) = self.ids.get_mut(Asked::of(a, &self.hashing)) {
             *id = second;
         }
     }

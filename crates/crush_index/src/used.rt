@@ -1,7 +1,9 @@
 //! Which ids buckets and class ids use.
 
-ghost use Rattle.std.specs.Prelude.{◌≡◌, ◌+◌, ◌*◌, ◌/◌, ◌≤◌, ◌<◌, ℕ, false, OnOk, IfSome, IfNone, length, slice_index};
+ghost use Rattle.std.specs.Prelude.{◌≡◌, ◌+◌, ◌*◌, ◌/◌, ◌≤◌, ◌<◌, ℕ, false, OnOk, IfOk, IfSome, IfNone, length, slice_index, nat_eq};
+ghost use Rattle.indexmap.specs.IndexSet.{contains, hasher_of};
 
+use crate::copied::copied;
 use crate::hashing::Hashing;
 use crate::word::{first_clear, is_set, with_bit, without_bit};
 use crush_units::limits::FARTHEST_BUCKET_ID;
@@ -26,7 +28,7 @@ pub struct UsedIds {
 
 impl UsedIds {
     ghost use Rattle.crush_index.specs.Hashings.{used_hashing};
-    ghost use Rattle.crush_index.specs.UsedChanged.{Inserts};
+    ghost use Rattle.crush_index.specs.UsedChanged.{IsCopyOf, Inserts};
     ghost use Rattle.crush_index.specs.UsedTold.{used_told, UsesOne, AreAllUsed, IsFirstFree};
 
     /// No ids. It takes no memory.
@@ -38,6 +40,15 @@ impl UsedIds {
             words: Vec::new(alloc),
             far: IndexSet::with_hasher(alloc, hashing),
         }
+    }
+
+    /// A copy in which the same ids are in use, and which hashes so. An Err is out of memory.
+    pub fn try_copy(&self) -> Result<UsedIds, AllocError>
+        ensures { IfOk result (IsCopyOf self.now) }
+    {
+        let words = copied(&self.words)?;
+        let far = copy_far(&self.far)?;
+        Ok(UsedIds { words, far })
     }
 
     /// Whether an id is in use.
@@ -101,6 +112,17 @@ impl UsedIds {
         }
         None
     }
+}
+
+/// A copy of the ids further off, which hashes so. An Err is out of memory.
+fn copy_far(far: &IndexSet<u32, Hashing>) -> Result<IndexSet<u32, Hashing>, AllocError>
+    ensures told { IfOk result
+        (λ copy. (k : ℕ) → contains nat_eq copy k ≡ contains nat_eq far.now k) }
+    ensures hashing { IfOk result (λ copy. hasher_of copy ≡ hasher_of far.now) }
+{
+    let mut copy = IndexSet::with_hasher(*far.allocator(), *far.hasher());
+    copy.extend(far)?;
+    Ok(copy)
 }
 
 /// A word, or one without bits where there are fewer.

@@ -1,0 +1,45 @@
+-- A name as a key: with its digest, by which it is hashed.
+use Rattle.std.specs.Prelude.{◌≡◌, ℕ, List, [], ◌∷◌, Bool, true, ◌&&◌, ◌==◌, nat_eq, bytes_eq, fold, length, slice_index, if◌then◌else◌}
+use Rattle.std.specs.Cmp.{IsEquivalence}
+use Rattle.std.specs.Cmp.Rules.{comparing}
+use Rattle.std.specs.Hash.DefaultHasher as sip
+use Rattle.std.specs.Int.{w64, from_le_bytes}
+use Rattle.std.proofs.Common.{rules}
+use Rattle.crush_index.specs.Hashed.{first_state, at_once}
+use Rattle.crush_index.specs.declared.digests.Passed.{Passed}
+use Rattle.crush_index.specs.declared.hashing.Hashing.{Hashing}
+use Rattle.crush_index.specs.declared.key.Asked.{Asked}
+
+-- the digest of a name: its SipHash
+unfoldable pub digest : Hashing → List ℕ → ℕ
+digest h name = sip.finish (fold sip.write (first_state h.keys) (at_once name))
+
+-- the key of a name
+abbrev pub key_of : Hashing → List ℕ → ℕ × List ℕ
+key_of h name = (digest h name, name)
+
+-- the key that is asked for
+abbrev pub asked_key : Asked → ℕ × List ℕ
+asked_key asked = (asked.digest, asked.bytes.now)
+
+-- whether two keys are the same
+abbrev pub same_key : ℕ × List ℕ → ℕ × List ℕ → Bool
+same_key x y = nat_eq x.0 y.0 && bytes_eq x.1 y.1
+
+pub same_key_equiv : IsEquivalence same_key
+same_key_equiv = Prim.search (comparing, rules)
+
+-- keys that are the same have the same digest
+pub same_digests : (x y : ℕ × List ℕ) → same_key x y ≡ true → x.0 ≡ y.0
+same_digests x y e = Prim.search (comparing, rules)
+
+-- a hasher of digests: it finishes with the eight bytes that were written, the lowest first
+abbrev pub nothing_passed : Passed
+nothing_passed = record { digest = 0 }
+
+abbrev pub eight : List ℕ → List ℕ
+eight bs =
+    slice_index bs 0 ∷ slice_index bs 1 ∷ slice_index bs 2 ∷ slice_index bs 3 ∷ slice_index bs 4 ∷ slice_index bs 5 ∷ slice_index bs 6 ∷ slice_index bs 7 ∷ []
+
+abbrev pub passed : Passed → List ℕ → Passed
+passed state bs = if length bs == 8 then record { digest = from_le_bytes w64 (eight bs) } else state

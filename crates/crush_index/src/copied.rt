@@ -1,0 +1,14 @@
+//! Copies of tables.
+
+ghost use Rattle.std.specs.Prelude.{◌≡◌, IfOk};
+
+use std::alloc::AllocError;
+
+/// A copy of a table. An Err is out of memory.
+pub(crate) fn copied<T: Copy>(table: &Vec<T>) -> Result<Vec<T>, AllocError>
+    ensures { IfOk result (λ copy. copy.items ≡ table.now.items) }
+{
+    let mut copy = Vec::new(*table.allocator());
+    copy.extend_from_slice(table.as_slice())?;
+    Ok(copy)
+}

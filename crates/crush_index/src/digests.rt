@@ -1,0 +1,46 @@
+//! How digests are hashed: each is its own hash.
+
+use std::hash::{BuildHasher, Hasher};
+
+/// Makes hashers of digests.
+#[derive(Clone, Copy)]
+pub(crate) struct Digests;
+
+/// A hasher that is written a digest and finishes with it.
+#[derive(Clone, Copy)]
+pub(crate) struct Passed {
+    digest: u64,
+}
+
+impl BuildHasher for Digests {
+    type Hasher = Passed;
+
+    ghost use Rattle.crush_index.specs.Keys.{nothing_passed};
+
+    ghost build_hasher = { λ _. nothing_passed };
+
+    fn build_hasher(&self) -> Passed {
+        Passed { digest: 0 }
+    }
+}
+
+impl Hasher for Passed {
+    ghost use Rattle.crush_index.specs.Keys.{passed};
+
+    ghost write = { passed };
+
+    ghost finish = { λ state. state.digest };
+
+    fn finish(&self) -> u64 {
+        self.digest
+    }
+
+    // A digest is written as eight bytes.
+    fn write(&mut self, bytes: &[u8]) {
+        if bytes.len() == 8 {
+            self.digest = u64::from_le_bytes([
+                bytes[0], bytes[1], bytes[2], bytes[3], bytes[4], bytes[5], bytes[6], bytes[7],
+            ]);
+        }
+    }
+}
