@@ -1,10 +1,10 @@
 -- What an index is told of changes that are still to come.
-use Rattle.std.specs.Prelude.{◌≡◌, ℕ, List, Result, OnOk, OnErr}
+use Rattle.std.specs.Prelude.{◌≡◌, ℕ, List, Bool, not, if◌then◌else◌, is_some, Result, OnOk, OnErr, IfOk}
 use Rattle.crush_units.specs.declared.id.ItemId.{ItemId}
-use Rattle.crush_table.specs.Columns.{set_name}
 use Rattle.crush_table.specs.Table.{Row}
 use Rattle.crush_index.specs.Hashings.{hashings}
-use Rattle.crush_index.specs.IndexTold.{IsIndexOf}
+use Rattle.crush_index.specs.IndexTold.{IsIndexOf, told, with_name}
+use Rattle.crush_index.specs.NamesTold.{id_told}
 use Rattle.crush_index.specs.declared.index.Index.{Index}
 
 -- TELLS THE SAME: an index of a table is still one of it, and hashes as before
@@ -17,8 +17,9 @@ pub record IsRetold (t : List Row) (old new : Index) : Type 0 where
   pub told : IsIndexOf t new
   pub hashing : hashings new ≡ hashings old
 
--- TOLD OF A NAME: the index is one of the table in which the item has the name, or after an Err still one of the table; it hashes as before
-pub record IsNameRetold {X E : Type 0} (i : ItemId) (name : List ℕ) (t : List Row) (old new : Index) (answer : Result X E) : Type 0 where
-  pub ok : OnOk answer (IsIndexOf (set_name i name t) new)
-  pub err : OnErr answer (IsIndexOf t new)
+-- TOLD OF A FREE NAME: true, and the name has the id also, where no item had it; otherwise, and after an Err, all is told as before; it hashes as before
+pub record IsToldOfName {E : Type 0} (i : ItemId) (name : List ℕ) (old new : Index) (answer : Result Bool E) : Type 0 where
+  pub free : IfOk answer (λ free. free ≡ not (is_some (id_told old.names name)))
+  pub ok : IfOk answer (λ free. told new ≡ (if free then with_name name i (told old) else told old))
+  pub err : OnErr answer (told new ≡ told old)
   pub hashing : hashings new ≡ hashings old

@@ -5,8 +5,8 @@ use Rattle.crush_table.specs.Items.{Items}
 use Rattle.crush_table.specs.Table.{Row}
 use Rattle.crush_nodes.specs.declared.place.Place.{Place}
 use Rattle.crush_index.specs.Hashings.{hashings}
-use Rattle.crush_index.specs.IndexLaw.{StaysIndex, TakesRows, LosesPart, LosesRows, Renames}
-use Rattle.crush_index.specs.IndexTold.{IsIndexOf, told, with_row, without_rows}
+use Rattle.crush_index.specs.IndexLaw.{StaysIndex, TakesRows, LosesPart, LosesRows}
+use Rattle.crush_index.specs.IndexTold.{told, with_name, with_row, without_name, without_rows}
 use Rattle.crush_index.specs.declared.index.Index.{Index}
 
 -- the items came last to the place; after an error the index is still one of each table that they could come to
@@ -21,10 +21,15 @@ pub record Removes (n : Items) (old new : Index) : Type 0 where
   pub rows : LosesRows n old new
   pub hashing : hashings new ≡ hashings old
 
--- the item has the one name in place of the other; after an error the index is still one of each table that it was one of
-pub record GivesName {X E : Type 0} (i : ItemId) (from to : List ℕ) (old new : Index) (answer : Result X E) : Type 0 where
-  pub ok : OnOk answer (Renames i from to old new)
-  pub err : OnErr answer ((t : List Row) → IsIndexOf t old → IsIndexOf t new)
+-- the name has the id; after an error all is told as before
+pub record AddsName {X E : Type 0} (name : List ℕ) (i : ItemId) (old new : Index) (answer : Result X E) : Type 0 where
+  pub ok : OnOk answer (told new ≡ with_name name i (told old))
+  pub err : OnErr answer (told new ≡ told old)
+  pub hashing : hashings new ≡ hashings old
+
+-- the name has no id
+pub record ForgetsName (name : List ℕ) (old new : Index) : Type 0 where
+  pub gone : told new ≡ without_name name (told old)
   pub hashing : hashings new ≡ hashings old
 
 -- the row has come; after an error all is told as before but of its name and its ids

@@ -49,6 +49,13 @@ without_rows t s = record {
   used = λ k. if member k (used_ids t) then false else s.used k;
 }
 
+-- and after a name has come, and after one was forgotten
+abbrev pub with_name : List ℕ → ItemId → Told → Told
+with_name name i s = record s { names = λ n. if bytes_eq name n then Some i else s.names n }
+
+abbrev pub without_name : List ℕ → Told → Told
+without_name name s = record s { names = λ n. if bytes_eq name n then None else s.names n }
+
 -- the row of a node below a parent or none, without those of the items below it
 abbrev pub own_row : {A : _} → Option ℕ → Node A → Row
 own_row p (Device l) = device_row p (leaf_data l)

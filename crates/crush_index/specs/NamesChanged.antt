@@ -1,19 +1,13 @@
 -- What became of an index of names: old is the one before a call, new the one after it.
-use Rattle.std.specs.Prelude.{◌≡◌, ℕ, List, Some, None, Result, OnOk, OnErr}
+use Rattle.std.specs.Prelude.{◌≡◌, ℕ, List, Some, Result, OnOk, OnErr}
 use Rattle.crush_units.specs.declared.id.ItemId.{ItemId}
 use Rattle.crush_index.specs.Hashings.{names_hashing}
-use Rattle.crush_index.specs.NamesTold.{TellsSame, TellsOne, TellsTwo}
+use Rattle.crush_index.specs.NamesTold.{TellsSame, TellsOne}
 use Rattle.crush_index.specs.declared.names.Names.{Names}
 
 -- the name has the id; after an error each name has the id that it had
 pub record Inserts {X E : Type 0} (name : List ℕ) (id : ItemId) (old new : Names) (answer : Result X E) : Type 0 where
   pub ok : OnOk answer (TellsOne old new name (Some id))
-  pub err : OnErr answer (TellsSame old new)
-  pub hashing : names_hashing new ≡ names_hashing old
-
--- the one name has the id, and the other none; after an error each name has the id that it had
-pub record Renames {X E : Type 0} (from to : List ℕ) (id : ItemId) (old new : Names) (answer : Result X E) : Type 0 where
-  pub ok : OnOk answer (TellsTwo old new to (Some id) from None)
   pub err : OnErr answer (TellsSame old new)
   pub hashing : names_hashing new ≡ names_hashing old
 

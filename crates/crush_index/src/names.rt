@@ -3,7 +3,7 @@
 ghost use Rattle.std.specs.Prelude.{◌≡◌, true, false, Some, None, List, ℕ, ◌++◌, ◌∷◌, [], bytes_eq, IfOk};
 ghost use Rattle.crush_table.specs.Table.{Row, is_named, name_of};
 ghost use Rattle.crush_index.specs.Hashings.{names_hashing};
-ghost use Rattle.crush_index.specs.NamesChanged.{IsCopyOf, Inserts, Renames};
+ghost use Rattle.crush_index.specs.NamesChanged.{IsCopyOf, Inserts};
 ghost use Rattle.crush_index.specs.NamesTold.{id_told, TellsOne, TellsTwo};
 
 use crate::digests::Digests;
@@ -71,19 +71,6 @@ impl Names {
         ensures hashing { names_hashing self.new ≡ names_hashing self.old }
     {
         self.ids.swap_remove(Asked::of(name, &self.hashing));
-    }
-
-    /// Another name for the item that has the first one. An Err is out of memory, and nothing has
-    /// changed then.
-    pub fn rename(&mut self, from: &[u8], to: Name<Global>, id: ItemId) -> Result<(), AllocError>
-        requires there { id_told self.old from.now ≡ Some id }
-        requires free { id_told self.old to ≡ None }
-        ensures { Renames from.now to id self.old self.new result }
-    {
-        self.ids
-            .insert(Key::of(self.machine, to, &self.hashing), id)?;
-        self.ids.swap_remove(Asked::of(from, &self.hashing));
-        Ok(())
     }
 
     /// Two items that exchange their names. It takes no memory.

@@ -8,7 +8,6 @@
 
 use super::names::{add, device};
 use crush_index::{Hashing, Names};
-use crush_units::Name;
 use std::alloc::Global;
 
 /// Adds a device of each name, the first with the id 0. Whether that was done.
@@ -36,18 +35,12 @@ fn tell_each(names: &Names, texts: &[&str], gone: Option<u32>) -> bool {
     true
 }
 
-/// Gives the item of one name another, which no item has. Whether that was done.
+/// Gives the item of one name another. Whether that was done.
 fn rename(names: &mut Names, alloc: Global, from: &str, to: &str) -> bool {
-    if names.id_of(to.as_bytes()).is_some() {
-        return false;
-    }
-    let Some(id) = names.id_of(from.as_bytes()) else {
-        return false;
-    };
-    match Name::read(alloc, to.as_bytes()) {
-        Ok(name) => names.rename(from.as_bytes(), name, id).is_ok(),
-        Err(_) => false,
-    }
+    let id = names.id_of(from.as_bytes());
+    let done = add(names, alloc, to.as_bytes(), id);
+    names.remove(from.as_bytes());
+    done
 }
 
 #[test]

@@ -120,6 +120,23 @@ fn a_hint_leaves_the_place(rt: HostRuntime) {
     drop(index);
 }
 
+#[test]
+fn a_name_is_another(rt: HostRuntime) {
+    let mut index = Index::new(rt.alloc(), Hashing::plain());
+    let first = host(&rt, rt.alloc());
+    let rack = name(&rt, rt.alloc(), b"rack");
+    let id = ItemId::Bucket(bucket(&rt, 2));
+    index
+        .insert_node(Place::Root, 0, &first)
+        .expect(&rt, "memory");
+    index.add_name(rack, id).expect(&rt, "memory");
+    assert!(rt; index.id_of(b"h1") == Some(id) && index.id_of(b"rack") == Some(id));
+    index.forget_name(b"h1");
+    assert!(rt; index.id_of(b"h1").is_none() && index.id_of(b"rack") == Some(id));
+    drop(first);
+    drop(index);
+}
+
 /// The bucket 1, h2, without class ids and items.
 fn other(rt: &impl Abort, alloc: Global) -> Node<Global> {
     let header = Header {

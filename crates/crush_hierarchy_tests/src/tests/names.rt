@@ -63,26 +63,6 @@ fn names_hash_with_keys_as_without(rt: HostRuntime) {
     drop(names);
 }
 
-/// Gives the host h1 a name that no item has. Whether that was done.
-fn rename_host(names: &mut Names, name: Name<Global>) -> bool {
-    if names.id_of(name.as_bytes()).is_some() {
-        return false;
-    }
-    match names.id_of(b"h1") {
-        Some(id) => names.rename(b"h1", name, id).is_ok(),
-        None => false,
-    }
-}
-
-#[test]
-fn a_name_is_another(rt: HostRuntime) {
-    let name = Name::read(rt.alloc(), b"rack").expect(&rt, "a name");
-    let mut names = Names::new(rt.alloc(), Hashing::plain());
-    assert!(rt; add_three(&mut names, rt.alloc()) && rename_host(&mut names, name));
-    assert!(rt; tell(&names, None, bucket(3), device(0)) && names.id_of(b"rack") == bucket(2));
-    drop(names);
-}
-
 /// Exchanges the names of the two hosts, where they are there.
 fn exchange_hosts(names: &mut Names) {
     let Some(first) = names.id_of(b"h1") else {
