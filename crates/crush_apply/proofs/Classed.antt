@@ -1,6 +1,6 @@
 -- What the table answers where a device gets a class, and where it loses one.
 use Rattle.std.proofs.Common.{◌≡◌, ℕ, List, true, false, not, refl, ap, ◌∙◌}
-use Rattle.std.specs.Prelude.{Option, Some, None, bytes_eq}
+use Rattle.std.specs.Prelude.{Option, Some, None, is_some, bytes_eq}
 use Rattle.std.specs.Option.{option_eq}
 use Rattle.crush_units.specs.declared.id.ItemId.TheVariants.{Device}
 use Rattle.crush_table.specs.Columns.{set_class}
@@ -46,8 +46,11 @@ module _ (s : SettingData) (t : List Row) (n : List ℕ) (d : ℕ) (l : Lawful t
   loses : id_named t n ≡ Some (Device d) → refusal s t (RemoveClass n) ≡ None
   loses named = rw named refl
 
-  pub remove_class_done : (k : List ℕ) → HasClass t n (Some k) d → edit s t (RemoveClass n) ≡ done true 0 (set_class (Device d) None t)
-  remove_class_done k has = ap (λ r. answer r t (after s t (RemoveClass n))) (loses has.named) ∙ rw has.named (becomes None (Some k) has refl)
+  had_one : (k : Option (List ℕ)) → not (option_eq bytes_eq k None) ≡ is_some k
+  had_one None = refl
+  had_one (Some k) = refl
 
-  pub remove_class_still : HasClass t n None d → edit s t (RemoveClass n) ≡ done false 0 t
-  remove_class_still has = ap (λ r. answer r t (after s t (RemoveClass n))) (loses has.named) ∙ rw has.named (stays None has)
+  pub remove_class_done : (k : Option (List ℕ)) → HasClass t n k d → edit s t (RemoveClass n) ≡ done (is_some k) 0 (set_class (Device d) None t)
+  remove_class_done k has =
+      let same = class_changes t (Device d) None l (there_by_name t n (Device d) has.named) ∙ ap (λ o. option_eq bytes_eq o None) has.class in
+      ap (λ r. answer r t (after s t (RemoveClass n))) (loses has.named) ∙ rw has.named (ap (λ b. done b 0 (set_class (Device d) None t)) (ap not same ∙ had_one k))

@@ -18,7 +18,7 @@ use Rattle.crush_edits.specs.Changed.{same_table}
 use Rattle.crush_edits.specs.Answer.{done, answer, refused}
 use Rattle.crush_edits.specs.Edit.{after, edit, refusal}
 use Rattle.crush_apply.specs.Weighed.{CanReweight, CanReweightSubtree}
-use Rattle.crush_edits.proofs.Changes.{same_weight, same_weights, weights_kept}
+use Rattle.crush_edits.proofs.Changes.{same_weight, same_weights}
 
 -- what a call that tests the sums tells of them
 pub fitting : (b : Bool) → true ≡ not b → b ≡ false
@@ -81,14 +81,14 @@ all_have which w [] = refl
 all_have which w (r ∷ t) = not_or_not (which r) (r.weight == w) _ _ (all_have which w t)
 
 -- whether the table stays the same, told by the weights that are there
-pub subtree_stays : (t : List Row) (w b : ℕ) (x : Bool) → x ≡ list_any (λ (r : Row). (is_device r && is_below t b r.id) && not (r.weight == w)) t → same_table t (set_subtree b w t) ≡ not x
+subtree_stays : (t : List Row) (w b : ℕ) (x : Bool) → x ≡ list_any (λ (r : Row). (is_device r && is_below t b r.id) && not (r.weight == w)) t → same_table t (set_subtree b w t) ≡ not x
 subtree_stays t w b x h = same_weights (λ (r : Row). is_device r && is_below t b r.id) w t ∙ all_have (λ (r : Row). is_device r && is_below t b r.id) w t ∙ ap not (sym h)
 
--- what the table answers then, and where it becomes another
-pub subtree_still : (s : SettingData) (t : List Row) (n : List ℕ) (w b : ℕ) → CanReweightSubtree t n w b → is_too_heavy t ≡ false → same_table t (set_subtree b w t) ≡ true → edit s t (ReweightSubtree n w) ≡ done false 0 t
-subtree_still s t n w b c light same =
-    let kept : set_subtree b w t ≡ t = weights_kept (λ (r : Row). is_device r && is_below t b r.id) w t same in
-    reweight_subtree_done s t n w b c (ap is_too_heavy kept ∙ light) ∙ (λ i. done (not (same i)) 0 (kept i))
+not_not : (x : Bool) → not (not x) ≡ x
+not_not true = refl
+not_not false = refl
 
-pub subtree_changed : (s : SettingData) (t : List Row) (n : List ℕ) (w b : ℕ) → CanReweightSubtree t n w b → is_too_heavy (set_subtree b w t) ≡ false → let u = set_subtree b w t in same_table t u ≡ false → edit s t (ReweightSubtree n w) ≡ done true 0 u
-subtree_changed s t n w b c fits other = reweight_subtree_done s t n w b c fits ∙ ap (λ x. done (not x) 0 (set_subtree b w t)) other
+-- what the table answers where its sums are in range
+pub subtree_done : (s : SettingData) (t : List Row) (n : List ℕ) (w b : ℕ) → CanReweightSubtree t n w b → is_too_heavy (set_subtree b w t) ≡ false
+    → (x : Bool) → x ≡ list_any (λ (r : Row). (is_device r && is_below t b r.id) && not (r.weight == w)) t → edit s t (ReweightSubtree n w) ≡ done x 0 (set_subtree b w t)
+subtree_done s t n w b c fits x h = reweight_subtree_done s t n w b c fits ∙ ap (λ z. done z 0 (set_subtree b w t)) (ap not (subtree_stays t w b x h) ∙ not_not x)

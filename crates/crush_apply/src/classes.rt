@@ -97,15 +97,9 @@ pub(crate) fn remove_class<A: Allocator>(
 {
     hierarchy.recall_invariant();
     let device = check_remove_class(hierarchy, name)?;
-    let Some(_) = hierarchy.class(ItemId::Device(device)) else {
-        return Ok(Done {
-            changed: false,
-            made: 0,
-        });
-    };
-    let _old = hierarchy.set_class(device, None);
+    let old = hierarchy.set_class(device, None);
     Ok(Done {
-        changed: true,
+        changed: old.is_some(),
         made: 0,
     })
 }

@@ -51,17 +51,11 @@ pub(crate) fn reweight_subtree<A: Allocator>(
 {
     hierarchy.recall_invariant();
     let bucket = check_subtree(hierarchy, name, weight)?;
-    if !hierarchy.changes_subtree(bucket, weight) {
-        return Ok(Done {
-            changed: false,
-            made: 0,
-        });
-    }
-    let Some(_) = hierarchy.replace_subtree(bucket, weight) else {
+    let Some(change) = hierarchy.replace_subtree(bucket, weight) else {
         return Err(EditFault::Refused(Refusal::SumTooLarge));
     };
     Ok(Done {
-        changed: true,
+        changed: change.other,
         made: 0,
     })
 }

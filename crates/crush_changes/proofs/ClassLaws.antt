@@ -6,7 +6,7 @@ use Rattle.crush_table.specs.Items.{LeafData, Items, none, device, bucket}
 use Rattle.crush_table.specs.Forest.{join}
 use Rattle.crush_table.specs.Stored.{weight_sum, StoresSums}
 use Rattle.crush_changes.specs.Change.{with_item}
-use Rattle.crush_changes.specs.Classed.{leaf_with_class, with_class, IsLeaf, with_own_class}
+use Rattle.crush_changes.specs.Classed.{leaf_with_class, with_class, IsLeaf, class_of_first, with_own_class}
 use Rattle.crush_nodes.specs.Ops.{count_of_id, with_sums, part_of, StoresUpTo}
 use Rattle.crush_changes.proofs.ChangeLaws.{local, one_taken}
 use Rattle.crush_nodes.proofs.Joins.{pick_no, pick_yes, has_sums}
@@ -53,3 +53,14 @@ classed_taken i c t one = one_taken (λ x. with_own_class c x ≡ with_class i c
 pub classed : (i : ℕ) (c : Option (List ℕ)) (t y : Items) → count_of_id (Device i) t ≡ 1 → StoresSums t → y ≡ with_own_class c (part_of (Device i) t) → with_sums (with_item (Device i) y t) ≡ with_class i c t
 classed i c t y one s e =
     ap with_sums (local (with_class i c) (Device i) (with_class-join i c) (with_class-absent i c) (λ h w m k misses. refl) t y one (e ∙ classed_taken i c t one)) ∙ has_sums (with_class i c t) (StoresSums-with_class i c t s)
+
+-- the class that the device has already changes nothing
+own_kept : (i : ℕ) (t : Items) → count_of_id (Device i) t ≡ 1 → with_own_class (class_of_first (part_of (Device i) t)) (part_of (Device i) t) ≡ part_of (Device i) t
+own_kept i t one = one_taken (λ x. with_own_class (class_of_first x) x ≡ x) (Device i) t one (λ d here. refl) (λ h w m k here gone. absurd (omega (arith, here)))
+
+pub with_class-own : (i : ℕ) (c : Option (List ℕ)) (t : Items) → count_of_id (Device i) t ≡ 1 → class_of_first (part_of (Device i) t) ≡ c → with_class i c t ≡ t
+with_class-own i c t one has =
+    let part = part_of (Device i) t in
+    let kept : part ≡ with_own_class c part = sym (own_kept i t one) ∙ ap (λ k. with_own_class k part) has in
+    sym (local (with_class i c) (Device i) (with_class-join i c) (with_class-absent i c) (λ h w m k misses. refl) t part one (kept ∙ classed_taken i c t one))
+    ∙ local (λ x. x) (Device i) (λ a b. refl) (λ u gone. refl) (λ h w m k misses. refl) t part one refl

@@ -7,6 +7,7 @@ pub mod HeavyLaws
 pub mod MoveLaws
 pub mod MoveSteps
 pub mod NewNameLaws
+pub mod OtherLaws
 pub mod PutLastLaws
 pub mod RangeLaws
 pub mod RenameLaws

@@ -2,6 +2,7 @@ pub mod Change
 pub mod Classed
 pub mod Moving
 pub mod Named
+pub mod OtherWeights
 pub mod Putting
 pub mod Replaced
 pub mod Shuffled

@@ -3,7 +3,6 @@ pub mod Changed
 pub mod Climbed
 pub mod Memory
 pub mod NewWeights
-pub mod OtherWeights
 pub mod Sameness
 pub mod SeenForest
 pub mod Shrunk

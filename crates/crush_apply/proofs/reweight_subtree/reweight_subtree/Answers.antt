@@ -1,17 +1,15 @@
-use Rattle.std.proofs.Common.{true, ap, refl, ◌∙◌}
-use Rattle.std.specs.Prelude.{not}
+use Rattle.std.proofs.Common.{true, refl}
 use Rattle.crush_units.specs.declared.id.ItemId.TheVariants.{Bucket}
 use Rattle.crush_table.specs.Columns.{set_subtree}
 use Rattle.crush_table.specs.Forest.{rows_of}
 use Rattle.crush_table.proofs.Stands.{stands_for_rows}
-use Rattle.crush_table.proofs.Weighs.{lawful_light}
 use Rattle.crush_edits.specs.declared.edit.Edit.TheVariants.{ReweightSubtree}
 use Rattle.crush_edits.specs.declared.refusal.Refusal.TheVariants.{SumTooLarge}
-use Rattle.crush_apply.proofs.Answered.{when_changed, when_still, when_refused}
+use Rattle.crush_apply.proofs.Answered.{when_done, when_refused}
 use Rattle.crush_apply.proofs.Found.{there_by_name}
 use Rattle.crush_apply.proofs.Refused.{no_want}
 use Rattle.crush_edits.proofs.Edits.{not_heavy}
-use Rattle.crush_apply.proofs.Weights.{refused_edit, fitting, too_heavy, subtree_refusal, subtree_stays, subtree_still, subtree_changed}
+use Rattle.crush_apply.proofs.Weights.{refused_edit, fitting, too_heavy, subtree_refusal, subtree_done}
 use Rattle.crush_apply.proofs.reweight_subtree.reweight_subtree.Goals as goal
 
 pub returns-in_err-bucket-clause-answers : goal.returns-in_err-bucket-clause-answers
@@ -26,12 +24,6 @@ replace_subtree-requires g c =
     let can = c.in_ok-bucket.ensures.can (rows_of c.args.hierarchy.now) (stands_for_rows c.args.hierarchy.now c.recall_invariant.ensures) in
     record { there = there_by_name (rows_of c.args.hierarchy.now) c.args.name.now (Bucket c.in_ok-bucket.bucket) can.named; light = not_heavy c.args.weight can.light }
 
-pub returns-then-not-changes_subtree-clause-answers : goal.returns-then-not-changes_subtree-clause-answers
-returns-then-not-changes_subtree-clause-answers g c = λ s. when_still _ _ _ (λ t st.
-    let b = c.in_ok-bucket.bucket in
-    let w = c.args.weight in
-    (t, subtree_still s t c.args.name.now w b (c.in_ok-bucket.ensures.can t st) (lawful_light t st.lawful) (subtree_stays t w b c.changes_subtree.result (c.changes_subtree.ensures t st) ∙ ap not c.if-not-changes_subtree.true), st))
-
 pub returns-in_default : goal.returns-in_default
 returns-in_default g c = record {
   answers = λ s. when_refused _ _ _ SumTooLarge _ refl c.in_default.ensures.none
@@ -41,10 +33,10 @@ returns-in_default g c = record {
 }
 
 pub returns-clause-answers : goal.returns-clause-answers
-returns-clause-answers g c = λ s. when_changed _ _ _ _ (λ t st.
+returns-clause-answers g c = λ s. when_done _ _ _ _ c.in-Some.ensures.same (λ t st.
     let b = c.in_ok-bucket.bucket in
     let w = c.args.weight in (
       set_subtree b w t,
-      subtree_changed s t c.args.name.now w b (c.in_ok-bucket.ensures.can t st) (fitting _ (c.in-Some.ensures.fits t st)) (subtree_stays t w b c.changes_subtree.result (c.changes_subtree.ensures t st) ∙ ap not c.if-not-changes_subtree.false),
+      subtree_done s t c.args.name.now w b (c.in_ok-bucket.ensures.can t st) (fitting _ (c.in-Some.ensures.fits t st)) c.in-Some.change.other (c.in-Some.ensures.other t st),
       c.in-Some.ensures.stands t st,
     ))
