@@ -12,11 +12,6 @@ pub record TellsSame (old new : Index) : Type 0 where
   pub same : (t : List Row) → IsIndexOf t old → IsIndexOf t new
   pub hashing : hashings new ≡ hashings old
 
--- RETOLD: the index is now one of the table, and hashes as before
-pub record IsRetold (t : List Row) (old new : Index) : Type 0 where
-  pub told : IsIndexOf t new
-  pub hashing : hashings new ≡ hashings old
-
 -- TOLD OF A FREE NAME: true, and the name has the id also, where no item had it; otherwise, and after an Err, all is told as before; it hashes as before
 pub record IsToldOfName {E : Type 0} (i : ItemId) (name : List ℕ) (old new : Index) (answer : Result Bool E) : Type 0 where
   pub free : IfOk answer (λ free. free ≡ not (is_some (id_told old.names name)))
