@@ -58,10 +58,7 @@ pub(crate) fn fits_put_item<A: Allocator>(
     hierarchy.recall_invariant();
     let id = &id;
     hierarchy.recall_part(*id);
-    let Some(weight) = hierarchy.weight(*id) else {
-        unreachable!()
-    };
-    hierarchy.fits_move(*id, to.place(), weight)
+    hierarchy.fits_move(*id, to.place(), None)
 }
 
 /// Whether all sums stay in range where a device that is there comes to the destination with this
@@ -80,7 +77,7 @@ pub(crate) fn fits_put_device<A: Allocator>(
 {
     hierarchy.recall_invariant();
     hierarchy.recall_part(ItemId::Device(device));
-    hierarchy.fits_move(ItemId::Device(device), to.place(), weight)
+    hierarchy.fits_move(ItemId::Device(device), to.place(), Some(weight))
 }
 
 /// Whether all sums stay in range where a device that isn't there comes to the destination with

@@ -148,7 +148,7 @@ impl<A: Allocator> MapBuilder<A> {
         let item = &id;
         let coming = self.weight_to_come(*item, weight);
         self.hierarchy
-            .fits_move(*item, Place::Bucket(bucket), coming)
+            .fits_move(*item, Place::Bucket(bucket), Some(coming))
     }
 
     /// What an item weighs once it is put into a bucket with the weight: a device that, and a

@@ -152,7 +152,7 @@ fn can_move(guide: &Asked<'_>, device: DeviceId, bucket: BucketId, weight: Weigh
             guide,
             ItemId::Device(device),
             Place::Bucket(bucket),
-            weight,
+            Some(weight),
             total,
         )
 }

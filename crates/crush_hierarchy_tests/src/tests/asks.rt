@@ -87,7 +87,7 @@ pub(super) fn fits_move(
     weight: Weight,
 ) -> Option<bool> {
     if has_item(hierarchy, &ItemId::Bucket(bucket)) {
-        Some(hierarchy.fits_move(ItemId::Device(device), Place::Bucket(bucket), weight))
+        Some(hierarchy.fits_move(ItemId::Device(device), Place::Bucket(bucket), Some(weight)))
     } else {
         None
     }

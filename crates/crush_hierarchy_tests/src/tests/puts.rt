@@ -54,7 +54,7 @@ pub(super) fn put_device(
     if !hierarchy.forest().has_room(Place::Bucket(bucket)) {
         return false;
     }
-    if !hierarchy.fits_move(ItemId::Device(device), Place::Bucket(bucket), weight) {
+    if !hierarchy.fits_move(ItemId::Device(device), Place::Bucket(bucket), Some(weight)) {
         return false;
     }
     hierarchy.recall_part(ItemId::Device(device));

@@ -77,7 +77,7 @@ pub(super) fn fits_moved<A: Allocator>(
 ) -> Option<bool> {
     let id = ItemId::Device(device);
     if has_item(forest, &id) && has_item(forest, &ItemId::Bucket(bucket)) {
-        Some(forest.fits_move(ItemId::Device(device), Place::Bucket(bucket), weight))
+        Some(forest.fits_move(ItemId::Device(device), Place::Bucket(bucket), Some(weight)))
     } else {
         None
     }

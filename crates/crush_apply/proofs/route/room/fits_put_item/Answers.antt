@@ -1,5 +1,5 @@
-use Rattle.std.proofs.Common.{◌≡◌, ◌++◌, true, false, sym, subst, ◌∙◌}
-use Rattle.std.specs.Prelude.{None, Some, IfSome, not}
+use Rattle.std.proofs.Common.{◌≡◌, ◌++◌, true, false, refl, sym, subst}
+use Rattle.std.specs.Prelude.{IfSome, not}
 use Rattle.crush_units.specs.declared.id.ItemId.TheVariants.{Bucket}
 use Rattle.crush_table.specs.Columns.{is_part, table_without}
 use Rattle.crush_table.specs.Forest.{all_items, rows_of}
@@ -31,23 +31,12 @@ fits_move-requires g c = record {
       subst (λ p. IfSome (parent_at p) (λ b. is_part (rows_of f) c.args.id (Bucket b) ≡ false)) (sym c.place.ensures) (receiver_apart (rows_of f) c.args.id c.args.to.now can.leads can.apart);
 }
 
-pub unreachable-requires : goal.unreachable-requires
-unreachable-requires g c =
-    let f = c.args.hierarchy.now in
-    let st = stands_for_rows f c.recall_invariant.ensures in
-    let part_weighs = c.recall_part.ensures.weight (rows_of f) st in
-    let none = c.weight.ensures (rows_of f) st in
-    let is = c.in_default.is in
-    let both : None ≡ Some (weight_sum (part_of c.args.id (all_items f))) = sym is ∙ none ∙ part_weighs in
-    cc
-
 pub returns : goal.returns
 returns g c = λ t r st found room.
     let i = c.args.id in
     let to = c.args.to.now in
-    let w = c.in-Some.weight in
     let n : Items = part_of i (all_items c.args.hierarchy.now) in
-    let is : weight_sum n ≡ w = let both : Some (weight_sum n) ≡ Some w = sym (c.recall_part.ensures.weight t st) ∙ sym (c.in-Some.ensures t st) in cc in
+    let w = weight_sum n in
     let can = c.requires t st in
-    item_told t st.lawful to can.leads i r n w c.fits_move.result found can.apart room c.recall_part.ensures.one (c.recall_part.ensures.rows t st) c.recall_part.ensures.sums c.recall_part.ensures.small c.recall_part.ensures.light is
+    item_told t st.lawful to can.leads i r n w c.fits_move.result found can.apart room c.recall_part.ensures.one (c.recall_part.ensures.rows t st) c.recall_part.ensures.sums c.recall_part.ensures.small c.recall_part.ensures.light refl
     (subst (λ p. (m : Items) → weight_sum m ≡ w → CanCome (table_without i t) p m → c.fits_move.result ≡ not (is_too_heavy (table_without i t ++ rows (parent_at p) m))) c.place.ensures (c.fits_move.ensures t st))
