@@ -115,7 +115,7 @@ impl<A: Allocator> Name<A> {
     pub fn try_copy<B: Allocator>(&self, alloc: B) -> Result<Name<B>, AllocError>
         ensures { IfOk result (λ copy. copy ≡ self.now) }
     {
-        let text = Text::new(alloc, self.as_bytes())?;
+        let text = self.text.try_copy(alloc)?;
         Ok(Name { text })
     }
 

@@ -42,6 +42,16 @@ impl Short {
         }
     }
 
+    /// The same bytes.
+    fn copy(&self) -> Short
+        ensures { result ≡ self.now }
+    {
+        Short {
+            count: self.count,
+            bytes: self.bytes,
+        }
+    }
+
     /// The bytes.
     fn as_bytes(&self) -> &[u8]
         ensures { result.now ≡ self.now }
@@ -71,6 +81,16 @@ impl<A: Allocator> Text<A> {
             return Ok(Text::Short(Short::new(bytes)));
         }
         Ok(Text::Long(String::from_str(alloc, utf8(bytes))?))
+    }
+
+    /// A copy in memory of the given allocator. An `Err` says that memory ran out there.
+    pub(crate) fn try_copy<B: Allocator>(&self, alloc: B) -> Result<Text<B>, AllocError>
+        ensures { IfOk result (λ copy. text_bytes copy ≡ text_bytes self.now) }
+    {
+        match self {
+            Text::Short(short) => Ok(Text::Short(short.copy())),
+            Text::Long(text) => Ok(Text::Long(String::from_str(alloc, text.as_str())?)),
+        }
     }
 
     /// The text's bytes.
