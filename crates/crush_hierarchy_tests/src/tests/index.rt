@@ -103,6 +103,38 @@ fn items_come_and_go(rt: HostRuntime) {
 }
 
 #[test]
+fn a_copy_goes_its_own_way(rt: HostRuntime) {
+    let mut index = Index::new(rt.alloc(), Hashing::plain());
+    let first = host(&rt, rt.alloc());
+    let second = leaf(&rt, rt.alloc());
+    let root = Some(Spot {
+        place: Place::Root,
+        near: 0,
+    });
+    let below = Some(Spot {
+        place: Place::Bucket(bucket(&rt, 2)),
+        near: 0,
+    });
+    index
+        .insert_node(Place::Root, 0, &first)
+        .expect(&rt, "memory");
+    index
+        .insert_node(Place::Bucket(bucket(&rt, 2)), 0, &second)
+        .expect(&rt, "memory");
+    let mut copy = index.try_copy().expect(&rt, "memory");
+    assert!(rt; tells(&copy, &rt, root, below));
+    assert!(rt; copy.id_of(b"osd.0") == Some(device(&rt, 0)));
+    copy.remove_node(&second);
+    assert!(rt; tells(&copy, &rt, root, None) && copy.id_of(b"osd.0").is_none());
+    assert!(rt; tells(&index, &rt, root, below));
+    assert!(rt; index.id_of(b"osd.0") == Some(device(&rt, 0)));
+    drop(copy);
+    drop(second);
+    drop(first);
+    drop(index);
+}
+
+#[test]
 fn a_hint_leaves_the_place(rt: HostRuntime) {
     let mut index = Index::new(rt.alloc(), Hashing::plain());
     let first = host(&rt, rt.alloc());
