@@ -62,7 +62,7 @@ pub(crate) fn swap<A: Allocator>(
 {
     hierarchy.recall_invariant();
     let (first, second) = check_swap(hierarchy, a, b)?;
-    hierarchy.swap(first, second);
+    hierarchy.swap(first, second, a.as_bytes(), b.as_bytes());
     Ok(Done {
         changed: true,
         made: 0,

@@ -1,7 +1,8 @@
-use Rattle.std.proofs.Common.{refl}
+use Rattle.std.proofs.Common.{refl, ap, ◌∙◌}
 use Rattle.crush_units.specs.declared.id.ItemId.TheVariants.{Bucket}
 use Rattle.crush_table.specs.Columns.{swap_buckets}
 use Rattle.crush_table.specs.Forest.{rows_of}
+use Rattle.crush_table.specs.Table.{id_named}
 use Rattle.crush_table.proofs.Stands.{stands_for_rows}
 use Rattle.crush_edits.specs.declared.edit.Edit.TheVariants.{Swap}
 use Rattle.crush_apply.proofs.Answered.{when_changed, when_refused}
@@ -18,8 +19,14 @@ returns-in_err-first-clause-answers g c = λ s.
 pub returns-in_err-first-clause-memory : goal.returns-in_err-first-clause-memory
 returns-in_err-first-clause-memory g c = no_want _ _ c.from_residual.ensures.1
 
-pub swap-requires : goal.swap-requires
-swap-requires g c = record {
+pub swap-requires-clause-named : goal.swap-requires-clause-named
+swap-requires-clause-named g c =
+    let t = rows_of c.args.hierarchy.now in
+    let can = c.in_ok-first.ensures.can t (stands_for_rows c.args.hierarchy.now c.recall_invariant.ensures) in
+    record { first = ap (id_named t) c.as_bytes.ensures.value ∙ can.first; second = ap (id_named t) c.as_bytes-2.ensures.value ∙ can.second }
+
+pub swap-requires-clause-can : goal.swap-requires-clause-can
+swap-requires-clause-can g c = record {
   there_a = there_by_name (rows_of c.args.hierarchy.now) c.args.a.now (Bucket c.in_ok-first.first) (c.in_ok-first.ensures.can (rows_of c.args.hierarchy.now) (stands_for_rows c.args.hierarchy.now c.recall_invariant.ensures)).first;
   there_b = there_by_name (rows_of c.args.hierarchy.now) c.args.b.now (Bucket c.in_ok-first.second) (c.in_ok-first.ensures.can (rows_of c.args.hierarchy.now) (stands_for_rows c.args.hierarchy.now c.recall_invariant.ensures)).second;
   apart = (c.in_ok-first.ensures.can (rows_of c.args.hierarchy.now) (stands_for_rows c.args.hierarchy.now c.recall_invariant.ensures)).apart;
