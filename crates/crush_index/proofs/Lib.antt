@@ -9,4 +9,4 @@ pub mod WordBits
 pub mod Exchanged
 pub mod PlaceSlots
 pub mod SlotLaws
-pub mod FarCopies
+pub mod MapCopies

@@ -2,7 +2,7 @@ use Rattle.std.specs.Prelude.{ℕ, Ok, map}
 use Rattle.std.proofs.lemmas.Iterator.Adapters.{fact_from_extend}
 use Rattle.std.proofs.lemmas.Iterator.Consumers.{YieldsList-from_rest}
 use Rattle.std.specs.Map.Iter.{deref_pair}
-use Rattle.crush_index.proofs.FarCopies.{map_copied}
+use Rattle.crush_index.proofs.MapCopies.{map_copied}
 use Rattle.crush_index.proofs.numbered.copy_far.Goals as goal
 
 pub returns-clause-told : goal.returns-clause-told

@@ -2,7 +2,7 @@ use Rattle.std.specs.Prelude.{ℕ, Ok, map}
 use Rattle.std.proofs.lemmas.Iterator.Adapters.{fact_from_extend}
 use Rattle.std.proofs.lemmas.Iterator.Consumers.{YieldsList-from_rest}
 use Rattle.std.specs.Map.Iter.{deref}
-use Rattle.crush_index.proofs.FarCopies.{set_copied}
+use Rattle.crush_index.proofs.MapCopies.{set_copied}
 use Rattle.crush_index.proofs.used.copy_far.Goals as goal
 
 pub returns-clause-told : goal.returns-clause-told

@@ -1,8 +1,8 @@
--- What a map or a set says after all of another were inserted into it, where it was empty.
-use Rattle.std.proofs.Common.{◌≡◌, ℕ, nat_eq, refl, List, [], ap, sym, subst, ◌∙◌}
+-- What a copy of a map or of a set tells: a clone, or one into which all was inserted while it was empty.
+use Rattle.std.proofs.Common.{◌≡◌, ℕ, nat_eq, refl, List, [], ◌∷◌, ap, sym, subst, ◌∙◌}
 use Rattle.std.specs.Prelude.{◌||◌}
 use Rattle.std.specs.Cmp.{nat_eq_equiv}
-use Rattle.std.specs.List.{IsDistinct, list_any}
+use Rattle.std.specs.List.{AllZip, IsDistinct, list_any}
 use Rattle.std.specs.Map.{keys_of, lookup}
 use Rattle.std.specs.Option.{option_or}
 use Rattle.std.proofs.lemmas.Map.Made.{update_all_distinct}
@@ -18,3 +18,10 @@ map_copied none copy far xs empty same once made n =
 pub set_copied : {S : Type 0} (none copy far : IndexSet ℕ S) (xs : List ℕ) → none.keys ≡ [] → xs ≡ far.keys → InsertsAllKeys nat_eq none xs copy → (k : ℕ) → contains nat_eq copy k ≡ contains nat_eq far k
 set_copied none copy far xs empty same made k =
     made.0 k ∙ ap (λ ks. list_any (nat_eq k) ks || list_any (nat_eq k) xs) empty ∙ ap (list_any (nat_eq k)) same
+
+-- entries each of which is the same are the same
+pub cloned : {K V : Type 0} (xs ys : List (K × V)) → AllZip (λ p q. (q.0 ≡ p.0) × (q.1 ≡ p.1)) xs ys → ys ≡ xs
+cloned [] [] h = refl
+cloned [] (y ∷ ys) h = absurd h
+cloned (x ∷ xs) [] h = absurd h
+cloned (x ∷ xs) (y ∷ ys) h = λ i. (h.0.0 i, h.0.1 i) ∷ cloned xs ys h.1 i
