@@ -359,7 +359,7 @@ fn is_renamed(rt: &(impl Abort + AllocGlobal), hierarchy: &mut Hierarchy<Global>
 
 /// Whether h9 and its devices have the id that h2 had, once they are exchanged.
 fn are_exchanged(rt: &impl Abort, hierarchy: &mut Hierarchy<Global>) -> bool {
-    exchange(hierarchy, bucket(rt, 2), bucket(rt, 3))
+    exchange(hierarchy, b"h9", b"h2")
         && hierarchy.id_of("h9") == Some(bucket_item(rt, 3))
         && hierarchy.parent(device_item(rt, 0)) == Some(bucket(rt, 3))
         && holds(rt, hierarchy, 3, &[0, 1])

@@ -1,5 +1,10 @@
 //! Changes of a hierarchy: each is made once it was asked whether it may be.
 
+ghost use Rattle.std.specs.Prelude.{◌≡◌, Some, IfSome};
+ghost use Rattle.crush_units.specs.declared.id.ItemId.TheVariants.{Bucket as BucketItem};
+ghost use Rattle.crush_table.specs.Forest.{rows_of};
+ghost use Rattle.crush_table.specs.Table.{id_named};
+
 use super::asks::{are_nested, has_item, has_name, is_held};
 use crush_hierarchy::Hierarchy;
 use crush_tree::{Node, Place};
@@ -108,9 +113,29 @@ pub(super) fn give_name(
     hierarchy.rename(*id, name).is_ok()
 }
 
-/// Exchanges names and items of two buckets. Whether that is done.
-pub(super) fn exchange(hierarchy: &mut Hierarchy<Global>, a: BucketId, b: BucketId) -> bool {
+/// The bucket of this name.
+fn named(hierarchy: &Hierarchy<Global>, name: &[u8]) -> Option<BucketId>
+    ensures { IfSome result (λ b. id_named (rows_of hierarchy.now) name.now ≡ Some (BucketItem b)) }
+{
     hierarchy.recall_invariant();
+    let Some(id) = hierarchy.id_of_bytes(name) else {
+        return None;
+    };
+    let ItemId::Bucket(bucket) = id else {
+        return None;
+    };
+    Some(bucket)
+}
+
+/// Exchanges names and items of the two buckets of these names. Whether that is done.
+pub(super) fn exchange(hierarchy: &mut Hierarchy<Global>, first: &[u8], second: &[u8]) -> bool {
+    hierarchy.recall_invariant();
+    let Some(a) = named(hierarchy, first) else {
+        return false;
+    };
+    let Some(b) = named(hierarchy, second) else {
+        return false;
+    };
     if !has_item(hierarchy, &ItemId::Bucket(a)) {
         return false;
     }
@@ -123,6 +148,6 @@ pub(super) fn exchange(hierarchy: &mut Hierarchy<Global>, a: BucketId, b: Bucket
     if !hierarchy.fits_swap(a, b) {
         return false;
     }
-    hierarchy.swap(a, b);
+    hierarchy.swap(a, b, first, second);
     true
 }
