@@ -8,5 +8,4 @@ pub mod RenameLemmas
 pub mod Summed
 pub mod SumsLemmas
 pub mod TotalLemmas
-pub mod ViewLemmas
 pub mod Weighed
