@@ -1,7 +1,7 @@
 //! Ids of devices, buckets and types.
 
 ghost use Rattle.std.specs.Prelude.{◌≡◌, ◌≤◌, ◌<◌, ◌^◌, IsTrue, ◌↔◌};
-ghost use Rattle.crush_units.specs.Id.{device_of, device_from, bucket_of, bucket_below, bucket_number, item_number, is_device_id, same_id, IsItemId};
+ghost use Rattle.crush_units.specs.Id.{device_of, device_from, bucket_of, bucket_below, bucket_number, item_number, same_id, IsItemId};
 ghost use Rattle.crush_units.specs.declared.limits.TheConstants.{DEVICE_IDS, FARTHEST_BUCKET_ID};
 
 use crate::limits::{FARTHEST_BUCKET_ID, LAST_DEVICE_ID};
@@ -156,16 +156,6 @@ impl ItemId {
         match self {
             ItemId::Device(device) => device.number() as i32,
             ItemId::Bucket(bucket) => -1 - (bucket.distance() - 1) as i32,
-        }
-    }
-
-    /// Whether it is the id of a device.
-    pub fn is_device_id(self) -> bool
-        ensures { result ≡ is_device_id self }
-    {
-        match self {
-            ItemId::Device(_) => true,
-            ItemId::Bucket(_) => false,
         }
     }
 

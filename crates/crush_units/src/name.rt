@@ -1,6 +1,6 @@
 //! Names of devices, buckets, types, tunables, rules and classes.
 
-ghost use Rattle.std.specs.Prelude.{◌≡◌, ◌<◌, length, IsTrue, ◌↔◌, OnOk, IfOk, IfErr, MatchOption, bytes_eq, true};
+ghost use Rattle.std.specs.Prelude.{◌≡◌, ◌<◌, length, IsTrue, ◌↔◌, OnOk, IfOk, IfErr, MatchOption, MatchResult, bytes_eq, true};
 ghost use Rattle.std.specs.Cmp.Rules.{comparing, hashing};
 ghost use Rattle.std.specs.Cmp.Lexicographic.{bytes_decides, nat_list_eq_equiv};
 ghost use Rattle.std.specs.Hash as fed;
@@ -111,9 +111,11 @@ impl<A: Allocator> Name<A> {
     }
 
     /// A copy in memory of the given allocator, which may be another than the name's own. An
-    /// `Err` says that memory ran out there; a name of at most 30 bytes takes none.
+    /// `Err` says that memory ran out there; a name of at most [`LONGEST_SHORT_NAME`] bytes takes
+    /// none.
     pub fn try_copy<B: Allocator>(&self, alloc: B) -> Result<Name<B>, AllocError>
-        ensures { IfOk result (λ copy. copy ≡ self.now) }
+        ensures { MatchResult result (λ copy. copy ≡ self.now)
+            (λ _. LONGEST_SHORT_NAME < length self.now) }
     {
         let text = self.text.try_copy(alloc)?;
         Ok(Name { text })

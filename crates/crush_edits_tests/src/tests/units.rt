@@ -90,12 +90,10 @@ fn bucket_ids(rt: HostRuntime) {
     );
 }
 
-/// Whether the items tell their numbers and which of them is a device, and are two.
+/// Whether the items tell their numbers, and are two.
 fn are_two_items(device: &ItemId, bucket: &ItemId) -> bool {
     device.number() == 1
         && bucket.number() == -1
-        && device.is_device_id()
-        && !bucket.is_device_id()
         && device.is_same(*device)
         && !device.is_same(*bucket)
 }
