@@ -86,7 +86,7 @@ impl From<NameFault> for LocationFault {
 
 impl Pair {
     /// A copy of the pair. An `Err` says that memory ran out.
-    pub fn try_copy(&self, alloc: Global) -> Result<Pair, AllocError>
+    fn try_copy(&self, alloc: Global) -> Result<Pair, AllocError>
         ensures { IfOk result (λ copy. copy ≡ self.now) }
     {
         let kind = self.kind.try_copy(alloc)?;
@@ -142,7 +142,7 @@ impl Location {
     }
 
     /// A copy of the location. An `Err` says that memory ran out.
-    pub fn try_copy(&self, alloc: Global) -> Result<Location, AllocError>
+    pub(crate) fn try_copy(&self, alloc: Global) -> Result<Location, AllocError>
         ensures { IfOk result (λ copy. copy ≡ self.now) }
     {
         let mut pairs = Vec::with_capacity(alloc, self.pairs.len())?;

@@ -92,7 +92,7 @@ impl Model for Setting {
 
 impl KeptStep {
     /// A copy of the step. An `Err` says that memory ran out.
-    pub fn try_copy(&self, alloc: Global) -> Result<KeptStep, AllocError>
+    fn try_copy(&self, alloc: Global) -> Result<KeptStep, AllocError>
         ensures { IfOk result (λ copy. copy ≡ self.now) }
     {
         match self {
@@ -122,7 +122,7 @@ impl KeptStep {
 
 impl KeptRule {
     /// A copy of the rule. An `Err` says that memory ran out.
-    pub fn try_copy(&self, alloc: Global) -> Result<KeptRule, AllocError>
+    fn try_copy(&self, alloc: Global) -> Result<KeptRule, AllocError>
         ensures { IfOk result (λ copy. rule_data copy ≡ rule_data self.now) }
     {
         let name = self.name.try_copy(alloc)?;

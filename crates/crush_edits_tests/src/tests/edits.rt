@@ -21,14 +21,6 @@ fn takes_two(rt: &impl Abort, at: &mut Location) -> bool {
         && leads_to_a_host(at)
 }
 
-/// Whether a copy of the location has the same two pairs.
-fn has_copy(rt: &(impl Abort + AllocGlobal), at: &Location) -> bool {
-    let copy = at.try_copy(rt.alloc()).expect(rt, "memory");
-    let leads = leads_to_a_host(&copy);
-    drop(copy);
-    leads
-}
-
 /// Fills the location of two pairs up, and answers whether it then takes no further one.
 fn is_full(rt: &impl Abort, at: &mut Location) -> bool {
     for _ in 2..MOST_PAIRS {
@@ -42,7 +34,7 @@ fn is_full(rt: &impl Abort, at: &mut Location) -> bool {
 #[test]
 fn locations(rt: HostRuntime) {
     let mut at = Location::new(rt.alloc());
-    let is_right = takes_two(&rt, &mut at) && has_copy(&rt, &at) && is_full(&rt, &mut at);
+    let is_right = takes_two(&rt, &mut at) && is_full(&rt, &mut at);
     drop(at);
     assert!(rt; is_right);
 }
