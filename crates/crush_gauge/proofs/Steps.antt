@@ -8,7 +8,7 @@ use Rattle.atomic_table.specs.Table.{State, Me, step, keeps, stepped, opening, A
 use Rattle.atomic_table.proofs.Lists.{at_set, at_snoc, set_again}
 use Rattle.crush_gauge.specs.declared.view.View.{View}
 use Rattle.crush_gauge.specs.declared.view.View.TheVariants.{Fresh, Spent, Book, Reader}
-use Rattle.crush_gauge.specs.Rule.{known, Opens, IsReader, IsBook, copied, grown, longer, joined, word, IsLawful, Knows, Fits, Kept, LooksAs, looked, Follows, LearnsAs, Learns, Reads, learned, published, begun, IsFresh, Holds}
+use Rattle.crush_gauge.specs.Rule.{known, Opens, IsReader, IsBook, IsEither, IsSameKind, copied, grown, longer, joined, word, IsLawful, Knows, Fits, Kept, LooksAs, looked, Follows, LearnsAs, Learns, Reads, learned, published, begun, IsFresh, Holds}
 use Rattle.std.proofs.lemmas.Bool.Decides.{nat_tests}
 use Rattle.crush_gauge.proofs.Prefixes.{prefix_self, prefix_trans, prefix_shorter}
 
@@ -196,44 +196,68 @@ module _ {O E : Type 0} (legal : O → List E → Type 0) (changes weight : O �
         other = l.1;
       }
 
-reader_real : {O E : Type 0} (v : View O E) → IsReader v → ¬ (v ≡ Spent)
-reader_real Fresh reads e = absurd reads
-reader_real Spent reads e = absurd reads
-reader_real (Book k) reads e = absurd reads
-reader_real (Reader k) reads e = cc
+pub reader_either : {O E : Type 0} (v : View O E) → IsReader v → IsEither v
+reader_either Fresh r = absurd r
+reader_either Spent r = absurd r
+reader_either (Book k) r = absurd r
+reader_either (Reader k) r = tt
 
-book_real : {O E : Type 0} (v : View O E) → IsBook v → ¬ (v ≡ Spent)
-book_real Fresh books e = absurd books
-book_real Spent books e = absurd books
-book_real (Reader k) books e = absurd books
-book_real (Book k) books e = cc
+pub book_either : {O E : Type 0} (v : View O E) → IsBook v → IsEither v
+book_either Fresh b = absurd b
+book_either Spent b = absurd b
+book_either (Book k) b = tt
+book_either (Reader k) b = absurd b
 
-pub joined_reader : {O E : Type 0} (v w : View O E) → IsReader v → IsReader w → IsReader (joined v w)
-joined_reader Fresh w r q = absurd r
-joined_reader Spent w r q = absurd r
-joined_reader (Book k) w r q = absurd r
-joined_reader (Reader k) Fresh r q = absurd q
-joined_reader (Reader k) Spent r q = absurd q
-joined_reader (Reader k) (Book j) r q = absurd q
-joined_reader (Reader k) (Reader j) r q = tt
+pub same_kind_reader : {O E : Type 0} (v w : View O E) → IsReader v → IsSameKind v w → IsReader w
+same_kind_reader Fresh w r same = absurd r
+same_kind_reader Spent w r same = absurd r
+same_kind_reader (Book k) w r same = absurd r
+same_kind_reader (Reader k) w r same = same
 
-pub joined_book : {O E : Type 0} (v w : View O E) → IsBook v → IsReader w → IsBook (joined v w)
-joined_book Fresh w r q = absurd r
-joined_book Spent w r q = absurd r
-joined_book (Reader k) w r q = absurd r
-joined_book (Book k) Fresh r q = absurd q
-joined_book (Book k) Spent r q = absurd q
-joined_book (Book k) (Book j) r q = absurd q
-joined_book (Book k) (Reader j) r q = tt
+pub same_kind_book : {O E : Type 0} (v w : View O E) → IsBook v → IsSameKind v w → IsBook w
+same_kind_book Fresh w b same = absurd b
+same_kind_book Spent w b same = absurd b
+same_kind_book (Book k) w b same = same
+same_kind_book (Reader k) w b same = absurd b
 
-pub learns_reader : {O E : Type 0} (legal : O → List E → Type 0) (changes weight : O → List E → ℕ) (v w j u : View O E) → IsReader v → IsReader w → j ≡ joined v w → LearnsAs legal changes weight j u → IsReader u × Learns legal changes weight v w u
-learns_reader legal changes weight Fresh w j u r q is l = absurd r
-learns_reader legal changes weight Spent w j u r q is l = absurd r
-learns_reader legal changes weight (Book k) w j u r q is l = absurd r
-learns_reader legal changes weight (Reader k) Fresh j u r q is l = absurd q
-learns_reader legal changes weight (Reader k) Spent j u r q is l = absurd q
-learns_reader legal changes weight (Reader k) (Book i) j u r q is l = absurd q
-learns_reader legal changes weight (Reader k) (Reader i) j u r q is l =
+not_spent : {O E : Type 0} (v : View O E) → IsEither v → ¬ (v ≡ Spent)
+not_spent Fresh is e = absurd is
+not_spent Spent is e = absurd is
+not_spent (Book k) is e = cc
+not_spent (Reader k) is e = cc
+
+not_fresh : {O E : Type 0} (v : View O E) → IsEither v → ¬ (v ≡ Fresh)
+not_fresh Fresh is e = absurd is
+not_fresh Spent is e = absurd is
+not_fresh (Book k) is e = cc
+not_fresh (Reader k) is e = cc
+
+joined_either : {O E : Type 0} (v w : View O E) → IsEither v → IsReader w → IsEither (joined v w)
+joined_either Fresh w is q = absurd is
+joined_either Spent w is q = absurd is
+joined_either (Book k) Fresh is q = absurd q
+joined_either (Book k) Spent is q = absurd q
+joined_either (Book k) (Book j) is q = absurd q
+joined_either (Book k) (Reader j) is q = tt
+joined_either (Reader k) Fresh is q = absurd q
+joined_either (Reader k) Spent is q = absurd q
+joined_either (Reader k) (Book j) is q = absurd q
+joined_either (Reader k) (Reader j) is q = tt
+
+-- what a seat of either kind has seen, once the note's history was compared
+pub learns_as : {O E : Type 0} (legal : O → List E → Type 0) (changes weight : O → List E → ℕ) (v w j u : View O E) → IsEither v → IsReader w → j ≡ joined v w → LearnsAs legal changes weight j u → IsSameKind v u × Learns legal changes weight v w u
+learns_as legal changes weight Fresh w j u r q is l = absurd r
+learns_as legal changes weight Spent w j u r q is l = absurd r
+learns_as legal changes weight (Book k) Fresh j u r q is l = absurd q
+learns_as legal changes weight (Book k) Spent j u r q is l = absurd q
+learns_as legal changes weight (Book k) (Book i) j u r q is l = absurd q
+learns_as legal changes weight (Reader k) Fresh j u r q is l = absurd q
+learns_as legal changes weight (Reader k) Spent j u r q is l = absurd q
+learns_as legal changes weight (Reader k) (Book i) j u r q is l = absurd q
+learns_as legal changes weight (Book k) (Reader i) j u r q is l =
+    let t = subst (λ x. LearnsAs legal changes weight x u) is l in
+    (subst IsBook (sym t.0) tt, (t.0, t.1, t.3))
+learns_as legal changes weight (Reader k) (Reader i) j u r q is l =
     let t = subst (λ x. LearnsAs legal changes weight x u) is l in
     (subst IsReader (sym t.0) tt, (longer k.seen i.seen, t.0, one k.seen i.seen, t.1, t.2, t.3))
   where
@@ -243,17 +267,6 @@ learns_reader legal changes weight (Reader k) (Reader i) j u r q is l =
         go : (b : Bool) → nat_le (length xs) (length ys) ≡ b → (longer xs ys ≡ xs) ⊎ (longer xs ys ≡ ys)
         go true e = rw e (inr refl)
         go false e = rw e (inl refl)
-
-pub learns_book : {O E : Type 0} (legal : O → List E → Type 0) (changes weight : O → List E → ℕ) (v w j u : View O E) → IsBook v → IsReader w → j ≡ joined v w → LearnsAs legal changes weight j u → IsBook u × Learns legal changes weight v w u
-learns_book legal changes weight Fresh w j u r q is l = absurd r
-learns_book legal changes weight Spent w j u r q is l = absurd r
-learns_book legal changes weight (Reader k) w j u r q is l = absurd r
-learns_book legal changes weight (Book k) Fresh j u r q is l = absurd q
-learns_book legal changes weight (Book k) Spent j u r q is l = absurd q
-learns_book legal changes weight (Book k) (Book i) j u r q is l = absurd q
-learns_book legal changes weight (Book k) (Reader i) j u r q is l =
-    let t = subst (λ x. LearnsAs legal changes weight x u) is l in
-    (subst IsBook (sym t.0) tt, (t.0, t.1, t.3))
 
 unpacks : (n c x : ℕ) → n ≡ c * 8796093022208 + x → x < 8796093022208 → (c ≡ n / 8796093022208) × (x ≡ n % 8796093022208)
 unpacks n c x is small = (omega arith, omega arith)
@@ -272,29 +285,11 @@ grown_book Spent es b = absurd b
 grown_book (Book k) es b = tt
 grown_book (Reader k) es b = absurd b
 
-pub copied_reader : {O E : Type 0} (v : View O E) → IsReader v → IsReader (copied v)
-copied_reader Fresh r = absurd r
-copied_reader Spent r = absurd r
-copied_reader (Book k) r = tt
-copied_reader (Reader k) r = tt
-
-pub copied_book : {O E : Type 0} (v : View O E) → IsBook v → IsReader (copied v)
-copied_book Fresh r = absurd r
-copied_book Spent r = absurd r
-copied_book (Book k) r = tt
-copied_book (Reader k) r = tt
-
-not_fresh_reader : {O E : Type 0} (v : View O E) → IsReader v → ¬ (v ≡ Fresh)
-not_fresh_reader Fresh reads e = absurd reads
-not_fresh_reader Spent reads e = absurd reads
-not_fresh_reader (Book k) reads e = absurd reads
-not_fresh_reader (Reader k) reads e = cc
-
-not_fresh_book : {O E : Type 0} (v : View O E) → IsBook v → ¬ (v ≡ Fresh)
-not_fresh_book Fresh books e = absurd books
-not_fresh_book Spent books e = absurd books
-not_fresh_book (Book k) books e = cc
-not_fresh_book (Reader k) books e = absurd books
+pub copied_either : {O E : Type 0} (v : View O E) → IsEither v → IsReader (copied v)
+copied_either Fresh is = absurd is
+copied_either Spent is = absurd is
+copied_either (Book k) is = tt
+copied_either (Reader k) is = tt
 
 not_fresh_follows : {O E : Type 0} (legal : O → List E → Type 0) (changes weight : O → List E → ℕ) (v : View O E) (es : List E) (x y : ℕ) → Follows legal changes weight v es x y → ¬ (v ≡ Fresh)
 not_fresh_follows legal changes weight Fresh es x y f e = absurd f
@@ -332,38 +327,26 @@ module _ {O E : Type 0} (legal : O → List E → Type 0) (changes weight : O �
 
   -- THE STEPS, each by the views of the seats that take it
   pub a_reader_looks : (n slots id : ℕ) (v : View O E) (c : List (ℕ × Unit {0})) → IsReader v → Allows (Holds legal changes weight n) slots id (v, c) 0 (λ x. x) (looked legal changes weight (step slots 0 0 0 none) (v, c))
-  a_reader_looks n slots id v c reads = wider_step n slots id (v, c) 0 (λ x. x) (looked legal changes weight (step slots 0 0 0 none) (v, c)) (not_fresh_reader v reads) (λ o. looks legal changes weight o slots id v c reads)
+  a_reader_looks n slots id v c reads = wider_step n slots id (v, c) 0 (λ x. x) (looked legal changes weight (step slots 0 0 0 none) (v, c)) (not_fresh v (reader_either v reads)) (λ o. looks legal changes weight o slots id v c reads)
 
   pub a_book_publishes : (n slots id word x y : ℕ) (v : View O E) (c : List (ℕ × Unit {0})) (es : List E) → Follows legal changes weight v es x y → word ≡ x * 8796093022208 + y
       → Allows (Holds legal changes weight n) slots id (v, c) 0 (λ _. word) (λ _. published es (step slots 0 word 0 none) (v, c) word)
   a_book_publishes n slots id word x y v c es follows is =
       wider_step n slots id (v, c) 0 (λ _. word) (λ _. published es (step slots 0 word 0 none) (v, c) word) (not_fresh_follows legal changes weight v es x y follows) (λ o. publishes legal changes weight o slots id word x y v c es follows is)
 
-  pub a_reader_splits : (n id : ℕ) (v : View O E) → IsReader v → Splits (Holds legal changes weight n) id v v (copied v)
-  a_reader_splits n id v reads = wider_split n id v v (copied v) (not_fresh_reader v reads) (λ o. splits legal changes weight o id v)
+  pub a_seat_splits : (n id : ℕ) (v : View O E) → IsEither v → Splits (Holds legal changes weight n) id v v (copied v)
+  a_seat_splits n id v is = wider_split n id v v (copied v) (not_fresh v is) (λ o. splits legal changes weight o id v)
 
-  pub a_book_splits : (n id : ℕ) (v : View O E) → IsBook v → Splits (Holds legal changes weight n) id v v (copied v)
-  a_book_splits n id v books = wider_split n id v v (copied v) (not_fresh_book v books) (λ o. splits legal changes weight o id v)
+  pub a_seat_joins : (n id : ℕ) (v : View O E) (other : ℕ) (w : View O E) → IsEither v → IsReader w → Joins (Holds legal changes weight n) id v other w (joined v w) Spent
+  a_seat_joins n id v other w is q = wider_join n id v other w (joined v w) Spent (not_fresh v is) (λ o. merges legal changes weight o id v other w (not_spent v is) q)
 
-  pub a_reader_joins : (n id : ℕ) (v : View O E) (other : ℕ) (w : View O E) → IsReader v → IsReader w → Joins (Holds legal changes weight n) id v other w (joined v w) Spent
-  a_reader_joins n id v other w r q = wider_join n id v other w (joined v w) Spent (not_fresh_reader v r) (λ o. merges legal changes weight o id v other w (reader_real v r) q)
-
-  pub a_book_joins : (n id : ℕ) (v : View O E) (other : ℕ) (w : View O E) → IsBook v → IsReader w → Joins (Holds legal changes weight n) id v other w (joined v w) Spent
-  a_book_joins n id v other w r q = wider_join n id v other w (joined v w) Spent (not_fresh_book v r) (λ o. merges legal changes weight o id v other w (book_real v r) q)
-
-  compares_as : (n slots id : ℕ) (u : View O E) (me : Me (Unit {0}) (View O E)) (c : List (ℕ × Unit {0})) → ¬ (u ≡ Fresh) → ¬ (u ≡ Spent) → me ≡ (u, c)
+  pub a_seat_compares : (n slots id : ℕ) (v w : View O E) (me : Me (Unit {0}) (View O E)) (c : List (ℕ × Unit {0})) → IsEither v → IsReader w → me ≡ (joined v w, c)
       → Allows (Holds legal changes weight n) slots id me 0 (λ x. x) (learned legal changes weight (step slots 0 0 0 none) me)
-  compares_as n slots id u me c real unspent is =
-      subst (λ (m : Me (Unit {0}) (View O E)). Allows (Holds legal changes weight n) slots id m 0 (λ x. x) (learned legal changes weight (step slots 0 0 0 none) m)) (sym is)
-      (wider_step n slots id (u, c) 0 (λ x. x) (learned legal changes weight (step slots 0 0 0 none) (u, c)) real (λ o. compares legal changes weight o slots id u c unspent))
-
-  pub a_reader_compares : (n slots id : ℕ) (v w : View O E) (me : Me (Unit {0}) (View O E)) (c : List (ℕ × Unit {0})) → IsReader v → IsReader w → me ≡ (joined v w, c)
-      → Allows (Holds legal changes weight n) slots id me 0 (λ x. x) (learned legal changes weight (step slots 0 0 0 none) me)
-  a_reader_compares n slots id v w me c r q is = let j = joined_reader v w r q in compares_as n slots id (joined v w) me c (not_fresh_reader (joined v w) j) (reader_real (joined v w) j) is
-
-  pub a_book_compares : (n slots id : ℕ) (v w : View O E) (me : Me (Unit {0}) (View O E)) (c : List (ℕ × Unit {0})) → IsBook v → IsReader w → me ≡ (joined v w, c)
-      → Allows (Holds legal changes weight n) slots id me 0 (λ x. x) (learned legal changes weight (step slots 0 0 0 none) me)
-  a_book_compares n slots id v w me c r q is = let j = joined_book v w r q in compares_as n slots id (joined v w) me c (not_fresh_book (joined v w) j) (book_real (joined v w) j) is
+  a_seat_compares n slots id v w me c is q same =
+      let u = joined v w in
+      let j = joined_either v w is q in
+      subst (λ (m : Me (Unit {0}) (View O E)). Allows (Holds legal changes weight n) slots id m 0 (λ x. x) (learned legal changes weight (step slots 0 0 0 none) m)) (sym same)
+      (wider_step n slots id (u, c) 0 (λ x. x) (learned legal changes weight (step slots 0 0 0 none) (u, c)) (not_fresh u j) (λ o. compares legal changes weight o slots id u c (not_spent u j)))
 
   -- the table as it is made
   pub table_is_fresh : (n : ℕ) → Holds legal changes weight n (opening {S = Unit {0}} (n ∷ []) [] Fresh)

@@ -1,5 +1,5 @@
 -- The rule of the gauge, and what its steps tell.
-use Rattle.std.specs.Prelude.{ℕ, ◌≡◌, ◌<◌, ◌≤◌, ◌+◌, ◌*◌, ◌^◌, List, [], ◌∷◌, ◌++◌, length, if◌then◌else◌, nat_le, ◌⊎◌}
+use Rattle.std.specs.Prelude.{ℕ, ◌≡◌, ◌<◌, ◌≤◌, ◌+◌, ◌*◌, List, [], ◌∷◌, ◌++◌, length, if◌then◌else◌, nat_le, ◌⊎◌}
 use mathlib.Core.Option.{some}
 use mathlib.Core.List.{IsPrefix}
 use lib.ListN.{get_elem?}
@@ -36,6 +36,20 @@ module _ {O E : Type 0} where
   IsBook Spent = ⊥
   IsBook (Book k) = Unit {0}
   IsBook (Reader k) = ⊥
+
+  -- the view of a seat of either kind
+  abbrev pub IsEither : View O E → Type 0
+  IsEither Fresh = ⊥
+  IsEither Spent = ⊥
+  IsEither (Book k) = Unit {0}
+  IsEither (Reader k) = Unit {0}
+
+  -- the second is of the kind of the first
+  abbrev pub IsSameKind : View O E → View O E → Type 0
+  IsSameKind Fresh w = Unit {0}
+  IsSameKind Spent w = Unit {0}
+  IsSameKind (Book k) w = IsBook w
+  IsSameKind (Reader k) w = IsReader w
 
   -- a view with the same history, for a read seat
   abbrev pub copied : View O E → View O E

@@ -3,7 +3,7 @@
 ghost use Rattle.std.specs.Prelude.{◌≡◌, ℕ, ◌<◌, ◌≤◌, ◌++◌, ◌∷◌, [], IfOk, vec_len, length};
 ghost use Rattle.std.specs.List.{All};
 ghost use Rattle.crush_gauge.specs.declared.view.View.TheVariants.{Book, Reader};
-ghost use Rattle.crush_gauge.specs.Rule.{known, opened, IsLawful, Opens, Follows, Reads, Learns, grown};
+ghost use Rattle.crush_gauge.specs.Rule.{known, opened, copied, IsEither, IsSameKind, IsLawful, Opens, Follows, Reads, Learns, grown};
 ghost use Rattle.crush_gauge.specs.Held.{held, copy_of};
 
 use crate::limits::CHANGE;
@@ -90,31 +90,22 @@ impl<O, E, P: Law<O, E>> Gauge<O, E, P> {
     {
         let mut seats = Vec::new(alloc);
         for _reader in 0..readers {
-            let Note { seat } = self.note_of_book(book);
+            let Note { seat } = self.note(book);
             seats.push(ReadSeat { seat })?;
         }
         Ok(seats)
     }
 
-    /// What the book's seat has seen.
-    pub(crate) fn note_of_book(&self, book: &mut BookSeat<O, E>) -> Note<O, E>
-        requires { book.old.table ≡ self.now.table.shared.table_id }
-        ensures seat { book.new ≡ book.old }
-        ensures note { result ≡ copy_of book.old }
+    /// What a seat of either kind has seen.
+    pub(crate) fn note_of(&self, seat: &mut Seat<(), View<O, E>>) -> Note<O, E>
+        requires gauge { seat.old.table_id ≡ self.now.table.shared.table_id }
+        requires either { IsEither seat.old.me.0 }
+        ensures table { seat.new.table_id ≡ seat.old.table_id }
+        ensures seat { seat.new.me ≡ seat.old.me }
+        ensures note { result ≡ held seat.old.table_id (copied seat.old.me.0) }
     {
         Note {
-            seat: self.table.shared.split_seat::<Divide>(&mut book.seat),
-        }
-    }
-
-    /// What a seat that reads has seen.
-    pub(crate) fn note_of_reader(&self, seat: &mut ReadSeat<O, E>) -> Note<O, E>
-        requires { seat.old.table ≡ self.now.table.shared.table_id }
-        ensures seat { seat.new ≡ seat.old }
-        ensures note { result ≡ copy_of seat.old }
-    {
-        Note {
-            seat: self.table.shared.split_seat::<Divide>(&mut seat.seat),
+            seat: self.table.shared.split_seat::<Divide>(seat),
         }
     }
 
@@ -184,27 +175,19 @@ impl<O, E, P: Law<O, E>> Gauge<O, E, P> {
         seat.learn_from(self, note);
     }
 
-    /// [`Gauge::learn`] of a seat that reads: one join, and one load that compares the two.
-    pub(crate) fn reader_learns(&self, seat: &mut ReadSeat<O, E>, note: Note<O, E>)
-        requires seat { seat.old.table ≡ self.now.table.shared.table_id }
+    /// A note joins a seat of either kind, which stays of its kind: one join, and one load that compares
+    /// the two.
+    pub(crate) fn join_note(&self, seat: &mut Seat<(), View<O, E>>, note: Note<O, E>)
+        requires gauge { seat.old.table_id ≡ self.now.table.shared.table_id }
+        requires either { IsEither seat.old.me.0 }
         requires note { note.table ≡ self.now.table.shared.table_id }
-        ensures table { seat.new.table ≡ seat.old.table }
-        ensures learns { Learns P.legal P.changes P.weight seat.old.view note.view seat.new.view }
+        ensures table { seat.new.table_id ≡ seat.old.table_id }
+        ensures free { seat.new.me.1 ≡ seat.old.me.1 }
+        ensures kind { IsSameKind seat.old.me.0 seat.new.me.0 }
+        ensures learns { Learns P.legal P.changes P.weight seat.old.me.0 note.view seat.new.me.0 }
     {
         let Note { seat: other } = note;
-        self.table.shared.join_seat::<Merge>(&mut seat.seat, other);
-        self.table.shared.load::<Compare<P>>(&mut seat.seat, 0);
-    }
-
-    /// [`Gauge::learn`] of the book's seat.
-    pub(crate) fn book_learns(&self, book: &mut BookSeat<O, E>, note: Note<O, E>)
-        requires seat { book.old.table ≡ self.now.table.shared.table_id }
-        requires note { note.table ≡ self.now.table.shared.table_id }
-        ensures table { book.new.table ≡ book.old.table }
-        ensures learns { Learns P.legal P.changes P.weight book.old.view note.view book.new.view }
-    {
-        let Note { seat: other } = note;
-        self.table.shared.join_seat::<Merge>(&mut book.seat, other);
-        self.table.shared.load::<Compare<P>>(&mut book.seat, 0);
+        self.table.shared.join_seat::<Merge>(seat, other);
+        self.table.shared.load::<Compare<P>>(seat, 0);
     }
 }

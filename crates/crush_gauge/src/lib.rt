@@ -7,14 +7,13 @@
 //! histories there may be, and which pair each has, is said by a [`Law`].
 #![tactic(auto)]
 
-pub mod gauge;
+mod gauge;
 pub mod limits;
-pub mod plays;
-pub mod seat;
-pub mod view;
-pub mod watcher;
+mod plays;
+mod seat;
+mod view;
+mod watcher;
 
 pub use gauge::{Gauge, Reading};
 pub use seat::{BookSeat, Note, ReadSeat};
-pub use view::{Known, Law, View};
-pub use watcher::Watcher;
+pub use view::Law;

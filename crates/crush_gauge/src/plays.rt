@@ -20,7 +20,7 @@ impl<O, E, P: Law<O, E>> TableRule<(), View<O, E>, u64> for Rule<P> {
 
 /// What contracts alone see of a step: the opening of a gauge, or the entries that join a history.
 /// The proof of each call picks them.
-pub trait Picks<T> {
+pub(crate) trait Picks<T> {
     ghost use Rattle.std.specs.Prelude.{List};
 
     ghost picked: { List T };
@@ -33,7 +33,7 @@ impl<T> Picks<T> for Brand {
 }
 
 /// The gauge gets its opening.
-pub struct Begin<M> {
+pub(crate) struct Begin<M> {
     of: PhantomData<M>,
 }
 
@@ -44,7 +44,7 @@ impl<O, E, M: Picks<O>> Play<(), View<O, E>> for Begin<M> {
 }
 
 /// Entries join the history.
-pub struct Publish<M> {
+pub(crate) struct Publish<M> {
     of: PhantomData<M>,
 }
 
@@ -55,7 +55,7 @@ impl<O, E, M: Picks<E>> Play<(), View<O, E>> for Publish<M> {
 }
 
 /// The whole history is seen, and its pair found.
-pub struct Look<P> {
+pub(crate) struct Look<P> {
     of: PhantomData<P>,
 }
 
@@ -66,7 +66,7 @@ impl<O, E, P: Law<O, E>> Play<(), View<O, E>> for Look<P> {
 }
 
 /// The histories that were joined last begin what the seat has seen.
-pub struct Compare<P> {
+pub(crate) struct Compare<P> {
     of: PhantomData<P>,
 }
 
@@ -77,7 +77,7 @@ impl<O, E, P: Law<O, E>> Play<(), View<O, E>> for Compare<P> {
 }
 
 /// A copy of the history, for another seat.
-pub struct Divide;
+pub(crate) struct Divide;
 
 impl<O, E> Split<View<O, E>> for Divide {
     ghost use Rattle.crush_gauge.specs.Rule.{copied};
@@ -88,7 +88,7 @@ impl<O, E> Split<View<O, E>> for Divide {
 }
 
 /// Two histories become one, and the second seat is spent.
-pub struct Merge;
+pub(crate) struct Merge;
 
 impl<O, E> Join<View<O, E>> for Merge {
     ghost use Rattle.crush_gauge.specs.declared.view.View.TheVariants.{Spent};

@@ -33,7 +33,7 @@ impl<O, E> Watcher<O, E> for ReadSeat<O, E> {
     ghost knows = { λ s. s };
 
     fn note_of<P: Law<O, E>>(&mut self, gauge: &Gauge<O, E, P>) -> Note<O, E> {
-        gauge.note_of_reader(self)
+        gauge.note_of(&mut self.seat)
     }
 
     fn learn_from<P: Law<O, E>>(&mut self, gauge: &Gauge<O, E, P>, note: Note<O, E>)
@@ -42,7 +42,7 @@ impl<O, E> Watcher<O, E> for ReadSeat<O, E> {
         ensures table { self.new.table ≡ self.old.table }
         ensures learns { Learns P.legal P.changes P.weight self.old.view note.view self.new.view }
     {
-        gauge.reader_learns(self, note);
+        gauge.join_note(&mut self.seat, note);
     }
 }
 
@@ -50,7 +50,7 @@ impl<O, E> Watcher<O, E> for BookSeat<O, E> {
     ghost knows = { λ s. s };
 
     fn note_of<P: Law<O, E>>(&mut self, gauge: &Gauge<O, E, P>) -> Note<O, E> {
-        gauge.note_of_book(self)
+        gauge.note_of(&mut self.seat)
     }
 
     fn learn_from<P: Law<O, E>>(&mut self, gauge: &Gauge<O, E, P>, note: Note<O, E>)
@@ -59,6 +59,6 @@ impl<O, E> Watcher<O, E> for BookSeat<O, E> {
         ensures table { self.new.table ≡ self.old.table }
         ensures learns { Learns P.legal P.changes P.weight self.old.view note.view self.new.view }
     {
-        gauge.book_learns(self, note);
+        gauge.join_note(&mut self.seat, note);
     }
 }
