@@ -1,8 +1,8 @@
 # The usual targets on top of the commands of the Rattle toolchain, `rt`.
 #
 #   make           proves the program with all it stands on, and builds it
-#   make try       runs JOB, by default an example, without proving anything, and leaves nothing;
-#                  `make try JOB=my.job ARGS=--in-turn` runs a job of your own
+#   make try       shows what JOB, by default an example, changes, without proving anything, and leaves nothing;
+#                  `make try JOB=my.job ARGS=--in-turn` runs a job of your own by other words
 #   make check     the merge gate: everything from nothing, the edits that must fail, the tests
 #   make install   the program, the recipe and their manual pages below PREFIX, which is /usr/local if nothing is said
 #   make dist      the same as an archive and, where dpkg-deb is there, a package of Debian, below out/
@@ -15,7 +15,7 @@
 PREFIX = /usr/local
 DESTDIR =
 JOB = examples/maps/class-3.job
-ARGS =
+ARGS = --in-turn --since map
 PROGRAM = crates/crushedit/out/crushedit
 # What the program is proved and built of.
 SOURCES = crates.txt $(shell find crates \( -name out -o -name '*_tests' \) -prune -o \( -name '*.rt' -o -name '*.antt' \) -print)
@@ -29,7 +29,8 @@ $(PROGRAM): $(SOURCES)
 	touch -c $@
 
 try:
-	@cd crates/crushedit && rt try $(if $(ARGS),-- $(ARGS)) < $(abspath $(JOB))
+	@map=$$(mktemp) && sed '/^%/,$$d' $(JOB) > $$map && cd crates/crushedit && \
+	  { rt try --data map=$$map $(if $(ARGS),-- $(ARGS)) < $(abspath $(JOB)); status=$$?; rm $$map; exit $$status; }
 
 check:
 	.ci/run
