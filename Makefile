@@ -10,6 +10,7 @@
 #   make tables    writes where must-fail edits lie, and what the last `make check` took, into docs/
 #   make recipe    installs below out/, and tries there the recipe for operators and what its pages show
 #   make trials    tries that program with jobs of chance, little memory and stack, and streams that fail
+#   make monitor   as root: that program, the recipe and --as-ceph beside a monitor of Ceph 18, which is fetched below out/
 #   make clean     removes what the checks kept, and out/
 
 PREFIX = /usr/local
@@ -20,7 +21,7 @@ PROGRAM = crates/crushedit/out/crushedit
 # What the program is proved and built of.
 SOURCES = crates.txt $(shell find crates \( -name out -o -name '*_tests' \) -prune -o \( -name '*.rt' -o -name '*.antt' \) -print)
 
-.PHONY: all try check install uninstall dist manual tables recipe trials clean
+.PHONY: all try check install uninstall dist manual tables recipe trials monitor clean
 
 all: $(PROGRAM)
 
@@ -67,6 +68,11 @@ trials: $(PROGRAM)
 	python3 bench/limits.py $(PROGRAM) --fits 1024
 	python3 bench/colliding.py $(PROGRAM)
 	python3 bench/streams.py $(PROGRAM)
+
+monitor: $(PROGRAM)
+	bench/monitor.sh install out/monitor
+	bench/monitor.sh start out/monitor
+	python3 bench/against_monitor.py $(PROGRAM) out/monitor 2000 1; status=$$?; bench/monitor.sh stop out/monitor; exit $$status
 
 clean:
 	rm -rf crates/*/out out
