@@ -1,8 +1,8 @@
 # The usual targets on top of the commands of the Rattle toolchain, `rt`.
 #
 #   make           proves the program with all it stands on, and builds it
-#   make try       runs JOB, by default an example, without proving anything, and leaves nothing;
-#                  `make try JOB=my.job ARGS=--in-turn` runs a job of your own
+#   make try       shows what JOB, by default an example, changes, without proving anything, and leaves nothing;
+#                  `make try JOB=my.job ARGS=--in-turn` runs a job of your own by other words
 #   make check     the merge gate: everything from nothing, the edits that must fail, the tests
 #   make install   the program, the recipe and their manual pages below PREFIX, which is /usr/local if nothing is said
 #   make dist      the same as an archive and, where dpkg-deb is there, a package of Debian, below out/
@@ -10,17 +10,18 @@
 #   make tables    writes where must-fail edits lie, and what the last `make check` took, into docs/
 #   make recipe    installs below out/, and tries there the recipe for operators and what its pages show
 #   make trials    tries that program with jobs of chance, little memory and stack, and streams that fail
+#   make monitor   as root: that program, the recipe and --as-ceph beside a monitor of Ceph 18, which is fetched below out/
 #   make clean     removes what the checks kept, and out/
 
 PREFIX = /usr/local
 DESTDIR =
 JOB = examples/maps/class-3.job
-ARGS =
+ARGS = --in-turn --since map
 PROGRAM = crates/crushedit/out/crushedit
 # What the program is proved and built of.
 SOURCES = crates.txt $(shell find crates \( -name out -o -name '*_tests' \) -prune -o \( -name '*.rt' -o -name '*.antt' \) -print)
 
-.PHONY: all try check install uninstall dist manual tables recipe trials clean
+.PHONY: all try check install uninstall dist manual tables recipe trials monitor clean
 
 all: $(PROGRAM)
 
@@ -29,7 +30,8 @@ $(PROGRAM): $(SOURCES)
 	touch -c $@
 
 try:
-	@cd crates/crushedit && rt try $(if $(ARGS),-- $(ARGS)) < $(abspath $(JOB))
+	@map=$$(mktemp) && sed '/^%/,$$d' $(JOB) > $$map && cd crates/crushedit && \
+	  { rt try --data map=$$map $(if $(ARGS),-- $(ARGS)) < $(abspath $(JOB)); status=$$?; rm $$map; exit $$status; }
 
 check:
 	.ci/run
@@ -66,6 +68,11 @@ trials: $(PROGRAM)
 	python3 bench/limits.py $(PROGRAM) --fits 1024
 	python3 bench/colliding.py $(PROGRAM)
 	python3 bench/streams.py $(PROGRAM)
+
+monitor: $(PROGRAM)
+	bench/monitor.sh install out/monitor
+	bench/monitor.sh start out/monitor
+	python3 bench/against_monitor.py $(PROGRAM) out/monitor 2000 1; status=$$?; bench/monitor.sh stop out/monitor; exit $$status
 
 clean:
 	rm -rf crates/*/out out

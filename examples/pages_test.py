@@ -5,14 +5,17 @@
 
 Of README.md and docs/OPERATING.md each block of a console is run in a folder of its own, in which map.txt is the map of
 examples/maps/class-3.job: the lines behind `$ `, and what stands below each is what it has to print. A line of two
-dots, perhaps with words behind it, stands for any lines. Blocks that call `make` aren't run. Prints a line for each
-block, and ends with status 1 where one prints something else.
+dots, perhaps with words behind it, stands for any lines. Blocks that call `make` aren't run. Then it is looked whether
+README's script makes its map and tells of it in one order of operators, `make try` shows what changes, and the archive
+has the pages that an operator reads. Prints a line for each block and each of these, and ends with status 1 where one
+prints something else, or isn't so.
 """
 import os
 import pathlib
 import re
 import subprocess
 import sys
+import tarfile
 import tempfile
 
 TOP = pathlib.Path(__file__).resolve().parent.parent
@@ -31,6 +34,26 @@ def steps_of(block):
 def is_shown(printed, shown):
     parts = re.split(r"(?m)^ *\.\.(?: .*)?\n", shown)
     return re.fullmatch(r"(?s:.*)".join(re.escape(part) for part in parts), printed) is not None
+
+
+def shown_in_turn(_program, _folder):
+    """README's script runs its job more than once, at once each time in another order."""
+    script = re.search(r"(?ms)^```sh\n(.*?)^```$", (TOP / "README.md").read_text())[1]
+    runs = re.findall(r"(?m)^crushedit .*$", script)
+    return len(runs) > 1 and all(" --in-turn " in run for run in runs)
+
+
+def tried_is_short(_program, _folder):
+    """What `make try` runs, whose own map would be 110 lines."""
+    ran = subprocess.run(["make", "-n", "try"], cwd=TOP, capture_output=True, text=True)
+    return " --since map " in ran.stdout
+
+
+def archive_has_pages(program, folder):
+    ran = subprocess.run([TOP / "examples/dist.sh", program, folder], capture_output=True, text=True, check=True)
+    names = tarfile.open(ran.stdout.split()[0]).getnames()
+    pages = ["README.md", *(f"docs/{name}.md" for name in ("OPERATING", "FORMATS", "RULES"))]
+    return all(any(name.endswith(f"/share/doc/crushedit/{page}") for name in names) for page in pages)
 
 
 def main():
@@ -52,6 +75,10 @@ def main():
                         print(f"{page}, block {number}: {command}prints\n{ran.stdout}and not\n{shown}")
                         failed = True
                 print(f"{page}, block {number}: run")
+        for test in (shown_in_turn, tried_is_short, archive_has_pages):
+            is_so = test(program, os.path.join(folder, "archive"))
+            print(f"{test.__name__}: {'so' if is_so else 'NOT so'}")
+            failed |= not is_so
     sys.exit(failed)
 
 

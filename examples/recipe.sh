@@ -4,15 +4,16 @@
 #     crushedit-recipe COMMANDS FOLDER
 #
 # COMMANDS is a file of commands, one a line, as `reweight osd.2 1.0`; FOLDER is made, and must not be there
-# yet: it keeps the map as it was (map.bin), the map after (new.bin), the edit (edit.diff), and what lies between. Each step that
-# doesn't come out as it should stops the whole, with a line on standard error and a status above 0, and the
-# cluster is as it was. docs/OPERATING.md says why each of them is there.
+# yet: it keeps the map as it was (map.bin), the map after (new.bin), and what lies between. Each step that
+# doesn't come out as it should stops the whole, with a line on standard error and a status above 0; the cluster
+# is as it was then, and FOLDER is gone. docs/OPERATING.md says why each of them is there.
 #
 # It calls `ceph`, `crushtool` and `crushedit`, or what these variables name instead, each as words between
-# blanks: CEPH="sudo ceph", CRUSHTOOL, CRUSHEDIT.
+# blanks: CEPH="sudo ceph", CRUSHTOOL, CRUSHEDIT. REPLICAS are the sizes of pools that rules are tried with.
 set -euf
 
 CEPH=${CEPH:-ceph} CRUSHTOOL=${CRUSHTOOL:-crushtool} CRUSHEDIT=${CRUSHEDIT:-crushedit}
+REPLICAS=${REPLICAS:-2 3 4 6 8 12}
 
 stop() {
     echo "recipe: $*" >&2
@@ -36,22 +37,56 @@ devices_of() {
     grep -c '^device ' "$1" || true
 }
 
-# The line of a fault as that of COMMANDS, which begin behind so many lines of the job.
+# The line of a fault as that of COMMANDS, which begin behind so many lines of the job, and its reason.
 tell_fault() {
-    line=$(sed -n 's/^crushedit: line \([0-9]*\): .*/\1/p' "$2")
+    line=$(sed -n '1s/^crushedit: line \([0-9]*\): .*/\1/p' "$2")
     if [ "$line" ] && [ "$line" -gt "$3" ]; then
         line=$((line - $3))
-        echo "recipe: $1, line $line: $(sed 's/.*: //' "$2"): $(sed -n "${line}p" "$1")" >&2
+        echo "recipe: $1, line $line: $(sed -n '1s/.*: //p' "$2"): $(sed -n "${line}p" "$1")" >&2
+        sed '1d; /^  line [0-9]*$/d; /^    /d' "$2" >&2
     else
         cat "$2" >&2
     fi
 }
 
-[ $# -eq 2 ] || stop "usage: $(basename "$0") COMMANDS FOLDER"
+# Of each rule and number of replicas: how many of 1,024 placements lack one.
+bad_mappings() {
+    for count in $REPLICAS; do
+        $CRUSHTOOL -i "$1" --test --show-bad-mappings --num-rep "$count" || return 1
+    done | awk '/^bad mapping rule / { bad[$4 " " $8]++ } END { for (rule in bad) print rule, bad[rule] }'
+}
+
+# Two files, and an empty line between.
+both() {
+    cat "$1"
+    echo
+    cat "$2"
+}
+
+# The name of the rule of an id.
+rule_of() {
+    awk -v id="$1" '$1 == "rule" { name = $2 } ($1 == "id" || $1 == "ruleset") && name != "" { if ($2 == id) print name; name = "" }' \
+        "$folder/map.txt"
+}
+
+usage="usage: crushedit-recipe COMMANDS FOLDER"
+if [ "${1:-}" = --help ]; then
+    echo "$usage"
+    echo
+    echo "Makes the commands of a file, one a line as \`reweight osd.2 1.0\`, on the map of the cluster, shows what changes,"
+    echo "and prints the command that sets the new map and the one that goes back. It changes nothing itself. FOLDER is"
+    echo "made, and keeps both maps. CEPH=\"sudo ceph\", CRUSHTOOL and CRUSHEDIT name other programs; REPLICAS=\"3 6\" are the"
+    echo "sizes of pools that the rules are tried with, $REPLICAS if nothing is said."
+    exit 0
+fi
+[ $# -eq 2 ] || stop "$usage"
 commands=$1 folder=$2
 case $folder in -*) folder=./$folder ;; esac
 [ -s "$commands" ] || stop "$commands is empty or isn't there"
 mkdir "$folder" || stop "$folder must be new, so that no map that was kept is written over"
+# What stops takes the folder with it, so that the next try may have it.
+trap 'rm -rf "$folder"' EXIT
+trap 'exit 1' HUP INT TERM
 
 # 1. The cluster's map, and its version: the one line that is a number of what getcrushmap tells on standard error.
 $CEPH osd getcrushmap -o "$folder/map.bin" 2>"$folder/told" || { cat "$folder/told" >&2; stop "ceph osd getcrushmap failed"; }
@@ -61,11 +96,17 @@ case $version in
 '' | *[!0-9]*) cat "$folder/told" >&2; stop "ceph osd getcrushmap told no version, which guards against a change in between" ;;
 esac
 
-# 2. As text, and as crushedit prints it without an edit, so that what differs later is the edit alone.
+# 2. As text, and as crushedit prints it without an edit.
 $CRUSHTOOL -d "$folder/map.bin" -o "$folder/map.txt" || stop "crushtool -d failed"
 check_map "$folder/map.txt" "crushtool -d wrote no text of a cluster's map"
 [ "$(devices_of "$folder/map.txt")" -gt 0 ] || stop "$folder/map.txt has no device: it isn't a cluster's map"
-$CRUSHEDIT "$folder/map.txt" >"$folder/before.txt" || stop "crushedit doesn't take the map"
+$CRUSHEDIT --explain "$folder/map.txt" >"$folder/before.txt" 2>"$folder/adjusted" || {
+    cat "$folder/adjusted" >&2
+    stop "crushedit doesn't take the map"
+}
+if [ -s "$folder/adjusted" ]; then
+    echo "$(head -n 1 "$folder/adjusted"): $(quoted "$folder/adjusted") names them"
+fi
 check_map "$folder/before.txt" "crushedit printed a part"
 [ "$(devices_of "$folder/before.txt")" -eq "$(devices_of "$folder/map.txt")" ] || stop "crushedit lost devices"
 
@@ -77,7 +118,7 @@ case $(sed 's/#.*//' "$commands" | grep '[^[:space:]]' | head -n 1) in
 esac
 ahead=$(grep -c '' "$folder/job.txt")
 cat "$commands" >>"$folder/job.txt"
-$CRUSHEDIT --in-turn --strict "$folder/job.txt" >"$folder/new.txt" 2>"$folder/errors" || {
+$CRUSHEDIT --in-turn --strict --explain "$folder/job.txt" >"$folder/new.txt" 2>"$folder/errors" || {
     tell_fault "$commands" "$folder/errors" "$ahead"
     stop "the job is refused"
 }
@@ -87,13 +128,11 @@ check_map "$folder/new.txt" "crushedit printed a part"
 grep -q '^# 1 ' "$folder/new.txt" || stop "no command was run"
 
 # 5. What changes, to be read.
-$CRUSHEDIT --in-turn --since "$folder/map.txt" "$folder/job.txt" >"$folder/changes" 2>"$folder/errors" || {
+$CRUSHEDIT --in-turn --explain --since "$folder/map.txt" "$folder/job.txt" >"$folder/changes" 2>"$folder/errors" || {
     cat "$folder/errors" >&2
     stop "what changes couldn't be told"
 }
 cat "$folder/changes"
-grep -v '^# [0-9]' "$folder/new.txt" >"$folder/plain.txt"
-diff -u "$folder/before.txt" "$folder/plain.txt" >"$folder/edit.diff" || [ $? -eq 1 ] || stop "diff failed"
 if grep ' = .* made [1-9]' "$folder/new.txt" >"$folder/made"; then
     echo "New buckets were made. Are all their names as you meant them?"
     cat "$folder/made"
@@ -107,11 +146,37 @@ $CRUSHTOOL -i "$folder/raw.bin" --reweight -o "$folder/new.bin" || stop "crushto
 $CRUSHTOOL -d "$folder/new.bin" -o "$folder/after.txt" || stop "crushtool -d of the new map failed"
 [ "$(devices_of "$folder/after.txt")" -eq "$(devices_of "$folder/new.txt")" ] || stop "the new map lost devices"
 
-# 7. How many placements change, rule by rule; its status is 1 where any do.
-$CRUSHTOOL -i "$folder/map.bin" --compare "$folder/new.bin" --num-rep 3 || [ $? -eq 1 ] ||
-    stop "crushtool --compare failed"
+# 7. Whether there is anything to set, and whether each rule still places as much as before.
+if cmp -s "$folder/map.bin" "$folder/new.bin"; then
+    echo "Nothing is to be set: the map after is the map before, byte for byte."
+    exit 0
+fi
+bad_mappings "$folder/map.bin" >"$folder/bad" || stop "crushtool --test failed"
+bad_mappings "$folder/new.bin" >"$folder/bad.new" || stop "crushtool --test of the new map failed"
+both "$folder/bad" "$folder/bad.new" | awk '!NF { is_new = 1; next } !is_new { before[$1 " " $2] = $3; next }
+    $3 > before[$1 " " $2] + 0 { print $1, $2, before[$1 " " $2] + 0, $3 }' | sort -n -k 1,1 -k 2,2 >"$folder/worse"
+if [ -s "$folder/worse" ]; then
+    while read -r id count before after; do
+        echo "rule $(rule_of "$id") places less than before: $count replicas: $before bad mappings before, $after after" >&2
+    done <"$folder/worse"
+    stop "no command is shown; REPLICAS=3 tries the rules for pools of that size alone"
+fi
 
-echo "Nothing is changed yet. From this command on data moves:"
+# 8. How many of 3 replicas get to another device, rule by rule.
+for map in map new; do
+    $CRUSHTOOL -i "$folder/$map.bin" --test --show-mappings --num-rep 3 >"$folder/$map.placed" || stop "crushtool --test failed"
+done
+both "$folder/map.placed" "$folder/new.placed" | awk '!NF { is_new = 1; next }
+    { gsub(/[][]/, "", $NF); count = split($NF, devices, ",") }
+    !is_new { for (i = 1; i <= count; i++) there[$3 " " $5 " " devices[i]]; next }
+    { for (i = 1; i <= count; i++) if (devices[i] != 2147483647) { all[$3]++; if (!(($3 " " $5 " " devices[i]) in there)) moved[$3]++ } }
+    END { for (rule in all) print rule, moved[rule] + 0, all[rule] }' | sort -n -k 1,1 |
+    while read -r id moved all; do
+        echo "rule $(rule_of "$id"): $(awk -v part="$moved" -v all="$all" 'BEGIN { printf "%.1f", 100 * part / all }') % of $all replicas move"
+    done
+
+echo "Nothing is changed yet. From this command on data moves; after \`$CEPH osd set norebalance\` only with \`unset\`:"
 echo "    $CEPH osd setcrushmap -i $(quoted "$folder/new.bin") $version"
 echo "and this one goes back to the map that was:"
 echo "    $CEPH osd setcrushmap -i $(quoted "$folder/map.bin")"
+trap - EXIT

@@ -27,14 +27,23 @@ case "$1 $2 $3" in
 *) echo "$*" >>"$folder/asked" ;;
 esac
 END
-# crushtool: a binary map is its text. Like Ceph's it takes an empty text, and nothing from a file that isn't there.
+# crushtool: a binary map is its text. Like Ceph's it takes an empty text, and nothing from a file that isn't there. A rule
+# places the first devices that weigh anything, ten times; where there are none it places nothing.
 cat >"$work/crushtool" <<'END'
 #!/bin/sh
+placed() {
+    sed -n 's/^\titem osd\.\([0-9]*\) weight .*[1-9].*/\1/p' "$1" | head -n "$2" | paste -sd , -
+}
 case "$1" in
--d | -c) [ -f "$2" ] && [ ! -f "$(dirname "$0")/broken$1" ] && cat "$2" >"$4" ;;
--i) case "$3" in
-    --reweight) cat "$2" >"$5" ;;
-    --compare) cmp -s "$2" "$4" ;;
+-d | -c)
+    [ -f "$2" ] && [ ! -f "$(dirname "$0")/broken$1" ] || exit 1
+    sed '/^# [0-9]/d' "$2" >"$4"
+    ;;
+-i) case "$3 ${4:-}" in
+    "--reweight "*) cat "$2" >"$5" ;;
+    "--test --show-bad-mappings") [ "$(placed "$2" 1)" ] || echo "bad mapping rule 0 x 0 num_rep $6 result []" ;;
+    "--test --show-mappings") for x in 0 1 2 3 4 5 6 7 8 9; do echo "CRUSH rule 0 x $x [$(placed "$2" "$6")]"; done ;;
+    *) exit 9 ;;
     esac ;;
 esac
 END
@@ -50,7 +59,7 @@ chmod +x "$work/sudo"
 try() {
     rm -rf "$work/folder"
     printf '%b' "$4" >"$work/commands"
-    CEPH=${ceph:-$work/ceph} CRUSHTOOL=$work/crushtool CRUSHEDIT=${tried:-$program} \
+    CEPH=${ceph:-$work/ceph} CRUSHTOOL=$work/crushtool CRUSHEDIT=${tried:-$program} REPLICAS=${replicas:-} \
         "$recipe" "$work/commands" "$work/folder" >"$work/told" 2>&1
     status=$?
     if [ $status -eq "$2" ] && grep -q -e "$3" "$work/told" && [ ! -e "$work/asked" ]; then
@@ -69,8 +78,7 @@ try "the old map is kept" 0 "setcrushmap -i $work/folder/map.bin$" "reweight osd
 cmp -s "$map" "$work/folder/map.bin" || { echo "FAILED: the kept map is another"; failed=1; }
 try "only the edit shows" 0 "^osd.2 (2): weight 0.50000 to 1.00000$" "reweight osd.2 1.0\n"
 [ "$(grep -c ': ' "$work/folder/changes")" -eq 3 ] || { echo "FAILED: more than the edit shows"; failed=1; }
-cp "$work/folder/plain.txt" "$work/today" && patch -sR "$work/today" "$work/folder/edit.diff" && cmp -s "$map" "$work/today" ||
-    { echo "FAILED: the kept edit isn't taken back"; failed=1; }
+[ ! -e "$work/folder/edit.diff" ] || { echo "FAILED: a diff is kept, which takes back more than the edit"; failed=1; }
 try "new buckets are told of" 0 "Are all their names" "add osd.3 1 host=h3 root=default\n"
 try "a section of the operator's own" 0 " alice reweight " "%operator alice\nreweight osd.2 1.0\n"
 try "a refused command" 1 "NotADevice" "reweight osd.2 1.0\nreweight h1 1.0\n"
@@ -81,8 +89,37 @@ try "a batch that stays open" 1 "commands, line 2: OpenBatch: begin" "rm osd.2\n
 try "commands before a section's line" 0 " recipe rm osd.1" "rm osd.1\n%operator alice\nrm osd.2\n"
 try "a device of a class in one batch" 0 "^osd.3 (3): made as osd in h1 (-2), weight 1.00000, class hdd$" \
     "begin\nadd osd.3 1 host=h1\nset-device-class hdd osd.3\ncommit\n"
-try "every device is removed" 0 "No device is left" "rm osd.0\nrm osd.1\nrm osd.2\n"
-if grep -q "nothing was printed" "$work/told"; then echo "FAILED: what was printed is called nothing"; failed=1; fi
+try "no more is told to move than does" 0 "^rule replicated_rule: 0.0 % of 30 replicas move$" "reweight osd.2 1.0\n"
+try "replicas are told, not placements" 0 "^rule replicated_rule: 33.3 % of 30 replicas move$" \
+    "add osd.3 1 host=h1\nreweight osd.0 0\n"
+try "a rule that places nothing" 1 "rule replicated_rule places less than before: 2 replicas: 0 bad mappings before, 1 after" \
+    "rm osd.0\nrm osd.1\nrm osd.2\n"
+never() {
+    if grep -q -e "$2" "$work/told"; then
+        echo "FAILED: $1"
+        failed=1
+    fi
+}
+never "a command is shown for a rule that places nothing" setcrushmap
+[ ! -e "$work/folder" ] || { echo "FAILED: the folder blocks the next try"; failed=1; }
+replicas=12
+try "for as many replicas as are asked about" 1 "less than before: 12 replicas: 0 bad mappings before, 1 after" \
+    "rm osd.0\nrm osd.1\nrm osd.2\n"
+replicas=
+try "what is so already" 0 "Nothing is to be set" "reweight osd.2 0.5\n"
+never "a command is shown where nothing is to be set" setcrushmap
+[ ! -e "$work/folder" ] || { echo "FAILED: a folder of nothing blocks the next try"; failed=1; }
+try "a refused job tells why" 1 "^  the item is a bucket: " "reweight h1 1.0\n"
+[ ! -e "$work/folder" ] || { echo "FAILED: a refused job's folder blocks the next try"; failed=1; }
+try "a faulty line tells what is wanted" 1 "^  the first word of a line is to be a command" "fly h1\n"
+never "the line is told by the job's number" "line [0-9][0-9]"
+try "data may be held back" 0 "osd set norebalance" "reweight osd.2 1.0\n"
+if "$recipe" --help >"$work/told" 2>&1 && grep -q "^usage: crushedit-recipe COMMANDS FOLDER$" "$work/told"; then
+    echo "passed: --help"
+else
+    echo "FAILED: --help"
+    failed=1
+fi
 try "commands that say nothing" 1 "no command was run" "# later\n"
 try "no commands" 1 "is empty" ""
 tried=$work/missing
@@ -130,6 +167,7 @@ fi
 rm -f "$work/asked"
 # The script of README.md, by itself; a second one in the same folder stops, and the kept map stays.
 readme=$here/../README.md
+[ -f "$readme" ] || readme=$here/README.md
 if [ -f "$readme" ]; then
     sed -n '/^```sh$/,/^```$/p' "$readme" | sed '/^```/d' >"$work/script"
     mkdir "$work/bin" "$work/there"
