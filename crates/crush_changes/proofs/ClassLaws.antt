@@ -2,7 +2,7 @@
 use Rattle.std.proofs.Common.{◌≡◌, ℕ, ◌+◌, Bool, true, false, List, ap, sym, ◌∙◌, refl, arith}
 use Rattle.std.specs.Prelude.{Option, ◌==◌, if◌then◌else◌}
 use Rattle.crush_units.specs.declared.id.ItemId.TheVariants.{Device}
-use Rattle.crush_table.specs.Items.{LeafData, Items, none, device, bucket}
+use Rattle.crush_table.specs.Items.{Items, none, device, bucket}
 use Rattle.crush_table.specs.Forest.{join}
 use Rattle.crush_table.specs.Stored.{weight_sum, StoresSums}
 use Rattle.crush_changes.specs.Change.{with_item}

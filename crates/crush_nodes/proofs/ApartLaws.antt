@@ -7,6 +7,7 @@ use Rattle.std.proofs.lemmas.Bool.{ltb-false, eqb-true}
 use Rattle.std.proofs.lemmas.Bool.Decides.{eqb_tells}
 use Rattle.std.proofs.lemmas.List.Sums.{sum_by-append, sum_by-cons}
 use Rattle.std.proofs.lemmas.Slice.Eq.{bytes_eq-Decides}
+use Rattle.std.proofs.lemmas.Grind.{flat_map-append}
 use Rattle.crush_units.specs.declared.id.ItemId.{ItemId}
 use Rattle.crush_units.specs.declared.id.ItemId.TheVariants.{Device, Bucket}
 use Rattle.crush_units.specs.Id.{same_id}
@@ -16,7 +17,7 @@ use Rattle.crush_table.specs.Reordered.{IsReordered}
 use Rattle.crush_table.specs.Forest.{ForestData, rows_of}
 use Rattle.crush_table.specs.ItemRows.{rows, device_row, bucket_row}
 use Rattle.crush_table.specs.Stands.{Stands}
-use Rattle.crush_table.specs.Table.{Row, row_named, is_named, used_ids}
+use Rattle.crush_table.specs.Table.{Row, row_named, is_named, member, used_ids}
 use Rattle.crush_table.specs.Tested.{are_apart}
 use Rattle.crush_table.proofs.Appended.{unnamed, times-used, unused_times}
 use Rattle.crush_table.proofs.Climbs.{eqb_turned}
@@ -26,13 +27,31 @@ use Rattle.crush_table.specs.Count.{one_if}
 use Rattle.crush_table.proofs.Same.{uses, times_used, times_used-rows, times_used-same, member-count}
 use Rattle.crush_table.proofs.Tested.{apart_once}
 use Rattle.crush_table.proofs.Weighs.{or_left, or_right, true_or_false}
-use Rattle.crush_nodes.specs.Apart.{AreApart, header_ids, leaf_shares_a_key, header_shares_a_key, shares_a_key, bucket_has_distinct_keys, have_distinct_keys}
+use Rattle.crush_nodes.specs.Apart.{header_uses, AreApart, header_ids, leaf_shares_a_key, header_shares_a_key, shares_a_key, bucket_has_distinct_keys, have_distinct_keys, uses_in}
 use Rattle.crush_nodes.specs.Ops.{count_of_id}
-use Rattle.crush_nodes.specs.Search.{id_in, uses_in}
-use Rattle.crush_nodes.proofs.CountLaws.{uses_in-rows}
+use Rattle.crush_nodes.specs.Search.{id_in}
 use Rattle.crush_nodes.proofs.ReadLaws.{id_in-rows}
 use Rattle.crush_nodes.proofs.RowLaws.{rows-join, times-rows}
 use Rattle.crush_nodes.proofs.StoredLaws.{first_of, second_of}
+
+-- USED IDS
+or_assoc : (a b c : Bool) → (a || (b || c)) ≡ ((a || b) || c)
+or_assoc true b c = refl
+or_assoc false b c = refl
+
+member-append : (b : ℕ) (xs ys : List ℕ) → member b (xs ++ ys) ≡ (member b xs || member b ys)
+member-append b [] ys = refl
+member-append b (x ∷ xs) ys = ap (λ z. (x == b) || z) (member-append b xs ys) ∙ or_assoc (x == b) (member b xs) (member b ys)
+
+uses_in-rows : (b : ℕ) (p : Option ℕ) (n : Items) → uses_in b n ≡ member b (used_ids (rows p n))
+uses_in-rows b p none = refl
+uses_in-rows b p (device d r) = uses_in-rows b p r
+uses_in-rows b p (bucket h w m k r) =
+    let below = rows (Some h.id) k in
+    let after = rows p r in
+    let both : (uses_in b k || uses_in b r) ≡ member b (used_ids (below ++ after)) =
+    (λ i. uses_in-rows b (Some h.id) k i || uses_in-rows b p r i) ∙ sym (member-append b (used_ids below) (used_ids after)) ∙ sym (ap (member b) (flat_map-append uses below after)) in
+    ap (λ z. header_uses b h || z) both ∙ sym (member-append b (uses (bucket_row p h)) (used_ids (below ++ after)))
 
 -- KEYS: an id, a name, and a number that a bucket or a class id has; how many rows have it
 data Key : Type 0 where
@@ -216,9 +235,6 @@ unmet_leaf d o p q u =
 
 -- a bucket
 module _ (h : HeaderData) (o : Items) (p q : Option ℕ) where
-  uses_any : Bool
-  uses_any = list_any (λ k. uses_in k o) (header_ids h)
-
   header_unmet : header_shares_a_key h o ≡ false → Unmet (bucket_row p h ∷ []) (rows q o)
   header_unmet e (Id i) =
       let own : uses_in h.id o ≡ false = or_left (uses_in h.id o) _ (or_left (list_any (λ k. uses_in k o) (header_ids h)) (is_some (id_in h.name o)) e) in
@@ -359,10 +375,6 @@ module _ (f : ForestData) (t : List Row) (n : Items) (p : Option ℕ) (s : Stand
 -- the parent of what comes doesn't matter
 pub AreApart-parent : (t : List Row) (n : Items) (p q : Option ℕ) → AreApart (t ++ rows p n) → AreApart (t ++ rows q n)
 AreApart-parent t n p q a = once_apart (t ++ rows q n) (λ k. omega (arith, apart_is_once (t ++ rows p n) a k, often-append k t (rows p n), often-append k t (rows q n), often-parent k p q n))
-
--- nothing meets no items
-shares_a_key-none : (h : HeaderData) → header_shares_a_key h none ≡ false
-shares_a_key-none h = unmet_header h none None None (λ k. inr (often-nil k))
 
 pub below_none : (n : Items) → shares_a_key n none ≡ false
 below_none n = unmet_shares n none None None (λ k. inr (often-nil k))

@@ -7,7 +7,8 @@ use Rattle.std.specs.List.{list_any}
 use Rattle.crush_table.specs.Lawful.{IsShadowId}
 use Rattle.crush_table.specs.Tested.{are_apart}
 use Rattle.crush_table.proofs.Reorder.{map_append}
-use Rattle.crush_nodes.specs.Seen.{shadow_data, shadow_classes, shadow_numbers}
+use Rattle.crush_nodes.specs.Seen.{shadow_data, shadow_numbers}
+use Rattle.crush_nodes.specs.Attachable.{shadow_classes}
 use Rattle.crush_nodes.specs.declared.node.ShadowId.{ShadowId}
 use Rattle.crush_nodes.proofs.Steps.{drop_at}
 

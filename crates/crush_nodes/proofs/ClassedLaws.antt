@@ -4,7 +4,7 @@ use Rattle.std.specs.Prelude.{Option, Some, if◌then◌else◌}
 use Rattle.std.specs.List.{sum_by}
 use Rattle.std.proofs.lemmas.List.Sums.{sum_by-append, sum_by-cons}
 use Rattle.crush_table.specs.Classes.{classed_weight, has_class}
-use Rattle.crush_table.specs.Items.{LeafData, Items, none, device, bucket}
+use Rattle.crush_table.specs.Items.{Items, none, device, bucket}
 use Rattle.crush_table.specs.Forest.{join}
 use Rattle.crush_table.specs.ItemRows.{rows, device_row, bucket_row}
 use Rattle.crush_table.specs.Stored.{weight_sum, StoresSums}

@@ -22,7 +22,6 @@ pub mod ReadLaws
 pub mod RoomLaws
 pub mod RoomSteps
 pub mod RowLaws
-pub mod SameLaws
 pub mod Searches
 pub mod Steps
 pub mod StoredLaws

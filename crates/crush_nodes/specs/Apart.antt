@@ -5,10 +5,10 @@ use Rattle.crush_units.specs.declared.id.ItemId.{ItemId}
 use Rattle.crush_units.specs.declared.id.ItemId.TheVariants.{Device}
 use Rattle.crush_units.specs.Id.{same_id}
 use Rattle.crush_table.specs.Items.{LeafData, ShadowData, HeaderData, Items, none, device, bucket}
-use Rattle.crush_table.specs.Table.{Row, used_ids}
+use Rattle.crush_table.specs.Table.{Row, member, used_ids}
 use Rattle.crush_table.specs.Tested.{are_apart}
 use Rattle.crush_nodes.specs.Ops.{count_of_id}
-use Rattle.crush_nodes.specs.Search.{id_in, uses_in}
+use Rattle.crush_nodes.specs.Search.{id_in}
 
 -- ids are distinct in a table, names are, and the ids of buckets and class ids are, all together
 pub record AreApart (t : List Row) : Type 0 where
@@ -19,6 +19,15 @@ pub record AreApart (t : List Row) : Type 0 where
 -- the ids that a bucket uses: its own and its class ids
 abbrev pub header_ids : HeaderData → List ℕ
 header_ids h = h.id ∷ map (λ (c : ShadowData). c.id) h.class_ids
+
+-- whether a bucket or a class id has the number
+abbrev pub header_uses : ℕ → HeaderData → Bool
+header_uses b h = (h.id == b) || member b (map (λ (c : ShadowData). c.id) h.class_ids)
+
+abbrev pub uses_in : ℕ → Items → Bool
+uses_in b none = false
+uses_in b (device d rest) = uses_in b rest
+uses_in b (bucket h w m kids rest) = header_uses b h || (uses_in b kids || uses_in b rest)
 
 -- whether a device, a bucket or one of several items has an id or a name that is among the others
 abbrev pub leaf_shares_a_key : LeafData → Items → Bool

@@ -1,13 +1,14 @@
-//! What the devices of a class weigh.
+//! Classes: what the devices of one weigh.
 
-ghost use Rattle.std.specs.Prelude.{◌≡◌, ◌≤◌, ◌∷◌, []};
+ghost use Rattle.std.specs.Prelude.{◌≡◌, ◌≤◌, ◌∷◌, [], IfSome};
+ghost use Rattle.crush_units.specs.Name.{IsName};
 ghost use Rattle.crush_units.specs.declared.limits.TheConstants.{HEAVIEST_BUCKET};
 ghost use Rattle.crush_nodes.specs.Classed.{class_sum_in, leaf_class_weight};
 ghost use Rattle.crush_nodes.specs.Seen.{items_of, leaf_data};
 
 use crate::node::{Bucket, Leaf, Node};
 use crate::sums::with_more;
-use crush_units::Weight;
+use crush_units::{Name, Weight};
 use std::alloc::Allocator;
 
 /// What the devices of the class weigh together that are the item or stand below it.
@@ -42,5 +43,17 @@ fn leaf_class_weight<A: Allocator>(leaf: &Leaf<A>, class: &[u8]) -> Weight
             }
         }
         None => Weight::from_units(0),
+    }
+}
+
+/// A law of a class: it is a name.
+pub fn recall_class<A: Allocator>(class: &Option<Name<A>>)
+    ensures { IfSome class.now IsName }
+{
+    match class {
+        Some(class) => {
+            let _bytes = class.as_bytes();
+        }
+        None => {}
     }
 }

@@ -6,12 +6,12 @@ ghost use Rattle.std.specs.List.{list_any};
 ghost use Rattle.crush_units.specs.Name.{IsName};
 ghost use Rattle.crush_table.specs.Lawful.{IsShadowId};
 ghost use Rattle.crush_table.specs.Tested.{are_apart};
-ghost use Rattle.crush_nodes.specs.Attachable.{are_formed, is_formed, AreTyped, IsTyped};
-ghost use Rattle.crush_nodes.specs.Seen.{shadow_data, shadow_classes, header_data, items_of};
+ghost use Rattle.crush_nodes.specs.Attachable.{shadow_classes, are_formed, is_formed, AreTyped, IsTyped};
+ghost use Rattle.crush_nodes.specs.Seen.{shadow_data, header_data, items_of};
 ghost use Rattle.crush_units.specs.declared.limits.TheConstants.{DEVICE_IDS, HEAVIEST_DEVICE};
 
+use crate::classed::recall_class;
 use crate::node::{Bucket, Header, Leaf, Node, ShadowId};
-use crush_units::Name;
 use crush_units::limits::{HEAVIEST_DEVICE, MOST_CLASS_IDS};
 use std::alloc::Allocator;
 
@@ -50,18 +50,6 @@ fn is_formed_leaf<A: Allocator>(leaf: &Leaf<A>) -> bool
     let _bytes = leaf.name.as_bytes();
     recall_class(&leaf.class);
     leaf.weight.units() <= HEAVIEST_DEVICE
-}
-
-/// A law of a class: it is a name.
-pub fn recall_class<A: Allocator>(class: &Option<Name<A>>)
-    ensures { IfSome class.now IsName }
-{
-    match class {
-        Some(class) => {
-            let _bytes = class.as_bytes();
-        }
-        None => {}
-    }
 }
 
 /// Whether a bucket has a type, and at most 16 class ids of distinct classes.

@@ -1,6 +1,6 @@
 //! Buckets that are filled before they stand in a forest.
 
-ghost use Rattle.std.specs.Prelude.{◌≡◌, ℕ, ◌+◌, ◌<◌, ◌≤◌, ◌∷◌, [], ◌++◌, Option};
+ghost use Rattle.std.specs.Prelude.{◌≡◌, ℕ, ◌+◌, ◌<◌, ◌≤◌, ◌∷◌, [], ◌++◌, Option, nat_lt};
 ghost use Rattle.crush_table.specs.ItemRows.{rows};
 ghost use Rattle.crush_table.specs.Stored.{weight_sum, StoresSums};
 ghost use Rattle.crush_nodes.specs.Held.{first_room, first_bucket, is_own_place, bucket_with};
@@ -15,6 +15,20 @@ use crate::sums::with_more;
 use std::alloc::Allocator;
 
 impl<A: Allocator> Node<A> {
+    /// Whether the item is a bucket that has memory for one item more, so that [`Node::hold`] may
+    /// be called. No device has.
+    pub fn has_room(&self) -> bool
+        ensures { result ≡ nat_lt 0 (first_room (items_of (self.now ∷ []))) }
+    {
+        match self {
+            Node::Device(_) => false,
+            Node::Bucket(bucket) => {
+                let bucket: &Bucket<A> = bucket;
+                bucket.items.len() < bucket.items.capacity()
+            }
+        }
+    }
+
     /// Puts a child last into a bucket that has room for it, which [`Node::has_room`] tests, and
     /// adds its weight. The weights of both together are at most 4294967295 units. Where both store
     /// their sums, the bucket still does. It has room for one item less, and the child's buckets

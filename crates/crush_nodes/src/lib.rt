@@ -7,14 +7,14 @@
 //! | [`node`] | the types: [`Node`], [`Leaf`], [`Bucket`], [`Header`], [`ShadowId`]; new items |
 //! | [`place`] | where an item can stand |
 //! | [`view`] | what a read tells of an item |
-//! | [`search`] | an item by its id or name, the items of a bucket, ids that are used, counts |
+//! | [`search`] | an item by its id or name, the items of a bucket, counts |
 //! | [`child`], [`way`] | which item to enter on the way down to another |
 //! | [`guide`], [`path`] | where items stand, told from outside, and the way down by it |
 //! | [`hold`] | an item that is put into a bucket before both stand in a forest |
 //! | [`sums`], [`stored`] | sums of weights, and whether buckets store them |
 //! | [`classed`] | what the devices of a class weigh |
 //! | [`form`], [`apart`], [`attachable`] | whether an item can come to a forest |
-//! | [`copy`], [`same`] | copies of items, and whether items are the same |
+//! | [`copy`] | copies of items |
 #![tactic(auto)]
 
 pub mod apart;
@@ -28,7 +28,6 @@ pub mod hold;
 pub mod node;
 pub mod path;
 pub mod place;
-pub mod same;
 pub mod search;
 pub mod stored;
 pub mod sums;

@@ -1,8 +1,7 @@
-//! What a node tells before it is put anywhere.
+//! Whether buckets store their sums.
 
-ghost use Rattle.std.specs.Prelude.{◌≡◌, ◌==◌, ◌∷◌, [], ◌↔◌, IsTrue, nat_lt};
+ghost use Rattle.std.specs.Prelude.{◌≡◌, ◌==◌, ◌∷◌, [], ◌↔◌, IsTrue};
 ghost use Rattle.crush_table.specs.Stored.{StoresSums, weight_sum};
-ghost use Rattle.crush_nodes.specs.Held.{first_room};
 ghost use Rattle.crush_nodes.specs.Seen.{items_of};
 
 use crate::node::{Bucket, Node};
@@ -10,20 +9,6 @@ use crush_units::Weight;
 use std::alloc::Allocator;
 
 impl<A: Allocator> Node<A> {
-    /// Whether the item is a bucket that has memory for one item more, so that [`Node::hold`] may
-    /// be called. No device has.
-    pub fn has_room(&self) -> bool
-        ensures { result ≡ nat_lt 0 (first_room (items_of (self.now ∷ []))) }
-    {
-        match self {
-            Node::Device(_) => false,
-            Node::Bucket(bucket) => {
-                let bucket: &Bucket<A> = bucket;
-                bucket.items.len() < bucket.items.capacity()
-            }
-        }
-    }
-
     /// Whether each bucket of the item, itself or at any depth below it, stores the sum of the
     /// weights of its items, as a hierarchy requires of an item that comes into it. A sum above
     /// 4294967295 units can't be stored.

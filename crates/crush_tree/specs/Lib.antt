@@ -1,3 +1,4 @@
+pub mod Accepted
 pub mod Asked
 pub mod Changed
 pub mod Climbed

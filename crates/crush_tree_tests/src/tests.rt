@@ -1,5 +1,6 @@
 //! Tests by subject, over helpers that build a forest item by item.
 
+mod alike;
 mod asks;
 mod chain;
 mod example;

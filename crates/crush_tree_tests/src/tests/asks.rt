@@ -17,7 +17,7 @@ pub(super) fn has_item<A: Allocator>(forest: &Forest<A>, id: &ItemId) -> bool
     ensures { result ≡ is_there (rows_of forest.now) id.now }
 {
     forest.recall_invariant();
-    forest.kind(*id).is_some()
+    forest.find(*id).is_some()
 }
 
 /// Whether a bucket holds the item.

@@ -1,6 +1,6 @@
 //! As many buckets as a map can have, each in the one before, on the main thread and on another.
 
-use super::example::is_copied;
+use super::alike::copy_of;
 use super::items::{Item, bucket, bucket_item, node, node_with};
 use super::puts::put;
 use crush_tree::{Forest, Node, Place};
@@ -39,13 +39,14 @@ fn is_searched(rt: &impl Abort, forest: &Forest<Global>) -> bool {
         && forest.contains(bucket(rt, 1), osd)
         && forest.parent(bucket_item(rt, 4096)) == Some(bucket(rt, 4095))
         && forest.items(bucket(rt, 4096)).is_some()
-        && forest.is_used(bucket(rt, 4096))
 }
 
 /// Whether the chain is searched and copied as it should be.
 fn is_sound(rt: &(impl Abort + AllocGlobal)) -> bool {
     let forest = chain(rt);
-    let is_sound = is_searched(rt, &forest) && is_copied(rt, &forest);
+    let copy = copy_of(rt, &forest);
+    let is_sound = is_searched(rt, &forest) && is_searched(rt, &copy);
+    drop(copy);
     drop(forest);
     is_sound
 }

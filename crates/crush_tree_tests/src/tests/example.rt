@@ -1,6 +1,7 @@
 //! The forest of the example map, in the machine's memory and in small heaps, and each call of a
 //! forest once.
 
+use super::alike::{copy_of, is_same};
 use super::asks::{fits, fits_moved, has_item};
 use super::items::{Item, bucket, bucket_item, device, device_item, holding, inside, name, node};
 use super::puts::{Refused, add, add_in, classify, exchange, give_name, put, weigh, weigh_all};
@@ -64,38 +65,59 @@ fn example_in<A: Allocator + Copy>(rt: &impl Abort, alloc: A) -> Result<Forest<A
     }
 }
 
+/// Whether the forest has the first so many of the devices 0 to 3, and of the buckets -1 to -3, and no
+/// other of these.
+fn has_first<A: Allocator>(
+    rt: &impl Abort,
+    forest: &Forest<A>,
+    devices: u32,
+    buckets: u32,
+) -> bool {
+    for i in 0..4 {
+        if has_item(forest, &device_item(rt, i)) != (i < devices) {
+            return false;
+        }
+    }
+    for i in 1..4 {
+        if has_item(forest, &bucket_item(rt, i)) != (i <= buckets) {
+            return false;
+        }
+    }
+    true
+}
+
 /// Whether the forest has so many devices and buckets, of so many units together.
-fn has_so_many<A: Allocator>(forest: &Forest<A>, devices: u32, buckets: u32, units: u64) -> bool {
-    let counts = forest.counts();
-    counts.devices == devices && counts.buckets == buckets && forest.total() == units
+fn has_so_many<A: Allocator>(
+    rt: &impl Abort,
+    forest: &Forest<A>,
+    devices: u32,
+    buckets: u32,
+    units: u64,
+) -> bool {
+    has_first(rt, forest, devices, buckets) && forest.total() == units
 }
 
 /// Whether a forest into which not all of them came has the first of the root, h1, osd.0 and osd.1, and
 /// no other item.
 fn is_begun<A: Allocator>(rt: &impl Abort, forest: &Forest<A>) -> bool {
     if !has_item(forest, &bucket_item(rt, 1)) {
-        return has_so_many(forest, 0, 0, 0);
+        return has_so_many(rt, forest, 0, 0, 0);
     }
     if !has_item(forest, &bucket_item(rt, 2)) {
-        return has_so_many(forest, 0, 1, 0);
+        return has_so_many(rt, forest, 0, 1, 0);
     }
     if !has_item(forest, &device_item(rt, 0)) {
-        return has_so_many(forest, 0, 2, 0);
+        return has_so_many(rt, forest, 0, 2, 0);
     }
     if !has_item(forest, &device_item(rt, 1)) {
-        return has_so_many(forest, 1, 2, 65536);
+        return has_so_many(rt, forest, 1, 2, 65536);
     }
-    has_so_many(forest, 2, 2, 131072)
+    has_so_many(rt, forest, 2, 2, 131072)
 }
 
 /// The forest of the example map in the machine's memory.
 pub(super) fn example(rt: &(impl Abort + AllocGlobal)) -> Forest<Global> {
     example_in(rt, rt.alloc()).expect(rt, "memory")
-}
-
-/// A copy of a forest.
-fn copy_of(rt: &impl Abort, forest: &Forest<Global>) -> Forest<Global> {
-    forest.try_copy().expect(rt, "memory")
 }
 
 /// Whether the bucket weighs so many units.
@@ -106,10 +128,7 @@ fn weighs(rt: &impl Abort, forest: &Forest<Global>, distance: u32, units: u32) -
 /// Whether the forest counts and weighs what the example map does with a device more that no bucket
 /// holds.
 fn sums_up(rt: &impl Abort, forest: &Forest<Global>) -> bool {
-    let counts = forest.counts();
-    counts.devices == 4
-        && counts.buckets == 3
-        && forest.total() == 163840
+    has_so_many(rt, forest, 4, 3, 163840)
         && weighs(rt, forest, 2, 131072)
         && weighs(rt, forest, 3, 32768)
 }
@@ -121,32 +140,24 @@ fn is_osd_2_in_h2(rt: &impl Abort, forest: &Forest<Global>) -> bool {
 }
 
 /// Whether a copy of the forest is the same.
-pub(super) fn is_copied(rt: &impl Abort, forest: &Forest<Global>) -> bool {
+fn is_copied(rt: &impl Abort, forest: &Forest<Global>) -> bool {
     let copy = copy_of(rt, forest);
-    let is_copied = copy.is_same(forest);
+    let is_copied = is_same(rt, &copy, forest);
     drop(copy);
     is_copied
 }
 
-/// Whether the columns of the host h2 are told, the class of osd.3, and no name of an item that isn't
-/// there.
-fn tells_of_columns(rt: &impl Abort, forest: &Forest<Global>) -> bool {
-    let kind = forest.kind(bucket_item(rt, 3)).expect(rt, "h2");
-    kind.number() == 1
-        && forest.name(bucket_item(rt, 3)) == Some("h2")
-        && forest.alg(bucket_item(rt, 3)) == Some(Alg::Straw2)
-        && forest.class(device_item(rt, 3)) == Some("ssd")
-        && forest.name(device_item(rt, 4)).is_none()
+/// Whether the device is there, of the class or of none.
+fn is_of_class(rt: &impl Abort, forest: &Forest<Global>, number: u32, class: Option<&str>) -> bool {
+    match forest.find(device_item(rt, number)) {
+        Some(view) => view.class == class,
+        None => false,
+    }
 }
 
-/// Whether osd.2 alone weighs other than 1.0: below the root and h2, and not below h1 or a bucket
-/// that isn't there.
-fn has_one_other_weight(rt: &impl Abort, forest: &Forest<Global>) -> bool {
-    let one = Weight::from_units(65536);
-    forest.changes_subtree(bucket(rt, 1), one)
-        && !forest.changes_subtree(bucket(rt, 2), one)
-        && forest.changes_subtree(bucket(rt, 3), one)
-        && !forest.changes_subtree(bucket(rt, 4), one)
+/// Whether the class of osd.3 is told, and no item that isn't there.
+fn tells_of_columns(rt: &impl Abort, forest: &Forest<Global>) -> bool {
+    is_of_class(rt, forest, 3, Some("ssd")) && forest.find(device_item(rt, 4)).is_none()
 }
 
 /// Whether the host h2 is seen in this bucket.
@@ -215,7 +226,6 @@ fn tells_all(rt: &impl Abort, forest: &Forest<Global>) -> bool {
         && is_osd_2_in_h2(rt, forest)
         && is_copied(rt, forest)
         && tells_of_columns(rt, forest)
-        && has_one_other_weight(rt, forest)
         && finds_h2(rt, forest)
         && tells_what_is_below(rt, forest)
         && is_in_order(rt, forest)
@@ -249,7 +259,7 @@ fn lacks_a_copy(forest: &Forest<&LocalHeap>) -> bool {
 fn holds_the_forest(rt: &impl Abort, heap: &LocalHeap, whole: &Forest<Global>) -> bool {
     match example_in(rt, heap) {
         Ok(forest) => {
-            let is_whole = forest.is_same(whole) && lacks_a_copy(&forest);
+            let is_whole = is_same(rt, &forest, whole) && lacks_a_copy(&forest);
             drop(forest);
             assert!(rt; is_whole);
             true
@@ -293,7 +303,7 @@ fn take_h2_out(rt: &impl Abort, forest: &mut Forest<Global>) -> Weight {
 fn is_without_h2(rt: &impl Abort, forest: &Forest<Global>) -> bool {
     forest.total() == 131072
         && !has_item(forest, &device_item(rt, 2))
-        && forest.has_room(inside(rt, 1))
+        && holds(rt, forest, 1, &[-2])
 }
 
 /// Whether the host h2 goes out and comes in again, and the forest is then as before.
@@ -302,7 +312,7 @@ fn comes_again(rt: &(impl Abort + AllocGlobal), forest: &mut Forest<Global>) -> 
     let weight = take_h2_out(rt, forest);
     let is_out = is_without_h2(rt, forest);
     put_h2(rt, rt.alloc(), forest).expect(rt, "memory");
-    let is_whole = forest.is_same(&whole);
+    let is_whole = is_same(rt, forest, &whole);
     drop(whole);
     is_out && is_whole && weight == Weight::from_units(32768)
 }
@@ -362,7 +372,7 @@ fn gets_a_class(rt: &(impl Abort + AllocGlobal), forest: &mut Forest<Global>) ->
     let had_none = old.is_none();
     drop(old);
     had_none
-        && forest.class(device_item(rt, 0)) == Some("ssd")
+        && is_of_class(rt, forest, 0, Some("ssd"))
         && weighs_of_ssd(forest, bucket_item(rt, 1), 65536)
         && weighs_of_ssd(forest, bucket_item(rt, 3), 0)
         && forest.class_weight(bucket_item(rt, 1), "hdd") == Some(Weight::from_units(0))
@@ -377,7 +387,7 @@ fn loses_its_class(rt: &impl Abort, forest: &mut Forest<Global>) -> bool {
         None => false,
     };
     drop(old);
-    was_ssd && forest.class(device_item(rt, 3)).is_none() && forest.total() == 163840
+    was_ssd && is_of_class(rt, forest, 3, None) && forest.total() == 163840
 }
 
 #[test]
@@ -390,14 +400,12 @@ fn classes_of_devices(rt: HostRuntime) {
     assert!(rt; is_done);
 }
 
-/// Whether the list of unplaced devices has memory to spare beside osd.3, gives it back, and keeps the
-/// device.
-fn gives_memory_back(rt: &impl Abort, forest: &mut Forest<Global>) -> bool {
-    let had_room = forest.has_room(Place::Unplaced);
+/// Whether osd.3 stays among the unplaced where these get memory for one more, and give it back.
+fn keeps_osd_3(rt: &impl Abort, forest: &mut Forest<Global>) -> bool {
+    forest.reserve(Place::Unplaced).expect(rt, "memory");
+    let is_there = are_numbered(forest.unplaced(), &[3]);
     forest.shrink();
-    had_room
-        && !forest.has_room(Place::Unplaced)
-        && forest.id_of("osd.3") == Some(device_item(rt, 3))
+    is_there && are_numbered(forest.unplaced(), &[3])
 }
 
 #[test]
@@ -405,9 +413,9 @@ fn memory_to_spare(rt: HostRuntime) {
     let mut forest = example(&rt);
     let idle = Item::DeviceOfClass(3, "osd.3", 0);
     add(&rt, &mut forest, Place::Unplaced, idle);
-    let is_given_back = gives_memory_back(&rt, &mut forest);
+    let is_kept = keeps_osd_3(&rt, &mut forest);
     drop(forest);
-    assert!(rt; is_given_back);
+    assert!(rt; is_kept);
 }
 
 /// Whether h2 and the root above it can come to weigh so much more, and no unit more, unless a device
@@ -428,14 +436,17 @@ fn sums_that_fit(rt: HostRuntime) {
     assert!(rt; is_told);
 }
 
-/// Whether a host with new ids and a new name can be a root, and not be unplaced.
+/// Whether a host with new ids and a new name can be a root and not be unplaced, and one with an id
+/// that is there can be neither.
 fn can_be_a_root(rt: &(impl Abort + AllocGlobal), forest: &Forest<Global>) -> bool {
     let host = node(rt, Item::HostOfClass(4, "h3", 5));
-    let is_root = forest.has_new_keys(&host)
-        && forest.can_attach(Place::Root, &host)
+    let other = node(rt, Item::HostOfClass(4, "h3", 3));
+    let is_root = forest.can_attach(Place::Root, &host)
         && !forest.can_attach(Place::Unplaced, &host);
+    let is_refused = !forest.can_attach(Place::Root, &other);
     drop(host);
-    is_root
+    drop(other);
+    is_root && is_refused
 }
 
 #[test]
@@ -444,28 +455,4 @@ fn keys_and_places(rt: HostRuntime) {
     let is_root = can_be_a_root(&rt, &forest);
     drop(forest);
     assert!(rt; is_root);
-}
-
-/// Whether the first four ids that are free beside -1, -2, -3 and -5 are told, and which of two are
-/// used.
-fn frees_four_ids(rt: &impl Abort, forest: &Forest<Global>) -> bool {
-    let mut ids = [bucket(rt, 1); 4];
-    forest.free_ids(&mut ids);
-    ids[0].number() == -4
-        && ids[1].number() == -6
-        && ids[2].number() == -7
-        && ids[3].number() == -8
-        && !forest.is_used(bucket(rt, 4))
-        && forest.is_used(bucket(rt, 5))
-}
-
-/// Of the buckets -1 and -3 with the class ids -2 and -5.
-#[test]
-fn free_ids(rt: HostRuntime) {
-    let mut forest = Forest::new(rt.alloc(), rt.alloc());
-    add(&rt, &mut forest, Place::Root, Item::HostOfClass(1, "h1", 2));
-    add(&rt, &mut forest, Place::Root, Item::HostOfClass(3, "h3", 5));
-    let is_told = frees_four_ids(&rt, &forest);
-    drop(forest);
-    assert!(rt; is_told);
 }

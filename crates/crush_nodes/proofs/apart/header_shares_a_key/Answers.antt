@@ -1,7 +1,8 @@
 use Rattle.std.proofs.Common.{◌≡◌, true, false, ap, ◌∙◌}
 use Rattle.std.specs.Prelude.{◌||◌, is_some}
 use Rattle.std.specs.List.{list_any}
-use Rattle.crush_nodes.specs.Search.{id_in, uses_in}
+use Rattle.crush_nodes.specs.Search.{id_in}
+use Rattle.crush_nodes.specs.Apart.{uses_in}
 use Rattle.crush_nodes.specs.Seen.{shadow_numbers, items_of}
 use Rattle.crush_nodes.proofs.ApartSteps.{any_number}
 use Rattle.crush_nodes.proofs.apart.header_shares_a_key.Goals as goal

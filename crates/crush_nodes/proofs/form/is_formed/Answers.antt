@@ -7,8 +7,8 @@ use Rattle.crush_units.specs.declared.limits.TheConstants.{MOST_CLASS_IDS}
 use Rattle.crush_table.specs.Items.{ShadowData, HeaderData}
 use Rattle.crush_table.specs.Lawful.{IsShadowId}
 use Rattle.crush_table.specs.Tested.{are_apart}
-use Rattle.crush_nodes.specs.Attachable.{is_formed}
-use Rattle.crush_nodes.specs.Seen.{shadow_data, shadow_classes, header_data}
+use Rattle.crush_nodes.specs.Attachable.{is_formed, shadow_classes}
+use Rattle.crush_nodes.specs.Seen.{shadow_data, header_data}
 use Rattle.crush_nodes.proofs.form.is_formed.Goals as goal
 
 is_above : (a b : ℕ) → a < b → nat_le b a ≡ false
