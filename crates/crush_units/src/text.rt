@@ -60,50 +60,13 @@ impl Short {
     }
 }
 
-/// A text of more than [`LONGEST_SHORT_NAME`] bytes, in memory. Contracts see them.
-#[derive(Debug, Drop)]
-pub(crate) struct Long<A: Allocator> {
-    text: String<A>,
-}
-
-impl<A: Allocator> Model for Long<A> {
-    ghost use Rattle.std.specs.Prelude.{List, ℕ, ◌<◌, length, string_bytes};
-    ghost use Rattle.crush_units.specs.declared.limits.TheConstants.{LONGEST_SHORT_NAME};
-
-    ghost Value = { List ℕ };
-
-    ghost view = { λ long. string_bytes long.text };
-
-    ghost invariant = { λ long. LONGEST_SHORT_NAME < length (string_bytes long.text) };
-}
-
-impl<A: Allocator> Long<A> {
-    /// This text, in memory of the allocator. An `Err` says that memory ran out.
-    fn new(alloc: A, text: &str) -> Result<Long<A>, AllocError>
-        requires { LONGEST_SHORT_NAME < length text.now }
-        ensures { IfOk result (λ long. long ≡ text.now) }
-    {
-        Ok(Long {
-            text: String::from_str(alloc, text)?,
-        })
-    }
-
-    /// The text as `str`.
-    fn as_str(&self) -> &str
-        ensures value { result.now ≡ self.now }
-        ensures long { LONGEST_SHORT_NAME < length self.now }
-    {
-        self.text.as_str()
-    }
-}
-
 /// A text: inside where it has up to [`LONGEST_SHORT_NAME`] bytes, and in memory where it has more.
 #[derive(Debug, Drop)]
 pub(crate) enum Text<A: Allocator> {
     /// The bytes stand here.
     Short(Short),
     /// The bytes stand in memory.
-    Long(Long<A>),
+    Long(String<A>),
 }
 
 impl<A: Allocator> Text<A> {
@@ -117,18 +80,18 @@ impl<A: Allocator> Text<A> {
         if bytes.len() <= LONGEST_SHORT_NAME {
             return Ok(Text::Short(Short::new(bytes)));
         }
-        Ok(Text::Long(Long::new(alloc, utf8(bytes))?))
+        Ok(Text::Long(String::from_str(alloc, utf8(bytes))?))
     }
 
     /// A copy in memory of the given allocator. An `Err` says that memory ran out there, for a text
-    /// that doesn't stand inside.
+    /// of more than [`LONGEST_SHORT_NAME`] bytes.
     pub(crate) fn try_copy<B: Allocator>(&self, alloc: B) -> Result<Text<B>, AllocError>
         ensures value { IfOk result (λ copy. text_bytes copy ≡ text_bytes self.now) }
         ensures inside { OnErr result (LONGEST_SHORT_NAME < length (text_bytes self.now)) }
     {
         match self {
             Text::Short(short) => Ok(Text::Short(short.copy())),
-            Text::Long(long) => Ok(Text::Long(Long::new(alloc, long.as_str())?)),
+            Text::Long(text) => Text::new(alloc, text.as_bytes()),
         }
     }
 
@@ -138,7 +101,7 @@ impl<A: Allocator> Text<A> {
     {
         match self {
             Text::Short(short) => short.as_bytes(),
-            Text::Long(long) => long.as_str().as_bytes(),
+            Text::Long(text) => text.as_bytes(),
         }
     }
 
@@ -149,7 +112,7 @@ impl<A: Allocator> Text<A> {
     {
         match self {
             Text::Short(short) => utf8(short.as_bytes()),
-            Text::Long(long) => long.as_str(),
+            Text::Long(text) => text.as_str(),
         }
     }
 }

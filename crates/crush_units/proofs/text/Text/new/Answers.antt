@@ -3,6 +3,3 @@ use Rattle.crush_units.proofs.text.Text.new.Goals as goal
 
 pub returns-clause-inside : goal.returns-clause-inside
 returns-clause-inside g c = search rules
-
-pub new-requires-2 : goal.new-requires-2
-new-requires-2 g c = search rules
