@@ -19,7 +19,6 @@ use Rattle.crush_edits.specs.Setting.{SettingData}
 use Rattle.crush_edits.specs.Answer.{refused, done}
 use Rattle.crush_edits.specs.Edit.{edit, takes_memory}
 use Rattle.crush_edits.specs.Batch.{batch_refused, with_done, and_then, batch, batch_from}
-use Rattle.crush_nodes.specs.Room.{room}
 use Rattle.crush_apply.specs.AsBefore.{IsAsBefore}
 use Rattle.crush_apply.specs.declared.noted.Noted.{Noted}
 use Rattle.crush_apply.specs.Noted.{is_reweight, stays, are_in_place, GiveBack, IsDoneNoted}
@@ -110,11 +109,7 @@ stopped_before s es f k d g h log now more begun same kept t st =
     let at = begun t st in
     (at.0, subst (λ z. Stands z at.0) (sym same) at.2, subst (λ l. GiveBack l at.0 t) (sym kept) (at.3 more))
 
--- A HIERARCHY that is the same as before, or equal
+-- A HIERARCHY that is the same as before
 pub same_before : {X Y : Type 0} (x : Result X Y) (f : ForestData) → OnErr x (IsAsBefore f f)
 same_before (Ok d) f = tt
 same_before (Err e) f = record { stands = λ t st. st; rooms = λ p. refl }
-
-pub equal_before : {X Y : Type 0} (x : Result X Y) (f g : ForestData) → OnErr x (g ≡ f) → OnErr x (IsAsBefore f g)
-equal_before (Ok d) f g same = tt
-equal_before (Err e) f g same = record { stands = λ t st. subst (λ z. Stands z t) (sym same) st; rooms = λ p. ap (λ z. room z p) same }

@@ -23,9 +23,6 @@ module _ (test : Pair → List Pair → Bool) (name : Pair → List ℕ) (l : Li
   pub name_later : test p (drop (k + 1) l) ≡ false → first_name test name (drop k l) ≡ first_name test name (drop (k + 1) l)
   name_later e = ap (first_name test name) (next_of l k p h is) ∙ ap (λ b. if b then Some (name p) else first_name test name (drop (k + 1) l)) e
 
-pub name_nowhere : (test : Pair → List Pair → Bool) (name : Pair → List ℕ) (l : List Pair) (k : ℕ) → length l ≤ k → first_name test name (drop k l) ≡ None
-name_nowhere test name l k le = ap (first_name test name) (drop_all k l le)
-
 -- whether a value is missing, as a call tells it
 pub none_told : {X : Type 0} (o : Option X) (b : Bool) → is_some o ≡ not b → is_none o ≡ b
 none_told None true e = refl

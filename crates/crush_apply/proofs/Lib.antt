@@ -9,6 +9,7 @@ pub mod Fitting
 pub mod Held
 pub mod Moves
 pub mod Passed
+pub mod Placings
 pub mod Refused
 pub mod Steps
 pub mod Stopped

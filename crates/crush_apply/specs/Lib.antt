@@ -3,6 +3,7 @@ pub mod Placed
 pub mod Coming
 pub mod Answered
 pub mod Stopped
+pub mod IfPlaced
 pub mod Weighed
 pub mod Alone
 pub mod Batched

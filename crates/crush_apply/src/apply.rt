@@ -1,9 +1,11 @@
 //! One edit of the hierarchy, whichever it is.
 
-ghost use Rattle.std.specs.Prelude.{◌≡◌, List, IfOk, OnErr, true, false};
+ghost use Rattle.std.specs.Prelude.{◌≡◌, ℕ, List, IfOk, OnErr, true, false};
 ghost use Rattle.crush_table.specs.Table.{Row};
 ghost use Rattle.crush_table.specs.Forest.{rows_of};
 ghost use Rattle.crush_table.specs.Stands.{Stands};
+ghost use Rattle.crush_edits.specs.declared.edit.Edit.TheVariants.{Insert, CreateOrMove, Update};
+ghost use Rattle.crush_edits.specs.declared.location.Pair.{Pair};
 ghost use Rattle.crush_edits.specs.declared.refusal.Refusal.{Refusal as DeclaredRefusal};
 ghost use Rattle.crush_edits.specs.Answer.{refused};
 ghost use Rattle.crush_edits.specs.Edit.{edit, takes_memory, sets_weights};
@@ -11,11 +13,11 @@ ghost use Rattle.crush_edits.specs.Fits.{Fits};
 ghost use Rattle.crush_edits.specs.LawEdit.{IsEdit};
 ghost use Rattle.crush_edits.specs.Outcome.{IsDone, IsChange};
 ghost use Rattle.crush_apply.specs.Answered.{AnswersAs, KeepsRooms};
+ghost use Rattle.crush_apply.specs.declared.place.IfPlaced.TheVariants.{Refuse, KeepWeight, SetWeight};
 
 use crate::add_bucket::add_bucket;
 use crate::classes::{remove_class, set_class};
-use crate::create_or_move::create_or_move;
-use crate::insert::insert;
+use crate::place::{IfPlaced, place};
 use crate::relocate::relocate;
 use crate::remove::remove;
 use crate::rename::rename;
@@ -23,7 +25,6 @@ use crate::reweight::reweight;
 use crate::reweight_subtree::reweight_subtree;
 use crate::route::Arrival;
 use crate::swap::swap;
-use crate::update::update;
 use crush_edits::{Done, Edit, EditFault, Setting};
 use crush_hierarchy::Hierarchy;
 use std::alloc::Allocator;
@@ -101,6 +102,22 @@ fn recall_forms(asked: &Edit)
     }
 }
 
+/// What an edit that brings a device does with one that stands in a bucket.
+fn if_placed(asked: &Edit) -> IfPlaced
+    ensures insert { (d : ℕ) (n : List ℕ) (w : ℕ) (l : List Pair)
+        → asked.now ≡ Insert d n w l → result ≡ Refuse }
+    ensures create_or_move { (d : ℕ) (n : List ℕ) (w : ℕ) (l : List Pair)
+        → asked.now ≡ CreateOrMove d n w l → result ≡ KeepWeight }
+    ensures update { (d : ℕ) (n : List ℕ) (w : ℕ) (l : List Pair)
+        → asked.now ≡ Update d n w l → result ≡ SetWeight }
+{
+    match asked {
+        Edit::Insert { .. } => IfPlaced::Refuse,
+        Edit::Update { .. } => IfPlaced::SetWeight,
+        _ => IfPlaced::KeepWeight,
+    }
+}
+
 /// Makes the edit, or tells why it isn't made.
 fn make<A: Allocator + Clone>(
     hierarchy: &mut Hierarchy<A>,
@@ -119,16 +136,14 @@ fn make<A: Allocator + Clone>(
             name,
             weight,
             at,
-        } => {
-            let arrival = Arrival {
-                device: *device,
-                name,
-                weight: *weight,
-                at,
-            };
-            insert(hierarchy, setting, &arrival)
         }
-        Edit::CreateOrMove {
+        | Edit::CreateOrMove {
+            device,
+            name,
+            weight,
+            at,
+        }
+        | Edit::Update {
             device,
             name,
             weight,
@@ -140,21 +155,7 @@ fn make<A: Allocator + Clone>(
                 weight: *weight,
                 at,
             };
-            create_or_move(hierarchy, setting, &arrival)
-        }
-        Edit::Update {
-            device,
-            name,
-            weight,
-            at,
-        } => {
-            let arrival = Arrival {
-                device: *device,
-                name,
-                weight: *weight,
-                at,
-            };
-            update(hierarchy, setting, &arrival)
+            place(hierarchy, setting, if_placed(asked), &arrival)
         }
         Edit::Move { name, at } => relocate(hierarchy, setting, name, at),
         Edit::Swap { a, b } => swap(hierarchy, a, b),

@@ -11,9 +11,8 @@ mod apply;
 mod batch;
 mod blaming;
 mod classes;
-mod create_or_move;
-mod insert;
 mod noted;
+mod place;
 mod relocate;
 mod remove;
 mod rename;
@@ -21,7 +20,6 @@ mod reweight;
 mod reweight_subtree;
 mod route;
 mod swap;
-mod update;
 
 pub use apply::apply_edit;
 pub use batch::apply_batch;

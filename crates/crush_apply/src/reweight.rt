@@ -1,10 +1,11 @@
 //! A new weight for one device.
 
-ghost use Rattle.std.specs.Prelude.{◌≡◌, ◌≢◌, List, Some, IfOk, IfErr, Err};
-ghost use Rattle.crush_table.specs.Table.{Row};
+ghost use Rattle.std.specs.Prelude.{◌≡◌, ◌≢◌, List, Some, IfOk, IfErr, OnOk, Err, false};
+ghost use Rattle.crush_table.specs.Table.{Row, id_named};
 ghost use Rattle.crush_table.specs.Stands.{Stands};
 ghost use Rattle.crush_edits.specs.Setting.{SettingData};
-ghost use Rattle.crush_edits.specs.declared.edit.Edit.TheVariants.{Reweight};
+ghost use Rattle.crush_edits.specs.declared.edit.Edit.TheVariants.{Reweight, ReweightSubtree};
+ghost use Rattle.crush_edits.specs.Answer.{is_heavy};
 ghost use Rattle.crush_edits.specs.Edit.{edit, refusal};
 ghost use Rattle.crush_apply.specs.Answered.{AnswersAs, KeepsRooms};
 ghost use Rattle.crush_apply.specs.Noted.{AnswersNoted};
@@ -15,6 +16,29 @@ use crush_edits::{Done, EditFault, Refusal};
 use crush_hierarchy::Hierarchy;
 use crush_units::{DeviceId, ItemId, Name, Weight};
 use std::alloc::{Allocator, Global};
+
+/// The item of this name, where a device may have the weight, or why no weight is set.
+pub(crate) fn item_to_weigh<A: Allocator>(
+    hierarchy: &Hierarchy<A>,
+    name: &Name<Global>,
+    weight: Weight,
+) -> Result<ItemId, Refusal>
+    ensures light { OnOk result (is_heavy weight ≡ false) }
+    ensures named { IfOk result (λ i. (t : List Row) → Stands hierarchy.now t
+        → id_named t name.now ≡ Some i) }
+    ensures device { IfErr result (λ r. (s : SettingData) (t : List Row) → Stands hierarchy.now t
+        → refusal s t (Reweight name.now weight) ≡ Some r) }
+    ensures subtree { IfErr result (λ r. (s : SettingData) (t : List Row) → Stands hierarchy.now t
+        → refusal s t (ReweightSubtree name.now weight) ≡ Some r) }
+{
+    if !weight.is_device_weight() {
+        return Err(Refusal::WeightTooLarge);
+    }
+    let Some(id) = hierarchy.id_of(name.as_str()) else {
+        return Err(Refusal::NoSuchItem);
+    };
+    Ok(id)
+}
 
 /// The device whose weight is to be set, or why it isn't.
 fn check_reweight<A: Allocator>(
@@ -28,12 +52,7 @@ fn check_reweight<A: Allocator>(
         → refusal s t (Reweight name.now weight) ≡ Some r) }
 {
     hierarchy.recall_invariant();
-    if !weight.is_device_weight() {
-        return Err(Refusal::WeightTooLarge);
-    }
-    let Some(id) = hierarchy.id_of(name.as_str()) else {
-        return Err(Refusal::NoSuchItem);
-    };
+    let id = item_to_weigh(hierarchy, name, weight)?;
     let ItemId::Device(device) = id else {
         return Err(Refusal::NotADevice);
     };

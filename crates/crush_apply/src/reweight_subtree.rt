@@ -9,6 +9,7 @@ ghost use Rattle.crush_edits.specs.Edit.{edit, refusal};
 ghost use Rattle.crush_apply.specs.Answered.{AnswersAs, KeepsRooms};
 ghost use Rattle.crush_apply.specs.Weighed.{CanReweightSubtree};
 
+use crate::reweight::item_to_weigh;
 use crush_edits::{Done, EditFault, Refusal};
 use crush_hierarchy::Hierarchy;
 use crush_units::{BucketId, ItemId, Name, Weight};
@@ -25,13 +26,7 @@ fn check_subtree<A: Allocator>(
     ensures refused { IfErr result (λ r. (s : SettingData) (t : List Row) → Stands hierarchy.now t
         → refusal s t (ReweightSubtree name.now weight) ≡ Some r) }
 {
-    hierarchy.recall_invariant();
-    if !weight.is_device_weight() {
-        return Err(Refusal::WeightTooLarge);
-    }
-    let Some(id) = hierarchy.id_of(name.as_str()) else {
-        return Err(Refusal::NoSuchItem);
-    };
+    let id = item_to_weigh(hierarchy, name, weight)?;
     let ItemId::Bucket(bucket) = id else {
         return Err(Refusal::NotABucket);
     };

@@ -1,16 +1,24 @@
-use Rattle.std.proofs.Common.{ap}
+use Rattle.std.proofs.Common.{◌≡◌, ap, sym, ◌∙◌, ⊎_elim}
 use Rattle.crush_edits.specs.Edit.{edit}
+use Rattle.crush_apply.specs.IfPlaced.{placing}
 use Rattle.crush_apply.proofs.Answered.{when_same}
 use Rattle.crush_apply.proofs.apply.make.Goals as goal
 
 pub returns-in-Insert-clause-made : goal.returns-in-Insert-clause-made
-returns-in-Insert-clause-made g c = when_same _ _ _ _ _ (λ t st. ap (edit c.args.setting.now t) c.in-Insert.is) c.insert.ensures
-
-pub returns-in-CreateOrMove-clause-made : goal.returns-in-CreateOrMove-clause-made
-returns-in-CreateOrMove-clause-made g c = when_same _ _ _ _ _ (λ t st. ap (edit c.args.setting.now t) c.in-CreateOrMove.is) c.create_or_move.ensures
-
-pub returns-in-Update-clause-made : goal.returns-in-Update-clause-made
-returns-in-Update-clause-made g c = when_same _ _ _ _ _ (λ t st. ap (edit c.args.setting.now t) c.in-Update.is) c.update.ensures
+returns-in-Insert-clause-made g c =
+    let d = c.in-Insert.device in
+    let n = c.in-Insert.name in
+    let w = c.in-Insert.weight in
+    let l = c.in-Insert.at in
+    let how = c.if_placed.ensures in
+    let same : c.args.asked.now ≡ placing c.if_placed.result d n w l = ⊎_elim
+    (λ is. is ∙ ap (λ h. placing h d n w l) (sym (how.insert d n w l is)))
+    (λ more. ⊎_elim
+    (λ is. is ∙ ap (λ h. placing h d n w l) (sym (how.create_or_move d n w l is)))
+    (λ is. is ∙ ap (λ h. placing h d n w l) (sym (how.update d n w l is)))
+    more)
+    c.in-Insert.is in
+    when_same _ _ _ _ _ (λ t st. ap (edit c.args.setting.now t) same) c.place.ensures
 
 pub returns-in-Move-clause-made : goal.returns-in-Move-clause-made
 returns-in-Move-clause-made g c = when_same _ _ _ _ _ (λ t st. ap (edit c.args.setting.now t) c.in-Move.is) c.relocate.ensures

@@ -2,7 +2,7 @@ use Rattle.std.proofs.Common.{sym, ◌∙◌}
 use Rattle.crush_table.specs.Forest.{rows_of}
 use Rattle.crush_table.proofs.Stands.{stands_for_rows}
 use Rattle.crush_apply.proofs.Done.{own_light}
-use Rattle.crush_apply.proofs.create_or_move.kept_weight.Goals as goal
+use Rattle.crush_apply.proofs.place.kept_weight.Goals as goal
 
 pub returns-in-Some-clause-light : goal.returns-in-Some-clause-light
 returns-in-Some-clause-light g c =

@@ -1,0 +1,128 @@
+//! A device that comes to the end of a location's route: made there, or moved.
+
+ghost use Rattle.std.specs.Prelude.{◌≡◌, ◌≤◌, List};
+ghost use Rattle.crush_units.specs.declared.limits.TheConstants.{HEAVIEST_DEVICE};
+ghost use Rattle.crush_table.specs.Table.{Row};
+ghost use Rattle.crush_table.specs.Forest.{rows_of};
+ghost use Rattle.crush_table.specs.Stands.{Stands};
+ghost use Rattle.crush_edits.specs.Edit.{edit};
+ghost use Rattle.crush_edits.specs.Fits.{Fits};
+ghost use Rattle.crush_edits.specs.Placing.{kept_weight};
+ghost use Rattle.crush_edits.specs.Setting.{SettingData};
+ghost use Rattle.crush_apply.specs.Answered.{AnswersAs};
+ghost use Rattle.crush_apply.specs.IfPlaced.{placing, is_barred, coming_weight, stay_answer};
+
+use crate::reweight::reweight;
+use crate::route::{Arrival, check_device, destination_of, is_held, place_device};
+use crush_edits::{Done, EditFault, Refusal, Setting};
+use crush_hierarchy::Hierarchy;
+use crush_units::{DeviceId, ItemId, Weight};
+use std::alloc::Allocator;
+
+/// What an edit that brings a device does with one that stands in a bucket.
+#[derive(Clone, Copy)]
+pub(crate) enum IfPlaced {
+    /// It refuses: `Insert`.
+    Refuse,
+    /// It leaves it where it is held, and else moves it, with its own weight: `CreateOrMove`.
+    KeepWeight,
+    /// It sets its weight where it is held, and else moves it with that: `Update`.
+    SetWeight,
+}
+
+/// Puts a device at the end of a location's route, and makes it where its id isn't there; or does
+/// with one that stands in a bucket what is told, or tells why it isn't put.
+///
+/// All memory is taken before the device moves. Where it lacks, the items are as before.
+pub(crate) fn place<A: Allocator + Clone>(
+    hierarchy: &mut Hierarchy<A>,
+    setting: &Setting,
+    how: IfPlaced,
+    arrival: &Arrival<'_>,
+) -> Result<Done, EditFault>
+    requires { Fits setting.now (rows_of hierarchy.old) }
+    ensures { AnswersAs (λ t. edit setting.now t (placing how arrival.now.device
+        arrival.now.name.now arrival.now.weight arrival.now.at.now))
+        hierarchy.old hierarchy.new result }
+{
+    hierarchy.recall_invariant();
+    check_device(hierarchy, setting, arrival)?;
+    if is_barred(hierarchy, how, arrival.device) {
+        return Err(EditFault::Refused(Refusal::AlreadyPlaced));
+    }
+    let to = destination_of(hierarchy, setting, arrival.at)?;
+    if is_held(hierarchy, ItemId::Device(arrival.device), &to) {
+        return stay(hierarchy, how, arrival);
+    }
+    let weight = coming_weight(hierarchy, how, arrival.device, arrival.weight);
+    let coming = Arrival { weight, ..*arrival };
+    place_device(hierarchy, &coming, &to)
+}
+
+/// Whether the device is refused since it stands in a bucket.
+fn is_barred<A: Allocator>(hierarchy: &Hierarchy<A>, how: IfPlaced, device: DeviceId) -> bool
+    ensures { (t : List Row) → Stands hierarchy.now t → result ≡ is_barred how t device }
+{
+    match how {
+        IfPlaced::Refuse => hierarchy.parent(ItemId::Device(device)).is_some(),
+        IfPlaced::KeepWeight => false,
+        IfPlaced::SetWeight => false,
+    }
+}
+
+/// Sets the weight of a device that the bucket of the location's lowest pair holds, or leaves it as
+/// it is.
+fn stay<A: Allocator>(
+    hierarchy: &mut Hierarchy<A>,
+    how: IfPlaced,
+    arrival: &Arrival<'_>,
+) -> Result<Done, EditFault>
+    ensures { (s : SettingData) → AnswersAs
+        (λ t. stay_answer s t how arrival.now.name.now arrival.now.weight)
+        hierarchy.old hierarchy.new result }
+{
+    if let IfPlaced::SetWeight = how {
+        return reweight(hierarchy, arrival.name, arrival.weight);
+    }
+    Ok(Done {
+        changed: false,
+        made: 0,
+    })
+}
+
+/// The weight with which a device comes that isn't held: of up to 2147483647 units, where the given
+/// one is.
+fn coming_weight<A: Allocator>(
+    hierarchy: &Hierarchy<A>,
+    how: IfPlaced,
+    device: DeviceId,
+    weight: Weight,
+) -> Weight
+    requires { weight ≤ HEAVIEST_DEVICE }
+    ensures coming { (t : List Row) → Stands hierarchy.now t
+        → result ≡ coming_weight how t device weight }
+    ensures light { result ≤ HEAVIEST_DEVICE }
+{
+    match how {
+        IfPlaced::Refuse => weight,
+        IfPlaced::KeepWeight => kept_weight(hierarchy, device, weight),
+        IfPlaced::SetWeight => weight,
+    }
+}
+
+/// The own weight of a device that stands in a bucket, else the given one, of up to 2147483647
+/// units as well.
+fn kept_weight<A: Allocator>(hierarchy: &Hierarchy<A>, device: DeviceId, weight: Weight) -> Weight
+    requires { weight ≤ HEAVIEST_DEVICE }
+    ensures kept { (t : List Row) → Stands hierarchy.now t → result ≡ kept_weight t device weight }
+    ensures light { result ≤ HEAVIEST_DEVICE }
+{
+    hierarchy.recall_invariant();
+    if hierarchy.parent(ItemId::Device(device)).is_none() {
+        return weight;
+    }
+    match hierarchy.weight(ItemId::Device(device)) {
+        Some(own) => own,
+        None => weight,
+    }
+}
