@@ -13,6 +13,7 @@ mod faults;
 mod lacking;
 mod looked_up;
 mod memory;
+mod same;
 mod statements;
 mod whole;
 mod worked;

@@ -4,7 +4,7 @@ ghost use Rattle.std.specs.Prelude.{◌≡◌, ◌==◌, ◌↔◌, IsTrue, IfSo
 ghost use Rattle.std.specs.Option.{ok_or};
 ghost use Rattle.crush_builder.specs.declared.fault.BuildFault.TheVariants.{UnknownItem};
 ghost use Rattle.crush_units.specs.declared.id.ItemId.TheVariants.{Device, Bucket};
-ghost use Rattle.crush_table.specs.Table.{is_there, is_placed, weight_of};
+ghost use Rattle.crush_table.specs.Table.{is_there, is_placed};
 ghost use Rattle.crush_edits.specs.Setting.{kind_number, has_tunable};
 ghost use Rattle.crush_builder.specs.Built.{Draft, nothing};
 ghost use Rattle.crush_builder.specs.Building.{IsDraft, is_begun, is_numbered, is_filling, is_open};
@@ -22,7 +22,7 @@ use super::{MapBuilder, Pending};
 use crate::fault::BuildFault;
 use crush_tree::ShadowId;
 use crush_units::limits::{MOST_BUCKETS, MOST_CLASS_IDS, MOST_DEVICES, MOST_TUNABLES, MOST_TYPES};
-use crush_units::{BucketId, DeviceId, ItemId, TypeId, Weight};
+use crush_units::{BucketId, DeviceId, ItemId, TypeId};
 use std::alloc::Allocator;
 
 impl<A: Allocator> MapBuilder<A> {
@@ -176,13 +176,6 @@ impl<A: Allocator> MapBuilder<A> {
         ensures { (d : Draft) → IsDraft self.now d → result ≡ is_placed d.table id }
     {
         self.hierarchy.parent(id).is_some()
-    }
-
-    /// The weight of an item, or `None` where it isn't there.
-    pub fn weight_of(&self, id: ItemId) -> Option<Weight>
-        ensures { (d : Draft) → IsDraft self.now d → result ≡ weight_of d.table id }
-    {
-        self.hierarchy.weight(id)
     }
 
     /// How many buckets were put into another with a written weight that wasn't their sum.

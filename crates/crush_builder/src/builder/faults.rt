@@ -1,6 +1,6 @@
 //! What speaks against a call of the builder.
 
-ghost use Rattle.std.specs.Prelude.{◌≡◌, ℕ, true, false, not};
+ghost use Rattle.std.specs.Prelude.{◌≡◌, ◌∷◌, [], ℕ, true, false, not};
 ghost use Rattle.crush_table.specs.Forest.{all_items, rows_of};
 ghost use Rattle.crush_table.specs.Lawful.{is_too_heavy};
 ghost use Rattle.crush_table.specs.Stored.{weight_sum};
@@ -9,11 +9,12 @@ ghost use Rattle.crush_nodes.specs.Ops.{part_of};
 ghost use Rattle.crush_map.specs.WrittenItems.{adjustment};
 ghost use Rattle.crush_builder.specs.Built.{Draft, filling, table_with_item};
 ghost use Rattle.crush_builder.specs.Building.{IsDraft};
-ghost use Rattle.crush_builder.specs.Faults.{kind_fault, device_fault, begin_fault, item_fault};
+ghost use Rattle.crush_builder.specs.declared.fault.BuildFault.TheVariants.{DuplicateId, DuplicateName, TooMany};
+ghost use Rattle.crush_builder.specs.Faults.{first_fault, kind_fault, device_fault, begin_fault};
 ghost use Rattle.crush_builder.specs.Faults.{is_closed, is_heavy_device, tunable_fault, class_id_fault};
 ghost use Rattle.crush_builder.specs.Pending.{with_first_weight};
 
-use super::{MapBuilder, device_weight};
+use super::MapBuilder;
 use crate::fault::BuildFault;
 use crush_tree::Place;
 use crush_units::{BucketId, DeviceId, ItemId, TypeId, Weight};
@@ -24,45 +25,29 @@ impl<A: Allocator> MapBuilder<A> {
     pub(super) fn kind_fault(&self, number: TypeId, name: &[u8]) -> Option<BuildFault>
         ensures { (d : Draft) → IsDraft self.now d → result ≡ kind_fault d number name.now }
     {
-        if self.has_kind_number(number) {
-            return Some(BuildFault::DuplicateId);
-        }
-        if self.has_kind_name(name) {
-            return Some(BuildFault::DuplicateName);
-        }
-        if self.is_full_of_kinds() {
-            return Some(BuildFault::TooMany);
-        }
-        None
+        taken(
+            self.has_kind_number(number),
+            self.has_kind_name(name),
+            self.is_full_of_kinds(),
+        )
     }
 
     /// What speaks against one more tunable.
     pub(super) fn tunable_fault(&self, name: &[u8]) -> Option<BuildFault>
         ensures { (d : Draft) → IsDraft self.now d → result ≡ tunable_fault d name.now }
     {
-        if self.has_tunable(name) {
-            return Some(BuildFault::DuplicateName);
-        }
-        if self.is_full_of_tunables() {
-            return Some(BuildFault::TooMany);
-        }
-        None
+        taken(false, self.has_tunable(name), self.is_full_of_tunables())
     }
 
     /// What speaks against one more device.
     pub(super) fn device_fault(&self, id: DeviceId, name: &[u8]) -> Option<BuildFault>
         ensures { (d : Draft) → IsDraft self.now d → result ≡ device_fault d id name.now }
     {
-        if self.has_device(id) {
-            return Some(BuildFault::DuplicateId);
-        }
-        if self.has_name(name) {
-            return Some(BuildFault::DuplicateName);
-        }
-        if self.is_full_of_devices() {
-            return Some(BuildFault::TooMany);
-        }
-        None
+        taken(
+            self.has_device(id),
+            self.has_name(name),
+            self.is_full_of_devices(),
+        )
     }
 
     /// What speaks against one more bucket.
@@ -85,47 +70,15 @@ impl<A: Allocator> MapBuilder<A> {
     pub(super) fn class_id_fault(&self, id: BucketId, class: &[u8]) -> Option<BuildFault>
         ensures { (d : Draft) → IsDraft self.now d → result ≡ class_id_fault d id class.now }
     {
-        if self.has_bucket_id(id) {
-            return Some(BuildFault::DuplicateId);
-        }
-        if self.has_class(class) {
-            return Some(BuildFault::DuplicateName);
-        }
-        if self.is_full_of_class_ids() {
-            return Some(BuildFault::TooMany);
-        }
-        None
-    }
-
-    /// What speaks against one more item of the bucket that is being filled.
-    pub(super) fn item_fault(
-        &self,
-        bucket: BucketId,
-        id: ItemId,
-        written: Option<Weight>,
-    ) -> Option<BuildFault>
-        requires { self.now.pending ≡ filling bucket }
-        ensures { (d : Draft) → IsDraft self.now d → result ≡ item_fault d id written }
-    {
-        let item = &id;
-        let written = &written;
-        if is_heavy_device(*item, *written) {
-            return Some(BuildFault::BadWeight);
-        }
-        if !self.is_closed(*item) {
-            return Some(BuildFault::UnknownItem);
-        }
-        if self.is_placed(*item) {
-            return Some(BuildFault::SecondParent);
-        }
-        if !self.fits_item(bucket, *item, device_weight(*written)) {
-            return Some(BuildFault::SumTooLarge);
-        }
-        None
+        taken(
+            self.has_bucket_id(id),
+            self.has_class(class),
+            self.is_full_of_class_ids(),
+        )
     }
 
     /// Whether the item is a device, or a bucket that is complete.
-    fn is_closed(&self, id: ItemId) -> bool
+    pub(super) fn is_closed(&self, id: ItemId) -> bool
         ensures { (d : Draft) → IsDraft self.now d → result ≡ is_closed d id }
     {
         let item = &id;
@@ -191,8 +144,26 @@ impl<A: Allocator> MapBuilder<A> {
     }
 }
 
+/// What speaks against one more: that its id is taken, else its name, else that there are as many as
+/// there may be.
+fn taken(id: bool, name: bool, full: bool) -> Option<BuildFault>
+    ensures { result ≡ first_fault
+        ((DuplicateId, id) ∷ ((DuplicateName, name) ∷ ((TooMany, full) ∷ []))) }
+{
+    if id {
+        return Some(BuildFault::DuplicateId);
+    }
+    if name {
+        return Some(BuildFault::DuplicateName);
+    }
+    if full {
+        return Some(BuildFault::TooMany);
+    }
+    None
+}
+
 /// Whether a device is to have a weight that no device has.
-fn is_heavy_device(id: ItemId, written: Option<Weight>) -> bool
+pub(super) fn is_heavy_device(id: ItemId, written: Option<Weight>) -> bool
     ensures { result ≡ is_heavy_device id written }
 {
     let item = &id;

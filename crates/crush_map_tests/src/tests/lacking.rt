@@ -5,6 +5,7 @@
 use crate::tests::asking::{
     Asked, CHANGED, Fact, Told, answer, are_true_of, edit, edits, make_batch,
 };
+use crate::tests::same::has_the_same;
 use crate::tests::whole::{whole_example_map, whole_example_map_in};
 use crush_map::{BatchFault, CrushMap, Done, Dones, Edit, EditFault, Refusal};
 use linked_list_allocator::LocalHeap;
@@ -79,7 +80,7 @@ fn is_made(rt: &impl Abort, map: &CrushMap<&LocalHeap>, place: usize, call: &Cal
 /// Asserts that the map is the example map.
 fn is_the_example_map(rt: &impl Abort, alloc: Global, map: &CrushMap<&LocalHeap>) {
     let whole = whole_example_map(rt, alloc);
-    let same = map.forest().is_same(whole.forest());
+    let same = has_the_same(map, &whole);
     drop(whole);
     assert!(rt; same);
 }

@@ -1,22 +1,21 @@
 //! The example map in heaps of each size. Only its hierarchy is there: a setting is in the
 //! machine's memory, of which a test can refuse nothing.
 
+use crate::tests::same::has_the_same;
 use crate::tests::statements::make;
 use crate::tests::whole::{BEFORE_RULE, has_the_setting, whole_example_map, whole_example_map_in};
 use crush_builder::{BuildFault, MapBuilder};
 use crush_map::CrushMap;
-use crush_units::{ItemId, Weight};
+use crush_units::ItemId;
 use linked_list_allocator::LocalHeap;
 use std::alloc::Global;
 use std::process::Abort;
 
-/// An item of the example map: after how many of the statements it is there, and held by a bucket, and
-/// what it weighs then.
+/// An item of the example map: after how many of the statements it is there, and held by a bucket.
 struct Item {
     name: &'static str,
     there: usize,
     held: usize,
-    units: u32,
 }
 
 /// The items of the example map. Its root is held by none.
@@ -25,53 +24,37 @@ const ITEMS: &[Item] = &[
         name: "osd.0",
         there: 2,
         held: 12,
-        units: 65536,
     },
     Item {
         name: "osd.1",
         there: 3,
         held: 13,
-        units: 65536,
     },
     Item {
         name: "osd.2",
         there: 4,
         held: 18,
-        units: 32768,
     },
     Item {
         name: "h1",
         there: 14,
         held: 23,
-        units: 131072,
     },
     Item {
         name: "h2",
         there: 19,
         held: 24,
-        units: 32768,
     },
     Item {
         name: "default",
         there: 25,
         held: 26,
-        units: 163840,
     },
 ];
 
-/// What the item weighs after so many statements: a device nothing before a bucket holds it.
-fn units_after(taken: usize, item: &Item, id: &ItemId) -> u32 {
-    match id {
-        ItemId::Device(_) if taken < item.held => 0,
-        _ => item.units,
-    }
-}
-
 /// Whether the builder has the item of this id as after so many statements.
 fn is_made(builder: &MapBuilder<&LocalHeap>, taken: usize, item: &Item, id: &ItemId) -> bool {
-    taken >= item.there
-        && builder.is_placed(*id) == (taken >= item.held)
-        && builder.weight_of(*id) == Some(Weight::from_units(units_after(taken, item, id)))
+    taken >= item.there && builder.is_placed(*id) == (taken >= item.held)
 }
 
 /// Whether the builder has the item as after so many statements, which is none at first.
@@ -119,7 +102,7 @@ fn is_in_full_memory(
     map: &CrushMap<&LocalHeap>,
     whole: &CrushMap<Global>,
 ) -> bool {
-    has_the_setting(rt, map.setting()) && map.forest().is_same(whole.forest()) && lacks_a_copy(map)
+    has_the_setting(rt, map.setting()) && has_the_same(map, whole) && lacks_a_copy(map)
 }
 
 /// Whether the heap has the map that the machine's memory has. One that is too small has no memory for

@@ -1,8 +1,7 @@
-use Rattle.std.proofs.Common.{rules}
+use Rattle.std.proofs.Common.{[], ◌∷◌, ◌∙◌}
+use Rattle.crush_builder.specs.declared.fault.BuildFault.TheVariants.{DuplicateId, DuplicateName, TooMany}
+use Rattle.crush_builder.specs.Faults.{first_fault}
 use Rattle.crush_builder.proofs.builder.MapBuilder.class_id_fault.Goals as goal
 
-pub returns-then-is_full_of_class_ids : goal.returns-then-is_full_of_class_ids
-returns-then-is_full_of_class_ids g c = search rules
-
 pub returns : goal.returns
-returns g c = search rules
+returns g c = λ d i. c.taken.ensures ∙ (λ j. first_fault ((DuplicateId, c.has_bucket_id.ensures d i j) ∷ ((DuplicateName, c.has_class.ensures d i j) ∷ ((TooMany, c.is_full_of_class_ids.ensures d i j) ∷ []))))

@@ -1,11 +1,7 @@
-use Rattle.std.proofs.Common.{rules}
+use Rattle.std.proofs.Common.{[], ◌∷◌, ◌∙◌}
+use Rattle.crush_builder.specs.declared.fault.BuildFault.TheVariants.{DuplicateId, DuplicateName, TooMany}
+use Rattle.crush_builder.specs.Faults.{first_fault}
 use Rattle.crush_builder.proofs.builder.MapBuilder.kind_fault.Goals as goal
 
-pub returns-then-has_kind_name : goal.returns-then-has_kind_name
-returns-then-has_kind_name g c = search rules
-
 pub returns : goal.returns
-returns g c = search rules
-
-pub returns-then-is_full_of_kinds : goal.returns-then-is_full_of_kinds
-returns-then-is_full_of_kinds g c = search rules
+returns g c = λ d i. c.taken.ensures ∙ (λ j. first_fault ((DuplicateId, c.has_kind_number.ensures d i j) ∷ ((DuplicateName, c.has_kind_name.ensures d i j) ∷ ((TooMany, c.is_full_of_kinds.ensures d i j) ∷ []))))

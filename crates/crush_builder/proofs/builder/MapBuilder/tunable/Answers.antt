@@ -19,7 +19,7 @@ push_tunable-requires g c =
     let at : IsDraft c.args.self.now d = subst (λ (x : BuilderData). IsDraft x d) c.self.view_is (own_is_draft b c.recall_invariant.ensures c.self.invariant) in
     let clear : tunable_fault d c.args.name.now ≡ None = sym (c.in_default.ensures d at) in
     let none = none_of_two DuplicateName TooMany (has_tunable d.setting c.args.name.now) (is_full_of_tunables d) clear in
-    ap (has_tunable c.self.inside.setting) c.in-Ok.ensures.value ∙ none.0
+    ap (has_tunable c.self.inside.setting) c.in_ok-name.ensures ∙ none.0
 
 pub invariant_of-self-2 : goal.invariant_of-self-2
 invariant_of-self-2 g c =
@@ -27,7 +27,7 @@ invariant_of-self-2 g c =
     let d : Draft = own_draft b in
     let own : IsDraft b d = own_is_draft b c.recall_invariant.ensures c.self.invariant in
     let at : IsDraft c.args.self.now d = subst (λ (x : BuilderData). IsDraft x d) c.self.view_is own in
-    let tunables = c.in_ok-push_tunable.ensures.ok ∙ (λ i. record c.self.inside.setting { tunables = c.self.inside.setting.tunables ++ record { name = c.in-Ok.ensures.value i; value = c.args.value } ∷ [] }) in
+    let tunables = c.in_ok-push_tunable.ensures.ok ∙ (λ i. record c.self.inside.setting { tunables = c.self.inside.setting.tunables ++ record { name = c.in_ok-name.ensures i; value = c.args.value } ∷ [] }) in
     let is : IsTunable (record { name = c.args.name.now; value = c.args.value }) = record { name = c.requires.name; value = omega arith } in
     let clear : tunable_fault d c.args.name.now ≡ None = sym (c.in_default.ensures d at) in
     let none = none_of_two DuplicateName TooMany (has_tunable d.setting c.args.name.now) (is_full_of_tunables d) clear in
@@ -41,7 +41,7 @@ pub returns-clause-ok : goal.returns-clause-ok
 returns-clause-ok g c = λ d i.
     let b : BuilderData = record { setting = c.self.inside.setting; forest = c.self.inside.hierarchy; pending = pending_data c.self.inside.pending; adjusted = c.self.inside.adjusted } in
     let at : IsDraft b d = subst (λ (x : BuilderData). IsDraft x d) (sym c.self.view_is) i in
-    let tunables = c.in_ok-push_tunable.ensures.ok ∙ (λ j. record c.self.inside.setting { tunables = c.self.inside.setting.tunables ++ record { name = c.in-Ok.ensures.value j; value = c.args.value } ∷ [] }) in
+    let tunables = c.in_ok-push_tunable.ensures.ok ∙ (λ j. record c.self.inside.setting { tunables = c.self.inside.setting.tunables ++ record { name = c.in_ok-name.ensures j; value = c.args.value } ∷ [] }) in
     let is : IsTunable (record { name = c.args.name.now; value = c.args.value }) = record { name = c.requires.name; value = omega arith } in
     let clear : tunable_fault d c.args.name.now ≡ None = sym (c.in_default.ensures d i) in
     let none = none_of_two DuplicateName TooMany (has_tunable d.setting c.args.name.now) (is_full_of_tunables d) clear in
