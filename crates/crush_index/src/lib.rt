@@ -1,12 +1,12 @@
 //! Look-ups beside a hierarchy, each the function that its table is.
 //!
-//! A forest finds an item by a search through its boxes. What is kept here finds it in one step:
+//! A forest finds an item by a search through its boxes. What an [`Index`] keeps finds it in one step:
 //!
-//! - [`Names`]: the id of each name.
+//! - names: the id of each.
 //! - [`Places`]: where each item stands. It is a guide to a forest.
-//! - [`UsedIds`]: which ids buckets and class ids use, and the nearest that is free.
-//! - [`Hashing`]: how keys are hashed, by keys that are drawn anew for each run, or plainly.
+//! - used ids: which ids buckets and class ids use, and the nearest that is free.
 //!
+//! [`Hashing`] is how keys are hashed, by keys that are drawn anew for each run, or plainly.
 //! [`law`] says that all three follow the table, as contracts of functions that do nothing.
 //!
 //! What an index tells is said as a function of the table, of each name and each id, also of those
@@ -30,6 +30,4 @@ mod word;
 
 pub use hashing::Hashing;
 pub use index::Index;
-pub use names::Names;
 pub use places::Places;
-pub use used::UsedIds;

@@ -15,7 +15,7 @@ use std::alloc::{AllocError, Global};
 
 /// The id of each name. It has names of its own, in the machine's memory.
 #[derive(Drop)]
-pub struct Names {
+pub(crate) struct Names {
     machine: Global,
     hashing: Hashing,
     ids: IndexMap<Key, ItemId, Digests>,
@@ -23,7 +23,7 @@ pub struct Names {
 
 impl Names {
     /// No names. It takes no memory yet, and later hashes so.
-    pub fn new(alloc: Global, hashing: Hashing) -> Names
+    pub(crate) fn new(alloc: Global, hashing: Hashing) -> Names
         ensures none { (n : List ℕ) → id_told result n ≡ None }
         ensures hashing { names_hashing result ≡ hashing }
     {
@@ -35,7 +35,7 @@ impl Names {
     }
 
     /// A copy that tells the same and hashes so. An Err is out of memory.
-    pub fn try_copy(&self) -> Result<Names, AllocError>
+    pub(crate) fn try_copy(&self) -> Result<Names, AllocError>
         ensures { IfOk result (IsCopyOf self.now) }
     {
         let ids = self.ids.clone()?;
@@ -47,7 +47,7 @@ impl Names {
     }
 
     /// The id of a name, given by its bytes: `None` where no item has it.
-    pub fn id_of(&self, name: &[u8]) -> Option<ItemId>
+    pub(crate) fn id_of(&self, name: &[u8]) -> Option<ItemId>
         ensures { result ≡ id_told self.now name.now }
     {
         match self.ids.get(Asked::of(name, &self.hashing)) {
@@ -57,7 +57,7 @@ impl Names {
     }
 
     /// The name of an item that comes. An Err is out of memory, and nothing has changed then.
-    pub fn insert(&mut self, name: Name<Global>, id: ItemId) -> Result<(), AllocError>
+    pub(crate) fn insert(&mut self, name: Name<Global>, id: ItemId) -> Result<(), AllocError>
         ensures { Inserts name id self.old self.new result }
     {
         self.ids
@@ -66,7 +66,7 @@ impl Names {
     }
 
     /// The name of an item that has gone. Where it isn't there nothing changes.
-    pub fn remove(&mut self, name: &[u8])
+    pub(crate) fn remove(&mut self, name: &[u8])
         ensures told { TellsOne self.old self.new name.now None }
         ensures hashing { names_hashing self.new ≡ names_hashing self.old }
     {
@@ -74,7 +74,7 @@ impl Names {
     }
 
     /// Two items that exchange their names. It takes no memory.
-    pub fn exchange(&mut self, a: &[u8], b: &[u8], first: ItemId, second: ItemId)
+    pub(crate) fn exchange(&mut self, a: &[u8], b: &[u8], first: ItemId, second: ItemId)
         requires first { id_told self.old a.now ≡ Some first }
         requires second { id_told self.old b.now ≡ Some second }
         ensures told { TellsTwo self.old self.new a.now (Some second) b.now (Some first) }

@@ -20,7 +20,7 @@ const NEAR: u32 = 69696;
 /// by word, whatever was used and given back before. The words come as they are needed, and none
 /// goes. An id further off is kept by itself.
 #[derive(Drop)]
-pub struct UsedIds {
+pub(crate) struct UsedIds {
     words: Vec<u64>,
     far: IndexSet<u32, Hashing>,
     ghost few: { length words.items ≤ 1089 },
@@ -32,7 +32,7 @@ impl UsedIds {
     ghost use Rattle.crush_index.specs.UsedTold.{used_told, UsesOne, AreAllUsed, IsFirstFree};
 
     /// No ids. It takes no memory.
-    pub fn new(alloc: Global, hashing: Hashing) -> UsedIds
+    pub(crate) fn new(alloc: Global, hashing: Hashing) -> UsedIds
         ensures none { (k : ℕ) → used_told result k ≡ false }
         ensures hashing { used_hashing result ≡ hashing }
     {
@@ -43,7 +43,7 @@ impl UsedIds {
     }
 
     /// A copy in which the same ids are in use, and which hashes so. An Err is out of memory.
-    pub fn try_copy(&self) -> Result<UsedIds, AllocError>
+    pub(crate) fn try_copy(&self) -> Result<UsedIds, AllocError>
         ensures { IfOk result (IsCopyOf self.now) }
     {
         let words = copied(&self.words)?;
@@ -52,7 +52,7 @@ impl UsedIds {
     }
 
     /// Whether an id is in use.
-    pub fn has(&self, id: u32) -> bool
+    pub(crate) fn has(&self, id: u32) -> bool
         ensures { result ≡ used_told self.now id }
     {
         if id < NEAR {
@@ -63,7 +63,7 @@ impl UsedIds {
     }
 
     /// An id that comes into use. An Err is out of memory, and nothing has changed then.
-    pub fn insert(&mut self, id: u32) -> Result<(), AllocError>
+    pub(crate) fn insert(&mut self, id: u32) -> Result<(), AllocError>
         ensures { Inserts id self.old self.new result }
     {
         if id < NEAR {
@@ -77,7 +77,7 @@ impl UsedIds {
     }
 
     /// An id that is free again.
-    pub fn remove(&mut self, id: u32)
+    pub(crate) fn remove(&mut self, id: u32)
         ensures told { UsesOne self.old self.new id false }
         ensures hashing { used_hashing self.new ≡ used_hashing self.old }
     {
@@ -93,7 +93,7 @@ impl UsedIds {
 
     /// The free id nearest to 0 among those that are at least so far below it. `None` where all
     /// that a bucket can have are in use.
-    pub fn first_free(&self, least: u32) -> Option<u32>
+    pub(crate) fn first_free(&self, least: u32) -> Option<u32>
         ensures some { IfSome result (IsFirstFree self.now least) }
         ensures none { IfNone result (AreAllUsed self.now least) }
     {

@@ -4,7 +4,7 @@ ghost use Rattle.std.specs.Prelude.{◌≡◌, ◌≢◌, ◌↔◌, ℕ, ◌<�
 ghost use Rattle.std.specs.Int.{bit_at};
 
 /// Whether a bit is set.
-pub fn is_set(word: u64, bit: u32) -> bool
+pub(crate) fn is_set(word: u64, bit: u32) -> bool
     requires { bit < 64 }
     ensures { IsTrue result ↔ (bit_at word bit ≡ 1) }
 {
@@ -12,7 +12,7 @@ pub fn is_set(word: u64, bit: u32) -> bool
 }
 
 /// The word with a bit set.
-pub fn with_bit(word: u64, bit: u32) -> u64
+pub(crate) fn with_bit(word: u64, bit: u32) -> u64
     requires { bit < 64 }
     ensures set { bit_at result bit ≡ 1 }
     ensures others { (i : ℕ) → i < 64 → i ≢ bit → bit_at result i ≡ bit_at word i }
@@ -21,7 +21,7 @@ pub fn with_bit(word: u64, bit: u32) -> u64
 }
 
 /// The word with a bit cleared.
-pub fn without_bit(word: u64, bit: u32) -> u64
+pub(crate) fn without_bit(word: u64, bit: u32) -> u64
     requires { bit < 64 }
     ensures clear { bit_at result bit ≡ 0 }
     ensures others { (i : ℕ) → i < 64 → i ≢ bit → bit_at result i ≡ bit_at word i }
@@ -30,7 +30,7 @@ pub fn without_bit(word: u64, bit: u32) -> u64
 }
 
 /// The lowest bit that isn't set, from one on.
-pub fn first_clear(word: u64, least: u32) -> Option<u32>
+pub(crate) fn first_clear(word: u64, least: u32) -> Option<u32>
     requires { least < 64 }
     ensures within { IfSome result (λ bit. bit < 64) }
     ensures least { IfSome result (λ bit. least ≤ bit) }
