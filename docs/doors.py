@@ -17,10 +17,14 @@ import sys
 
 TOP = pathlib.Path(__file__).resolve().parent.parent
 PROGRAMS = {"crush_examples", "crush_growths", "crush_one_edit", "crush_two_operators", "crushedit"}
-# What the library offers, whether or not the program calls it: see docs/CALLING.md and the pages of the rooms.
+# What the library offers, whether or not the program calls it: its surface, as docs/CALLING.md and the pages of the rooms
+# tell it, the tests by which a caller meets what a call requires, and what contracts of others name.
 OFFERED = {
+    "crush_units": {"LONGEST_SHORT_NAME"},
+    "crush_index": {"Hashing::keyed"},
+    "crush_builder": {"MapBuilder::is_idle", "MapBuilder::is_begun", "MapBuilder::is_numbered", "MapBuilder::is_filling"},
     "crush_tree": {
-        "Forest::attach", "Forest::set_weight", "Forest::set_subtree", "Forest::fits_weight", "Forest::fits_subtree",
+        "Forest::can_attach", "Forest::attach", "Forest::set_weight", "Forest::set_subtree", "Forest::fits_weight", "Forest::fits_subtree",
         "Forest::weight_by", "Forest::set_weight_by", "Forest::set_subtree_by", "Forest::fits_weight_by", "Forest::fits_subtree_by",
     },
     "crush_map": {
