@@ -21,6 +21,7 @@ PROGRAMS = {"crush_examples", "crush_growths", "crush_one_edit", "crush_two_oper
 # tell it, the tests by which a caller meets what a call requires, and what contracts of others name.
 OFFERED = {
     "crush_units": {"LONGEST_SHORT_NAME"},
+    "crush_nodes": {"Node::has_room"},
     "crush_index": {"Hashing::keyed"},
     "crush_builder": {"MapBuilder::is_idle", "MapBuilder::is_begun", "MapBuilder::is_numbered", "MapBuilder::is_filling"},
     "crush_tree": {
