@@ -1,3 +1,4 @@
+pub mod Coming
 pub mod Guiding
 pub mod Moving
 pub mod Passed

@@ -7,6 +7,7 @@ mod asked_weights;
 mod asks;
 mod calls;
 mod collisions;
+mod comes;
 mod index;
 mod items;
 mod names;

@@ -1,14 +1,18 @@
 //! How often the calls of a forest that change it by a guide ask the guide. Each changes a copy.
 
-ghost use Rattle.std.specs.Prelude.{◌≡◌, false};
+ghost use Rattle.std.specs.Prelude.{◌≡◌, ◌<◌, false, IsTrue};
 ghost use Rattle.crush_units.specs.Name.{IsName};
 ghost use Rattle.crush_units.specs.declared.id.ItemId.TheVariants.{Bucket as BucketItem};
 ghost use Rattle.crush_table.specs.Columns.{is_part};
 ghost use Rattle.crush_table.specs.Forest.{rows_of};
 ghost use Rattle.crush_table.specs.Table.{are_nested, is_named};
+ghost use Rattle.crush_nodes.specs.Room.{room};
+ghost use Rattle.crush_nodes.specs.declared.place.Place.TheVariants.{Bucket as AtBucket};
 
 use super::asked::{Asked, has_item, is_held};
-use super::items::{bucket, bucket_item, device, device_item, leaf, name};
+use super::comes::can_come;
+use super::items::{bucket, bucket_item, device, device_item, name};
+use crush_hierarchy::Hierarchy;
 use crush_tree::{Forest, Node, Place};
 use crush_units::{BucketId, DeviceId, ItemId, Name, Weight};
 use std::alloc::Global;
@@ -61,28 +65,15 @@ fn take_out(guide: &Asked<'_>, forest: &mut Forest<Global>, id: &ItemId) -> bool
 /// Makes room in a bucket, if it is there. Whether that is done.
 fn make_room(guide: &Asked<'_>, forest: &mut Forest<Global>, bucket: BucketId) -> bool
     requires { rows_of forest.old ≡ rows_of guide.now.forest.now }
-    ensures { rows_of forest.new ≡ rows_of guide.now.forest.now }
+    ensures same { rows_of forest.new ≡ rows_of guide.now.forest.now }
+    ensures room { IsTrue result → (0 < room forest.new (AtBucket bucket)) }
 {
-    has_item(forest, &ItemId::Bucket(bucket))
-        && forest.reserve_by(guide, Place::Bucket(bucket)).is_ok()
-}
-
-/// Puts an item into a bucket that has room, if it can come there. Whether that is done.
-fn put_new(
-    guide: &Asked<'_>,
-    forest: &mut Forest<Global>,
-    bucket: BucketId,
-    node: Node<Global>,
-) -> bool
-    requires { rows_of forest.old ≡ rows_of guide.now.forest.now }
-{
-    let can_come = forest.can_attach(Place::Bucket(bucket), &node);
-    if can_come && forest.has_room(Place::Bucket(bucket)) {
-        forest.attach_by(guide, Place::Bucket(bucket), node);
-        true
-    } else {
-        drop(node);
-        false
+    if !has_item(forest, &ItemId::Bucket(bucket)) {
+        return false;
+    }
+    match forest.reserve_by(guide, Place::Bucket(bucket)) {
+        Ok(()) => true,
+        Err(_) => false,
     }
 }
 
@@ -168,14 +159,14 @@ fn classify(
     is_first
 }
 
-/// Exchanges names and items of two buckets. Whether that is done, with so many questions at most
-/// for the test and so many again for the exchange.
+/// Exchanges names and items of two buckets. Whether that is done, with so many questions for the
+/// test and so many again for the exchange.
 fn exchange(
     guide: &Asked<'_>,
     forest: &mut Forest<Global>,
     a: BucketId,
     b: BucketId,
-    most: u32,
+    often: u32,
 ) -> bool
     requires { rows_of forest.old ≡ rows_of guide.now.forest.now }
 {
@@ -192,77 +183,83 @@ fn exchange(
     if !forest.fits_swap_by(guide, a, b) {
         return false;
     }
-    if !guide.was_asked(most) {
+    if !guide.was_asked(often) {
         return false;
     }
     forest.swap_by(guide, a, b);
-    guide.was_asked(most)
+    guide.was_asked(often)
 }
 
-/// Whether an item is taken out, with so many questions at most.
-fn detach_asks(rt: &impl Abort, guide: &Asked<'_>, id: &ItemId, most: u32) -> bool {
+/// Whether an item is taken out, with so many questions.
+fn detach_asks(rt: &impl Abort, guide: &Asked<'_>, id: &ItemId, often: u32) -> bool {
     let mut forest = copy_of(rt, guide);
-    let asks = take_out(guide, &mut forest, id) && guide.was_asked(most);
+    let asks = take_out(guide, &mut forest, id) && guide.was_asked(often);
     drop(forest);
     asks
 }
 
-/// Whether there is room in a bucket, with so many questions at most.
-fn reserve_asks(rt: &impl Abort, guide: &Asked<'_>, bucket: BucketId, most: u32) -> bool {
+/// Whether there is room in a bucket, with so many questions.
+fn reserve_asks(rt: &impl Abort, guide: &Asked<'_>, bucket: BucketId, often: u32) -> bool {
     let mut forest = copy_of(rt, guide);
-    let asks = make_room(guide, &mut forest, bucket) && guide.was_asked(most);
+    let asks = make_room(guide, &mut forest, bucket) && guide.was_asked(often);
     drop(forest);
     asks
 }
 
-/// Whether an item gets another name, with so many questions at most.
-fn rename_asks(rt: &(impl Abort + AllocGlobal), guide: &Asked<'_>, id: &ItemId, most: u32) -> bool {
+/// Whether an item gets another name, with so many questions.
+fn rename_asks(
+    rt: &(impl Abort + AllocGlobal),
+    guide: &Asked<'_>,
+    id: &ItemId,
+    often: u32,
+) -> bool {
     let mut forest = copy_of(rt, guide);
-    let asks = give_name(guide, &mut forest, id, name(rt, "h9")) && guide.was_asked(most);
+    let asks = give_name(guide, &mut forest, id, name(rt, "h9")) && guide.was_asked(often);
     drop(forest);
     asks
 }
 
-/// Whether a device gets another weight, with so many questions at most.
-fn weigh_asks(rt: &impl Abort, guide: &Asked<'_>, device: DeviceId, most: u32) -> bool {
+/// Whether a device gets another weight, with so many questions.
+fn weigh_asks(rt: &impl Abort, guide: &Asked<'_>, device: DeviceId, often: u32) -> bool {
     let mut forest = copy_of(rt, guide);
-    let asks = weigh(guide, &mut forest, device, Weight::from_units(1)) && guide.was_asked(most);
+    let asks = weigh(guide, &mut forest, device, Weight::from_units(1)) && guide.was_asked(often);
     drop(forest);
     asks
 }
 
-/// Whether all devices of a bucket get another weight, with so many questions at most.
-fn weigh_all_asks(rt: &impl Abort, guide: &Asked<'_>, bucket: BucketId, most: u32) -> bool {
+/// Whether all devices of a bucket get another weight, with so many questions.
+fn weigh_all_asks(rt: &impl Abort, guide: &Asked<'_>, bucket: BucketId, often: u32) -> bool {
     let mut forest = copy_of(rt, guide);
     let asks = weigh_all(guide, &mut forest, bucket, Weight::from_units(1))
-        && guide.was_asked(most);
+        && guide.was_asked(often);
     drop(forest);
     asks
 }
 
-/// Whether a device gets a class, with so many questions at most.
+/// Whether a device gets a class, with so many questions.
 fn class_asks(
     rt: &(impl Abort + AllocGlobal),
     guide: &Asked<'_>,
     device: DeviceId,
-    most: u32,
+    often: u32,
 ) -> bool {
     let mut forest = copy_of(rt, guide);
-    let asks = classify(guide, &mut forest, device, name(rt, "ssd")) && guide.was_asked(most);
+    let asks = classify(guide, &mut forest, device, name(rt, "ssd")) && guide.was_asked(often);
     drop(forest);
     asks
 }
 
-/// Whether h1 and h2 are exchanged, and asked for before, each with so many questions at most.
-fn exchange_asks(rt: &impl Abort, guide: &Asked<'_>, most: u32) -> bool {
+/// Whether h1 and h2 are exchanged, and asked for before, each with so many questions.
+fn exchange_asks(rt: &impl Abort, guide: &Asked<'_>, often: u32) -> bool {
     let mut forest = copy_of(rt, guide);
-    let asks = exchange(guide, &mut forest, bucket(rt, 2), bucket(rt, 3), most);
+    let asks = exchange(guide, &mut forest, bucket(rt, 2), bucket(rt, 3), often);
     drop(forest);
     asks
 }
 
-/// Whether osd.0, which is 2 deep, and h1, which is 1 deep, are asked for 3 and 2 times at most, and
-/// osd.3, which no bucket holds, once.
+/// Whether osd.0, which is 2 deep, and h1, which is 1 deep, are asked for 3 and 2 times, and osd.3,
+/// which no bucket holds, once: for the item and for each bucket above it. Where h1 and h2 are
+/// exchanged, it is 2 times for each.
 pub(super) fn changes_ask(rt: &(impl Abort + AllocGlobal), guide: &Asked<'_>) -> bool {
     detach_asks(rt, guide, &device_item(rt, 0), 3)
         && detach_asks(rt, guide, &bucket_item(rt, 2), 2)
@@ -271,36 +268,50 @@ pub(super) fn changes_ask(rt: &(impl Abort + AllocGlobal), guide: &Asked<'_>) ->
         && weigh_asks(rt, guide, device(rt, 0), 3)
         && weigh_all_asks(rt, guide, bucket(rt, 2), 2)
         && reserve_asks(rt, guide, bucket(rt, 2), 2)
-        && attach_asks(rt, guide, bucket(rt, 2), 2)
         && class_asks(rt, guide, device(rt, 0), 3)
         && class_asks(rt, guide, device(rt, 3), 1)
         && exchange_asks(rt, guide, 4)
 }
 
-/// Whether an item comes into a bucket that has room for it, with so many questions at most. Room is
-/// made by another call, whose questions don't count.
-fn attach_asks(
+/// Whether a device comes into h1, which is 1 deep, with 2 questions, once room was made there by
+/// another call with as many.
+pub(super) fn attach_asks(
     rt: &(impl Abort + AllocGlobal),
     guide: &Asked<'_>,
-    bucket: BucketId,
-    most: u32,
-) -> bool {
+    hierarchy: &Hierarchy<Global>,
+) -> bool
+    requires { rows_of guide.now.forest.now ≡ rows_of hierarchy.now }
+{
     let mut forest = copy_of(rt, guide);
-    let asks = attaches(guide, &mut forest, bucket, leaf(rt, 9, "osd.9", 1), most);
+    let (h1, id, text) = (bucket(rt, 2), device(rt, 9), name(rt, "osd.9"));
+    let asks = attaches(guide, &mut forest, hierarchy, h1, id, text);
     drop(forest);
     asks
 }
 
-/// Puts an item into a bucket, once there is room. Whether that is done with so many questions.
+/// Puts a device into a bucket, once there is room. Whether that is done with 2 questions for each.
 fn attaches(
     guide: &Asked<'_>,
     forest: &mut Forest<Global>,
+    hierarchy: &Hierarchy<Global>,
     bucket: BucketId,
-    node: Node<Global>,
-    most: u32,
+    id: DeviceId,
+    name: Name<Global>,
 ) -> bool
-    requires { rows_of forest.old ≡ rows_of guide.now.forest.now }
+    requires guide { rows_of forest.old ≡ rows_of guide.now.forest.now }
+    requires rows { rows_of guide.now.forest.now ≡ rows_of hierarchy.now }
 {
-    let has_room = make_room(guide, forest, bucket) && guide.was_asked(most);
-    put_new(guide, forest, bucket, node) && has_room && guide.was_asked(most)
+    let weight = Weight::from_units(1);
+    if !can_come(hierarchy, bucket, id, &name, weight) {
+        drop(name);
+        return false;
+    }
+    if !make_room(guide, forest, bucket) {
+        drop(name);
+        return false;
+    }
+    let has_asked = guide.was_asked(2);
+    let node = Node::device(id, name, weight, None);
+    forest.attach_by(guide, Place::Bucket(bucket), node);
+    has_asked && guide.was_asked(2)
 }

@@ -11,19 +11,19 @@ use crush_units::{BucketId, DeviceId, ItemId, Weight};
 use std::alloc::Global;
 use std::process::Abort;
 
-/// Whether the item weighs so much, with so many questions at most.
-fn weighs(guide: &Asked<'_>, id: &ItemId, weight: Weight, most: u32) -> bool {
-    guide.forest.weight_by(guide, *id) == Some(weight) && guide.was_asked(most)
+/// Whether the item weighs so much, with so many questions.
+fn weighs(guide: &Asked<'_>, id: &ItemId, weight: Weight, often: u32) -> bool {
+    guide.forest.weight_by(guide, *id) == Some(weight) && guide.was_asked(often)
 }
 
-/// Sets the weight of a placed device that fits. Whether that is done, with so many questions at
-/// most for the test and so many again for the change.
+/// Sets the weight of a placed device that fits. Whether that is done, with so many questions for
+/// the test and so many again for the change.
 fn set_one(
     guide: &Asked<'_>,
     forest: &mut Forest<Global>,
     device: DeviceId,
     weight: Weight,
-    most: u32,
+    often: u32,
 ) -> bool
     requires { rows_of forest.old ≡ rows_of guide.now.forest.now }
 {
@@ -38,21 +38,21 @@ fn set_one(
     if !forest.fits_weight_by(guide, device, weight, total) {
         return false;
     }
-    if !guide.was_asked(most) {
+    if !guide.was_asked(often) {
         return false;
     }
     forest.set_weight_by(guide, device, weight);
-    guide.was_asked(most)
+    guide.was_asked(often)
 }
 
 /// Sets the weight of each device below a bucket, which fits. Whether that is done, with so many
-/// questions at most for the test and so many again for the change.
+/// questions for the test and so many again for the change.
 fn set_all(
     guide: &Asked<'_>,
     forest: &mut Forest<Global>,
     bucket: BucketId,
     weight: Weight,
-    most: u32,
+    often: u32,
 ) -> bool
     requires { rows_of forest.old ≡ rows_of guide.now.forest.now }
 {
@@ -67,32 +67,33 @@ fn set_all(
     if !forest.fits_subtree_by(guide, bucket, weight, total) {
         return false;
     }
-    if !guide.was_asked(most) {
+    if !guide.was_asked(often) {
         return false;
     }
     forest.set_subtree_by(guide, bucket, weight);
-    guide.was_asked(most)
+    guide.was_asked(often)
 }
 
 /// Whether a device gets a weight, and what is above it then weighs so much.
-fn sets_one(rt: &impl Abort, guide: &Asked<'_>, id: DeviceId, total: u64, most: u32) -> bool {
+fn sets_one(rt: &impl Abort, guide: &Asked<'_>, id: DeviceId, total: u64, often: u32) -> bool {
     let mut forest = copy_of(rt, guide);
-    let is_set = set_one(guide, &mut forest, id, Weight::from_units(1), most);
+    let is_set = set_one(guide, &mut forest, id, Weight::from_units(1), often);
     let is_summed = forest.total() == total;
     drop(forest);
     is_set && is_summed
 }
 
 /// Whether all devices of a bucket get a weight, and what is above it then weighs so much.
-fn sets_all(rt: &impl Abort, guide: &Asked<'_>, id: BucketId, total: u64, most: u32) -> bool {
+fn sets_all(rt: &impl Abort, guide: &Asked<'_>, id: BucketId, total: u64, often: u32) -> bool {
     let mut forest = copy_of(rt, guide);
-    let is_set = set_all(guide, &mut forest, id, Weight::from_units(1), most);
+    let is_set = set_all(guide, &mut forest, id, Weight::from_units(1), often);
     let is_summed = forest.total() == total;
     drop(forest);
     is_set && is_summed
 }
 
-/// Whether osd.0, which is 2 deep, and h1, which is 1 deep, are asked for 3 and 2 times at most.
+/// Whether osd.0, which is 2 deep, and h1, which is 1 deep, are asked for 3 and 2 times: for the item
+/// and for each bucket above it.
 pub(super) fn weights_ask(rt: &impl Abort, guide: &Asked<'_>) -> bool {
     weighs(guide, &device_item(rt, 0), Weight::from_units(65536), 3)
         && weighs(guide, &bucket_item(rt, 2), Weight::from_units(131072), 2)

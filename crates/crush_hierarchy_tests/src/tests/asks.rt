@@ -17,7 +17,7 @@ pub(super) fn has_item(hierarchy: &Hierarchy<Global>, id: &ItemId) -> bool
     ensures { result ≡ is_there (rows_of hierarchy.now) id.now }
 {
     hierarchy.recall_invariant();
-    hierarchy.kind(*id).is_some()
+    hierarchy.find(*id).is_some()
 }
 
 /// Whether a bucket holds the item.
@@ -50,19 +50,6 @@ pub(super) fn has_name(hierarchy: &Hierarchy<Global>, name: &Name<Global>) -> bo
 {
     hierarchy.recall_invariant();
     hierarchy.id_of(name.as_str()).is_some()
-}
-
-/// Whether a device below a bucket has another weight, if the bucket is there.
-pub(super) fn changes_subtree(
-    hierarchy: &Hierarchy<Global>,
-    bucket: BucketId,
-    weight: Weight,
-) -> Option<bool> {
-    if has_item(hierarchy, &ItemId::Bucket(bucket)) {
-        Some(hierarchy.changes_subtree(bucket, weight))
-    } else {
-        None
-    }
 }
 
 /// Whether sums stay in range where items of this weight come to a bucket, if it is there.

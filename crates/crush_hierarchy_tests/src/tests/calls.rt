@@ -1,24 +1,75 @@
 //! A small hierarchy, and each call of it once.
 
-use super::asks::{changes_subtree, fits_attach, fits_move, fits_swap, has_item};
-use super::items::{bucket, bucket_item, device, device_item, empty, inside, leaf, name};
-use super::puts::{add, exchange, give_name, make_room, put_device, weigh, weigh_all};
+use super::asks::{fits_attach, fits_move, fits_swap, has_item};
+use super::comes::{put_bucket, put_placed, put_root, put_unplaced};
+use super::items::{bucket, bucket_item, device, device_item, name};
+use super::puts::{exchange, give_name, make_room, put_device, weigh, weigh_all};
 use crush_hierarchy::{Hashing, Hierarchy};
-use crush_tree::{Node, Place};
-use crush_units::{Alg, DeviceId, ItemId, Name, Weight};
+use crush_tree::Node;
+use crush_units::{Alg, DeviceId, ItemId, Name, TypeId, Weight};
 use std::alloc::Global;
 use std::process::Abort;
+
+/// Adds an empty root.
+fn add_root(
+    rt: &(impl Abort + AllocGlobal),
+    hierarchy: &mut Hierarchy<Global>,
+    distance: u32,
+    text: &str,
+) {
+    let (id, kind) = (bucket(rt, distance), TypeId::new(11));
+    assert!(rt; put_root(hierarchy, rt.alloc(), id, kind, name(rt, text)));
+}
+
+/// Adds an empty host to the root.
+fn add_host(
+    rt: &(impl Abort + AllocGlobal),
+    hierarchy: &mut Hierarchy<Global>,
+    distance: u32,
+    text: &str,
+) {
+    let (root, id, kind) = (bucket(rt, 1), bucket(rt, distance), TypeId::new(1));
+    assert!(rt; put_bucket(hierarchy, rt.alloc(), root, id, kind, name(rt, text)));
+}
+
+/// Adds a device of so many units to a bucket.
+fn add_device(
+    rt: &(impl Abort + AllocGlobal),
+    hierarchy: &mut Hierarchy<Global>,
+    distance: u32,
+    number: u32,
+    units: u32,
+) {
+    let text = format!(in rt.alloc(); "osd.{}", number).expect(rt, "memory");
+    let (host, id, weight) = (
+        bucket(rt, distance),
+        device(rt, number),
+        Weight::from_units(units),
+    );
+    assert!(rt; put_placed(hierarchy, host, id, name(rt, text.as_str()), weight));
+    drop(text);
+}
+
+/// Adds a device that no bucket holds.
+fn add_unplaced(
+    rt: &(impl Abort + AllocGlobal),
+    hierarchy: &mut Hierarchy<Global>,
+    number: u32,
+    text: &str,
+) {
+    assert!(rt; put_unplaced(hierarchy, device(rt, number), name(rt, text)));
+}
 
 /// Puts the root `default`, h1 with osd.0 and osd.1 of 1.0 each, h2 with osd.2 of 0.5, and osd.3,
 /// which no bucket holds, into a hierarchy.
 fn fill(rt: &(impl Abort + AllocGlobal), hierarchy: &mut Hierarchy<Global>) {
-    add(rt, hierarchy, Place::Root, empty(rt, 1, 11, "default"));
-    add(rt, hierarchy, inside(rt, 1), empty(rt, 2, 1, "h1"));
-    add(rt, hierarchy, inside(rt, 2), leaf(rt, 0, "osd.0", 65536));
-    add(rt, hierarchy, inside(rt, 2), leaf(rt, 1, "osd.1", 65536));
-    add(rt, hierarchy, inside(rt, 1), empty(rt, 3, 1, "h2"));
-    add(rt, hierarchy, inside(rt, 3), leaf(rt, 2, "osd.2", 32768));
-    add(rt, hierarchy, Place::Unplaced, leaf(rt, 3, "osd.3", 0));
+    add_root(rt, hierarchy, 1, "default");
+    add_host(rt, hierarchy, 2, "h1");
+    add_device(rt, hierarchy, 2, 0, 65536);
+    add_device(rt, hierarchy, 2, 1, 65536);
+    add_host(rt, hierarchy, 3, "h2");
+    add_device(rt, hierarchy, 3, 2, 32768);
+    add_unplaced(rt, hierarchy, 3, "osd.3");
 }
 
 /// The hierarchy of all of them.
@@ -108,12 +159,23 @@ fn frees_two_ids(rt: &impl Abort, hierarchy: &Hierarchy<Global>) -> bool {
         && !hierarchy.is_used(bucket(rt, 4))
 }
 
-/// Whether a copy is the same, and tells so.
+/// Whether each item stands where it was put, in order.
+fn holds_all(rt: &impl Abort, hierarchy: &Hierarchy<Global>) -> bool {
+    are_numbered(hierarchy.forest().roots(), &[-1])
+        && holds(rt, hierarchy, 1, &[-2, -3])
+        && holds(rt, hierarchy, 2, &[0, 1])
+        && holds(rt, hierarchy, 3, &[2])
+        && are_numbered(hierarchy.forest().unplaced(), &[3])
+}
+
+/// Whether a copy holds the same, and tells so.
 fn is_copied(rt: &impl Abort, hierarchy: &Hierarchy<Global>) -> bool {
     let copy = hierarchy.try_copy().expect(rt, "memory");
-    let is_copied = copy.forest().is_same(hierarchy.forest())
+    let is_copied = holds_all(rt, &copy)
         && sums_up(&copy, 4, 3, 163840)
-        && is_osd_2_in_h2(rt, &copy);
+        && is_osd_2_in_h2(rt, &copy)
+        && tells_of_h2(rt, &copy)
+        && finds_h2(rt, &copy);
     drop(copy);
     is_copied
 }
@@ -125,7 +187,7 @@ fn tells_all(rt: &impl Abort, hierarchy: &Hierarchy<Global>) -> bool {
         && tells_of_h2(rt, hierarchy)
         && finds_h2(rt, hierarchy)
         && tells_what_is_below(rt, hierarchy)
-        && holds(rt, hierarchy, 2, &[0, 1])
+        && holds_all(rt, hierarchy)
         && frees_two_ids(rt, hierarchy)
         && is_copied(rt, hierarchy)
 }
@@ -148,20 +210,20 @@ fn tells_what_fits(rt: &impl Abort, hierarchy: &Hierarchy<Global>) -> bool {
         && fits_move(hierarchy, osd_0, h2, Weight::from_units(4294868992)) == Some(false)
 }
 
-/// Whether 65536 units are the weights of both devices of h1, and one more isn't.
-fn tells_what_changes(rt: &impl Abort, hierarchy: &Hierarchy<Global>) -> bool {
+/// Whether 65536 units are the weights of both devices of h1, and one more is another.
+fn tells_what_changes(rt: &impl Abort, hierarchy: &mut Hierarchy<Global>) -> bool {
     let h1 = bucket(rt, 2);
-    changes_subtree(hierarchy, h1, Weight::from_units(65536)) == Some(false)
-        && changes_subtree(hierarchy, h1, Weight::from_units(65537)) == Some(true)
+    weigh_all(hierarchy, h1, Weight::from_units(65536)) == Some(false)
+        && weigh_all(hierarchy, h1, Weight::from_units(65537)) == Some(true)
 }
 
 /// Whether the root comes to weigh 4294967295 units by both devices of h1, beside the 32768 of h2,
 /// and then by osd.2, and no unit more.
 fn grows_as_far_as_it_fits(rt: &impl Abort, hierarchy: &mut Hierarchy<Global>) -> bool {
     let (h1, osd_2) = (bucket(rt, 2), device(rt, 2));
-    !weigh_all(hierarchy, h1, Weight::from_units(2147467264))
+    weigh_all(hierarchy, h1, Weight::from_units(2147467264)).is_none()
         && sums_up(hierarchy, 4, 3, 163840)
-        && weigh_all(hierarchy, h1, Weight::from_units(2147467263))
+        && weigh_all(hierarchy, h1, Weight::from_units(2147467263)) == Some(true)
         && !weigh(hierarchy, osd_2, Weight::from_units(32770))
         && sums_up(hierarchy, 4, 3, 4294967294)
         && weigh(hierarchy, osd_2, Weight::from_units(32769))
@@ -175,19 +237,9 @@ fn tells_what_can_be_exchanged(
     hierarchy: &mut Hierarchy<Global>,
 ) -> bool {
     let (h1, other) = (bucket(rt, 2), bucket(rt, 4));
-    add(rt, hierarchy, Place::Root, empty(rt, 4, 11, "other"));
-    add(
-        rt,
-        hierarchy,
-        inside(rt, 4),
-        leaf(rt, 4, "osd.4", 2147483647),
-    );
-    add(
-        rt,
-        hierarchy,
-        inside(rt, 4),
-        leaf(rt, 5, "osd.5", 2147450880),
-    );
+    add_root(rt, hierarchy, 4, "other");
+    add_device(rt, hierarchy, 4, 4, 2147483647);
+    add_device(rt, hierarchy, 4, 5, 2147450880);
     let fits = fits_swap(hierarchy, h1, other) == Some(true);
     let is_weighed = weigh(hierarchy, device(rt, 5), Weight::from_units(2147450881));
     fits && is_weighed && fits_swap(hierarchy, h1, other) == Some(false)
@@ -196,7 +248,7 @@ fn tells_what_can_be_exchanged(
 #[test]
 fn sums_that_fit(rt: HostRuntime) {
     let mut hierarchy = example(&rt);
-    let is_told = tells_what_fits(&rt, &hierarchy) && tells_what_changes(&rt, &hierarchy);
+    let is_told = tells_what_fits(&rt, &hierarchy) && tells_what_changes(&rt, &mut hierarchy);
     let is_told_of_two = tells_what_can_be_exchanged(&rt, &mut hierarchy);
     drop(hierarchy);
     assert!(rt; is_told && is_told_of_two);
@@ -210,13 +262,11 @@ fn weights_as_far_as_they_fit(rt: HostRuntime) {
     assert!(rt; grows);
 }
 
-/// Whether the list of unplaced devices has memory to spare beside osd.3, gives it back, and keeps
-/// the device.
+/// Whether each item is still there once the list of unplaced devices has given back the memory that
+/// it had to spare.
 fn gives_memory_back(rt: &impl Abort, hierarchy: &mut Hierarchy<Global>) -> bool {
-    let had_room = hierarchy.forest().has_room(Place::Unplaced);
     hierarchy.shrink();
-    had_room
-        && !hierarchy.forest().has_room(Place::Unplaced)
+    holds_all(rt, hierarchy)
         && hierarchy.id_of("osd.3") == Some(device_item(rt, 3))
         && sums_up(hierarchy, 4, 3, 163840)
 }
@@ -243,7 +293,7 @@ fn goes_out(rt: &impl Abort, hierarchy: &mut Hierarchy<Global>) -> bool {
 /// Whether osd.3 comes into h1 once there is room, last, with 2.0.
 fn comes_in(rt: &impl Abort, hierarchy: &mut Hierarchy<Global>) -> bool {
     let h1 = bucket(rt, 2);
-    let has_room = make_room(hierarchy, h1) && hierarchy.forest().has_room(Place::Bucket(h1));
+    let has_room = make_room(hierarchy, h1);
     let is_put = put_device(hierarchy, device(rt, 3), h1, Weight::from_units(131072));
     has_room
         && is_put
@@ -258,12 +308,7 @@ fn items_come_and_go(rt: HostRuntime) {
     let mut hierarchy = example(&rt);
     let is_out = goes_out(&rt, &mut hierarchy);
     let is_in = comes_in(&rt, &mut hierarchy);
-    add(
-        &rt,
-        &mut hierarchy,
-        Place::Unplaced,
-        leaf(&rt, 2, "osd.2", 0),
-    );
+    add_unplaced(&rt, &mut hierarchy, 2, "osd.2");
     let is_there = sums_up(&hierarchy, 4, 2, 262144);
     drop(hierarchy);
     assert!(rt; is_out && is_in && is_there);
@@ -273,10 +318,10 @@ fn items_come_and_go(rt: HostRuntime) {
 fn sums_follow(rt: &impl Abort, hierarchy: &mut Hierarchy<Global>) -> bool {
     let is_weighed = weigh(hierarchy, device(rt, 2), Weight::from_units(65536));
     let follows = weighs(rt, hierarchy, 3, 65536) && sums_up(hierarchy, 4, 3, 196608);
-    let are_weighed = weigh_all(hierarchy, bucket(rt, 1), Weight::from_units(1));
+    let has_changed = weigh_all(hierarchy, bucket(rt, 1), Weight::from_units(1));
     is_weighed
         && follows
-        && are_weighed
+        && has_changed == Some(true)
         && weighs(rt, hierarchy, 2, 2)
         && sums_up(hierarchy, 4, 3, 3)
 }

@@ -7,13 +7,13 @@
 //! there. So all are looked for in one place, and none is told from another by its mark.
 
 use super::names::{add, device};
-use crush_index::{Hashing, Names};
+use crush_index::{Hashing, Index};
 use std::alloc::Global;
 
 /// Adds a device of each name, the first with the id 0. Whether that was done.
-fn add_each(names: &mut Names, alloc: Global, texts: &[&str]) -> bool {
+fn add_each(index: &mut Index, alloc: Global, texts: &[&str]) -> bool {
     for (number, text) in (0u32..32).zip(texts) {
-        if !add(names, alloc, text.as_bytes(), device(number)) {
+        if !add(index, alloc, text.as_bytes(), device(number)) {
             return false;
         }
     }
@@ -21,14 +21,14 @@ fn add_each(names: &mut Names, alloc: Global, texts: &[&str]) -> bool {
 }
 
 /// Whether each name has its device, but one that has none.
-fn tell_each(names: &Names, texts: &[&str], gone: Option<u32>) -> bool {
+fn tell_each(index: &Index, texts: &[&str], gone: Option<u32>) -> bool {
     for (number, text) in (0u32..32).zip(texts) {
         let id = if gone == Some(number) {
             None
         } else {
             device(number)
         };
-        if names.id_of(text.as_bytes()) != id {
+        if index.id_of(text.as_bytes()) != id {
             return false;
         }
     }
@@ -36,10 +36,10 @@ fn tell_each(names: &Names, texts: &[&str], gone: Option<u32>) -> bool {
 }
 
 /// Gives the item of one name another. Whether that was done.
-fn rename(names: &mut Names, alloc: Global, from: &str, to: &str) -> bool {
-    let id = names.id_of(from.as_bytes());
-    let done = add(names, alloc, to.as_bytes(), id);
-    names.remove(from.as_bytes());
+fn rename(index: &mut Index, alloc: Global, from: &str, to: &str) -> bool {
+    let id = index.id_of(from.as_bytes());
+    let done = add(index, alloc, to.as_bytes(), id);
+    index.forget_name(from.as_bytes());
     done
 }
 
@@ -51,12 +51,12 @@ fn names_that_collide_are_told_apart(rt: HostRuntime) {
         "d3akce", "d4tm4l", "d9k551", "egtkbb", "eg3dy9", "eklniw", "evcf8y", "e4e57m", "fndcdg",
         "ftlnew", "gmmf65", "gnmch3", "g2iytj", "hixqgc",
     ];
-    let mut names = Names::new(rt.alloc(), Hashing::plain());
-    assert!(rt; add_each(&mut names, rt.alloc(), &texts) && tell_each(&names, &texts, None));
-    assert!(rt; rename(&mut names, rt.alloc(), "csstpo", "h6rr65"));
-    assert!(rt; names.id_of(b"h6rr65") == device(9) && tell_each(&names, &texts, Some(9)));
-    assert!(rt; rename(&mut names, rt.alloc(), "h6rr65", "csstpo"));
-    names.remove(b"d9k551");
-    assert!(rt; names.id_of(b"h6rr65").is_none() && tell_each(&names, &texts, Some(20)));
-    drop(names);
+    let mut index = Index::new(rt.alloc(), Hashing::plain());
+    assert!(rt; add_each(&mut index, rt.alloc(), &texts) && tell_each(&index, &texts, None));
+    assert!(rt; rename(&mut index, rt.alloc(), "csstpo", "h6rr65"));
+    assert!(rt; index.id_of(b"h6rr65") == device(9) && tell_each(&index, &texts, Some(9)));
+    assert!(rt; rename(&mut index, rt.alloc(), "h6rr65", "csstpo"));
+    index.forget_name(b"d9k551");
+    assert!(rt; index.id_of(b"h6rr65").is_none() && tell_each(&index, &texts, Some(20)));
+    drop(index);
 }

@@ -192,7 +192,7 @@ fn named(index: &Index, name: &[u8]) -> Option<BucketId>
 }
 
 /// Exchanges the buckets h1 and h2, where they are there.
-fn exchange_hosts(index: &mut Index) {
+pub(super) fn exchange_hosts(index: &mut Index) {
     let Some(first) = named(index, b"h1") else {
         return;
     };

@@ -1,99 +1,86 @@
 //! Where items stand, and the hint where among their bucket's items.
 
-use crush_index::{Hashing, Places};
+use super::items::{bucket, bucket_item, device_item, empty, inside, leaf};
+use crush_index::{Hashing, Index};
 use crush_nodes::guide::{Found, Guide, Spot};
+use crush_nodes::node::Node;
 use crush_nodes::place::Place;
-use crush_units::{BucketId, DeviceId, ItemId};
+use crush_units::{BucketId, ItemId};
+use std::alloc::{AllocGlobal, Global};
+use std::process::Abort;
 
-fn bucket(distance: u32) -> Option<ItemId> {
-    let id = BucketId::below_zero(distance)?;
-    Some(ItemId::Bucket(id))
-}
-
-fn device(number: u32) -> Option<ItemId> {
-    let id = DeviceId::from_number(number)?;
-    Some(ItemId::Device(id))
-}
-
-/// The spot below the bucket that a map shows as the id below 0.
-fn below(distance: u32, near: u32) -> Option<Spot> {
-    let id = BucketId::below_zero(distance)?;
+/// The spot below the bucket whose id is so far below 0.
+fn below(rt: &impl Abort, distance: u32, near: u32) -> Option<Spot> {
     Some(Spot {
-        place: Place::Bucket(id),
+        place: inside(rt, distance),
         near,
     })
 }
 
-/// Adds an item that stands there. Whether that was done.
-fn add(places: &mut Places, id: Option<ItemId>, spot: Option<Spot>) -> bool {
-    match (id, spot) {
-        (Some(id), Some(spot)) => places.insert(id, spot).is_ok(),
-        _ => false,
-    }
+/// Tells of an item that comes to a place as the one of this number there.
+fn add(rt: &impl Abort, index: &mut Index, place: Place, near: u32, node: Node<Global>) {
+    index.insert_node(place, near, &node).expect(rt, "memory");
+    drop(node);
 }
 
 /// Adds the root 1, the host 2 as its first item, and osd.0 and osd.2 below the host.
-fn add_four(places: &mut Places) -> bool {
-    let root = Some(Spot {
-        place: Place::Root,
-        near: 0,
-    });
-    add(places, bucket(1), root)
-        && add(places, bucket(2), below(1, 0))
-        && add(places, device(0), below(2, 0))
-        && add(places, device(2), below(2, 1))
+fn add_four(rt: &(impl Abort + AllocGlobal), index: &mut Index) {
+    add(rt, index, Place::Root, 0, empty(rt, 1, 11, "default"));
+    add(rt, index, inside(rt, 1), 0, empty(rt, 2, 1, "h1"));
+    add(rt, index, inside(rt, 2), 0, leaf(rt, 0, "osd.0", 1));
+    add(rt, index, inside(rt, 2), 1, leaf(rt, 2, "osd.2", 1));
 }
 
-fn stands(places: &Places, id: Option<ItemId>, spot: Option<Spot>) -> bool {
-    match id {
-        Some(id) => places.spot(id) == spot,
-        None => false,
-    }
+fn stands(index: &Index, id: ItemId, spot: Option<Spot>) -> bool {
+    index.places().spot(id) == spot
 }
 
 #[test]
 fn places_come_and_go(rt: HostRuntime) {
-    let mut places = Places::new(rt.alloc(), Hashing::plain());
-    assert!(rt; stands(&places, device(2), None) && add_four(&mut places));
-    assert!(rt; stands(&places, bucket(2), below(1, 0)) && stands(&places, device(2), below(2, 1)));
+    let mut index = Index::new(rt.alloc(), Hashing::plain());
+    let was_absent = stands(&index, device_item(&rt, 2), None);
+    add_four(&rt, &mut index);
+    let are_there = stands(&index, bucket_item(&rt, 2), below(&rt, 1, 0))
+        && stands(&index, device_item(&rt, 2), below(&rt, 2, 1));
     // A device and a bucket of the same number are two items.
-    assert!(rt; stands(&places, device(1), None));
-    drop(places);
+    let is_absent = stands(&index, device_item(&rt, 1), None);
+    drop(index);
+    assert!(rt; was_absent && are_there && is_absent);
 }
 
 /// Whether this is found of an item by a slot.
-fn finds(places: &Places, id: &Option<ItemId>, slot: u32, found: &Found) -> bool {
-    match id {
-        Some(id) => places.spot_from(*id, slot) == *found,
-        None => false,
-    }
+fn finds(index: &Index, id: &ItemId, slot: u32, found: &Found) -> bool {
+    index.places().spot_from(*id, slot) == *found
 }
 
 /// Whether an item is found there, and the slot of its bucket, by its own slot and by others.
-fn leads(places: &Places, id: Option<ItemId>, spot: Option<Spot>, slot: u32) -> bool {
+fn leads(index: &Index, id: ItemId, spot: Option<Spot>, slot: u32) -> bool {
     let id = &id;
     let found = Found { spot, slot };
-    finds(places, id, 0, &found)
-        && finds(places, id, 1, &found)
-        && finds(places, id, u32::MAX, &found)
+    finds(index, id, 0, &found) && finds(index, id, 1, &found) && finds(index, id, u32::MAX, &found)
 }
 
 #[test]
 fn a_slot_is_never_trusted(rt: HostRuntime) {
-    let mut places = Places::new(rt.alloc(), Hashing::plain());
-    assert!(rt; add_four(&mut places));
+    let mut index = Index::new(rt.alloc(), Hashing::plain());
+    add_four(&rt, &mut index);
     // The root has slot 0, and the host slot 1.
-    assert!(rt; leads(&places, device(2), below(2, 1), 1));
-    assert!(rt; leads(&places, bucket(2), below(1, 0), 0) && leads(&places, bucket(3), None, 0));
-    drop(places);
+    let leads_there = leads(&index, device_item(&rt, 2), below(&rt, 2, 1), 1)
+        && leads(&index, bucket_item(&rt, 2), below(&rt, 1, 0), 0)
+        && leads(&index, bucket_item(&rt, 3), None, 0);
+    drop(index);
+    assert!(rt; leads_there);
 }
 
-/// Puts an item into a bucket, where both are there.
-fn put(places: &mut Places, id: &ItemId, bucket: &BucketId, near: u32) -> bool {
-    if places.spot(*id).is_none() || places.spot(ItemId::Bucket(*bucket)).is_none() {
+/// Puts an item into a bucket, where both are there. Whether that is done.
+fn put(index: &mut Index, id: &ItemId, bucket: &BucketId, near: u32) -> bool {
+    if index.places().spot(*id).is_none() {
         return false;
     }
-    places.put(
+    if index.places().spot(ItemId::Bucket(*bucket)).is_none() {
+        return false;
+    }
+    index.put(
         *id,
         Spot {
             place: Place::Bucket(*bucket),
@@ -103,22 +90,22 @@ fn put(places: &mut Places, id: &ItemId, bucket: &BucketId, near: u32) -> bool {
     true
 }
 
-/// Takes osd.0 out and puts osd.2 below the root.
-fn change(places: &mut Places) -> bool {
-    if let Some(gone) = device(0) {
-        places.remove(gone);
-    }
-    match (device(2), BucketId::below_zero(1)) {
-        (Some(moved), Some(root)) => put(places, &moved, &root, 1),
-        _ => false,
-    }
+/// Takes osd.0 out and puts osd.2 below the root. Whether that is done.
+fn change(rt: &(impl Abort + AllocGlobal), index: &mut Index) -> bool {
+    let gone = leaf(rt, 0, "osd.0", 1);
+    index.remove_node(&gone);
+    drop(gone);
+    put(index, &device_item(rt, 2), &bucket(rt, 1), 1)
 }
 
 #[test]
 fn items_go_and_move(rt: HostRuntime) {
-    let mut places = Places::new(rt.alloc(), Hashing::plain());
-    assert!(rt; add_four(&mut places) && change(&mut places));
-    assert!(rt; stands(&places, device(0), None) && stands(&places, device(2), below(1, 1)));
-    assert!(rt; stands(&places, bucket(2), below(1, 0)));
-    drop(places);
+    let mut index = Index::new(rt.alloc(), Hashing::plain());
+    add_four(&rt, &mut index);
+    let is_changed = change(&rt, &mut index);
+    let are_told = stands(&index, device_item(&rt, 0), None)
+        && stands(&index, device_item(&rt, 2), below(&rt, 1, 1))
+        && stands(&index, bucket_item(&rt, 2), below(&rt, 1, 0));
+    drop(index);
+    assert!(rt; is_changed && are_told);
 }

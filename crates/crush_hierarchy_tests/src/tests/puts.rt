@@ -1,62 +1,48 @@
 //! Changes of a hierarchy: each is made once it was asked whether it may be.
 
-ghost use Rattle.std.specs.Prelude.{◌≡◌, Some, IfSome};
+ghost use Rattle.std.specs.Prelude.{◌≡◌, ◌<◌, true, Some, IfSome, IsTrue};
 ghost use Rattle.crush_units.specs.declared.id.ItemId.TheVariants.{Bucket as BucketItem};
 ghost use Rattle.crush_table.specs.Forest.{rows_of};
-ghost use Rattle.crush_table.specs.Table.{id_named};
+ghost use Rattle.crush_table.specs.Table.{id_named, is_there};
+ghost use Rattle.crush_nodes.specs.Room.{room};
+ghost use Rattle.crush_nodes.specs.declared.place.Place.TheVariants.{Bucket as AtBucket};
 
 use super::asks::{are_nested, has_item, has_name, is_held};
 use crush_hierarchy::Hierarchy;
-use crush_tree::{Node, Place};
+use crush_tree::Place;
 use crush_units::{BucketId, DeviceId, ItemId, Name, Weight};
 use std::alloc::Global;
-use std::process::Abort;
 
-/// Puts a new item last at a place, if it can come there. Whether that is done.
-fn put_new(hierarchy: &mut Hierarchy<Global>, place: Place, node: Node<Global>) -> bool {
-    let place = &place; // a place that was passed on by value can't be passed on again
-    if hierarchy.forest().can_attach(*place, &node) {
-        hierarchy.add(*place, node).is_ok()
-    } else {
-        drop(node);
-        false
+/// Makes room for one item more at a place inside a bucket, if that is there. Whether that is done.
+pub(super) fn make_room(hierarchy: &mut Hierarchy<Global>, bucket: BucketId) -> bool
+    ensures there { IsTrue result → (is_there (rows_of hierarchy.new) (BucketItem bucket) ≡ true) }
+    ensures room { IsTrue result → (0 < room hierarchy.new (AtBucket bucket)) }
+{
+    if !has_item(hierarchy, &ItemId::Bucket(bucket)) {
+        return false;
+    }
+    match hierarchy.reserve(Place::Bucket(bucket)) {
+        Ok(()) => true,
+        Err(_) => false,
     }
 }
 
-/// Puts a new item last at a place where it can come.
-pub(super) fn add(
-    rt: &impl Abort,
-    hierarchy: &mut Hierarchy<Global>,
-    place: Place,
-    node: Node<Global>,
-) {
-    assert!(rt; put_new(hierarchy, place, node));
-}
-
-/// Makes room for one item more at a place inside a bucket, if that is there. Whether that is done.
-pub(super) fn make_room(hierarchy: &mut Hierarchy<Global>, bucket: BucketId) -> bool {
-    has_item(hierarchy, &ItemId::Bucket(bucket)) && hierarchy.reserve(Place::Bucket(bucket)).is_ok()
-}
-
-/// Puts a device last into a bucket that has room, with this weight, if both are there. Whether that
-/// is done.
+/// Puts a device last into a bucket, with this weight, if both are there and there is memory. Whether
+/// that is done.
 pub(super) fn put_device(
     hierarchy: &mut Hierarchy<Global>,
     device: DeviceId,
     bucket: BucketId,
     weight: Weight,
 ) -> bool {
-    hierarchy.recall_invariant();
     if !weight.is_device_weight() {
         return false;
     }
+    if !make_room(hierarchy, bucket) {
+        return false;
+    }
+    hierarchy.recall_invariant();
     if !has_item(hierarchy, &ItemId::Device(device)) {
-        return false;
-    }
-    if !has_item(hierarchy, &ItemId::Bucket(bucket)) {
-        return false;
-    }
-    if !hierarchy.forest().has_room(Place::Bucket(bucket)) {
         return false;
     }
     if !hierarchy.fits_move(ItemId::Device(device), Place::Bucket(bucket), Some(weight)) {
@@ -79,20 +65,23 @@ pub(super) fn weigh(hierarchy: &mut Hierarchy<Global>, device: DeviceId, weight:
     hierarchy.replace_weight(device, weight).is_some()
 }
 
-/// Gives all devices below a bucket one weight. Whether that is done.
+/// Gives all devices below a bucket one weight. Whether one had another weight, if that is done.
 pub(super) fn weigh_all(
     hierarchy: &mut Hierarchy<Global>,
     bucket: BucketId,
     weight: Weight,
-) -> bool {
+) -> Option<bool> {
     hierarchy.recall_invariant();
     if !weight.is_device_weight() {
-        return false;
+        return None;
     }
     if !has_item(hierarchy, &ItemId::Bucket(bucket)) {
-        return false;
+        return None;
     }
-    hierarchy.replace_subtree(bucket, weight).is_some()
+    match hierarchy.replace_subtree(bucket, weight) {
+        Some(change) => Some(change.other),
+        None => None,
+    }
 }
 
 /// Gives an item another name, if no item has it. Whether that is done.

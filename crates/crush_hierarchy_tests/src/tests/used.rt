@@ -1,49 +1,126 @@
 //! Ids that come into use and are free again, near to 0 and far off.
 
-use crush_index::{Hashing, UsedIds};
+use super::items::{bucket, name};
+use crush_index::{Hashing, Index};
+use crush_nodes::node::{Header, Node, ShadowId};
+use crush_nodes::place::Place;
+use crush_units::{Alg, TypeId};
+use std::alloc::{AllocGlobal, Global};
+use std::process::Abort;
 
-/// Uses the ids from -1 to -64, then -66, the first one without a bit and the furthest of all.
-fn use_some(used: &mut UsedIds) -> bool {
-    for id in 1..65 {
-        if used.insert(id).is_err() {
-            return false;
-        }
+/// A class id, as a bucket has it.
+fn class_id(rt: &(impl Abort + AllocGlobal), distance: u32) -> ShadowId<Global> {
+    ShadowId {
+        id: bucket(rt, distance),
+        class: name(rt, "ssd"),
     }
-    used.insert(66).is_ok() && used.insert(69_696).is_ok() && used.insert(2_147_483_648).is_ok()
+}
+
+/// An empty bucket that uses an id of its own and these class ids.
+fn user(
+    rt: &(impl Abort + AllocGlobal),
+    distance: u32,
+    text: &str,
+    class_ids: Vec<ShadowId<Global>>,
+) -> Node<Global> {
+    let header = Header {
+        id: bucket(rt, distance),
+        kind: TypeId::new(1),
+        name: name(rt, text),
+        alg: Alg::Straw2,
+        class_ids,
+    };
+    Node::bucket(rt.alloc(), header).ok().expect(rt, "memory")
+}
+
+/// The bucket -1, which uses -2 too, those from -4 to -64, -66 and the furthest of all.
+fn user_of_most(rt: &(impl Abort + AllocGlobal)) -> Node<Global> {
+    let mut class_ids = Vec::new(rt.alloc());
+    class_ids.push(class_id(rt, 2)).expect(rt, "memory");
+    for distance in 4..65 {
+        class_ids.push(class_id(rt, distance)).expect(rt, "memory");
+    }
+    class_ids.push(class_id(rt, 66)).expect(rt, "memory");
+    class_ids
+        .push(class_id(rt, 2_147_483_648))
+        .expect(rt, "memory");
+    user(rt, 1, "h1", class_ids)
+}
+
+/// The bucket -3, which uses the first id without a bit too.
+fn user_of_two(rt: &(impl Abort + AllocGlobal)) -> Node<Global> {
+    let mut class_ids = Vec::new(rt.alloc());
+    class_ids.push(class_id(rt, 69_696)).expect(rt, "memory");
+    user(rt, 3, "h2", class_ids)
+}
+
+/// Whether the id so far below 0 is in use.
+fn has(rt: &impl Abort, index: &Index, distance: u32) -> bool {
+    index.is_used(bucket(rt, distance))
 }
 
 /// Whether the ids on both sides of these ends are told as they are.
-fn tells_ends(used: &UsedIds) -> bool {
-    !used.has(0)
-        && used.has(1)
-        && used.has(64)
-        && !used.has(65)
-        && used.has(66)
-        && !used.has(69_695)
-        && used.has(69_696)
-        && !used.has(69_697)
-        && used.has(2_147_483_648)
+fn tells_ends(rt: &impl Abort, index: &Index) -> bool {
+    has(rt, index, 1)
+        && has(rt, index, 64)
+        && !has(rt, index, 65)
+        && has(rt, index, 66)
+        && !has(rt, index, 69_695)
+        && has(rt, index, 69_696)
+        && !has(rt, index, 69_697)
+        && has(rt, index, 2_147_483_648)
+}
+
+/// Whether the nearest free ids are told, from some ids on.
+fn tells_free(index: &Index) -> bool {
+    index.first_free(1) == Some(65)
+        && index.first_free(66) == Some(67)
+        && index.first_free(69_696) == Some(69_697)
+        && index.first_free(2_147_483_648).is_none()
 }
 
 #[test]
 fn ids_are_in_use(rt: HostRuntime) {
-    let mut used = UsedIds::new(rt.alloc(), Hashing::plain());
-    assert!(rt; !used.has(1) && used.first_free(1) == Some(1) && used.first_free(500) == Some(500));
-    assert!(rt; use_some(&mut used) && tells_ends(&used));
-    drop(used);
+    let mut index = Index::new(rt.alloc(), Hashing::plain());
+    let (first, second) = (user_of_most(&rt), user_of_two(&rt));
+    let is_free = !has(&rt, &index, 1) && index.first_free(1) == Some(1);
+    let is_free_further_on = index.first_free(500) == Some(500);
+    index
+        .insert_node(Place::Root, 0, &first)
+        .expect(&rt, "memory");
+    index
+        .insert_node(Place::Root, 1, &second)
+        .expect(&rt, "memory");
+    let is_told = tells_ends(&rt, &index) && tells_free(&index);
+    drop(second);
+    drop(first);
+    drop(index);
+    assert!(rt; is_free && is_free_further_on && is_told);
+}
+
+/// Whether -3 and the first id without a bit are free again, and those beside -3 aren't.
+fn tells_what_is_free_again(rt: &impl Abort, index: &Index) -> bool {
+    index.first_free(1) == Some(3)
+        && index.first_free(4) == Some(65)
+        && has(rt, index, 2)
+        && has(rt, index, 4)
+        && !has(rt, index, 69_696)
 }
 
 #[test]
-fn the_nearest_free_id_is_found(rt: HostRuntime) {
-    let mut used = UsedIds::new(rt.alloc(), Hashing::plain());
-    assert!(rt; use_some(&mut used));
-    assert!(rt; used.first_free(1) == Some(65) && used.first_free(66) == Some(67));
-    assert!(rt;
-        used.first_free(69_696) == Some(69_697) && used.first_free(2_147_483_648).is_none()
-    );
-    used.remove(3);
-    used.remove(69_696);
-    assert!(rt; used.first_free(1) == Some(3) && used.first_free(4) == Some(65));
-    assert!(rt; used.has(2) && used.has(4) && !used.has(69_696));
-    drop(used);
+fn ids_are_free_again(rt: HostRuntime) {
+    let mut index = Index::new(rt.alloc(), Hashing::plain());
+    let (first, second) = (user_of_most(&rt), user_of_two(&rt));
+    index
+        .insert_node(Place::Root, 0, &first)
+        .expect(&rt, "memory");
+    index
+        .insert_node(Place::Root, 1, &second)
+        .expect(&rt, "memory");
+    index.remove_node(&second);
+    let is_told = tells_what_is_free_again(&rt, &index);
+    drop(second);
+    drop(first);
+    drop(index);
+    assert!(rt; is_told);
 }
