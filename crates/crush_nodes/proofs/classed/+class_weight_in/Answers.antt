@@ -1,4 +1,4 @@
-use Rattle.std.proofs.Common.{◌≡◌, ◌+◌, ◌∷◌, [], ap, sym, ◌∙◌, arith}
+use Rattle.std.proofs.Common.{◌≡◌, ◌+◌, ◌∷◌, [], ap, ◌∙◌, arith}
 use Rattle.crush_table.specs.Items.{BucketData}
 use Rattle.crush_nodes.specs.Classed.{class_sum_in}
 use Rattle.crush_nodes.specs.Seen.{items_of}
