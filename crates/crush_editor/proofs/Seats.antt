@@ -89,15 +89,20 @@ guards o k slips seen h c r p legal = record {
 pub missed : (o : MapData) (k : ℕ) (slips : List AnsweredData) (seen now : List EntryData) → IsSeat o k slips seen → IsPrefix seen now → IsLegalFrom o now → Sees o (seat_data k slips seen) (seat_data k slips now)
 missed o k slips seen now seat p legal = record { operator = refl; slips = refl; begins = p; seat = seat_later o k slips seen now seat p legal }
 
+-- a reader that has seen the history of the book
+pub has_met : (z : TableId) (o : MapData) (seen : List EntryData) (b now : BookData) (r : Held MapData EntryData) → b.table ≡ z → b.opening ≡ o → now.history ≡ b.history → r ≡ held b.table (reads b.opening now.history) → IsPrefix seen b.history → IsLegalFrom b.opening now.history
+    → (r.table ≡ z) × (r.view ≡ reads o (seen_of r.view)) × IsPrefix seen (seen_of r.view) × IsLegalFrom o (seen_of r.view)
+has_met z o seen b now r tz oz same is pre legal =
+    let h : r ≡ held z (reads o now.history) = is ∙ (λ i. held (tz i) (reads (oz i) now.history)) in
+    subst (λ (x : Held MapData EntryData). (x.table ≡ z) × (x.view ≡ reads o (seen_of x.view)) × IsPrefix seen (seen_of x.view) × IsLegalFrom o (seen_of x.view)) (sym h)
+    (refl, refl, subst (IsPrefix seen) (sym same) pre, subst (λ (x : MapData). IsLegalFrom x now.history) oz legal)
+
 -- a seat that has seen the history of the book after a call that was not answered
 pub missed_all : (z : TableId) (o : MapData) (k : ℕ) (slips : List AnsweredData) (seen : List EntryData) (b now : BookData) (r : Held MapData EntryData) → b.table ≡ z → b.opening ≡ o → now.history ≡ b.history → r ≡ held b.table (reads b.opening now.history) → IsPrefix seen b.history → IsLegalFrom b.opening now.history → IsSeat o k slips seen
     → (r.table ≡ z) × (r.view ≡ reads o (seen_of r.view)) × IsSeat o k slips (seen_of r.view) × Sees o (seat_data k slips seen) (seat_data k slips (seen_of r.view))
 missed_all z o k slips seen b now r tz oz same is pre legal seat =
-    let h : r ≡ held z (reads o now.history) = is ∙ (λ i. held (tz i) (reads (oz i) now.history)) in
-    let p : IsPrefix seen now.history = subst (IsPrefix seen) (sym same) pre in
-    let l : IsLegalFrom o now.history = subst (λ (x : MapData). IsLegalFrom x now.history) oz legal in
-    subst (λ (x : Held MapData EntryData). (x.table ≡ z) × (x.view ≡ reads o (seen_of x.view)) × IsSeat o k slips (seen_of x.view) × Sees o (seat_data k slips seen) (seat_data k slips (seen_of x.view))) (sym h)
-    (refl, refl, seat_later o k slips seen now.history seat p l, missed o k slips seen now.history seat p l)
+    let m = has_met z o seen b now r tz oz same is pre legal in
+    (m.0, m.1, seat_later o k slips seen (seen_of r.view) seat m.2 m.3, missed o k slips seen (seen_of r.view) seat m.2 m.3)
 
 pub answered_all : (z : TableId) (o : MapData) (k : ℕ) (slips : List AnsweredData) (seen : List EntryData) (c : Call) (x : Reply) (b now : BookData) (r : Held MapData EntryData) → b.table ≡ z → b.opening ≡ o → now.history ≡ b.history ++ entry k c x ∷ [] → r ≡ held b.table (reads b.opening now.history) → IsPrefix seen b.history → IsLegalFrom b.opening now.history → IsSeat o k slips seen
     → (r.table ≡ z) × (r.view ≡ reads o (seen_of r.view)) × IsSeat o k (slips ++ slip c x ∷ []) (seen_of r.view) × Answered o (seat_data k slips seen) c x (seat_data k (slips ++ slip c x ∷ []) (seen_of r.view))

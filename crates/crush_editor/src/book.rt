@@ -96,7 +96,11 @@ impl<A: Allocator + Clone> Book<A> {
 impl<A: Allocator> Book<A, Unkept> {
     /// [`Book::new`] of a map of which no copy is kept: the map itself is the one that calls change.
     /// It takes no memory.
-    pub fn without_opening(map: CrushMap<A>, seat: MapBookSeat, alloc: Global) -> Book<A, Unkept>
+    pub(crate) fn without_opening(
+        map: CrushMap<A>,
+        seat: MapBookSeat,
+        alloc: Global,
+    ) -> Book<A, Unkept>
         requires { seat.view ≡ BookSees (known map []) }
         ensures opening { result.opening ≡ map }
         ensures map { result.map ≡ map }

@@ -1,8 +1,19 @@
 //! The lock of an editor. Only this file names it, so that nothing in the crate comes to the lock
-//! without the leave to wait.
+//! without the leave to wait, nor for a call whose slip lacks memory.
 
+ghost use Rattle.std.specs.Prelude.{◌≡◌, ◌<◌, ◌≤◌, length, vec_len, vec_capacity};
+ghost use mathlib.Core.Logic.{◌↔◌};
+ghost use mathlib.Core.List.{IsPrefix};
+ghost use Rattle.crush_units.specs.declared.limits.TheConstants.{MOST_ENTRIES};
+ghost use Rattle.crush_editor.specs.History.{IsLegalFrom};
+ghost use Rattle.crush_editor.specs.Seat.{reads, seen_of};
+
+use crate::book::SubmitFault;
+use crate::law::{MapGauge, Reader};
 use crate::locked::{Desk, Locked};
 use crate::opening::Opening;
+use crate::ready::Ready;
+use crush_calls::Slip;
 use std::sync::{Mutex, MutexGuard, Wait};
 
 /// What lies under the lock, behind it.
@@ -18,9 +29,41 @@ impl<N: Desk, O: Opening> Door<N, O> {
         }
     }
 
-    /// Takes the lock. It may wait for ever.
-    pub(crate) fn lock(&self, rt: &impl Wait) -> MutexGuard<'_, Locked<N, O>> {
+    /// Takes the lock for a call whose slip has what it needs of memory: a copy of the call, and room
+    /// among the others. It may wait for ever.
+    pub(crate) fn lock(
+        &self,
+        rt: &impl Wait,
+        slips: &Vec<Slip>,
+        ready: &Ready,
+    ) -> MutexGuard<'_, Locked<N, O>>
+        requires { vec_len slips.now < vec_capacity slips.now }
+    {
+        let _slips = slips;
+        let _ready = ready;
         self.desk.lock(rt)
+    }
+
+    /// The fault of a call for whose copies there was no memory, under the lock: it may wait for ever.
+    /// The call's reader has then seen the history.
+    pub(crate) fn refuse(
+        &self,
+        rt: &impl Wait,
+        gauge: &MapGauge,
+        reader: &mut Reader,
+    ) -> SubmitFault
+        requires gauge { gauge.now.table.shared.table_id ≡ N.gauge }
+        requires reader { (reader.old.table ≡ N.gauge)
+            × (reader.old.view ≡ reads N.opening (seen_of reader.old.view)) }
+        ensures table { reader.new.table ≡ N.gauge }
+        ensures reader { reader.new.view ≡ reads N.opening (seen_of reader.new.view) }
+        ensures begins { IsPrefix (seen_of reader.old.view) (seen_of reader.new.view) }
+        ensures legal { IsLegalFrom N.opening (seen_of reader.new.view) }
+        ensures full { (result ≡ SubmitFault.Full)
+            ↔ (length (seen_of reader.new.view) ≡ MOST_ENTRIES) }
+        ensures few { length (seen_of reader.new.view) ≤ MOST_ENTRIES }
+    {
+        self.desk.lock(rt).refuse(gauge, reader)
     }
 
     /// What lies under the lock, in place of it.

@@ -1,6 +1,6 @@
 //! An editor: what it is made of, its seats' calls, and its close.
 
-ghost use Rattle.std.specs.Prelude.{◌≡◌, ℕ, ◌<◌, ◌≤◌, [], length, IfOk, IfErr, IfSome, OnOk, OnErr, vec_len, vec_capacity, slice_index_or};
+ghost use Rattle.std.specs.Prelude.{◌≡◌, ℕ, ◌<◌, ◌≤◌, [], length, IfOk, IfErr, IfSome, OnOk, OnErr, vec_len, slice_index_or};
 ghost use mathlib.Core.Logic.{◌↔◌};
 ghost use mathlib.Core.List.{IsPrefix};
 ghost use Rattle.crush_units.specs.declared.limits.TheConstants.{MOST_ENTRIES, MOST_OPERATORS};
@@ -21,7 +21,8 @@ use crate::door::Door;
 use crate::law::{MapBookSeat, MapGauge, Reader};
 use crate::locked::{Desk, Locked, Seat};
 use crate::opening::{Opening, Unkept};
-use crush_calls::{Call, Reply, Slip};
+use crate::ready::Ready;
+use crush_calls::{Call, Reply};
 use crush_gauge::Reading;
 use crush_map::CrushMap;
 use std::alloc::{AllocError, Allocator, Global};
@@ -190,17 +191,6 @@ fn new_gauge<M: Opened>(
     MapGauge::new(alloc, weight, operators)
 }
 
-/// What a seat takes of memory for a call that is moved into its entry: a copy for its slip, and room
-/// for the slip.
-fn ready(alloc: Global, slips: &mut Vec<Slip>, call: &Call) -> Result<Call, AllocError>
-    ensures slips { slips.new.items ≡ slips.old.items }
-    ensures copy { IfOk result (λ copy. copy ≡ call.now) }
-    ensures room { OnOk result (vec_len slips.new < vec_capacity slips.new) }
-{
-    slips.reserve(1)?;
-    call.try_copy(alloc)
-}
-
 /// The editor of a name: a book under one lock, and a gauge that is read without it. `O` is what the
 /// book has of its opening.
 #[derive(Drop)]
@@ -266,23 +256,20 @@ impl<N: Desk, O: Opening> Editor<N, O> {
         ensures few { length seat.new.seen ≤ MOST_ENTRIES }
         ensures more { OnOk result (length seat.old.seen < MOST_ENTRIES) }
     {
-        let Ok(for_slip) = ready(alloc, &mut seat.slips, &call) else {
+        let Ok(ready) = Ready::new(alloc, &mut seat.slips, &call) else {
             return Err((self.refuse(rt, seat), call));
         };
         let operator = seat.operator;
         let gauge = self.dial.gauge();
         let outcome = self
             .door
-            .lock(rt)
+            .lock(rt, &seat.slips, &ready)
             .submit(gauge, &mut seat.reader, &mut seat.share, operator, call);
         let reply = match outcome {
             Ok(answer) => answer,
             Err(unanswered) => return Err(unanswered),
         };
-        seat.slips.push_reserved(Slip {
-            call: for_slip,
-            reply,
-        });
+        seat.slips.push_reserved(ready.into_slip(reply));
         Ok(reply)
     }
 
@@ -294,7 +281,7 @@ impl<N: Desk, O: Opening> Editor<N, O> {
         ensures few { length seat.new.seen ≤ MOST_ENTRIES }
     {
         let gauge = self.dial.gauge();
-        self.door.lock(rt).refuse(gauge, &mut seat.reader)
+        self.door.refuse(rt, gauge, &mut seat.reader)
     }
 
     /// The part of the editor that readings need. It holds no lock.

@@ -9,17 +9,18 @@
 //! Only [`Editor::submit`] and [`Editor::submit_copied`] may wait: they take the lock.
 #![tactic(auto)]
 
-pub mod book;
-pub mod dial;
+mod book;
+mod dial;
 mod door;
-pub mod editor;
-pub mod law;
-pub mod locked;
-pub mod opening;
+mod editor;
+mod law;
+mod locked;
+mod opening;
+mod ready;
 
 pub use book::{Book, Closed, SubmitFault};
 pub use dial::{Dial, Note};
 pub use editor::{Editor, Started};
-pub use law::{MapBookSeat, MapGauge, MapNote, OfMap, Reader};
+pub use law::{MapBookSeat, MapGauge};
 pub use locked::{Desk, Seat};
 pub use opening::{Opening, Unkept};

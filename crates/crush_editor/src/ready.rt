@@ -1,0 +1,41 @@
+//! What a call takes of memory before the lock.
+
+ghost use Rattle.std.specs.Prelude.{◌≡◌, ◌<◌, IfOk, OnOk, vec_len, vec_capacity};
+ghost use Rattle.crush_editor.specs.History.{slip};
+
+use crush_calls::{Call, Reply, Slip};
+use std::alloc::{AllocError, Global};
+
+/// A copy of a call for its slip, made before the call is. Only this file makes one.
+#[derive(Drop)]
+pub(crate) struct Ready {
+    for_slip: Call,
+}
+
+impl Ready {
+    /// The copy of a call that is moved into its entry, and room for its slip.
+    pub(crate) fn new(
+        alloc: Global,
+        slips: &mut Vec<Slip>,
+        call: &Call,
+    ) -> Result<Ready, AllocError>
+        ensures slips { slips.new.items ≡ slips.old.items }
+        ensures copy { IfOk result (λ ready. ready.for_slip ≡ call.now) }
+        ensures room { OnOk result (vec_len slips.new < vec_capacity slips.new) }
+    {
+        slips.reserve(1)?;
+        let for_slip = call.try_copy(alloc)?;
+        Ok(Ready { for_slip })
+    }
+
+    /// The slip of the call with its reply.
+    pub(crate) fn into_slip(self, reply: Reply) -> Slip
+        ensures { result ≡ slip self.for_slip reply }
+    {
+        let Ready { for_slip } = self;
+        Slip {
+            call: for_slip,
+            reply,
+        }
+    }
+}
