@@ -19,6 +19,7 @@ use Rattle.crush_edits.specs.Setting.{SettingData}
 use Rattle.crush_edits.specs.Answer.{refused, done}
 use Rattle.crush_edits.specs.Edit.{edit, takes_memory}
 use Rattle.crush_edits.specs.Batch.{batch_refused, with_done, and_then, batch, batch_from}
+use Rattle.crush_apply.specs.Answered.{KeepsRooms}
 use Rattle.crush_apply.specs.AsBefore.{IsAsBefore}
 use Rattle.crush_apply.specs.declared.noted.Noted.{Noted}
 use Rattle.crush_apply.specs.Noted.{is_reweight, stays, are_in_place, GiveBack, IsDoneNoted}
@@ -49,6 +50,12 @@ goes_on s t u v es left rest d e c m begun is told = begun ∙ ap (λ l. batch_f
 abbrev pub IsBegunNoted : SettingData → List Edit → ForestData → ℕ → Dones → ForestData → List Noted → Type 0
 IsBegunNoted s es f k d g log =
     (t : List Row) → Stands f t → (u : List Row) × (batch s t es ≡ batch_from s (drop k es) d u) × Stands g u × (k < length es → GiveBack log u t)
+
+-- and what is left can be made in place, and no place has another room where something is left
+pub record IsNotedSoFar (s : SettingData) (es : List Edit) (f : ForestData) (k : ℕ) (d : Dones) (g : ForestData) (log : List Noted) : Type 0 where
+  pub begun : IsBegunNoted s es f k d g log
+  pub left : are_in_place (drop k es) ≡ true
+  pub rooms : k < length es → KeepsRooms f g
 
 -- what can be made in place, and the rest of it
 pub first_stays : (e : Edit) (left rest : List Edit) → left ≡ e ∷ rest → are_in_place left ≡ true → stays e rest ≡ true

@@ -1,5 +1,5 @@
 -- Batches that are made in place: what is noted before an edit, and what it makes of the table after it.
-use Rattle.std.specs.Prelude.{◌≡◌, ℕ, ◌≤◌, List, [], ◌∷◌, Result, Ok, Err, IfOk, Bool, true, false, not, ◌&&◌}
+use Rattle.std.specs.Prelude.{◌≡◌, ℕ, ◌≤◌, List, [], ◌∷◌, length, Result, Ok, Err, IfOk, Bool, true, false, not, ◌&&◌}
 use Rattle.crush_units.specs.declared.id.ItemId.TheVariants.{Device}
 use Rattle.crush_units.specs.declared.limits.TheConstants.{HEAVIEST_DEVICE}
 use Rattle.crush_table.specs.Table.{Row, is_placed}
@@ -41,6 +41,11 @@ stays e (f ∷ es) = is_reweight e
 abbrev pub are_in_place : List Edit → Bool
 are_in_place [] = true
 are_in_place (e ∷ es) = stays e es && are_in_place es
+
+-- they can, and a log of this capacity has room for what is noted of them
+pub record CanBeNoted (es : List Edit) (capacity : ℕ) : Type 0 where
+  pub in_place : are_in_place es ≡ true
+  pub room : length es ≤ capacity
 
 -- where the placed device of u gets the weight that was noted, t comes of it
 pub record GivesBack (x : Noted) (u t : List Row) : Type 0 where

@@ -1,6 +1,6 @@
 //! Several edits, of which all are made or none.
 
-ghost use Rattle.std.specs.Prelude.{◌≡◌, ◌≢◌, ℕ, ◌+◌, ◌*◌, ◌<◌, ◌≤◌, List, [], length, IfOk, OnErr, true, false, vec_len, vec_capacity};
+ghost use Rattle.std.specs.Prelude.{◌≡◌, ◌≢◌, ℕ, ◌+◌, ◌*◌, ◌<◌, ◌≤◌, ◌++◌, ◌∷◌, List, [], length, IfOk, OnErr, true, false, vec_len, vec_capacity};
 ghost use Rattle.crush_units.specs.declared.limits.TheConstants.{MOST_EDITS};
 ghost use Rattle.crush_table.specs.Table.{Row};
 ghost use Rattle.crush_table.specs.Forest.{rows_of};
@@ -9,11 +9,12 @@ ghost use Rattle.crush_edits.specs.declared.refusal.Refusal.{Refusal as Declared
 ghost use Rattle.crush_edits.specs.Batch.{batch, batch_refused, with_done};
 ghost use Rattle.crush_edits.specs.Fits.{Fits};
 ghost use Rattle.crush_edits.specs.Answer.{refused};
+ghost use Rattle.crush_edits.specs.Outcome.{IsDone};
 ghost use Rattle.crush_edits.specs.Edit.{edit, takes_memory};
 ghost use Rattle.crush_apply.specs.Answered.{KeepsRooms};
 ghost use Rattle.crush_apply.specs.AsBefore.{IsAsBefore};
 ghost use Rattle.crush_apply.specs.Batched.{IsBatchDone};
-ghost use Rattle.crush_apply.specs.Noted.{is_reweight, are_in_place, GiveBack, IsDoneNoted};
+ghost use Rattle.crush_apply.specs.Noted.{is_reweight, are_in_place, CanBeNoted, GiveBack, IsDoneNoted};
 
 use crate::apply::apply_edit;
 use crate::noted::{Noted, are_in_place, take_back};
@@ -50,7 +51,7 @@ pub fn apply_batch<A: Allocator + Clone>(
     ensures fits { Fits setting.now (rows_of hierarchy.new) }
 {
     if edits.len() <= 1 {
-        return make_all(hierarchy, setting, edits);
+        return make_unnoted(hierarchy, setting, edits);
     }
     if are_in_place(edits) {
         return make_in_place(hierarchy, setting, edits);
@@ -58,14 +59,14 @@ pub fn apply_batch<A: Allocator + Clone>(
     let Ok(mut copy) = hierarchy.try_copy() else {
         return Err(BatchFault::OutOfMemory);
     };
-    let dones = make_all(&mut copy, setting, edits)?;
+    let dones = make_unnoted(&mut copy, setting, edits)?;
     *hierarchy = copy;
     Ok(dones)
 }
 
-/// Makes the edits one after the other until one isn't made. Where that is the only one, nothing has
-/// changed.
-fn make_all<A: Allocator + Clone>(
+/// Makes the edits one after the other until one isn't made, and notes nothing. Where that is the only
+/// one, nothing has changed.
+fn make_unnoted<A: Allocator + Clone>(
     hierarchy: &mut Hierarchy<A>,
     setting: &Setting,
     edits: &[Edit],
@@ -80,21 +81,10 @@ fn make_all<A: Allocator + Clone>(
     ensures alone { length edits.now ≤ 1 → OnErr result (hierarchy.new ≡ hierarchy.old) }
     ensures fits { Fits setting.now (rows_of hierarchy.new) }
 {
-    let mut dones = Dones {
-        edits: 0,
-        changed: 0,
-        made: 0,
+    let Ok(mut log) = new_log(hierarchy, 0) else {
+        return Err(BatchFault::OutOfMemory);
     };
-    for asked in edits {
-        match apply_edit(hierarchy, setting, asked) {
-            Ok(done) => dones = with_done(dones, done),
-            Err(EditFault::Refused(refusal)) => {
-                return Err(BatchFault::Refused(dones.edits, refusal));
-            }
-            Err(EditFault::OutOfMemory) => return Err(BatchFault::OutOfMemory),
-        }
-    }
-    Ok(dones)
+    make_all(hierarchy, setting, edits, &mut log)
 }
 
 /// Makes edits in place, or none of them. The last may be another than a new weight, since behind it
@@ -120,7 +110,7 @@ fn make_in_place<A: Allocator + Clone>(
     let Ok(mut log) = new_log(hierarchy, edits.len()) else {
         return Err(BatchFault::OutOfMemory);
     };
-    match make_noted(hierarchy, setting, edits, &mut log) {
+    match make_all(hierarchy, setting, edits, &mut log) {
         Ok(dones) => Ok(dones),
         Err(fault) => {
             take_back(hierarchy, log);
@@ -141,9 +131,10 @@ fn new_log<A: Allocator + Clone>(
     Vec::with_capacity(hierarchy.allocator().clone()?, room)
 }
 
-/// Makes the edits one after the other until one isn't made. What those that are made have changed
-/// is in the log then.
-fn make_noted<A: Allocator + Clone>(
+/// Makes the edits one after the other until one isn't made. Where that is the only one, nothing has
+/// changed; where the edits can be made in place and the log has room for them, what those that are
+/// made have changed is in the log then.
+fn make_all<A: Allocator + Clone>(
     hierarchy: &mut Hierarchy<A>,
     setting: &Setting,
     edits: &[Edit],
@@ -151,19 +142,21 @@ fn make_noted<A: Allocator + Clone>(
 ) -> Result<Dones, BatchFault>
     requires few { length edits.now ≤ MOST_EDITS }
     requires fits { Fits setting.now (rows_of hierarchy.old) }
-    requires in_place { are_in_place edits.now ≡ true }
     requires empty { log.old.items ≡ [] }
     requires len { vec_len log.old ≡ 0 }
-    requires capacity { length edits.now ≤ vec_capacity log.old }
     ensures done { IfOk result (λ d. (t : List Row) → Stands hierarchy.old t
         → IsBatchDone (Stands hierarchy.new) (batch setting.now t edits.now) d) }
     ensures refused { (index : ℕ) (r : DeclaredRefusal)
         → result ≡ Err (BatchFault.Refused index r) → (t : List Row) → Stands hierarchy.old t
         → batch setting.now t edits.now ≡ batch_refused index r }
-    ensures memory { result ≢ Err BatchFault.OutOfMemory }
-    ensures log { OnErr result ((t : List Row) → Stands hierarchy.old t
+    ensures alone { length edits.now ≤ 1 → OnErr result (hierarchy.new ≡ hierarchy.old) }
+    ensures memory { CanBeNoted edits.now (vec_capacity log.old)
+        → result ≢ Err BatchFault.OutOfMemory }
+    ensures log { CanBeNoted edits.now (vec_capacity log.old)
+        → OnErr result ((t : List Row) → Stands hierarchy.old t
         → (u : List Row) × Stands hierarchy.new u × GiveBack log.new.items u t) }
-    ensures rooms { OnErr result (KeepsRooms hierarchy.old hierarchy.new) }
+    ensures rooms { CanBeNoted edits.now (vec_capacity log.old)
+        → OnErr result (KeepsRooms hierarchy.old hierarchy.new) }
     ensures fits { Fits setting.now (rows_of hierarchy.new) }
 {
     let mut dones = Dones {
@@ -183,7 +176,8 @@ fn make_noted<A: Allocator + Clone>(
     Ok(dones)
 }
 
-/// Makes the edit. Where it gives a device another weight, the one before is put last in the log.
+/// Makes the edit. Where it gives a device another weight, the one before is put last in the log, if
+/// there is room.
 fn make_one<A: Allocator + Clone>(
     hierarchy: &mut Hierarchy<A>,
     setting: &Setting,
@@ -191,8 +185,10 @@ fn make_one<A: Allocator + Clone>(
     log: &mut Vec<Noted, A>,
 ) -> Result<Done, EditFault>
     requires fits { Fits setting.now (rows_of hierarchy.old) }
-    requires room { vec_len log.old < vec_capacity log.old }
     ensures done { IfOk result (λ d. (t : List Row) → Stands hierarchy.old t
+        → IsDone (Stands hierarchy.new) (edit setting.now t asked.now) d) }
+    ensures noted { vec_len log.old < vec_capacity log.old
+        → IfOk result (λ d. (t : List Row) → Stands hierarchy.old t
         → IsDoneNoted log.old.items log.new.items hierarchy.new setting.now t asked.now d) }
     ensures refused { (r : DeclaredRefusal) → result ≡ Err (EditFault.Refused r)
         → (t : List Row) → Stands hierarchy.old t → edit setting.now t asked.now ≡ refused r }
@@ -209,8 +205,20 @@ fn make_one<A: Allocator + Clone>(
         return apply_edit(hierarchy, setting, asked);
     };
     let (done, noted) = reweight_noted(hierarchy, name, *weight)?;
-    log.push_reserved(noted);
+    note(log, noted);
     Ok(done)
+}
+
+/// Puts what was noted last in the log, if there is room.
+fn note<A: Allocator>(log: &mut Vec<Noted, A>, noted: Noted)
+    ensures items { vec_len log.old < vec_capacity log.old
+        → log.new.items ≡ log.old.items ++ noted ∷ [] }
+    ensures len { vec_len log.new ≤ vec_len log.old + 1 }
+    ensures capacity { vec_capacity log.new ≡ vec_capacity log.old }
+{
+    if log.len() < log.capacity() {
+        log.push_reserved(noted);
+    }
 }
 
 /// What was done with one edit more.

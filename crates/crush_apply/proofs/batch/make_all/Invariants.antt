@@ -1,8 +1,18 @@
-use Rattle.std.specs.Prelude.{◌≡◌, drop}
+use Rattle.std.specs.Prelude.{◌≡◌, ◌<◌, ◌≤◌, true, drop, length, vec_len, vec_capacity}
 use Rattle.crush_table.specs.Forest.{rows_of}
 use Rattle.crush_edits.specs.Fits.{Fits}
 use Rattle.crush_apply.specs.Batched.{IsBegun, AreDone}
+use Rattle.crush_apply.specs.Noted.{CanBeNoted}
+use Rattle.crush_apply.proofs.Batching.{IsNotedSoFar}
 use Rattle.crush_apply.proofs.batch.make_all.Given as goal
 
 abbrev pub invariant-loop-asked : goal.invariant-loop-asked
-invariant-loop-asked g l = IsBegun l.setting l.edits l.fn.hierarchy (drop l.asked-index l.edits) l.dones l.hierarchy × Fits l.setting (rows_of l.hierarchy) × AreDone l.asked-index l.dones × (l.asked-index ≡ 0 → l.hierarchy ≡ l.fn.hierarchy)
+invariant-loop-asked g l = record {
+  begun : IsBegun l.setting l.edits l.fn.hierarchy (drop l.asked-index l.edits) l.dones l.hierarchy;
+  fits : Fits l.setting (rows_of l.hierarchy);
+  counts : AreDone l.asked-index l.dones;
+  first : l.asked-index ≡ 0 → l.hierarchy ≡ l.fn.hierarchy;
+  noted : CanBeNoted l.edits (vec_capacity l.fn.log) → IsNotedSoFar l.setting l.edits l.fn.hierarchy l.asked-index l.dones l.hierarchy l.log.items;
+  len : vec_len l.log ≤ l.asked-index;
+  capacity : vec_capacity l.log ≡ vec_capacity l.fn.log;
+}

@@ -10,8 +10,8 @@ use Rattle.crush_apply.proofs.TakenBack.{given_before}
 use Rattle.crush_apply.proofs.batch.make_one.Goals as goal
 
 -- of another kind
-pub returns-in_default-clause-done : goal.returns-in_default-clause-done
-returns-in_default-clause-done g c = done_unnoted c.apply_edit.result _ _ c.args.setting.now c.args.asked.now _ (λ weight. let one = weighs_one c.args.asked.now weight in c.in_default.not-Reweight one.0 one.1 one.2) c.apply_edit.ensures.done
+pub returns-in_default-clause-noted : goal.returns-in_default-clause-noted
+returns-in_default-clause-noted g c = λ room. done_unnoted c.apply_edit.result _ _ c.args.setting.now c.args.asked.now _ (λ weight. let one = weighs_one c.args.asked.now weight in c.in_default.not-Reweight one.0 one.1 one.2) c.apply_edit.ensures.done
 
 pub returns-in_default-clause-memory : goal.returns-in_default-clause-memory
 returns-in_default-clause-memory g c = λ none is. let no : false ≡ true = sym none ∙ c.apply_edit.ensures.memory is in cc
@@ -41,11 +41,16 @@ returns-in_err-done-clause-fits g c =
 pub returns-clause-done : goal.returns-clause-done
 returns-clause-done g c = λ t st.
     let told = c.in_ok-done.ensures.answers c.args.setting.now in
+    let one = told.answers.done t st in (one.0, ap (edit c.args.setting.now t) c.in-Reweight.is ∙ one.1, one.2)
+
+pub returns-clause-noted : goal.returns-clause-noted
+returns-clause-noted g c = λ room t st.
+    let told = c.in_ok-done.ensures.answers c.args.setting.now in
     let one = told.answers.done t st in (
       one.0,
       ap (edit c.args.setting.now t) c.in-Reweight.is ∙ one.1,
       one.2,
-      λ weight r back. subst (λ l. GiveBack l one.0 r) (sym {A = List Noted} c.push_reserved.ensures.items)
+      λ weight r back. subst (λ l. GiveBack l one.0 r) (sym {A = List Noted} (c.note.ensures.items room))
           (given_before c.args.log.now.items c.in_ok-done.noted one.0 t r (told.noted t st c.in_ok-done.done.changed c.in_ok-done.done.made one.0 one.1) back),
     )
 
