@@ -3,6 +3,7 @@
 #   make           proves the program with all it stands on, and builds it
 #   make try       shows what JOB, by default an example, changes, without proving anything, and leaves nothing;
 #                  `make try JOB=my.job ARGS=--in-turn` runs a job of your own by other words
+#   make test      all tests, the stored runs and trials, without proving anything
 #   make check     the merge gate: everything from nothing, the edits that must fail, the tests
 #   make install   the program, the recipe and their manual pages below PREFIX, which is /usr/local if nothing is said
 #   make dist      the same as an archive and, where dpkg-deb is there, a package of Debian, below out/
@@ -21,7 +22,7 @@ PROGRAM = crates/crushedit/out/crushedit
 # What the program is proved and built of.
 SOURCES = crates.txt $(shell find crates \( -name out -o -name '*_tests' \) -prune -o \( -name '*.rt' -o -name '*.antt' \) -print)
 
-.PHONY: all try check install uninstall dist manual tables recipe trials monitor clean
+.PHONY: all try test check install uninstall dist manual tables recipe trials monitor clean
 
 all: $(PROGRAM)
 
@@ -32,6 +33,9 @@ $(PROGRAM): $(SOURCES)
 try:
 	@map=$$(mktemp) && sed '/^%/,$$d' $(JOB) > $$map && cd crates/crushedit && \
 	  { rt try --data map=$$map $(if $(ARGS),-- $(ARGS)) < $(abspath $(JOB)); status=$$?; rm $$map; exit $$status; }
+
+test:
+	python3 -B bench/all_tests.py
 
 check:
 	.ci/run
