@@ -111,6 +111,6 @@ fn print_end(rt: &HostRuntime, ending: &Ending, explain: bool) -> io::Result<()>
         Err(_) => println!(rt; "< not done")?,
     }
     let notes = ending.notes.as_slice();
-    let status = report(&ending.outcome, explain, notes, &mut rt.stdout());
+    let status = report(&ending.outcome, explain, notes, &mut rt.stdout()).status;
     println!(rt; "< status {status}")
 }

@@ -5,7 +5,7 @@ use Rattle.crush_bytes.specs.Writes.{AppendsLess}
 use Rattle.crush_options.specs.declared.asked.OptionsFault.{OptionsFault}
 use Rattle.crush_options.specs.declared.asked.OptionsFault.TheVariants.{Help, Refused, Memory}
 use Rattle.crush_report.specs.Report.{run_fault}
-use Rattle.crush_run.specs.declared.fault.RunFault.TheVariants as run
+use Rattle.crush_input.specs.declared.fault.RunFault.TheVariants as run
 
 -- the status: help may not be written
 abbrev pub IsOptionsStatus : OptionsFault → ℕ → Type 0

@@ -5,11 +5,11 @@ use Rattle.crush_text.specs.Fault.{fault_name}
 use Rattle.crush_script.specs.declared.fault.JobFault.{JobFault}
 use Rattle.crush_script.specs.declared.fault.JobFault.TheVariants.{BadLine, NoSuchCommand, OpenBatch, TooManyOperators, DuplicateOperator, Text, OutOfMemory, TooLong, TooManyCalls}
 use Rattle.crush_script.specs.Fault.{is_out_of_memory, lacks_memory}
-use Rattle.crush_run.specs.declared.fault.RunFault.{RunFault}
-use Rattle.crush_run.specs.declared.fault.RunFault.TheVariants as run
-use Rattle.crush_run.specs.declared.fault.SinceFault.{SinceFault}
-use Rattle.crush_run.specs.declared.fault.SinceFault.TheVariants as since
-use Rattle.crush_run.specs.declared.summary.Summary.{Summary}
+use Rattle.crush_input.specs.declared.fault.RunFault.{RunFault}
+use Rattle.crush_input.specs.declared.fault.RunFault.TheVariants as run
+use Rattle.crush_input.specs.declared.fault.SinceFault.{SinceFault}
+use Rattle.crush_input.specs.declared.fault.SinceFault.TheVariants as since
+use Rattle.crush_input.specs.declared.summary.Summary.{Summary}
 
 -- out of memory, wherever it was
 abbrev pub out_of_memory : List ℕ

@@ -6,8 +6,8 @@ ghost use Rattle.crush_report.specs.OptionsReport.{IsHelpWhole, IsOptionsStatus,
 ghost use Rattle.crush_report.specs.Report.{adjusted_line, fault_reason, line_fault, text_fault, job_fault, outcome_reason, run_fault, refused_line, report_line, report_lines, report_text, since_fault, since_reason, since_status, since_text_fault, status};
 
 use crush_bytes::{WriteFault, put, put_all};
+use crush_input::{RunFault, SinceFault, Summary};
 use crush_options::OptionsFault;
-use crush_run::{RunFault, SinceFault, Summary};
 use crush_script::JobFault;
 use crush_text::TextFault;
 use itoa::Buffer;
@@ -256,14 +256,6 @@ fn write_told<E: Write>(
     put(err, notes)
 }
 
-/// Puts all that is told, or what of it standard error takes.
-fn put_told<E: Write>(outcome: &Result<Summary, RunFault>, explain: bool, notes: &[u8], err: &mut E)
-    ensures { AppendsPrefix (E.contents err.old) (E.contents err.new)
-        (report_text explain outcome.now notes.now) }
-{
-    let _ = write_told(outcome, explain, notes, err);
-}
-
 /// Puts the bytes, or what of them standard error takes.
 fn put_prefix<E: Write>(bytes: &[u8], err: &mut E)
     ensures { AppendsPrefix (E.contents err.old) (E.contents err.new) bytes.now }
@@ -296,6 +288,30 @@ fn since_status(fault: SinceFault) -> u8
     }
 }
 
+/// The status of a run.
+fn status_of(outcome: &Result<Summary, RunFault>) -> u8
+    ensures { result ≡ status outcome.now }
+{
+    match outcome {
+        Ok(_) => 0,
+        Err(RunFault::Memory | RunFault::Thread) => 4,
+        Err(RunFault::Refused(_)) => 5,
+        Err(RunFault::Job(fault)) if fault.lacks_memory() => 4,
+        Err(RunFault::Job(_)) => 1,
+        Err(RunFault::Since(fault)) => since_status(*fault),
+        Err(RunFault::Read | RunFault::Write) => 3,
+    }
+}
+
+/// What [`report`] did.
+#[derive(Clone, Copy, Debug, PartialEq, Eq)]
+pub struct Told {
+    /// The status with which the program ends.
+    pub status: u8,
+    /// Whether standard error took all that is told.
+    pub written: Result<(), WriteFault>,
+}
+
 /// Writes the one line of standard error, below it, where reasons are asked for, what was wanted of
 /// an outcome without notes, and then the notes of the run, and answers the status.
 ///
@@ -309,26 +325,22 @@ fn since_status(fault: SinceFault) -> u8
 /// | 4 | a worker couldn't be started | `crushedit: no thread` |
 /// | 5 | calls of a strict run were refused | `crushedit: refused N`, and their lines in the notes |
 ///
-/// Where writing fails, a prefix of all that stands there, and the status is the same.
+/// Where writing fails, the answer says so: a prefix of all that stands there, never the whole, and the
+/// status is the same.
 pub fn report<E: Write>(
     outcome: &Result<Summary, RunFault>,
     explain: bool,
     notes: &[u8],
     err: &mut E,
-) -> u8
-    ensures status { result ≡ status outcome.now }
-    ensures text { AppendsPrefix (E.contents err.old) (E.contents err.new)
+) -> Told
+    ensures status { result.status ≡ status outcome.now }
+    ensures text { Writes result.written (E.contents err.old) (E.contents err.new)
         (report_text explain outcome.now notes.now) }
 {
-    put_told(outcome, explain, notes, err);
-    match outcome {
-        Ok(_) => 0,
-        Err(RunFault::Memory | RunFault::Thread) => 4,
-        Err(RunFault::Refused(_)) => 5,
-        Err(RunFault::Job(fault)) if fault.lacks_memory() => 4,
-        Err(RunFault::Job(_)) => 1,
-        Err(RunFault::Since(fault)) => since_status(*fault),
-        Err(RunFault::Read | RunFault::Write) => 3,
+    let written = write_told(outcome, explain, notes, err);
+    Told {
+        status: status_of(outcome),
+        written,
     }
 }
 

@@ -1,10 +1,10 @@
 //! How the end of a run is told: the line on standard error, and the status of the program; and the
 //! same of a command line that asks for no run.
 //!
-//! [`report`] tells the outcome of `crush_run`, [`tell`] that of `crush_options`. Lines and
+//! [`report`] tells the outcome of a run by `crush_run`, [`tell`] that of `crush_options`. Lines and
 //! statuses stand in `specs/`; `crushedit` calls both.
 #![tactic(auto)]
 
 mod ending;
 
-pub use ending::{report, report_line, tell};
+pub use ending::{Told, report, report_line, tell};

@@ -2,12 +2,12 @@
 use Rattle.std.proofs.Common.{◌≡◌, ℕ, Bool, List, [], Option, Result, Err}
 use Rattle.crush_calls.specs.History.{EntryData}
 use Rattle.crush_options.specs.declared.asked.Mode.{Mode}
-use Rattle.crush_run.specs.declared.fault.RunFault.{RunFault}
-use Rattle.crush_run.specs.declared.fault.RunFault.TheVariants as run
-use Rattle.crush_run.specs.Notes.{HistoryNoted, IsFaultNoted, IsNoted}
+use Rattle.crush_input.specs.declared.fault.RunFault.{RunFault}
+use Rattle.crush_input.specs.declared.fault.RunFault.TheVariants as run
+use Rattle.crush_input.specs.Notes.{HistoryNoted, IsFaultNoted, IsNoted, IsStrict}
 use Rattle.crush_reasons.specs.Place.{OriginData}
-use Rattle.crush_run.specs.Run.{IsStrict}
-use Rattle.crush_run.specs.Stages.{IsEarlyFault, IsInputFault, IsNoJob, IsReadFault, IsScriptsFault}
+use Rattle.crush_run.specs.Stages.{IsEarlyFault, IsScriptsFault}
+use Rattle.crush_input.specs.Stages.{IsInputFault, IsNoJob, IsReadFault}
 
 -- such a fault is none of a strict run
 strict_of_early : (X : Type 0) (strict : Bool) (h : List EntryData) (f : RunFault) → IsEarlyFault f → IsStrict {X = X} strict h (Err f)

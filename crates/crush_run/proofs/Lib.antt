@@ -1,13 +1,9 @@
 pub mod Asking
 pub mod Carry
-pub mod Consuming
 pub mod Crossing
 pub mod Early
 pub mod Headings
-pub mod Joins
 pub mod Lists
 pub mod Noted
-pub mod Parts
-pub mod Reading
 pub mod Runs
 pub mod Told

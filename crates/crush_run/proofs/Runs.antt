@@ -1,6 +1,5 @@
 -- Runs of a job: in turn, at once, and where nothing came of one.
-use Rattle.std.proofs.Common.{◌≡◌, ℕ, zero, suc, ◌<◌, ◌≤◌, ◌==◌, Bool, true, false, List, [], ◌∷◌, ◌++◌, Option, Result, Ok, Err, length, nat_lt, refl, sym, ap, subst, ◌∙◌, arith, rules, tests}
-use Rattle.std.specs.Prelude.{IfOk}
+use Rattle.std.proofs.Common.{◌≡◌, ℕ, zero, suc, ◌<◌, ◌≤◌, ◌==◌, Bool, true, false, List, [], ◌∷◌, ◌++◌, Option, Result, Err, length, nat_lt, refl, sym, ap, subst, ◌∙◌, arith, rules, tests}
 use Rattle.std.proofs.lemmas.List.{length-append, length-map}
 use Rattle.std.proofs.lemmas.List.Elements.{All-nil, All-cons}
 use Rattle.crush_bytes.specs.Writes.{Writes}
@@ -22,13 +21,13 @@ use Rattle.crush_view.proofs.PartLaws.{since_text_is_some}
 use Rattle.crush_view.proofs.WalkLaws.{tree_text_is_some}
 use Rattle.crush_calls.proofs.Histories.{turns_are_history}
 use Rattle.crush_editor.specs.Book.{MakesAll}
-use Rattle.crush_run.specs.declared.asked.Asked.{Asked}
-use Rattle.crush_run.specs.declared.asked.Asked.TheVariants as asked
-use Rattle.crush_run.specs.declared.fault.RunFault.{RunFault}
-use Rattle.crush_run.specs.declared.summary.Summary.{Summary}
+use Rattle.crush_input.specs.declared.asked.Asked.{Asked}
+use Rattle.crush_input.specs.declared.asked.Asked.TheVariants as asked
+use Rattle.crush_input.specs.declared.fault.RunFault.{RunFault}
+use Rattle.crush_input.specs.declared.summary.Summary.{Summary}
 use Rattle.crush_script.specs.Job.{JobData}
 use Rattle.crush_run.specs.Run.{Ends, IsRunOf, lines_asked, main_text, output_of}
-use Rattle.crush_run.specs.Notes.{weight_notes}
+use Rattle.crush_input.specs.Notes.{weight_notes}
 use Rattle.crush_run.specs.Stages.{EndsLeft, HaveRun, IsEarlyFault, RunsScripts}
 use Rattle.crush_run.proofs.Early.{early_strict, early_told}
 use Rattle.crush_run.proofs.Told.{nothing_written}
@@ -155,12 +154,3 @@ left_ends mode what job adjusted m lines weights names h es r old new notes left
 pub weighed_of_all : (mode : Mode) (what : Asked) (job : JobData) (bytes xs : List ℕ) (r : Result Summary RunFault) (old new : Option (List ℕ)) (notes : List ℕ) → bytes ≡ xs
     → Ends mode what job (weight_notes mode.explain bytes job.table) r old new notes → Ends mode what job (weight_notes mode.explain xs job.table) r old new notes
 weighed_of_all mode what job bytes xs r old new notes same ends = subst (λ (z : List ℕ). Ends mode what job (weight_notes mode.explain z job.table) r old new notes) same ends
-
--- what follows of one promise of a run that was done, and of two
-pub when_ok : {X E : Type 0} (P Q : X → Type 0) (r : Result X E) → ((x : X) → P x → Q x) → IfOk r P → IfOk r Q
-when_ok P Q (Ok x) then_is p = then_is x p
-when_ok P Q (Err e) then_is p = tt
-
-pub when_both : {X E : Type 0} (P S Q : X → Type 0) (r : Result X E) → ((x : X) → P x → S x → Q x) → IfOk r P → IfOk r S → IfOk r Q
-when_both P S Q (Ok x) then_is p s = then_is x p s
-when_both P S Q (Err e) then_is p s = tt

@@ -1,9 +1,4 @@
-pub mod Faults
-pub mod Input
-pub mod Joined
 pub mod Options
-pub mod Notes
-pub mod Origins
 pub mod Run
 pub mod Script
 pub mod Stages

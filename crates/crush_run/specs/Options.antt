@@ -1,59 +1,14 @@
 -- What a command line asks a run for.
-use Rattle.std.specs.Prelude.{◌≡◌, ◌⊎◌, ℕ, ◌<◌, ◌≤◌, Bool, false, List, [], Option, None, Some, Result, Ok, Err, IfSome, String, length, slice_index_or}
-use Rattle.crush_table.specs.Table.{Row}
-use Rattle.crush_table.specs.Stands.{Stands}
-use Rattle.crush_map.specs.MapData.{MapData}
-use Rattle.crush_text.specs.Document.{IsMapText}
-use Rattle.crush_text.specs.Flaw.{IsMapFlaw}
+use Rattle.std.specs.Prelude.{ℕ, List, Option, Result, Ok, Err, IfSome}
 use Rattle.crush_script.specs.Job.{HasJob, JobData}
 use Rattle.crush_options.specs.declared.asked.Options.{Options}
-use Rattle.crush_options.specs.declared.asked.Printed.{Printed}
-use Rattle.crush_options.specs.declared.asked.Printed.TheVariants as printed
-use Rattle.crush_units.specs.declared.limits.TheConstants.{LONGEST_JOB}
-use Rattle.crush_run.specs.declared.asked.Asked.{Asked}
-use Rattle.crush_run.specs.declared.asked.Asked.TheVariants as asked
-use Rattle.crush_run.specs.declared.fault.RunFault.{RunFault}
-use Rattle.crush_run.specs.declared.fault.RunFault.TheVariants as run
-use Rattle.crush_run.specs.declared.fault.SinceFault.{SinceFault}
-use Rattle.crush_run.specs.declared.fault.SinceFault.TheVariants as since
-use Rattle.crush_run.specs.declared.summary.Summary.{Summary}
-use Rattle.crush_run.specs.Input.{job_bytes}
-use Rattle.crush_run.specs.Notes.{IsMapNoted, IsNoted, IsUnopened, weight_notes}
-use Rattle.crush_run.specs.Origins.{job_origin}
+use Rattle.crush_input.specs.declared.asked.Asked.{Asked}
+use Rattle.crush_input.specs.declared.fault.RunFault.{RunFault}
+use Rattle.crush_input.specs.declared.fault.RunFault.TheVariants as run
+use Rattle.crush_input.specs.declared.summary.Summary.{Summary}
+use Rattle.crush_input.specs.Notes.{weight_notes}
 use Rattle.crush_run.specs.Run.{Ends, IsRunFault}
-
--- the map is one whose text the bytes are, no more than a job may have
-pub record IsTextOf (m : MapData) (bytes : List ℕ) : Type 0 where
-  pub short : length bytes ≤ LONGEST_JOB
-  pub table : List Row
-  pub adjusted : ℕ
-  pub text : IsMapText bytes m.setting table adjusted
-  pub stands : Stands m.forest table
-
--- what is printed where the words ask for it; of a map since which changes are asked for, what its file has is its text
-abbrev pub IsAskedOf : (List ℕ → Option (List ℕ)) → Printed → Asked → Type 0
-IsAskedOf content printed.Map what = what ≡ asked.Map
-IsAskedOf content printed.Tree what = what ≡ asked.Tree
-IsAskedOf content printed.AsCeph what = what ≡ asked.AsCeph
-IsAskedOf content (printed.Since name) (asked.Since m) = IfSome (content name.bytes.items) (IsTextOf m)
-IsAskedOf content (printed.Since name) what = ⊥
-
--- why the bytes of a map since which changes are asked for give none: they have this flaw, or are more than a job may have
-abbrev pub IsSinceFault : List ℕ → SinceFault → Type 0
-IsSinceFault bytes (since.Text fault) = (length bytes ≤ LONGEST_JOB) × IsMapFlaw bytes fault
-IsSinceFault bytes since.TooLong = LONGEST_JOB < length bytes
-IsSinceFault bytes since.Read = Unit {0}
-
--- what may fail while such a map is read
-abbrev pub IsMapFault : Option (List ℕ) → RunFault → Type 0
-IsMapFault all (run.Since fault) = IfSome all (λ bytes. IsSinceFault bytes fault)
-IsMapFault all run.Memory = Unit {0}
-IsMapFault all fault = ⊥
-
--- and while what the words ask for is made: that alone, and only where they ask for one
-abbrev pub IsAskedFault : (List ℕ → Option (List ℕ)) → Printed → RunFault → Type 0
-IsAskedFault content (printed.Since name) fault = IsMapFault (content name.bytes.items) fault
-IsAskedFault content what fault = ⊥
+use Rattle.crush_input.specs.Options.{IsAskedFault, IsAskedOf}
 
 -- when each fault is told: one of another map only where a job was read, and else as of any run
 abbrev pub IsOptionsFault : (List ℕ → Option (List ℕ)) → Options → Option (List ℕ) → RunFault → Type 0
@@ -73,43 +28,3 @@ EndsAsAsked content options bytes job (Ok s) old new notes = EndsAsked content o
 EndsAsAsked content options bytes job (Err run.Write) old new notes = EndsAsked content options bytes job (Err run.Write) old new notes
 EndsAsAsked content options bytes job (Err (run.Refused n)) old new notes = EndsAsked content options bytes job (Err (run.Refused n)) old new notes
 EndsAsAsked content options bytes job (Err fault) old new notes = Unit {0}
-
--- what is noted of a fault of what the words ask for
-abbrev pub IsAskedNoted : (List ℕ → Option (List ℕ)) → Bool → Printed → RunFault → List ℕ → Type 0
-IsAskedNoted content explain (printed.Since name) fault notes = IsMapNoted explain name.bytes.items (content name.bytes.items) fault notes
-IsAskedNoted content explain what fault notes = ⊥
-
--- one of these names of scripts is this
-pub record IsScript {Z : Type 0} (scripts : List (String Z)) (name : List ℕ) : Type 0 where
-  pub place : ℕ
-  pub there : place < length scripts
-  pub script : String Z
-  pub is : script ≡ slice_index_or scripts place script
-  pub bytes : script.bytes.items ≡ name
-
--- the job is read from a file of this name
-abbrev pub IsFile : {Z : Type 0} → Option (String Z) → List ℕ → Type 0
-IsFile None name = ⊥
-IsFile (Some file) name = file.bytes.items ≡ name
-
--- a file that the options name for a job can't be opened
-pub record IsPartUnopened (options : Options) (notes : List ℕ) : Type 0 where
-  pub name : List ℕ
-  pub named : IsFile options.file name ⊎ IsScript options.scripts.items name
-  pub unopened : IsUnopened name notes
-
--- NOTES OF A JOB that wasn't read: where reasons are asked for and a file of it can't be opened that, and else nothing
-abbrev pub IsReadNoted : Options → List ℕ → Type 0
-IsReadNoted options notes = (options.mode.explain ≡ false → notes ≡ []) × ((notes ≡ []) ⊎ IsPartUnopened options notes)
-
--- and of a job whose reading met any fault
-abbrev pub IsPartNoted : Options → RunFault → List ℕ → Type 0
-IsPartNoted options run.Read notes = IsReadNoted options notes
-IsPartNoted options fault notes = notes ≡ []
-
--- NOTED AS ASKED: a fault of another map by its place there, one of a read by its file, and else as of any run, with the places of
--- a fault in the file that it comes from
-abbrev pub IsNotedAsAsked : (List ℕ → Option (List ℕ)) → Options → Option (List ℕ) → Result Summary RunFault → List ℕ → Type 0
-IsNotedAsAsked content options input (Err (run.Since fault)) notes = IsAskedNoted content options.mode.explain options.printed (run.Since fault) notes
-IsNotedAsAsked content options input (Err run.Read) notes = IsReadNoted options notes
-IsNotedAsAsked content options input result notes = IsNoted options.mode.explain (job_origin content options input) (job_bytes content options input) result notes

@@ -1,7 +1,5 @@
 -- The run of a job: what its contract says, on one page.
-use Rattle.std.specs.Prelude.{◌≡◌, ◌<◌, ◌≤◌, ◌+◌, ℕ, Option, Result, Ok, Err, IfOk, IfSome, List, [], ◌++◌, Bool, true, false, if◌then◌else◌, length}
-use Rattle.std.specs.Io.KnownBytes.{Consumes}
-use Rattle.crush_units.specs.declared.limits.TheConstants.{LONGEST_JOB}
+use Rattle.std.specs.Prelude.{◌≡◌, ◌+◌, ℕ, Option, Result, IfOk, IfSome, List, [], ◌++◌, Bool, true, false, if◌then◌else◌, length}
 use Rattle.crush_bytes.specs.Writes.{Writes}
 use Rattle.crush_table.specs.Forest.{rows_of}
 use Rattle.crush_table.specs.Table.{Row}
@@ -13,17 +11,15 @@ use Rattle.crush_reasons.specs.Ceph.{ceph_text}
 use Rattle.crush_calls.specs.History.{EntryData, IsLegal, of_operator, table_after, changes, turns}
 use Rattle.crush_calls.specs.Turns.{calls_at, calls_of}
 use Rattle.crush_calls.specs.HistoryText.{entries_text, names_of}
-use Rattle.crush_calls.specs.Refused.{refusals}
-use Rattle.crush_script.specs.Fault.{lacks_memory}
-use Rattle.crush_script.specs.Job.{JobData, HasJob, IsJobFault}
-use Rattle.crush_script.specs.declared.fault.JobFault.{JobFault}
+use Rattle.crush_script.specs.Job.{JobData, HasJob}
 use Rattle.crush_options.specs.declared.asked.Mode.{Mode}
-use Rattle.crush_run.specs.declared.asked.Asked.{Asked}
-use Rattle.crush_run.specs.declared.asked.Asked.TheVariants as asked
-use Rattle.crush_run.specs.declared.fault.RunFault.{RunFault}
-use Rattle.crush_run.specs.declared.fault.RunFault.TheVariants as run
-use Rattle.crush_run.specs.declared.summary.Summary.{Summary}
-use Rattle.crush_run.specs.Notes.{HistoryNoted}
+use Rattle.crush_input.specs.declared.asked.Asked.{Asked}
+use Rattle.crush_input.specs.declared.asked.Asked.TheVariants as asked
+use Rattle.crush_input.specs.declared.fault.RunFault.{RunFault}
+use Rattle.crush_input.specs.declared.fault.RunFault.TheVariants as run
+use Rattle.crush_input.specs.declared.summary.Summary.{Summary}
+use Rattle.crush_input.specs.Notes.{HistoryNoted, IsStrict}
+use Rattle.crush_input.specs.Faults.{IsRefusal}
 
 -- RUN: a history of a job. Each reply is the table's at that point; the calls of each operator are its script's, in order, and
 -- there are no others; in turn the scripts run one after the other
@@ -56,13 +52,6 @@ summed adjusted h = record { adjusted = adjusted; calls = length h; changes = ch
 abbrev pub summary_of : JobData → List EntryData → Summary
 summary_of job h = summed job.adjusted h
 
--- STRICT: a strict run that comes to its output has no refused entry, and one that ends by refusals tells how many there are
-abbrev pub IsStrict : {X : Type 0} → Bool → List EntryData → Result X RunFault → Type 0
-IsStrict strict h (Ok x) = strict ≡ true → refusals h ≡ 0
-IsStrict strict h (Err run.Write) = strict ≡ true → refusals h ≡ 0
-IsStrict strict h (Err (run.Refused n)) = (strict ≡ true) × (n ≡ refusals h) × (0 < n)
-IsStrict strict h (Err fault) = Unit {0}
-
 -- ENDS: there is a run of the job whose output is written, or after a fault a prefix of it that isn't the whole, which the
 -- summary sums up, whose refused entries end it where it is strict, and are noted, with these lines of written weights
 pub record Ends (mode : Mode) (what : Asked) (job : JobData) (weights : List ℕ) (result : Result Summary RunFault) (old new : Option (List ℕ)) (notes : List ℕ) : Type 0 where
@@ -72,14 +61,6 @@ pub record Ends (mode : Mode) (what : Asked) (job : JobData) (weights : List ℕ
   pub summary : IfOk result (λ (s : Summary). s ≡ summary_of job history)
   pub strict : IsStrict mode.strict history result
   pub noted : HistoryNoted mode weights (names_of job.scripts) history result notes
-
--- TAKEN: of the reader's bytes no more are taken than the longest job has and one more, its first
-abbrev pub TakesFew : Option (List ℕ) → Option (List ℕ) → Type 0
-TakesFew old new = (taken : List ℕ) × (length taken ≤ LONGEST_JOB + 1) × Consumes old new taken
-
--- a fault of the job is one of the bytes, and never out of memory, also not as a fault of its text
-abbrev pub IsRefusal : Option (List ℕ) → JobFault → Type 0
-IsRefusal all fault = (lacks_memory fault ≡ false) × IfSome all (λ bytes. IsJobFault bytes fault)
 
 -- when each fault is told: Job of bytes that are no job, Write, Thread and Refused only of bytes that are one, Thread never in
 -- turn, Refused of strict runs alone, and none of another map, which no run of a job reads

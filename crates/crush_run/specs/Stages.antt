@@ -1,4 +1,4 @@
--- The stages of a run: what comes of each, and which faults may come at which.
+-- The stages of a run of a job: what comes of each, and which faults may come at which.
 use Rattle.std.specs.Prelude.{◌≡◌, ◌≢◌, ℕ, List, ◌++◌, Bool, false, true, Option, Result, IfOk, IfErr}
 use Rattle.std.specs.Io.KnownBytes.{Keeps}
 use Rattle.crush_bytes.specs.Writes.{Writes}
@@ -7,33 +7,15 @@ use Rattle.crush_table.specs.Table.{Row}
 use Rattle.crush_map.specs.MapData.{MapData, MapStands}
 use Rattle.crush_calls.specs.History.{EntryData, table_after}
 use Rattle.crush_calls.specs.Script.{ScriptData}
-use Rattle.crush_script.specs.Job.{JobData, JobStands}
+use Rattle.crush_script.specs.Job.{JobData}
 use Rattle.crush_options.specs.declared.asked.Mode.{Mode}
-use Rattle.crush_run.specs.declared.fault.RunFault.{RunFault}
-use Rattle.crush_run.specs.declared.fault.RunFault.TheVariants as run
-use Rattle.crush_run.specs.declared.asked.Asked.{Asked}
-use Rattle.crush_run.specs.declared.ending.Weighed.{Weighed}
-use Rattle.crush_run.specs.declared.summary.Summary.{Summary}
+use Rattle.crush_input.specs.declared.fault.RunFault.{RunFault}
+use Rattle.crush_input.specs.declared.fault.RunFault.TheVariants as run
+use Rattle.crush_input.specs.declared.asked.Asked.{Asked}
+use Rattle.crush_input.specs.declared.summary.Summary.{Summary}
 use Rattle.crush_reasons.specs.Place.{OriginData}
-use Rattle.crush_run.specs.Notes.{HistoryNoted, IsNoted, weight_notes}
-use Rattle.crush_run.specs.Run.{IsRefusal, IsRunOf, IsStrict, lines_asked, main_text, summed}
-
--- what may fail while the bytes are read
-abbrev pub IsInputFault : RunFault → Type 0
-IsInputFault run.Read = Unit {0}
-IsInputFault run.Memory = Unit {0}
-IsInputFault fault = ⊥
-
--- what may fail while the bytes read are taken for a job: they are none, or memory runs out
-abbrev pub IsNoJob : Option (List ℕ) → RunFault → Type 0
-IsNoJob all (run.Job fault) = IsRefusal all fault
-IsNoJob all run.Memory = Unit {0}
-IsNoJob all fault = ⊥
-
--- what may fail up to that
-abbrev pub IsReadFault : Option (List ℕ) → RunFault → Type 0
-IsReadFault all run.Read = Unit {0}
-IsReadFault all fault = IsNoJob all fault
+use Rattle.crush_input.specs.Notes.{HistoryNoted, IsNoted, IsStrict}
+use Rattle.crush_run.specs.Run.{IsRunOf, lines_asked, main_text, summed}
 
 -- what may fail while operators are at work at once
 abbrev pub IsAtOnceFault : RunFault → Type 0
@@ -61,11 +43,6 @@ IsEarlyFault run.Write = ⊥
 IsEarlyFault (run.Refused n) = ⊥
 IsEarlyFault fault = Unit {0}
 
--- what the check of a strict run may answer
-abbrev pub IsStrictFault : RunFault → Type 0
-IsStrictFault (run.Refused n) = Unit {0}
-IsStrictFault fault = ⊥
-
 -- what may fail once there is a history
 abbrev pub IsWritingFault : Bool → RunFault → Type 0
 IsWritingFault strict run.Write = Unit {0}
@@ -91,8 +68,3 @@ pub record EndsLeft (mode : Mode) (what : Asked) (adjusted : ℕ) (m : MapData) 
   pub strict : IsStrict mode.strict h result
   pub told : HistoryNoted mode weights names h result notes
   pub noted : (origin : ℕ → OriginData) (all : Option (List ℕ)) → IsNoted mode.explain origin all result notes
-
--- what was read of a job: it stands for the job, and the lines of its written weights are these of its bytes
-pub record IsWeighed (explain : Bool) (bytes : List ℕ) (job : JobData) (read : Weighed) : Type 0 where
-  pub stands : JobStands read.job job
-  pub weights : read.weights.items ≡ weight_notes explain bytes job.table

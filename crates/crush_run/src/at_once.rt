@@ -6,11 +6,11 @@ ghost use Rattle.crush_editor.specs.Book.{MakesAll};
 ghost use Rattle.crush_run.specs.Script.{Carries};
 ghost use Rattle.crush_run.specs.Stages.{IsAtOnceFault};
 
-use crate::fault::RunFault;
 use crate::gate::Gate;
 use crate::worker::{Crew, Finished};
 use crush_calls::Script;
 use crush_editor::{Closed, Desk, Editor, Seat, Started, Unkept};
+use crush_input::RunFault;
 use crush_map::CrushMap;
 use std::alloc::Global;
 use std::marker::Brand;

@@ -2,9 +2,7 @@
 
 ghost use Rattle.std.specs.Prelude.{◌≡◌, [], Err};
 
-use crate::fault::RunFault;
-use crate::summary::Summary;
-use crush_script::Job;
+use crush_input::{RunFault, Stopped, Summary};
 use std::alloc::Global;
 
 /// How a run ended.
@@ -31,42 +29,13 @@ impl Ending {
             notes: Vec::new(alloc),
         }
     }
-}
 
-/// A job that was read, and what is noted of its text.
-#[derive(Drop)]
-pub(crate) struct Weighed {
-    pub(crate) job: Job,
-    /// The lines of written weights that aren't sums, where reasons are asked for.
-    pub(crate) weights: Vec<u8>,
-}
-
-/// Why a run stopped before its scripts ran.
-#[derive(Debug, Drop)]
-pub(crate) struct Stopped {
-    pub(crate) fault: RunFault,
-    /// What is told of it below the one line.
-    pub(crate) notes: Vec<u8>,
-}
-
-impl Stopped {
-    /// A fault of which nothing is told.
-    pub(crate) fn quietly(alloc: Global, fault: RunFault) -> Stopped
-        ensures fault { result.fault ≡ fault }
-        ensures quiet { result.notes.items ≡ [] }
+    /// That of a run that stopped before its scripts ran.
+    pub(crate) fn of_stopped(stopped: Stopped) -> Ending
+        ensures outcome { result.outcome ≡ Err stopped.fault }
+        ensures notes { result.notes.items ≡ stopped.notes.items }
     {
-        Stopped {
-            fault,
-            notes: Vec::new(alloc),
-        }
-    }
-
-    /// The end of a run that stopped so.
-    pub(crate) fn end(self) -> Ending
-        ensures outcome { result.outcome ≡ Err self.fault }
-        ensures notes { result.notes.items ≡ self.notes.items }
-    {
-        let Stopped { fault, notes } = self;
+        let Stopped { fault, notes } = stopped;
         Ending {
             outcome: Err(fault),
             notes,

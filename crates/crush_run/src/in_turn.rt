@@ -9,10 +9,10 @@ ghost use Rattle.crush_calls.specs.Script.{scripts_data};
 ghost use Rattle.crush_calls.specs.History.{behind, counted_after, table_after, turn, turns};
 ghost use Rattle.crush_calls.specs.Entries.{AreOf};
 
-use crate::fault::RunFault;
 use crate::gate::Gate;
 use crush_calls::{Call, Script};
 use crush_editor::{Book, Closed, MapGauge, Started, Unkept};
+use crush_input::RunFault;
 use crush_map::CrushMap;
 use std::alloc::Global;
 use std::sync::Wait;

@@ -1,83 +1,21 @@
 //! The run that a command line asks for.
 
-ghost use Rattle.std.specs.Prelude.{◌≡◌, ◌≢◌, ◌≤◌, ℕ, List, [], Err, None, Some, IfOk, IfErr, IfSome, false, length};
+ghost use Rattle.std.specs.Prelude.{◌≡◌, ◌≢◌, ℕ, List, None, Some, IfOk, IfErr, IfSome};
 ghost use Rattle.std.specs.Io.KnownBytes.{Keeps};
 ghost use Rattle.crush_script.specs.Job.{HasJob, IsJob, JobData};
-ghost use Rattle.crush_run.specs.Input.{job_bytes};
-ghost use Rattle.crush_run.specs.Options.{EndsAsAsked, IsAskedFault, IsAskedNoted, IsAskedOf, IsNotedAsAsked, IsOptionsFault};
-ghost use Rattle.crush_run.specs.Run.{TakesFew};
-ghost use Rattle.crush_run.specs.Stages.{IsReadFault, IsWeighed};
-ghost use Rattle.crush_units.specs.declared.limits.TheConstants.{MOST_OPERATORS};
+ghost use Rattle.crush_input.specs.Input.{TakesFew, job_bytes};
+ghost use Rattle.crush_input.specs.Options.{IsNotedAsAsked};
+ghost use Rattle.crush_run.specs.Options.{EndsAsAsked, IsOptionsFault};
 
-use crate::asked::{Asked, Plan};
-use crate::ending::{Ending, Stopped, Weighed};
-use crate::fault::RunFault;
-use crate::files::Opens;
+use crate::ending::Ending;
 use crate::gate::NoGate;
-use crate::input::{Joined, read_all};
-use crate::origins::{Origins, first_name};
-use crate::run::{job_of, run_read};
-use crate::since::read_since;
-use crush_options::{Options, Printed};
+use crate::run::run_read;
+use crush_input::{Opens, Plan, RunFault, asked_of, read_whole};
+use crush_options::Options;
 use std::io::{Read, Write};
 use std::random::RandomSource;
 use std::sync::Wait;
 use std::thread::Threads;
-
-/// What is asked for by the words of a command line, with the map since which changes are, where
-/// they are.
-fn asked_of<H: AllocGlobal + RandomSource, F: Opens>(
-    rt: &H,
-    files: &F,
-    explain: bool,
-    printed: &Printed,
-) -> Result<Asked, Stopped>
-    ensures asked { IfOk result (IsAskedOf (F.content files.now) printed.now) }
-    ensures fault { IfErr result (λ stopped.
-        IsAskedFault (F.content files.now) printed.now stopped.fault) }
-    ensures noted { IfErr result (λ stopped.
-        IsAskedNoted (F.content files.now) explain printed.now stopped.fault stopped.notes.items) }
-{
-    match printed {
-        Printed::Map => Ok(Asked::Map),
-        Printed::Tree => Ok(Asked::Tree),
-        Printed::Since(name) => match read_since(rt, files, explain, name.as_str()) {
-            Ok(map) => Ok(Asked::Since(map)),
-            Err(stopped) => Err(stopped),
-        },
-        Printed::AsCeph => Ok(Asked::AsCeph),
-    }
-}
-
-/// Reads the job that the options name, with the scripts of its files.
-fn read_whole<H: AllocGlobal + RandomSource, F: Opens, R: Read>(
-    rt: &H,
-    files: &F,
-    options: &Options,
-    input: &mut R,
-) -> Result<Weighed, Stopped>
-    ensures job { IfOk result (λ _.
-        IfSome (job_bytes (F.content files.now) options.now (R.remaining input.old)) HasJob) }
-    ensures only { (bytes : List ℕ) (job : JobData)
-        → job_bytes (F.content files.now) options.now (R.remaining input.old) ≡ Some bytes
-        → IsJob bytes job → IfOk result (IsWeighed options.now.mode.explain bytes job) }
-    ensures plain { IfOk result (λ read. options.now.mode.explain ≡ false
-        → read.weights.items ≡ []) }
-    ensures few { IfOk result (λ read. length read.job.scripts.items ≤ MOST_OPERATORS) }
-    ensures input { options.now.file ≢ None → R.remaining input.new ≡ R.remaining input.old }
-    ensures taken { TakesFew (R.remaining input.old) (R.remaining input.new) }
-    ensures fault { IfErr result (λ stopped. IsReadFault
-        (job_bytes (F.content files.now) options.now (R.remaining input.old)) stopped.fault) }
-    ensures noted { IfErr result (λ stopped. IsNotedAsAsked (F.content files.now) options.now
-        (R.remaining input.old) (Err stopped.fault) stopped.notes.items) }
-{
-    let Joined { bytes, parts } = read_all(rt.alloc(), files, options, input)?;
-    let origins = Origins {
-        first: first_name(options),
-        parts: parts.as_slice(),
-    };
-    job_of(rt, options.mode.explain, origins, bytes)
-}
 
 /// Runs the job of the file that the options name, or else of standard input, with the scripts of
 /// the files that they name behind it, as [`run_job`](crate::run_job) runs it. A file that can't be
@@ -134,12 +72,12 @@ where
 {
     let job = match read_whole(rt, files, options, input) {
         Ok(job) => job,
-        Err(stopped) => return stopped.end(),
+        Err(stopped) => return Ending::of_stopped(stopped),
     };
     let mode = options.mode;
     let asked = match asked_of(rt, files, mode.explain, &options.printed) {
         Ok(asked) => asked,
-        Err(stopped) => return stopped.end(),
+        Err(stopped) => return Ending::of_stopped(stopped),
     };
     run_read(rt, &NoGate, &Plan { mode, asked }, job, output)
 }

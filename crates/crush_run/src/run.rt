@@ -10,33 +10,31 @@ ghost use Rattle.crush_calls.specs.HistoryText.{names_of};
 ghost use Rattle.crush_script.specs.Job.{HasJob, IsJob, JobData, JobStands};
 ghost use Rattle.crush_calls.specs.Script.{scripts_data};
 ghost use Rattle.crush_reasons.specs.Place.{OriginData};
-ghost use Rattle.crush_run.specs.Notes.{IsFaultNoted, IsNoted, has_history, weight_notes};
-ghost use Rattle.crush_run.specs.Origins.{no_origin, origin_of};
-ghost use Rattle.crush_run.specs.Run.{Ends, IsRunFault, IsStrict, TakesFew, lines_asked, main_text, summed};
+ghost use Rattle.crush_input.specs.Input.{TakesFew};
+ghost use Rattle.crush_input.specs.Notes.{IsNoted, IsStrict, has_history, weight_notes};
+ghost use Rattle.crush_input.specs.Origins.{no_origin};
+ghost use Rattle.crush_run.specs.Run.{Ends, IsRunFault, lines_asked, main_text, summed};
 ghost use Rattle.crush_reasons.specs.Ceph.{ceph_text};
-ghost use Rattle.crush_run.specs.Stages.{EndsLeft, IsNoJob, IsOutcomeFault, IsScriptsFault, IsWeighed, IsWritingFault, RunsScripts};
+ghost use Rattle.crush_run.specs.Stages.{EndsLeft, IsOutcomeFault, IsScriptsFault, IsWritingFault, RunsScripts};
 ghost use Rattle.crush_units.specs.declared.limits.TheConstants.{MOST_ENTRIES, MOST_OPERATORS};
 
-use crate::asked::{Asked, Plan};
 use crate::at_once::run_at_once;
-use crate::ending::{Ending, Stopped, Weighed};
-use crate::fault::RunFault;
+use crate::ending::Ending;
 use crate::gate::Gate;
 use crate::in_turn::run_in_turn;
-use crate::input::read_bytes;
-use crate::notes::{check_strict, history_notes, stopped_by, weighed};
-use crate::origins::Origins;
-use crate::summary::Summary;
 use crush_bytes::{WriteFault, put};
 use crush_calls::{Entry, Script, count_changes, history_text};
 use crush_editor::{Closed, Unkept};
-use crush_map::{CrushMap, Hashing};
+use crush_input::{
+    Asked, Origins, Plan, RunFault, Summary, Weighed, check_strict, history_notes, job_of,
+    read_bytes,
+};
+use crush_map::CrushMap;
 use crush_print::write_map;
 use crush_reasons::ceph_text;
-use crush_script::{Job, read_job};
+use crush_script::Job;
 use crush_view::{write_since, write_tree};
 use std::alloc::{AllocError, Global};
-use std::hash::RandomState;
 use std::io::{Read, Write};
 use std::random::RandomSource;
 use std::sync::Wait;
@@ -277,42 +275,6 @@ pub(crate) fn run_read<H: AllocGlobal + Threads + Wait + Sync, G: Gate + Sync, W
     end_run(alloc, plan, &left, writer)
 }
 
-/// Hashing with keys that the system draws. It hashes without keys where none can be drawn.
-pub(crate) fn drawn_hashing<H: RandomSource>(rt: &H) -> Hashing {
-    match RandomState::new(rt) {
-        Ok(keys) => Hashing::keyed(keys),
-        Err(_) => Hashing::plain(),
-    }
-}
-
-/// Reads the job that these bytes are, whose lines come from there.
-pub(crate) fn job_of<H: AllocGlobal + RandomSource>(
-    rt: &H,
-    explain: bool,
-    origins: Origins<'_>,
-    bytes: Vec<u8>,
-) -> Result<Weighed, Stopped>
-    ensures job { IfOk result (λ _. HasJob bytes.items) }
-    ensures only { (job : JobData) → IsJob bytes.items job
-        → IfOk result (IsWeighed explain bytes.items job) }
-    ensures plain { IfOk result (λ read. explain ≡ false → read.weights.items ≡ []) }
-    ensures fault { IfErr result (λ stopped. IsNoJob (Some bytes.items) stopped.fault) }
-    ensures noted { IfErr result (λ stopped. IsFaultNoted explain (origin_of origins.entry)
-        (Some bytes.items) stopped.fault stopped.notes.items) }
-    ensures few { IfOk result (λ read. length read.job.scripts.items ≤ MOST_OPERATORS) }
-{
-    let alloc = rt.alloc();
-    let bytes = bytes.as_slice();
-    let job = match read_job(alloc, drawn_hashing(rt), bytes) {
-        Ok(job) => job,
-        Err(fault) => return Err(stopped_by(alloc, explain, origins, bytes, fault)),
-    };
-    match weighed(alloc, explain, bytes, job) {
-        Ok(read) => Ok(read),
-        Err(_) => Err(Stopped::quietly(alloc, RunFault::Memory)),
-    }
-}
-
 /// Runs a job of which these are the bytes, as [`run_job`] runs one that it reads.
 fn run_bytes<H, G, W>(rt: &H, gate: &G, plan: &Plan, bytes: Vec<u8>, writer: &mut W) -> Ending
 where
@@ -332,7 +294,7 @@ where
 {
     match job_of(rt, plan.mode.explain, Origins::none(), bytes) {
         Ok(job) => run_read(rt, gate, plan, job, writer),
-        Err(stopped) => stopped.end(),
+        Err(stopped) => Ending::of_stopped(stopped),
     }
 }
 

@@ -5,11 +5,11 @@ ghost use denote.Param.Send.{IsSync, IsSend};
 ghost use Rattle.crush_run.specs.Script.{AreFresh, HasRun, HasRunScript, IsTask};
 ghost use Rattle.crush_run.specs.Stages.{IsAtOnceFault};
 
-use crate::fault::RunFault;
 use crate::gate::Gate;
 use crate::worker::{Crew, Finished, Task};
 use crush_calls::{Call, Script};
 use crush_editor::{Desk, Seat};
+use crush_input::RunFault;
 use std::alloc::Global;
 use std::snapshot::Snapshot;
 use std::sync::Wait;

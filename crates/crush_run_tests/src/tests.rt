@@ -126,5 +126,5 @@ fn is_told(
     status: u8,
 ) -> bool {
     let mut err = Vec::new(rt.alloc());
-    report(outcome, false, b"", &mut err) == status && err.as_slice() == line
+    report(outcome, false, b"", &mut err).status == status && err.as_slice() == line
 }

@@ -26,10 +26,12 @@ fn main(rt: HostRuntime) -> ExitCode {
             );
             let outcome = stored(&rt, outcome);
             let explain = options.mode.explain;
-            report(&outcome, explain, notes.as_slice(), &mut rt.stderr())
+            report(&outcome, explain, notes.as_slice(), &mut rt.stderr()).status
         }
         Err(fault) => match tell(&fault, &mut rt.stdout(), &mut rt.stderr()) {
-            0 if !is_stored(&rt) => report(&Err(RunFault::Write), false, b"", &mut rt.stderr()),
+            0 if !is_stored(&rt) => {
+                report(&Err(RunFault::Write), false, b"", &mut rt.stderr()).status
+            }
             status => status,
         },
     };

@@ -12,8 +12,7 @@ use std::process::Abort;
 
 /// Whether out of memory is one fault, whoever tells it.
 fn is_one_fault() -> bool {
-    RunFault::from(JobFault::OutOfMemory) == RunFault::Memory
-        && RunFault::from(WriteFault::OutOfMemory) == RunFault::Memory
+    RunFault::from(WriteFault::OutOfMemory) == RunFault::Memory
         && RunFault::from(AllocError) == RunFault::Memory
 }
 
@@ -57,11 +56,12 @@ impl Write for Closed {
 fn keeps_the_status_where_standard_error_fails(rt: HostRuntime) {
     let mut held = [0u8; 14];
     let mut room = held.as_mut_slice();
-    let status = report(&Err(RunFault::Read), false, b"", &mut room);
+    let told = report(&Err(RunFault::Read), false, b"", &mut room);
     assert!(rt;
-        status == 3
+        told.status == 3
+            && told.written.is_err()
             && held == *b"crushedit: rea"
-            && report(&Err(RunFault::Memory), false, b"", &mut Closed) == 4
+            && report(&Err(RunFault::Memory), false, b"", &mut Closed).status == 4
     );
 }
 

@@ -43,7 +43,9 @@ pub(super) fn ends_so(
         mode.explain,
         ending.notes.as_slice(),
         &mut err,
-    ) == end.status;
+    )
+    .status
+        == end.status;
     let came = ending.outcome == end.outcome;
     drop(ending);
     came && told_so && out.as_slice() == end.output && err.as_slice() == end.told

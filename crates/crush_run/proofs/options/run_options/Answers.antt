@@ -1,5 +1,5 @@
-use Rattle.crush_run.specs.Input.{job_bytes}
-use Rattle.crush_run.specs.Origins.{job_origin}
+use Rattle.crush_input.specs.Input.{job_bytes}
+use Rattle.crush_input.specs.Origins.{job_origin}
 use Rattle.crush_run.proofs.Asking.{ended_as_asked, ended_before_output, ending_as_asked, job_where_done, options_fault_of_outcome, options_fault_of_read}
 use Rattle.crush_run.proofs.Early.{early_of_read}
 use Rattle.crush_run.proofs.options.run_options.Goals as goal
@@ -7,13 +7,13 @@ use Rattle.crush_run.proofs.options.run_options.Goals as goal
 -- a fault of reading comes before there is a job
 pub returns-in-Err-clause-output : goal.returns-in-Err-clause-output
 returns-in-Err-clause-output g c = λ bytes job all is.
-    ended_before_output _ _ bytes job _ _ _ _ _ c.end.ensures.outcome (early_of_read (job_bytes (g.F.Opens.content c.args.files.now) c.args.options.now (g.R.Read.remaining c.args.input.now)) _ c.in-Err.ensures.fault)
+    ended_before_output _ _ bytes job _ _ _ _ _ c.of_stopped.ensures.outcome (early_of_read (job_bytes (g.F.Opens.content c.args.files.now) c.args.options.now (g.R.Read.remaining c.args.input.now)) _ c.in-Err.ensures.fault)
 
 pub returns-in-Err-clause-noted : goal.returns-in-Err-clause-noted
-returns-in-Err-clause-noted g c = rw (c.end.ensures.outcome, c.end.ensures.notes) c.in-Err.ensures.noted
+returns-in-Err-clause-noted g c = rw (c.of_stopped.ensures.outcome, c.of_stopped.ensures.notes) c.in-Err.ensures.noted
 
 pub returns-in-Err-clause-fault : goal.returns-in-Err-clause-fault
-returns-in-Err-clause-fault g c = rw c.end.ensures.outcome (options_fault_of_read (g.F.Opens.content c.args.files.now) c.args.options.now (job_bytes (g.F.Opens.content c.args.files.now) c.args.options.now (g.R.Read.remaining c.args.input.now)) _ c.in-Err.ensures.fault)
+returns-in-Err-clause-fault g c = rw c.of_stopped.ensures.outcome (options_fault_of_read (g.F.Opens.content c.args.files.now) c.args.options.now (job_bytes (g.F.Opens.content c.args.files.now) c.args.options.now (g.R.Read.remaining c.args.input.now)) _ c.in-Err.ensures.fault)
 
 pub returns-clause-job : goal.returns-clause-job
 returns-clause-job g c = job_where_done c.run_read.result.outcome (job_bytes (g.F.Opens.content c.args.files.now) c.args.options.now (g.R.Read.remaining c.args.input.now)) c.in-Ok.ensures.job

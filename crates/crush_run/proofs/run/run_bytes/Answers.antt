@@ -1,7 +1,7 @@
 use Rattle.std.proofs.Common.{ℕ, List, Some, subst}
 use Rattle.crush_reasons.specs.Place.{OriginData}
-use Rattle.crush_run.specs.Notes.{IsFaultNoted}
-use Rattle.crush_run.specs.Origins.{no_origin}
+use Rattle.crush_input.specs.Notes.{IsFaultNoted}
+use Rattle.crush_input.specs.Origins.{no_origin}
 use Rattle.crush_run.specs.Run.{Ends}
 use Rattle.crush_run.proofs.Early.{early_of_no_job}
 use Rattle.crush_run.proofs.Runs.{ended_early}
@@ -25,11 +25,11 @@ returns-in-Ok-clause-fault g c = run_fault_of_job c.args.plan.now.mode c.run_rea
 -- where there is no job, nothing was written, and the fault is one of the bytes
 pub returns-in-Err-clause-output : goal.returns-in-Err-clause-output
 returns-in-Err-clause-output g c = λ job is.
-    ended_early c.args.plan.now.mode c.args.plan.now.asked job _ _ _ _ _ c.end.ensures.outcome (early_of_no_job (Some c.args.bytes.items) _ c.in-Err.ensures.fault)
+    ended_early c.args.plan.now.mode c.args.plan.now.asked job _ _ _ _ _ c.of_stopped.ensures.outcome (early_of_no_job (Some c.args.bytes.items) _ c.in-Err.ensures.fault)
 
 pub returns-in-Err-clause-noted : goal.returns-in-Err-clause-noted
 returns-in-Err-clause-noted g c =
-    rw (c.end.ensures.outcome, c.end.ensures.notes) (subst (λ (o : ℕ → OriginData). IsFaultNoted c.args.plan.now.mode.explain o (Some c.args.bytes.items) c.in-Err.stopped.fault c.in-Err.stopped.notes.items) c.none.ensures c.in-Err.ensures.noted)
+    rw (c.of_stopped.ensures.outcome, c.of_stopped.ensures.notes) (subst (λ (o : ℕ → OriginData). IsFaultNoted c.args.plan.now.mode.explain o (Some c.args.bytes.items) c.in-Err.stopped.fault c.in-Err.stopped.notes.items) c.none.ensures c.in-Err.ensures.noted)
 
 pub returns-in-Err-clause-fault : goal.returns-in-Err-clause-fault
-returns-in-Err-clause-fault g c = rw c.end.ensures.outcome (run_fault_of_no_job c.args.plan.now.mode _ (Some c.args.bytes.items) c.in-Err.ensures.fault)
+returns-in-Err-clause-fault g c = rw c.of_stopped.ensures.outcome (run_fault_of_no_job c.args.plan.now.mode _ (Some c.args.bytes.items) c.in-Err.ensures.fault)

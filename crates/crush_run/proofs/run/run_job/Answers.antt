@@ -1,8 +1,9 @@
 use Rattle.crush_run.proofs.Early.{early_of_input, input_noted}
 use Rattle.crush_run.proofs.Noted.{ending_of_all}
 use Rattle.crush_run.proofs.Runs.{ended_early, weighed_of_all}
-use Rattle.crush_run.specs.Origins.{no_origin}
-use Rattle.crush_run.proofs.Told.{has_job_where_done, job_of_all, known_of_take, run_fault_of_all, run_fault_of_input, same_of_job}
+use Rattle.crush_input.specs.Origins.{no_origin}
+use Rattle.crush_input.proofs.Told.{has_job_where_done, job_of_all, known_of_take, same_of_job}
+use Rattle.crush_run.proofs.Told.{run_fault_of_all, run_fault_of_input}
 use Rattle.crush_run.proofs.run.run_job.Goals as goal
 
 pub returns-in-Ok-clause-job : goal.returns-in-Ok-clause-job

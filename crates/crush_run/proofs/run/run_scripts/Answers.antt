@@ -1,5 +1,6 @@
 use Rattle.crush_calls.specs.Script.{scripts_data}
-use Rattle.crush_run.proofs.Runs.{at_once_runs, entries_of_scripts, in_turn_runs, when_both, when_ok}
+use Rattle.crush_run.proofs.Runs.{at_once_runs, entries_of_scripts, in_turn_runs}
+use Rattle.crush_input.proofs.Outcomes.{when_both, when_ok}
 use Rattle.crush_run.proofs.run.run_scripts.Goals as goal
 
 pub returns-then-in_turn-clause-runs : goal.returns-then-in_turn-clause-runs

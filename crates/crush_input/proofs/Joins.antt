@@ -1,0 +1,97 @@
+-- Scripts joined behind a job of which not all may have been read.
+use Rattle.std.proofs.Common.{◌≡◌, ℕ, ◌≤◌, ◌<◌, ◌+◌, List, [], ◌∷◌, ◌++◌, Option, Some, None, length, drop, get_or, map, arith, length-append, sym, ap, subst, ◌∙◌}
+use Rattle.std.proofs.lemmas.List.{append_assoc, append-nil, drop_all, drop_more}
+use Rattle.std.specs.Prelude.{IfSome, String}
+use Rattle.crush_units.specs.declared.limits.TheConstants.{LONGEST_JOB}
+use Rattle.crush_input.specs.declared.input.Joined.{Joined}
+use Rattle.crush_input.specs.declared.joined.Part.{Part}
+use Rattle.crush_input.specs.Input.{IsInput, IsJoined}
+use Rattle.crush_input.specs.Joined.{PartData, joined, joined_known, line_end, operator_line, part_data, part_known, part_of, parts_of, with_scripts}
+use Rattle.crush_input.specs.Origins.{origin_in, whole_of}
+use Rattle.crush_input.proofs.Noted.{ComeFrom}
+
+-- the first and the last of four texts are no longer than all
+two_lengths : (a b c d : List ℕ) → length a + length d ≤ length (a ++ b ++ c ++ d)
+two_lengths a b c d = omega (arith, length-append (a ++ b ++ c) d, length-append (a ++ b) c, length-append a b)
+
+joined_input : (a b s t : List ℕ) (name : List ℕ) → IsInput a b → IsInput s t → IsInput (joined a name s) (joined b name t)
+joined_input a b s t name job script = record {
+  read = λ short.
+      let few = two_lengths a (line_end a) (operator_line name s) s in
+      λ i. joined (job.read (omega (arith, short, few)) i) name (script.read (omega (arith, short, few)) i);
+  whole = λ short.
+      let few = two_lengths b (line_end b) (operator_line name t) t in
+      λ i. joined (job.whole (omega (arith, short, few)) i) name (script.whole (omega (arith, short, few)) i);
+}
+
+-- what was read of both is read of them together, and stands where it does there
+joined_read : (read more : Joined) (b s t name : List ℕ) (parts : List PartData) → IsJoined read b parts → IsInput s t → more.bytes.items ≡ joined read.bytes.items name s
+    → map part_data more.parts.items ≡ map part_data read.parts.items ++ part_of read.bytes.items name s ∷ [] → IsJoined more (joined b name t) (parts ++ part_of b name t ∷ [])
+joined_read read more b s t name parts job script is own = record {
+  bytes = subst (λ (z : List ℕ). IsInput z (joined b name t)) (sym is) (joined_input read.bytes.items b s t name job.bytes script);
+  parts = λ short.
+      let few = two_lengths b (line_end b) (operator_line name t) t in
+      let first = job.bytes.whole (omega (arith, short, few)) in
+      let second = script.whole (omega (arith, short, few)) in
+      own ∙ (λ i. job.parts (omega (arith, short, few)) i ++ part_of (first i) name (second i) ∷ []);
+}
+
+joined_known_read : (known script : Option (List ℕ)) (read more : Joined) (s name : List ℕ) (parts : List PartData) → IfSome known (λ b. IsJoined read b parts) → IfSome script (IsInput s) → more.bytes.items ≡ joined read.bytes.items name s
+    → map part_data more.parts.items ≡ map part_data read.parts.items ++ part_of read.bytes.items name s ∷ [] → IfSome (joined_known known name script) (λ b. IsJoined more b (parts ++ part_known known name script))
+joined_known_read None script read more s name parts first second is own = tt
+joined_known_read (Some b) None read more s name parts first second is own = tt
+joined_known_read (Some b) (Some t) read more s name parts first second is own = joined_read read more b s t name parts first second is own
+
+-- so after one script more, whose name is also written otherwise
+pub one_script_more : (content : List ℕ → Option (List ℕ)) (known : Option (List ℕ)) (read more : Joined) (s t name path text : List ℕ) (parts : List PartData) → path ≡ name → text ≡ name → t ≡ s
+    → IfSome known (λ b. IsJoined read b parts) → IfSome (content path) (IsInput s) → more.bytes.items ≡ joined read.bytes.items text t
+    → map part_data more.parts.items ≡ map part_data read.parts.items ++ part_of read.bytes.items text t ∷ [] → IfSome (joined_known known name (content name)) (λ b. IsJoined more b (parts ++ part_known known name (content name)))
+one_script_more content known read more s t name path text parts opened called given first second is own =
+    let script : IfSome (content name) (IsInput s) = subst (λ (n : List ℕ). IfSome (content n) (IsInput s)) opened second in
+    let bytes : more.bytes.items ≡ joined read.bytes.items name s = is ∙ (λ i. joined read.bytes.items (called i) (given i)) in
+    let stands : map part_data more.parts.items ≡ map part_data read.parts.items ++ part_of read.bytes.items name s ∷ [] = own ∙ (λ i. map part_data read.parts.items ++ part_of read.bytes.items (called i) (given i) ∷ []) in
+    joined_known_read known (content name) read more s name parts first script bytes stands
+
+module _ {Z : Type 0} (content : List ℕ → Option (List ℕ)) where
+  -- the scripts from a place on are that of the name there, and then the others
+  pub next_script : (known : Option (List ℕ)) (names : List (String Z)) (i : ℕ) (x : String Z) → i < length names → x ≡ get_or names i x
+      → with_scripts content known (drop i names) ≡ with_scripts content (joined_known known x.bytes.items (content x.bytes.items)) (drop (i + 1) names)
+  next_script known names i x less is =
+      let here : drop i names ≡ x ∷ drop (i + 1) names = drop_more names i x less ∙ ap (λ (y : String Z). y ∷ drop (i + 1) names) (sym is) in
+      ap (λ (ns : List (String Z)). with_scripts content known ns) here
+
+  pub next_part : (known : Option (List ℕ)) (names : List (String Z)) (i : ℕ) (x : String Z) (before : List PartData) → i < length names → x ≡ get_or names i x
+      → before ++ parts_of content known (drop i names)
+      ≡ (before ++ part_known known x.bytes.items (content x.bytes.items)) ++ parts_of content (joined_known known x.bytes.items (content x.bytes.items)) (drop (i + 1) names)
+  next_part known names i x before less is =
+      let here : drop i names ≡ x ∷ drop (i + 1) names = drop_more names i x less ∙ ap (λ (y : String Z). y ∷ drop (i + 1) names) (sym is) in
+      ap (λ (ns : List (String Z)). before ++ parts_of content known ns) here ∙ sym (append_assoc before _ _)
+
+  -- behind the last name there is no script
+  pub no_script : (known : Option (List ℕ)) (names : List (String Z)) (i : ℕ) → length names ≤ i → with_scripts content known (drop i names) ≡ known
+  no_script known names i past = ap (λ (ns : List (String Z)). with_scripts content known ns) (drop_all i names past)
+
+  pub no_part : (known : Option (List ℕ)) (names : List (String Z)) (i : ℕ) (before : List PartData) → length names ≤ i → before ++ parts_of content known (drop i names) ≡ before
+  no_part known names i before past = ap (λ (ns : List (String Z)). before ++ parts_of content known ns) (drop_all i names past) ∙ append-nil before
+
+-- the first bytes of a job, behind which no script stands yet
+pub begun : (first : Option (List ℕ)) (read : Joined) → IfSome first (IsInput read.bytes.items) → read.parts.items ≡ [] → IfSome first (λ b. IsJoined read b [])
+begun None read input none = tt
+begun (Some xs) read input none = record { bytes = input; parts = λ short. ap (map part_data) none }
+
+-- of what was read of a job the bytes
+pub input_of_joined : (all : Option (List ℕ)) (read : Joined) (parts : List PartData) → IfSome all (λ b. IsJoined read b parts) → IfSome all (IsInput read.bytes.items)
+input_of_joined None read parts is = tt
+input_of_joined (Some xs) read parts is = is.bytes
+
+-- and its lines come from the same files
+pub come_from : (name first : List ℕ) (stand : List Part) (all : Option (List ℕ)) (read : Joined) (parts : List PartData) → name ≡ first → stand ≡ read.parts.items → IfSome all (λ b. IsJoined read b parts)
+    → IfSome all (ComeFrom (λ line. origin_in (whole_of name) (map part_data stand) line) (λ line. origin_in (whole_of first) parts line) read.bytes.items)
+come_from name first stand None read parts named there is = tt
+come_from name first stand (Some xs) read parts named there is = (
+  is.bytes,
+  λ short.
+      let few : length xs ≤ LONGEST_JOB = omega (arith, short, ap length (is.bytes.read short)) in
+      let same : map part_data stand ≡ parts = ap (map part_data) there ∙ is.parts few in
+      λ i line. origin_in (whole_of (named i)) (same i) line,
+)

@@ -1,0 +1,88 @@
+-- What is known of the bytes of a job is known of all that there was to read.
+use Rattle.std.proofs.Common.{◌≡◌, ℕ, ◌≤◌, List, Option, Some, None, Result, Ok, Err, length, take, sym, ap, subst, ◌∙◌, arith}
+use Rattle.std.specs.Prelude.{IfOk, IfSome}
+use mathlib.Core.Logic.{dite}
+use native.Mathlib.Decide.{dec_le}
+use Rattle.std.proofs.lemmas.List.{take_all, length-take}
+use Rattle.crush_units.specs.declared.limits.TheConstants.{LONGEST_JOB}
+use Rattle.crush_script.specs.Job.{HasJob, IsJob, IsJobFault, JobData}
+use Rattle.crush_script.specs.declared.fault.JobFault.{JobFault}
+use Rattle.crush_script.specs.declared.fault.JobFault.TheVariants.{BadLine, NoSuchCommand, OpenBatch, TooManyOperators, DuplicateOperator, Text, OutOfMemory, TooLong, TooManyCalls}
+use Rattle.crush_input.specs.declared.input.TheConstants.{MOST_BYTES}
+use Rattle.crush_input.specs.Faults.{IsRefusal}
+use Rattle.crush_input.specs.declared.fault.RunFault.TheVariants as run
+use Rattle.crush_input.specs.declared.fault.RunFault.{RunFault}
+use Rattle.crush_input.specs.Input.{IsInput}
+use Rattle.crush_input.specs.Stages.{IsInputFault, IsNoJob, IsReadFault}
+
+-- what a reader gives, up to one byte too many, is all that it has, where either is no longer than a job
+input_of_take : (bytes all : List ℕ) → bytes ≡ take MOST_BYTES all → IsInput bytes all
+input_of_take bytes all e = record {
+  read = λ short. let few : length all ≤ MOST_BYTES = omega (arith, short, ap length e, length-take MOST_BYTES all) in e ∙ take_all MOST_BYTES all few;
+  whole = λ short. let few : length all ≤ MOST_BYTES = omega (arith, short) in e ∙ take_all MOST_BYTES all few;
+}
+
+pub known_of_take : (all : Option (List ℕ)) (bytes : List ℕ) → IfSome all (λ xs. bytes ≡ take MOST_BYTES xs) → IfSome all (IsInput bytes)
+known_of_take None bytes e = tt
+known_of_take (Some xs) bytes e = input_of_take bytes xs e
+
+-- what is known of a file is what it gives
+pub known_through : (content given : Option (List ℕ)) (bytes : List ℕ) → IfSome content (λ all. given ≡ Some all) → IfSome given (IsInput bytes) → IfSome content (IsInput bytes)
+known_through None given bytes tells read = tt
+known_through (Some all) given bytes tells read = subst (λ (o : Option (List ℕ)). IfSome o (IsInput bytes)) tells read
+
+-- bytes that are a job are all that there is
+pub has_job : (all : Option (List ℕ)) (bytes : List ℕ) → IfSome all (IsInput bytes) → HasJob bytes → IfSome all HasJob
+has_job None bytes input has = tt
+has_job (Some xs) bytes input has = (has.0, subst (λ (z : List ℕ). IsJob z has.0) (input.read has.1.short) has.1)
+
+pub has_job_where_done : {X E : Type 0} (r : Result X E) (all : Option (List ℕ)) (bytes : List ℕ) → IfSome all (IsInput bytes) → IfOk r (λ _. HasJob bytes) → IfOk r (λ _. IfSome all HasJob)
+has_job_where_done (Ok x) all bytes input has = has_job all bytes input has
+has_job_where_done (Err f) all bytes input has = tt
+
+-- whatever job all bytes are, the bytes read are that job
+pub job_of_all : (all : Option (List ℕ)) (bytes xs : List ℕ) (job : JobData) → IfSome all (IsInput bytes) → all ≡ Some xs → IsJob xs job → IsJob bytes job
+job_of_all all bytes xs job input is_xs is =
+    let same : IsInput bytes xs = subst (λ (o : Option (List ℕ)). IfSome o (IsInput bytes)) is_xs input in
+    subst (λ (z : List ℕ). IsJob z job) (sym (same.whole is.short)) is
+
+-- and they are the bytes read
+pub same_of_job : (all : Option (List ℕ)) (bytes xs : List ℕ) (job : JobData) → IfSome all (IsInput bytes) → all ≡ Some xs → IsJob xs job → bytes ≡ xs
+same_of_job all bytes xs job input is_xs is =
+    let same : IsInput bytes xs = subst (λ (o : Option (List ℕ)). IfSome o (IsInput bytes)) is_xs input in
+    same.whole is.short
+
+-- a fault of the bytes read is one of all bytes
+fault_of_all : (bytes xs : List ℕ) (f : JobFault) → IsInput bytes xs → IsJobFault bytes f → IsJobFault xs f
+fault_of_all bytes xs (BadLine n) input h = subst (λ (z : List ℕ). IsJobFault z (BadLine n)) (input.read h.short) h
+fault_of_all bytes xs (NoSuchCommand n) input h = subst (λ (z : List ℕ). IsJobFault z (NoSuchCommand n)) (input.read h.short) h
+fault_of_all bytes xs (OpenBatch n) input h = subst (λ (z : List ℕ). IsJobFault z (OpenBatch n)) (input.read h.short) h
+fault_of_all bytes xs (TooManyOperators n) input h = subst (λ (z : List ℕ). IsJobFault z (TooManyOperators n)) (input.read h.short) h
+fault_of_all bytes xs (DuplicateOperator n) input h = subst (λ (z : List ℕ). IsJobFault z (DuplicateOperator n)) (input.read h.short) h
+fault_of_all bytes xs (TooManyCalls n) input h = subst (λ (z : List ℕ). IsJobFault z (TooManyCalls n)) (input.read h.short) h
+fault_of_all bytes xs (Text f) input h = subst (λ (z : List ℕ). IsJobFault z (Text f)) (input.read h.short) h
+fault_of_all bytes xs TooLong input h = dite (dec_le (length xs) LONGEST_JOB) (λ few. let same = ap length (input.whole few) in absurd (omega (arith, same, h, few))) (λ many. omega (arith, many))
+fault_of_all bytes xs OutOfMemory input h = subst (λ (z : List ℕ). IsJobFault z OutOfMemory) (input.read h.short) h
+
+pub refusal_of_all : (all : Option (List ℕ)) (bytes : List ℕ) (f : JobFault) → IfSome all (IsInput bytes) → IsRefusal (Some bytes) f → IsRefusal all f
+refusal_of_all None bytes f input h = (h.0, tt)
+refusal_of_all (Some xs) bytes f input h = (h.0, fault_of_all bytes xs f input h.1)
+
+-- a fault of bytes that are no job is one of all that there was to read
+pub no_job_of_all : (f : RunFault) (all : Option (List ℕ)) (bytes : List ℕ) → IfSome all (IsInput bytes) → IsNoJob (Some bytes) f → IsReadFault all f
+no_job_of_all (run.Job f) all bytes input h = refusal_of_all all bytes f input h
+no_job_of_all run.Read all bytes input h = tt
+no_job_of_all run.Write all bytes input h = absurd h
+no_job_of_all run.Memory all bytes input h = tt
+no_job_of_all run.Thread all bytes input h = absurd h
+no_job_of_all (run.Refused n) all bytes input h = absurd h
+no_job_of_all (run.Since s) all bytes input h = absurd h
+
+pub read_fault_of_input : (f : RunFault) (all : Option (List ℕ)) → IsInputFault f → IsReadFault all f
+read_fault_of_input (run.Job f) all h = absurd h
+read_fault_of_input run.Read all h = tt
+read_fault_of_input run.Write all h = absurd h
+read_fault_of_input run.Memory all h = tt
+read_fault_of_input run.Thread all h = absurd h
+read_fault_of_input (run.Refused n) all h = absurd h
+read_fault_of_input (run.Since s) all h = absurd h

@@ -1,0 +1,13 @@
+use Rattle.std.proofs.Common.{◌≡◌, ◌++◌, List, ℕ, Option, drop}
+use Rattle.std.specs.Prelude.{IfSome}
+use Rattle.crush_input.specs.Input.{IsJoined}
+use Rattle.crush_input.specs.Joined.{PartData, parts_of, with_scripts}
+use Rattle.crush_input.proofs.input.push_files.Given as goal
+
+-- what is known of the job and the scripts so far was read, and those that are left come behind it
+abbrev pub invariant-loop-name : goal.invariant-loop-name
+invariant-loop-name g l = (known : Option (List ℕ)) (parts : List PartData) → IfSome known (λ b. IsJoined l.fn.job b parts)
+    → (now : Option (List ℕ)) × (own : List PartData)
+    × (with_scripts (g.F.Opens.content l.files) known l.names ≡ with_scripts (g.F.Opens.content l.files) now (drop l.name-index l.names))
+    × (parts ++ parts_of (g.F.Opens.content l.files) known l.names ≡ own ++ parts_of (g.F.Opens.content l.files) now (drop l.name-index l.names))
+    × IfSome now (λ b. IsJoined l.job b own)

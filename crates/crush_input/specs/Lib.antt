@@ -1,0 +1,7 @@
+pub mod Faults
+pub mod Input
+pub mod Joined
+pub mod Options
+pub mod Notes
+pub mod Origins
+pub mod Stages

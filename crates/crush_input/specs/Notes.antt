@@ -1,0 +1,95 @@
+-- What is told below the one line of standard error.
+use Rattle.std.specs.Prelude.{◌≡◌, ◌⊎◌, ℕ, ◌<◌, Bool, true, false, List, [], ◌++◌, Option, Result, Ok, Err, IfSome, codes, if◌then◌else◌}
+use Rattle.crush_calls.specs.History.{EntryData}
+use Rattle.crush_calls.specs.Refused.{refusals, refused_text}
+use Rattle.crush_reasons.specs.Explained.{explained_text}
+use Rattle.crush_reasons.specs.Place.{OriginData, fault_line, fault_text}
+use Rattle.crush_reasons.specs.Written.{written_text}
+use Rattle.crush_table.specs.Table.{Row}
+use Rattle.crush_script.specs.Lines.{map_part}
+use Rattle.crush_text.specs.declared.fault.TextFault.{TextFault}
+use Rattle.crush_script.specs.declared.fault.JobFault.{JobFault}
+use Rattle.crush_script.specs.declared.fault.JobFault.TheVariants as job
+use Rattle.crush_options.specs.declared.asked.Mode.{Mode}
+use Rattle.crush_input.specs.declared.fault.RunFault.{RunFault}
+use Rattle.crush_input.specs.declared.fault.RunFault.TheVariants as run
+use Rattle.crush_input.specs.declared.fault.SinceFault.{SinceFault}
+use Rattle.crush_input.specs.declared.fault.SinceFault.TheVariants as since
+use Rattle.crush_input.specs.Origins.{whole_of}
+
+-- OF CALLS THAT WERE REFUSED: with reasons where those are asked for, without in another strict run, and else nothing
+abbrev pub refused_notes : Mode → List (List ℕ) → List EntryData → List ℕ
+refused_notes mode names h =
+    if mode.explain then explained_text names 1 h else (if mode.strict then refused_text names 1 h else [])
+
+-- OF WRITTEN WEIGHTS: where reasons are asked for, a line for each bucket item of a job's text whose weight isn't the sum in the
+-- job's table
+abbrev pub weight_notes : Bool → List ℕ → List Row → List ℕ
+weight_notes explain bytes t = if explain then written_text t (map_part bytes) else []
+
+-- of both, the weights behind the calls
+abbrev pub history_notes : Mode → List ℕ → List (List ℕ) → List EntryData → List ℕ
+history_notes mode weights names h = refused_notes mode names h ++ weights
+
+-- OF A FAULT OF BYTES: where reasons are asked for, its place in the file that its line comes from, and what was wanted there
+abbrev pub place_notes : Bool → (ℕ → OriginData) → List ℕ → JobFault → List ℕ
+place_notes explain origin bytes fault = if explain then fault_text (origin (fault_line bytes fault)) bytes fault else []
+
+-- OF A FILE THAT CAN'T BE OPENED: its name, and the reason that the system gives
+abbrev pub unopened_text : List ℕ → List ℕ → List ℕ
+unopened_text name reason = codes "  " ++ name ++ codes ": " ++ reason ++ codes "\n"
+
+abbrev pub IsUnopened : List ℕ → List ℕ → Type 0
+IsUnopened name notes = (reason : List ℕ) × (notes ≡ unopened_text name reason)
+
+-- NOTES OF A FILE of this name that wasn't read: that, where reasons are asked for and it can't be opened, and else nothing
+abbrev pub IsFileNoted : Bool → List ℕ → RunFault → List ℕ → Type 0
+IsFileNoted explain name run.Read notes = (explain ≡ false → notes ≡ []) × ((notes ≡ []) ⊎ IsUnopened name notes)
+IsFileNoted explain name fault notes = notes ≡ []
+
+-- of a flaw of the map since which changes are asked for its place, with the name of its file
+abbrev pub flaw_notes : Bool → List ℕ → List ℕ → TextFault → List ℕ
+flaw_notes explain name bytes fault = if explain then fault_text (whole_of name) bytes (job.Text fault) else []
+
+-- of a fault of it that, where its bytes are known; where it isn't read what is noted of its file; and of its length nothing
+abbrev pub IsSinceNoted : Bool → List ℕ → Option (List ℕ) → SinceFault → List ℕ → Type 0
+IsSinceNoted explain name all (since.Text fault) notes = (explain ≡ false → notes ≡ []) × IfSome all (λ bytes. notes ≡ flaw_notes explain name bytes fault)
+IsSinceNoted explain name all since.TooLong notes = notes ≡ []
+IsSinceNoted explain name all since.Read notes = IsFileNoted explain name run.Read notes
+
+-- NOTES OF ANOTHER MAP of a file of this name: those of its fault, and of any other nothing
+abbrev pub IsMapNoted : Bool → List ℕ → Option (List ℕ) → RunFault → List ℕ → Type 0
+IsMapNoted explain name all (run.Since fault) notes = IsSinceNoted explain name all fault notes
+IsMapNoted explain name all fault notes = notes ≡ []
+
+-- runs that end so have a history whose refused calls are told
+abbrev pub has_history : RunFault → Bool
+has_history run.Write = true
+has_history (run.Refused n) = true
+has_history fault = false
+
+-- NOTES OF A HISTORY: those of its calls that were refused, and of the weights that were written
+abbrev pub HistoryNoted : {X : Type 0} → Mode → List ℕ → List (List ℕ) → List EntryData → Result X RunFault → List ℕ → Type 0
+HistoryNoted mode weights names h (Ok x) notes = notes ≡ history_notes mode weights names h
+HistoryNoted mode weights names h (Err run.Write) notes = notes ≡ history_notes mode weights names h
+HistoryNoted mode weights names h (Err (run.Refused n)) notes = notes ≡ history_notes mode weights names h
+HistoryNoted mode weights names h (Err fault) notes = Unit {0}
+
+-- NOTES WITHOUT A HISTORY: of a fault of bytes, where they are known, its place; of any other fault nothing, and nothing but
+-- refused calls where no reasons are asked for
+abbrev pub IsFaultNoted : Bool → (ℕ → OriginData) → Option (List ℕ) → RunFault → List ℕ → Type 0
+IsFaultNoted explain origin all (run.Job fault) notes = (explain ≡ false → notes ≡ []) × IfSome all (λ bytes. notes ≡ place_notes explain origin bytes fault)
+IsFaultNoted explain origin all run.Write notes = explain ≡ false → notes ≡ []
+IsFaultNoted explain origin all (run.Refused n) notes = Unit {0}
+IsFaultNoted explain origin all fault notes = notes ≡ []
+
+abbrev pub IsNoted : {X : Type 0} → Bool → (ℕ → OriginData) → Option (List ℕ) → Result X RunFault → List ℕ → Type 0
+IsNoted explain origin all (Ok x) notes = explain ≡ false → notes ≡ []
+IsNoted explain origin all (Err fault) notes = IsFaultNoted explain origin all fault notes
+
+-- STRICT: a strict run that comes to its output has no refused entry, and one that ends by refusals tells how many there are
+abbrev pub IsStrict : {X : Type 0} → Bool → List EntryData → Result X RunFault → Type 0
+IsStrict strict h (Ok x) = strict ≡ true → refusals h ≡ 0
+IsStrict strict h (Err run.Write) = strict ≡ true → refusals h ≡ 0
+IsStrict strict h (Err (run.Refused n)) = (strict ≡ true) × (n ≡ refusals h) × (0 < n)
+IsStrict strict h (Err fault) = Unit {0}

@@ -1,0 +1,37 @@
+-- Which file each line of a job comes from.
+use Rattle.std.specs.Prelude.{ℕ, List, [], ◌∷◌, Option, Some, String, if◌then◌else◌, map, nat_le}
+use Rattle.crush_reasons.specs.Place.{OriginData}
+use Rattle.crush_options.specs.declared.asked.Options.{Options}
+use Rattle.crush_input.specs.declared.origins.Origins.{Origins}
+use Rattle.crush_input.specs.Input.{job_parts}
+use Rattle.crush_input.specs.Joined.{PartData, part_data}
+
+-- a file from whose first line on the job stands
+abbrev pub whole_of : List ℕ → OriginData
+whole_of name = record { name = name; before = 0 }
+
+abbrev pub within : PartData → OriginData
+within p = record { name = p.name; before = p.before }
+
+-- of parts in order the last that begins at a line or before it has the line, and else what stands before them
+abbrev pub origin_in : OriginData → List PartData → ℕ → OriginData
+origin_in found [] line = found
+origin_in found (p ∷ ps) line = origin_in (if nat_le p.from line then within p else found) ps line
+
+-- the origin of a line, by what a run keeps of its files
+abbrev pub origin_of : Origins → ℕ → OriginData
+origin_of o line = origin_in (whole_of o.first.now) (map part_data o.parts.now) line
+
+-- no file is told of
+abbrev pub no_origin : ℕ → OriginData
+no_origin line = whole_of []
+
+-- the name of the file that a job begins with, which is told where there are others behind it
+abbrev pub first_name : {Z : Type 0} → Option (String Z) → List (String Z) → List ℕ
+first_name (Some name) (s ∷ scripts) = name.bytes.items
+first_name file scripts = []
+
+-- JOB ORIGIN: the file that a line of the job comes from which the options name
+abbrev pub job_origin : (List ℕ → Option (List ℕ)) → Options → Option (List ℕ) → ℕ → OriginData
+job_origin content options input line =
+    origin_in (whole_of (first_name options.file options.scripts.items)) (job_parts content options input) line

@@ -1,0 +1,35 @@
+-- The stages up to a job: what comes of them, and which faults may come at which.
+use Rattle.std.specs.Prelude.{◌≡◌, ℕ, List, Bool, Option}
+use Rattle.crush_script.specs.Job.{JobData, JobStands}
+use Rattle.crush_input.specs.declared.fault.RunFault.{RunFault}
+use Rattle.crush_input.specs.declared.fault.RunFault.TheVariants as run
+use Rattle.crush_input.specs.declared.stopped.Weighed.{Weighed}
+use Rattle.crush_input.specs.Notes.{weight_notes}
+use Rattle.crush_input.specs.Faults.{IsRefusal}
+
+-- what may fail while the bytes are read
+abbrev pub IsInputFault : RunFault → Type 0
+IsInputFault run.Read = Unit {0}
+IsInputFault run.Memory = Unit {0}
+IsInputFault fault = ⊥
+
+-- what may fail while the bytes read are taken for a job: they are none, or memory runs out
+abbrev pub IsNoJob : Option (List ℕ) → RunFault → Type 0
+IsNoJob all (run.Job fault) = IsRefusal all fault
+IsNoJob all run.Memory = Unit {0}
+IsNoJob all fault = ⊥
+
+-- what may fail up to that
+abbrev pub IsReadFault : Option (List ℕ) → RunFault → Type 0
+IsReadFault all run.Read = Unit {0}
+IsReadFault all fault = IsNoJob all fault
+
+-- what the check of a strict run may answer
+abbrev pub IsStrictFault : RunFault → Type 0
+IsStrictFault (run.Refused n) = Unit {0}
+IsStrictFault fault = ⊥
+
+-- what was read of a job: it stands for the job, and the lines of its written weights are these of its bytes
+pub record IsWeighed (explain : Bool) (bytes : List ℕ) (job : JobData) (read : Weighed) : Type 0 where
+  pub stands : JobStands read.job job
+  pub weights : read.weights.items ≡ weight_notes explain bytes job.table

@@ -1,0 +1,189 @@
+//! The bytes of a job.
+
+ghost use Rattle.std.specs.Prelude.{◌≡◌, ◌≤◌, ◌<◌, ◌≢◌, ◌++◌, ◌∷◌, ℕ, List, [], Option, None, OnOk, IfOk, IfErr, IfSome, length, map, take};
+ghost use Rattle.std.specs.Io.KnownBytes.{Consumes};
+ghost use Rattle.crush_input.specs.Input.{IsInput, IsJoined, first_bytes, job_bytes, job_parts, TakesFew};
+ghost use Rattle.crush_input.specs.Joined.{PartData, joined, part_data, part_of, parts_of, with_scripts};
+ghost use Rattle.crush_input.specs.Notes.{IsFileNoted};
+ghost use Rattle.crush_input.specs.Options.{IsPartNoted};
+ghost use Rattle.crush_input.specs.Stages.{IsInputFault};
+
+use crate::fault::RunFault;
+use crate::files::Opens;
+use crate::joined::{Part, push_script};
+use crate::notes::unopened;
+use crate::stopped::Stopped;
+use crush_options::Options;
+use crush_units::limits::LONGEST_JOB;
+use std::alloc::{AllocError, Global};
+use std::io::Read;
+
+/// The most bytes that are asked of a reader: one more than a job may have, so that a longer one
+/// shows.
+pub const MOST_BYTES: usize = LONGEST_JOB + 1;
+
+/// How many bytes one read asks for at the most.
+const PIECE: usize = 65_536;
+
+/// Reads to the end, or to the first byte that no job can have. The reader is asked at most
+/// [`MOST_BYTES`] times: each read but the last gives a byte. What is read is what is taken of it.
+/// A read that answers an error is a fault, also where it could be tried again.
+pub fn read_bytes<R: Read>(alloc: Global, reader: &mut R) -> Result<Vec<u8>, RunFault>
+    ensures few { IfOk result (λ bytes. length bytes.items ≤ MOST_BYTES) }
+    ensures fault { IfErr result IsInputFault }
+    ensures consumed { IfOk result (λ bytes.
+        Consumes (R.remaining reader.old) (R.remaining reader.new) bytes.items) }
+    ensures taken { IfErr result (λ _.
+        TakesFew (R.remaining reader.old) (R.remaining reader.new)) }
+    ensures bytes { IfOk result (λ bytes. IfSome (R.remaining reader.old)
+        (λ all. bytes.items ≡ take MOST_BYTES all)) }
+{
+    let mut bytes = Vec::new(alloc);
+    let mut piece = [0u8; PIECE];
+    for _ in 0..MOST_BYTES {
+        let want = (MOST_BYTES - bytes.len()).min(PIECE);
+        let room = &mut piece[..want];
+        match reader.read(room) {
+            Ok(0) => return Ok(bytes),
+            Ok(count) => bytes.extend_from_slice(&room[..count])?,
+            Err(_) => return Err(RunFault::Read),
+        }
+        if bytes.len() == MOST_BYTES {
+            return Ok(bytes);
+        }
+    }
+    Ok(bytes)
+}
+
+/// Reads to the end as that does. Nothing is noted of what fails.
+fn read_quietly<R: Read>(alloc: Global, reader: &mut R) -> Result<Vec<u8>, Stopped>
+    ensures few { IfOk result (λ bytes. length bytes.items ≤ MOST_BYTES) }
+    ensures bytes { IfOk result (λ bytes. IfSome (R.remaining reader.old)
+        (λ all. bytes.items ≡ take MOST_BYTES all)) }
+    ensures fault { IfErr result (λ stopped. IsInputFault stopped.fault) }
+    ensures quiet { IfErr result (λ stopped. stopped.notes.items ≡ []) }
+    ensures taken { TakesFew (R.remaining reader.old) (R.remaining reader.new) }
+{
+    match read_bytes(alloc, reader) {
+        Ok(bytes) => Ok(bytes),
+        Err(fault) => Err(Stopped::quietly(alloc, fault)),
+    }
+}
+
+/// Reads the file of this name. One that can't be opened is one that can't be read.
+pub(crate) fn read_file<F: Opens>(
+    alloc: Global,
+    files: &F,
+    explain: bool,
+    name: &str,
+) -> Result<Vec<u8>, Stopped>
+    ensures few { IfOk result (λ bytes. length bytes.items ≤ MOST_BYTES) }
+    ensures bytes { IfOk result (λ bytes. IfSome (F.content files.now name.now)
+        (IsInput bytes.items)) }
+    ensures fault { IfErr result (λ stopped. IsInputFault stopped.fault) }
+    ensures noted { IfErr result (λ stopped.
+        IsFileNoted explain name.now stopped.fault stopped.notes.items) }
+{
+    match files.open(name) {
+        Ok(mut file) => read_quietly(alloc, &mut file),
+        Err(error) => Err(unopened(alloc, explain, name, error)),
+    }
+}
+
+/// Reads what a job begins with: its file, or without one standard input.
+fn read_first<F: Opens, R: Read>(
+    alloc: Global,
+    files: &F,
+    options: &Options,
+    input: &mut R,
+) -> Result<Vec<u8>, Stopped>
+    ensures bytes { IfOk result (λ bytes.
+        IfSome (first_bytes (F.content files.now) options.now.file (R.remaining input.old))
+        (IsInput bytes.items)) }
+    ensures input { options.now.file ≢ None → R.remaining input.new ≡ R.remaining input.old }
+    ensures taken { TakesFew (R.remaining input.old) (R.remaining input.new) }
+    ensures fault { IfErr result (λ stopped. IsInputFault stopped.fault) }
+    ensures noted { IfErr result (λ stopped.
+        IsPartNoted options.now stopped.fault stopped.notes.items) }
+{
+    match &options.file {
+        None => read_quietly(alloc, input),
+        Some(name) => read_file(alloc, files, options.mode.explain, name.as_str()),
+    }
+}
+
+/// What was read of a job, and where the scripts of files stand in it.
+#[derive(Drop)]
+pub(crate) struct Joined<'a> {
+    pub(crate) bytes: Vec<u8>,
+    pub(crate) parts: Vec<Part<'a>>,
+}
+
+impl<'a> Joined<'a> {
+    /// Puts the script of a file of this name behind.
+    fn push(&mut self, name: &'a [u8], script: &[u8]) -> Result<(), AllocError>
+        ensures bytes { OnOk result
+            (self.new.bytes.items ≡ joined self.old.bytes.items name.now script.now) }
+        ensures parts { OnOk result (map part_data self.new.parts.items
+            ≡ map part_data self.old.parts.items
+            ++ part_of self.old.bytes.items name.now script.now ∷ []) }
+    {
+        let part = push_script(name, script, &mut self.bytes)?;
+        let Ok(()) = self.parts.push(part) else {
+            return Err(AllocError);
+        };
+        Ok(())
+    }
+}
+
+/// Puts the scripts of the files of these names behind a job, in this order.
+fn push_files<'a, F: Opens>(
+    alloc: Global,
+    files: &F,
+    options: &'a Options,
+    job: &mut Joined<'a>,
+) -> Result<(), Stopped>
+    ensures job { OnOk result ((known : Option (List ℕ)) (parts : List PartData)
+        → IfSome known (λ all. IsJoined job.old all parts)
+        → IfSome (with_scripts (F.content files.now) known options.now.scripts.items)
+        (λ all. IsJoined job.new all
+        (parts ++ parts_of (F.content files.now) known options.now.scripts.items))) }
+    ensures fault { IfErr result (λ stopped. IsInputFault stopped.fault) }
+    ensures noted { IfErr result (λ stopped.
+        IsPartNoted options.now stopped.fault stopped.notes.items) }
+{
+    let names = options.scripts.as_slice();
+    for name in names {
+        let script = read_file(alloc, files, options.mode.explain, name.as_str())?;
+        let Ok(()) = job.push(name.as_bytes(), script.as_slice()) else {
+            return Err(Stopped::quietly(alloc, RunFault::Memory));
+        };
+    }
+    Ok(())
+}
+
+/// Reads the job that the options name, with the scripts of its files behind it.
+pub(crate) fn read_all<'a, F: Opens, R: Read>(
+    alloc: Global,
+    files: &F,
+    options: &'a Options,
+    input: &mut R,
+) -> Result<Joined<'a>, Stopped>
+    ensures job { IfOk result (λ job.
+        IfSome (job_bytes (F.content files.now) options.now (R.remaining input.old))
+        (λ all. IsJoined job all
+        (job_parts (F.content files.now) options.now (R.remaining input.old)))) }
+    ensures input { options.now.file ≢ None → R.remaining input.new ≡ R.remaining input.old }
+    ensures taken { TakesFew (R.remaining input.old) (R.remaining input.new) }
+    ensures fault { IfErr result (λ stopped. IsInputFault stopped.fault) }
+    ensures noted { IfErr result (λ stopped.
+        IsPartNoted options.now stopped.fault stopped.notes.items) }
+{
+    let bytes = read_first(alloc, files, options, input)?;
+    let mut job = Joined {
+        bytes,
+        parts: Vec::new(alloc),
+    };
+    push_files(alloc, files, options, &mut job)?;
+    Ok(job)
+}

@@ -1,0 +1,89 @@
+//! The job that is read.
+
+ghost use Rattle.std.specs.Prelude.{◌≡◌, ◌≢◌, ◌≤◌, ℕ, List, [], Err, None, Some, IfErr, IfOk, IfSome, false, length};
+ghost use Rattle.crush_script.specs.Job.{HasJob, IsJob, JobData};
+ghost use Rattle.crush_input.specs.Input.{TakesFew, job_bytes};
+ghost use Rattle.crush_input.specs.Notes.{IsFaultNoted};
+ghost use Rattle.crush_input.specs.Options.{IsNotedAsAsked};
+ghost use Rattle.crush_input.specs.Origins.{origin_of};
+ghost use Rattle.crush_input.specs.Stages.{IsNoJob, IsReadFault, IsWeighed};
+ghost use Rattle.crush_units.specs.declared.limits.TheConstants.{MOST_OPERATORS};
+
+use crate::fault::RunFault;
+use crate::files::Opens;
+use crate::input::{Joined, read_all};
+use crate::notes::{stopped_by, weighed};
+use crate::origins::{Origins, first_name};
+use crate::stopped::{Stopped, Weighed};
+use crush_map::Hashing;
+use crush_options::Options;
+use crush_script::read_job;
+use std::hash::RandomState;
+use std::io::Read;
+use std::random::RandomSource;
+
+/// Hashing with keys that the system draws. It hashes without keys where none can be drawn.
+pub(crate) fn drawn_hashing<H: RandomSource>(rt: &H) -> Hashing {
+    match RandomState::new(rt) {
+        Ok(keys) => Hashing::keyed(keys),
+        Err(_) => Hashing::plain(),
+    }
+}
+
+/// Reads the job that these bytes are, whose lines come from there.
+pub fn job_of<H: AllocGlobal + RandomSource>(
+    rt: &H,
+    explain: bool,
+    origins: Origins<'_>,
+    bytes: Vec<u8>,
+) -> Result<Weighed, Stopped>
+    ensures job { IfOk result (λ _. HasJob bytes.items) }
+    ensures only { (job : JobData) → IsJob bytes.items job
+        → IfOk result (IsWeighed explain bytes.items job) }
+    ensures plain { IfOk result (λ read. explain ≡ false → read.weights.items ≡ []) }
+    ensures fault { IfErr result (λ stopped. IsNoJob (Some bytes.items) stopped.fault) }
+    ensures noted { IfErr result (λ stopped. IsFaultNoted explain (origin_of origins.entry)
+        (Some bytes.items) stopped.fault stopped.notes.items) }
+    ensures few { IfOk result (λ read. length read.job.scripts.items ≤ MOST_OPERATORS) }
+{
+    let alloc = rt.alloc();
+    let bytes = bytes.as_slice();
+    let job = match read_job(alloc, drawn_hashing(rt), bytes) {
+        Ok(job) => job,
+        Err(fault) => return Err(stopped_by(alloc, explain, origins, bytes, fault)),
+    };
+    match weighed(alloc, explain, bytes, job) {
+        Ok(read) => Ok(read),
+        Err(_) => Err(Stopped::quietly(alloc, RunFault::Memory)),
+    }
+}
+
+/// Reads the job that the options name, with the scripts of its files.
+pub fn read_whole<H: AllocGlobal + RandomSource, F: Opens, R: Read>(
+    rt: &H,
+    files: &F,
+    options: &Options,
+    input: &mut R,
+) -> Result<Weighed, Stopped>
+    ensures job { IfOk result (λ _.
+        IfSome (job_bytes (F.content files.now) options.now (R.remaining input.old)) HasJob) }
+    ensures only { (bytes : List ℕ) (job : JobData)
+        → job_bytes (F.content files.now) options.now (R.remaining input.old) ≡ Some bytes
+        → IsJob bytes job → IfOk result (IsWeighed options.now.mode.explain bytes job) }
+    ensures plain { IfOk result (λ read. options.now.mode.explain ≡ false
+        → read.weights.items ≡ []) }
+    ensures few { IfOk result (λ read. length read.job.scripts.items ≤ MOST_OPERATORS) }
+    ensures input { options.now.file ≢ None → R.remaining input.new ≡ R.remaining input.old }
+    ensures taken { TakesFew (R.remaining input.old) (R.remaining input.new) }
+    ensures fault { IfErr result (λ stopped. IsReadFault
+        (job_bytes (F.content files.now) options.now (R.remaining input.old)) stopped.fault) }
+    ensures noted { IfErr result (λ stopped. IsNotedAsAsked (F.content files.now) options.now
+        (R.remaining input.old) (Err stopped.fault) stopped.notes.items) }
+{
+    let Joined { bytes, parts } = read_all(rt.alloc(), files, options, input)?;
+    let origins = Origins {
+        first: first_name(options),
+        parts: parts.as_slice(),
+    };
+    job_of(rt, options.mode.explain, origins, bytes)
+}

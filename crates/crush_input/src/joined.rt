@@ -1,0 +1,136 @@
+//! Scripts in files of their own, joined behind a job.
+
+ghost use Rattle.std.specs.Prelude.{◌≡◌, ◌≤◌, ◌++◌, ◌==◌, ◌-◌, IfOk, OnOk, false, length, slice_index, true};
+ghost use Rattle.std.specs.List.{position_or_len};
+ghost use Rattle.crush_input.specs.Joined.{begins_section_in, folder_length, is_line_blank, joined, line_end, operator_line, operator_of, part_data, part_of};
+
+use crush_script::line_feeds;
+use std::alloc::AllocError;
+
+/// Where the script of a file stands in a job.
+#[derive(Clone, Copy)]
+pub(crate) struct Part<'a> {
+    /// The name of the file.
+    pub(crate) name: &'a [u8],
+    /// Its first line in the job, counted from 1, with that which names its operator where one is put.
+    pub(crate) from: usize,
+    /// How many lines of the job stand before the file's own.
+    pub(crate) before: usize,
+}
+
+/// Whether the last byte is a line feed.
+fn ends_line(bytes: &[u8]) -> bool
+    ensures { result ≡ (slice_index bytes.now (length bytes.now - 1) == 10) }
+{
+    matches!(bytes, [.., b'\n'])
+}
+
+/// Ends the last line.
+fn push_line_end(bytes: &mut Vec<u8>) -> Result<(), AllocError>
+    ensures { OnOk result (bytes.new.items ≡ bytes.old.items ++ line_end bytes.old.items) }
+{
+    if ends_line(bytes.as_slice()) {
+        return Ok(());
+    }
+    bytes.extend_from_slice(b"\n")
+}
+
+fn is_line_blank(byte: u8) -> bool
+    ensures { result ≡ is_line_blank byte }
+{
+    byte == b' ' || byte == b'\t' || byte == b'\r'
+}
+
+/// Whether the first line that has more than blanks and a comment begins with `%`.
+fn begins_section(script: &[u8]) -> bool
+    ensures { result ≡ begins_section_in true false script.now }
+{
+    let mut starts = true;
+    let mut comment = false;
+    for byte in script {
+        let byte = *byte;
+        if byte == b'\n' {
+            starts = true;
+            comment = false;
+        } else if comment {
+            starts = false;
+        } else if byte == b'#' {
+            starts = false;
+            comment = true;
+        } else if is_line_blank(byte) {
+            starts = false;
+        } else {
+            return starts && byte == b'%';
+        }
+    }
+    false
+}
+
+/// How many bytes a file's name has up to its last `/`.
+fn folder_length(name: &[u8]) -> usize
+    ensures length { result ≡ folder_length 0 0 name.now }
+    ensures within { result ≤ length name.now }
+{
+    let mut best = 0;
+    for (place, byte) in name.iter().enumerate() {
+        if *byte == b'/' {
+            best = place + 1;
+        }
+    }
+    best
+}
+
+/// The place of the first `.`, or the length where there is none.
+fn dot_at(name: &[u8]) -> usize
+    ensures place { result ≡ position_or_len (λ b. b == 46) name.now }
+    ensures within { result ≤ length name.now }
+{
+    for (place, byte) in name.iter().enumerate() {
+        if *byte == b'.' {
+            return place;
+        }
+    }
+    name.len()
+}
+
+/// The operator of a script in a file of this name: its last part, up to the first `.`.
+fn operator_of(name: &[u8]) -> &[u8]
+    ensures { result.now ≡ operator_of name.now }
+{
+    let (_, part) = name.split_at(folder_length(name));
+    let (operator, _) = part.split_at(dot_at(part));
+    operator
+}
+
+/// Puts the line that names the operator of a script, unless the script does.
+fn push_operator_line(name: &[u8], script: &[u8], bytes: &mut Vec<u8>) -> Result<(), AllocError>
+    ensures { OnOk result (bytes.new.items
+        ≡ bytes.old.items ++ operator_line name.now script.now) }
+{
+    if begins_section(script) {
+        return Ok(());
+    }
+    bytes.extend_from_slice(b"%operator ")?;
+    bytes.extend_from_slice(operator_of(name))?;
+    bytes.extend_from_slice(b"\n")
+}
+
+/// Puts the script of a file of this name behind a job: on a line of its own, and below the line
+/// that names its operator, where its first line with a word begins no section. The answer is where
+/// it stands.
+pub(crate) fn push_script<'a>(
+    name: &'a [u8],
+    script: &[u8],
+    bytes: &mut Vec<u8>,
+) -> Result<Part<'a>, AllocError>
+    ensures bytes { OnOk result (bytes.new.items ≡ joined bytes.old.items name.now script.now) }
+    ensures part { IfOk result (λ part.
+        part_data part ≡ part_of bytes.old.items name.now script.now) }
+{
+    push_line_end(bytes)?;
+    let from = line_feeds(bytes.as_slice()) + 1;
+    push_operator_line(name, script, bytes)?;
+    let before = line_feeds(bytes.as_slice());
+    bytes.extend_from_slice(script)?;
+    Ok(Part { name, from, before })
+}

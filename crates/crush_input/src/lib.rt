@@ -1,0 +1,30 @@
+//! What a run is given, and what is told of it: the job read of its files or of a reader, the map since
+//! which changes are asked for, and the notes below the one line. Nothing here needs an editor or a
+//! thread.
+//!
+//! [`read_whole`] reads the job that a command line names, [`asked_of`] what is printed of it; a
+//! [`RunFault`] says why a run was not done. `crush_run` calls all of them; what is read stands in
+//! `specs/Input.antt`, what is noted in `specs/Notes.antt`.
+#![tactic(auto)]
+
+mod asked;
+mod fault;
+mod files;
+mod input;
+mod job;
+mod joined;
+mod notes;
+mod origins;
+mod since;
+mod stopped;
+mod summary;
+
+pub use asked::{Asked, Plan, asked_of};
+pub use fault::{RunFault, SinceFault};
+pub use files::{Opens, SystemFiles};
+pub use input::read_bytes;
+pub use job::{job_of, read_whole};
+pub use notes::{check_strict, history_notes};
+pub use origins::Origins;
+pub use stopped::{Stopped, Weighed};
+pub use summary::Summary;

@@ -1,0 +1,217 @@
+//! What is told below the one line: of a fault of the bytes, of a file that can't be opened, of the
+//! calls that were refused, and of written weights.
+
+ghost use Rattle.std.specs.Prelude.{◌≡◌, ◌≤◌, List, [], IfErr, IfOk, false, length, true};
+ghost use Rattle.crush_table.specs.Stands.{Stands};
+ghost use Rattle.crush_table.specs.Table.{Row};
+ghost use Rattle.crush_calls.specs.Entries.{AreOf};
+ghost use Rattle.crush_calls.specs.HistoryText.{names_of};
+ghost use Rattle.crush_calls.specs.Script.{scripts_data};
+ghost use Rattle.crush_script.specs.Job.{IsJobFault};
+ghost use Rattle.crush_input.specs.Notes.{IsFaultNoted, IsFileNoted, IsUnopened, history_notes, place_notes, refused_notes, weight_notes, IsStrict};
+ghost use Rattle.crush_input.specs.Origins.{origin_of};
+ghost use Rattle.crush_input.specs.Stages.{IsInputFault, IsNoJob, IsStrictFault};
+ghost use Rattle.crush_units.specs.declared.limits.TheConstants.{LONGEST_JOB, MOST_ENTRIES};
+
+use crate::fault::RunFault;
+use crate::origins::Origins;
+use crate::stopped::{Stopped, Weighed};
+use crush_calls::{Entry, Script, count_refused, refused_text};
+use crush_map::CrushMap;
+use crush_options::Mode;
+use crush_reasons::{explained_text, fault_line, fault_text, written_text};
+use crush_script::{Job, JobFault, map_part};
+use crush_units::limits::LONGEST_JOB;
+use std::alloc::{AllocError, Global};
+use std::io;
+
+/// Ends a strict run in which calls were refused: [`RunFault::Refused`] with how many.
+pub fn check_strict(strict: bool, entries: &[Entry]) -> Result<(), RunFault>
+    requires { length entries.now ≤ MOST_ENTRIES }
+    ensures strict { IsStrict strict entries.now result }
+    ensures fault { IfErr result IsStrictFault }
+{
+    if !strict {
+        return Ok(());
+    }
+    let count = count_refused(entries);
+    if count == 0 {
+        return Ok(());
+    }
+    Err(RunFault::Refused(count))
+}
+
+/// The lines of the calls that were refused, and behind them those of written weights.
+pub fn history_notes(
+    alloc: Global,
+    mode: Mode,
+    scripts: &[Script],
+    entries: &[Entry],
+    weights: &[u8],
+) -> Result<Vec<u8>, AllocError>
+    requires few { length entries.now ≤ MOST_ENTRIES }
+    requires operators { AreOf (length scripts.now) entries.now }
+    ensures { IfOk result (λ lines. lines.items
+        ≡ history_notes mode weights.now (names_of (scripts_data scripts.now)) entries.now) }
+{
+    let mut lines = refused_notes(alloc, mode, scripts, entries)?;
+    lines.extend_from_slice(weights)?;
+    Ok(lines)
+}
+
+/// The lines of the calls that were refused: with reasons where those are asked for, and without in
+/// another strict run.
+fn refused_notes(
+    alloc: Global,
+    mode: Mode,
+    scripts: &[Script],
+    entries: &[Entry],
+) -> Result<Vec<u8>, AllocError>
+    requires few { length entries.now ≤ MOST_ENTRIES }
+    requires operators { AreOf (length scripts.now) entries.now }
+    ensures { IfOk result (λ lines. lines.items
+        ≡ refused_notes mode (names_of (scripts_data scripts.now)) entries.now) }
+{
+    if mode.explain {
+        return explained_text(alloc, scripts, entries);
+    }
+    if mode.strict {
+        return refused_text(alloc, scripts, entries);
+    }
+    Ok(Vec::new(alloc))
+}
+
+/// The lines of the weights that are written in a job's text and aren't the sums in its map, where
+/// reasons are asked for.
+fn weight_notes(
+    alloc: Global,
+    explain: bool,
+    bytes: &[u8],
+    map: &CrushMap<Global>,
+) -> Result<Vec<u8>, AllocError>
+    ensures lines { IfOk result (λ text. (t : List Row) → Stands map.now.forest t
+        → text.items ≡ weight_notes explain bytes.now t) }
+    ensures plain { IfOk result (λ text. explain ≡ false → text.items ≡ []) }
+{
+    if explain {
+        return written_text(alloc, map, map_part(bytes));
+    }
+    Ok(Vec::new(alloc))
+}
+
+/// A job that was read of these bytes, with what is noted of its text.
+pub(crate) fn weighed(
+    alloc: Global,
+    explain: bool,
+    bytes: &[u8],
+    job: Job,
+) -> Result<Weighed, AllocError>
+    ensures job { IfOk result (λ read. read.job ≡ job) }
+    ensures weights { IfOk result (λ read. (t : List Row) → Stands job.map.forest t
+        → read.weights.items ≡ weight_notes explain bytes.now t) }
+    ensures plain { IfOk result (λ read. explain ≡ false → read.weights.items ≡ []) }
+{
+    let weights = weight_notes(alloc, explain, bytes, &job.map)?;
+    Ok(Weighed { job, weights })
+}
+
+/// The line of a file that can't be opened: its name, and the reason that the system gives.
+fn unopened_text(alloc: Global, name: &str, error: &io::Error) -> Result<Vec<u8>, AllocError>
+    ensures { IfOk result (λ text. IsUnopened name.now text.items) }
+{
+    let reason = format!(in alloc; "{error}")?;
+    let mut text = Vec::new(alloc);
+    text.extend_from_slice(b"  ")?;
+    text.extend_from_slice(name.as_bytes())?;
+    text.extend_from_slice(b": ")?;
+    text.extend_from_slice(reason.as_bytes())?;
+    text.extend_from_slice(b"\n")?;
+    Ok(text)
+}
+
+/// That line, where reasons are asked for.
+fn unopened_notes(
+    alloc: Global,
+    explain: bool,
+    name: &str,
+    error: &io::Error,
+) -> Result<Vec<u8>, AllocError>
+    ensures plain { IfOk result (λ text. explain ≡ false → text.items ≡ []) }
+    ensures told { IfOk result (λ text. explain ≡ true → IsUnopened name.now text.items) }
+{
+    if explain {
+        return unopened_text(alloc, name, error);
+    }
+    Ok(Vec::new(alloc))
+}
+
+/// Why a file of this name that can't be opened wasn't read.
+pub(crate) fn unopened(alloc: Global, explain: bool, name: &str, error: io::Error) -> Stopped
+    ensures fault { IsInputFault result.fault }
+    ensures noted { IsFileNoted explain name.now result.fault result.notes.items }
+{
+    match unopened_notes(alloc, explain, name, &error) {
+        Ok(notes) => Stopped {
+            fault: RunFault::Read,
+            notes,
+        },
+        Err(_) => Stopped::quietly(alloc, RunFault::Memory),
+    }
+}
+
+/// The bytes, or of too many a prefix as long as a job may be.
+fn job_prefix(bytes: &[u8]) -> &[u8]
+    ensures few { length result.now ≤ LONGEST_JOB }
+    ensures whole { length bytes.now ≤ LONGEST_JOB → bytes.now ≡ result.now }
+{
+    if bytes.len() <= LONGEST_JOB {
+        return bytes;
+    }
+    bytes.split_at(LONGEST_JOB).0
+}
+
+/// Where a fault of these bytes stands, in the file that its line comes from, and what was wanted
+/// there, where that is asked for. More bytes than a job may have have no place, but that fault alone.
+fn place_notes(
+    alloc: Global,
+    explain: bool,
+    origins: Origins<'_>,
+    bytes: &[u8],
+    fault: JobFault,
+) -> Result<Vec<u8>, AllocError>
+    requires { IsJobFault bytes.now fault }
+    ensures { IfOk result (λ text. text.items
+        ≡ place_notes explain (origin_of origins.entry) bytes.now fault) }
+{
+    if explain {
+        let bytes = job_prefix(bytes);
+        let origin = origins.at(fault_line(bytes, fault));
+        return fault_text(alloc, origin, bytes, fault);
+    }
+    Ok(Vec::new(alloc))
+}
+
+/// Why bytes are no job, and where; or out of memory, where there is none to tell it.
+pub(crate) fn stopped_by(
+    alloc: Global,
+    explain: bool,
+    origins: Origins<'_>,
+    bytes: &[u8],
+    fault: JobFault,
+) -> Stopped
+    requires { IsJobFault bytes.now fault }
+    ensures fault { IsNoJob (Some bytes.now) result.fault }
+    ensures noted { IsFaultNoted explain (origin_of origins.entry) (Some bytes.now) result.fault
+        result.notes.items }
+{
+    if fault.lacks_memory() {
+        return Stopped::quietly(alloc, RunFault::Memory);
+    }
+    match place_notes(alloc, explain, origins, bytes, fault) {
+        Ok(notes) => Stopped {
+            fault: RunFault::Job(fault),
+            notes,
+        },
+        Err(_) => Stopped::quietly(alloc, RunFault::Memory),
+    }
+}

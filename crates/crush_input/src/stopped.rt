@@ -1,0 +1,38 @@
+//! What was read of a run, or why it stopped before its scripts ran.
+
+ghost use Rattle.std.specs.Prelude.{◌≡◌, []};
+
+use crate::fault::RunFault;
+use crush_script::Job;
+use std::alloc::Global;
+
+/// A job that was read, and what is noted of its text.
+#[derive(Drop)]
+pub struct Weighed {
+    /// The job.
+    pub job: Job,
+    /// The lines of written weights that aren't sums, where reasons are asked for.
+    pub weights: Vec<u8>,
+}
+
+/// Why a run stopped before its scripts ran.
+#[derive(Debug, Drop)]
+pub struct Stopped {
+    /// The fault that it ends with.
+    pub fault: RunFault,
+    /// What is told of it below the one line.
+    pub notes: Vec<u8>,
+}
+
+impl Stopped {
+    /// A fault of which nothing is told.
+    pub(crate) fn quietly(alloc: Global, fault: RunFault) -> Stopped
+        ensures fault { result.fault ≡ fault }
+        ensures quiet { result.notes.items ≡ [] }
+    {
+        Stopped {
+            fault,
+            notes: Vec::new(alloc),
+        }
+    }
+}

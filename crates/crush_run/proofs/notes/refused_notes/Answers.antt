@@ -1,9 +1,0 @@
-use Rattle.std.proofs.Common.{rules}
-use Rattle.crush_run.proofs.notes.refused_notes.Goals as goal
-
--- with reasons where those are asked for, and without in another strict run
-pub returns-then-mode : goal.returns-then-mode
-returns-then-mode c = search rules
-
-pub returns-then-mode-2 : goal.returns-then-mode-2
-returns-then-mode-2 c = search rules
