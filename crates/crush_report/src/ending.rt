@@ -1,6 +1,6 @@
 //! What a run tells on standard error, and the status with which the program ends.
 
-ghost use Rattle.std.specs.Prelude.{◌≡◌, [], IfOk, if◌then◌else◌};
+ghost use Rattle.std.specs.Prelude.{◌≡◌, [], if◌then◌else◌};
 ghost use Rattle.crush_bytes.specs.Writes.{Writes, AppendsPrefix};
 ghost use Rattle.crush_report.specs.OptionsReport.{IsHelpWhole, IsOptionsStatus, options_error, options_output};
 ghost use Rattle.crush_report.specs.Report.{adjusted_line, fault_reason, line_fault, text_fault, job_fault, outcome_reason, run_fault, refused_line, report_line, report_lines, report_text, since_fault, since_reason, since_status, since_text_fault, status};
@@ -11,7 +11,6 @@ use crush_options::OptionsFault;
 use crush_script::JobFault;
 use crush_text::TextFault;
 use itoa::Buffer;
-use std::alloc::{AllocError, Global};
 use std::io::Write;
 
 /// The line of a run out of memory, wherever it was.
@@ -261,20 +260,6 @@ fn put_prefix<E: Write>(bytes: &[u8], err: &mut E)
     ensures { AppendsPrefix (E.contents err.old) (E.contents err.new) bytes.now }
 {
     let _ = put(err, bytes);
-}
-
-/// The line that [`report`] puts to standard error, line feed and all, or no byte where it puts none.
-pub fn report_line(
-    alloc: Global,
-    outcome: &Result<Summary, RunFault>,
-) -> Result<Vec<u8>, AllocError>
-    ensures { IfOk result (λ line. line.items ≡ report_line outcome.now) }
-{
-    let mut line = Vec::new(alloc);
-    let Ok(()) = write_report(outcome, &mut line) else {
-        return Err(AllocError);
-    };
-    Ok(line)
 }
 
 /// The status of a run whose other map was not read.

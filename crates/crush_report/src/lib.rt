@@ -7,4 +7,4 @@
 
 mod ending;
 
-pub use ending::{Told, report, report_line, tell};
+pub use ending::{Told, report, tell};

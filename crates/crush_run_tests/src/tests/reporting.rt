@@ -3,7 +3,7 @@
 use crate::tests::is_told;
 use crush_bytes::WriteFault;
 use crush_options::OptionsFault;
-use crush_report::{report, report_line, tell};
+use crush_report::{report, tell};
 use crush_run::RunFault;
 use crush_script::JobFault;
 use std::alloc::AllocError;
@@ -33,9 +33,8 @@ fn reports_what_no_run_here_comes_to(rt: HostRuntime) {
 }
 
 #[test]
-fn answers_the_line_of_a_run_that_was_not_done(rt: HostRuntime) {
-    let line = report_line(rt.alloc(), &Err(RunFault::Thread)).expect(&rt, "no memory");
-    assert!(rt; line.as_slice() == b"crushedit: no thread\n".as_slice());
+fn tells_of_a_thread_that_was_not_started(rt: HostRuntime) {
+    assert!(rt; is_told(&rt, &Err(RunFault::Thread), b"crushedit: no thread\n", 4));
 }
 
 /// Answers an error to each write.
