@@ -12,10 +12,6 @@ use Rattle.std.proofs.Crossing.{crosses}
 use Rattle.std.specs.contracts.alloc.Global as Global
 use Rattle.std.specs.contracts.impls.GlobalAllocator.TheImpl as GlobalImpl
 use Rattle.std.specs.declared.sync.ledger.Ledger as Ledger
-use Rattle.crush_edits.specs.contracts.edit.Edit as Edit
-use Rattle.crush_edits.proofs.edit.Edit.TheSendSync.{the_sync as edit_sync}
-use Rattle.crush_calls.specs.contracts.call.Call as Call
-use Rattle.crush_calls.proofs.call.Call.TheSendSync.{the_sync as call_sync}
 use Rattle.crush_map.specs.contracts.map.CrushMap as CrushMap
 use Rattle.crush_editor.specs.declared.locked.Desk as Desk
 use Rattle.crush_editor.specs.declared.opening.Opening as Opening
@@ -28,26 +24,19 @@ use Rattle.crush_editor.proofs.Sharing.{editor_sync}
 alloc_sent : IsSend Global.the_row
 alloc_sent = search (sendable, crosses) depth 20
 
-module _ (N R : RattleType) (g : Desk.Ghosts N.Denot) (l : Ledger.Ghosts N.Denot) (o : Opening.Ghosts (CrushMap.the_row Global.the_row GlobalImpl.ghosts).Denot) (a b c : NamedLft) where
-  -- what a closure owns that works by a seat: the handle, memory, the editor, the seat, and what is lent to it beside them
-  abbrev pub owned : RattleType → List RattleType
-  owned lent = (shr_ref_field a (param 1 R) tt).row ∷ Global.the_row ∷ (shr_ref_field b (Editor.the_row (param 0 N) (CrushMap.the_row Global.the_row GlobalImpl.ghosts) g l o) tt).row
-      ∷ Seat.the_row (param 0 N) g l ∷ lent ∷ []
+module _ (N R W : RattleType) (g : Desk.Ghosts N.Denot) (l : Ledger.Ghosts N.Denot) (o : Opening.Ghosts (CrushMap.the_row Global.the_row GlobalImpl.ghosts).Denot) (a b c : NamedLft) where
+  -- what a closure owns that works by a seat: the handle, memory, the editor, the seat, and the list that is lent to it
+  abbrev pub owned : List RattleType
+  owned = (shr_ref_field a (param 1 R) tt).row ∷ Global.the_row ∷ (shr_ref_field b (Editor.the_row (param 0 N) (CrushMap.the_row Global.the_row GlobalImpl.ghosts) g l o) tt).row
+      ∷ Seat.the_row (param 0 N) g l ∷ (shr_slice_field c (param 2 W) tt).row ∷ []
 
   editor_shared : IsSync (Editor.the_row (param 0 N) (CrushMap.the_row Global.the_row GlobalImpl.ghosts) g l o)
   editor_shared = editor_sync (param 0 N) g l o
 
-  module _ (rt : IsSync (param 1 R)) where
-    -- each of them crosses threads, and so the closure does: where calls are lent
-    calls_send : FieldsHave IsSend (parts (owned (shr_slice_field c Call.the_row tt).row))
-    calls_send = (search (rt, sendable), (search (alloc_sent, sendable), (search (editor_shared, sendable), (search (seat_send, sendable), (search (call_sync, sendable), tt)))))
+  module _ (rt : IsSync (param 1 R)) (given : IsSync (param 2 W)) where
+    -- each of them crosses threads, and so the closure does
+    all_send : FieldsHave IsSend (parts owned)
+    all_send = (search (rt, sendable), (search (alloc_sent, sendable), (search (editor_shared, sendable), (search (seat_send, sendable), (search (given, sendable), tt)))))
 
-    pub worker_send : (name : Sym) → IsSend (TupleAt name (owned (shr_slice_field c Call.the_row tt).row))
-    worker_send name = declared_send (type_at name (owned (shr_slice_field c Call.the_row tt).row)) calls_send
-
-    -- and where edits are
-    edits_send : FieldsHave IsSend (parts (owned (shr_slice_field c Edit.the_row tt).row))
-    edits_send = (search (rt, sendable), (search (alloc_sent, sendable), (search (editor_shared, sendable), (search (seat_send, sendable), (search (edit_sync, sendable), tt)))))
-
-    pub follower_send : (name : Sym) → IsSend (TupleAt name (owned (shr_slice_field c Edit.the_row tt).row))
-    follower_send name = declared_send (type_at name (owned (shr_slice_field c Edit.the_row tt).row)) edits_send
+    pub worker_send : (name : Sym) → IsSend (TupleAt name owned)
+    worker_send name = declared_send (type_at name owned) all_send

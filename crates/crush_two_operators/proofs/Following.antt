@@ -19,7 +19,7 @@ use Rattle.crush_table.specs.Forest.{rows_of}
 use Rattle.crush_editor.specs.History.{slip}
 use Rattle.crush_editor.specs.Seat.{SeatData, seat_data, slips_of, Answered, IsHistoryOfSeats}
 use Rattle.crush_two_operators.specs.Plan.{step, steps_from, changing, IsStep, IsFollowed, HasFollowed}
-use Rattle.crush_two_operators.proofs.Order.{AreTaken, each_of_two}
+use Rattle.crush_two_operators.proofs.Order.{each_of_two}
 
 -- the edit at a place, and those behind it
 cut_at : (plan : List Edit) (n : ℕ) (e : Edit) → slice_get plan n ≡ Some e → drop n plan ≡ e ∷ drop (suc n) plan
@@ -122,15 +122,12 @@ pub changes_begin : (v h : List EntryData) → IsPrefix v h → changes v ≤ ch
 changes_begin v h p = let more = changes-append v p.0 in let whole = ap changes p.1 in omega (arith, more, whole)
 
 -- so what two seats followed is followed by the closed history
-pub followed_by_two : (o m : MapData) (plan : List Edit) (h : List EntryData) (l q : List SeatData) (one two one' two' : SeatData) → AreTaken l one two → q ≡ one' ∷ two' ∷ []
-    → HasFollowed one plan one' → HasFollowed two plan two' → IsHistoryOfSeats o m h q → IsFollowed plan h
-followed_by_two o m plan h l q one two one' two' taken is first second closed =
+pub followed_by_two : (o m : MapData) (plan : List Edit) (h : List EntryData) (one two : SeatData) → HasFollowed (seat_data 0 [] []) plan one → HasFollowed (seat_data 1 [] []) plan two → IsHistoryOfSeats o m h (one ∷ two ∷ []) → IsFollowed plan h
+followed_by_two o m plan h one two first second closed =
     let P : Call → Type 0 = IsStep plan in
-    let slips : (k : ℕ) → of_operator k h ≡ slips_of (one' ∷ two' ∷ []) k = subst (λ (xs : List SeatData). (k : ℕ) → of_operator k h ≡ slips_of xs k) is closed.slips in
-    let none : (x : SeatData) (k : ℕ) → x ≡ seat_data k [] [] → All (λ (a : AnsweredData). P a.call) x.slips = λ x k fresh. All-same (λ (a : AnsweredData). P a.call) _ _ (ap (λ (y : SeatData). y.slips) fresh) (All-nil (λ (a : AnsweredData). P a.call)) in
-    let each = each_of_two P one' two' h slips (first.calls (none one 0 taken.first)) (second.calls (none two 1 taken.second)) in
-    let begins : IsPrefix one'.seen h = subst (λ (xs : List SeatData). (k : ℕ) → k < length xs → IsPrefix (slice_index_or xs k (seat_data 0 [] [])).seen h) is closed.seen 0 (omega arith) in
-    let seen = changes_begin one'.seen h begins in
+    let each = each_of_two P one two h closed.slips (first.calls (All-nil (λ (a : AnsweredData). P a.call))) (second.calls (All-nil (λ (a : AnsweredData). P a.call))) in
+    let begins : IsPrefix one.seen h = closed.seen 0 (omega arith) in
+    let seen = changes_begin one.seen h begins in
     let done = first.done in
     followed o.setting (rows_of o.forest) plan h closed.legal (all_calls P h each) (omega (arith, seen, done))
 

@@ -70,10 +70,6 @@ are_theirs one two first second h slips e f zero = ap calls_of (slips 0) ∙ e
 are_theirs one two first second h slips e f (suc zero) = ap calls_of (slips 1) ∙ f
 are_theirs one two first second h slips e f (suc (suc k)) = ap calls_of (slips (suc (suc k)) ∙ slips_past one two k)
 
--- what a seat without a slip was answered is all that it was asked
-pub from_none : (old new : SeatData) (calls : List Call) (k : ℕ) → old ≡ seat_data k [] [] → HasMade old calls new → calls_of new.slips ≡ calls
-from_none old new calls k fresh made = made.calls ∙ ap (λ (x : SeatData). calls_of x.slips ++ calls) fresh
-
 -- what holds of the calls of the two holds of all
 pub each_of_two : (P : Call → Type 0) (one two : SeatData) (h : List EntryData) → ((k : ℕ) → of_operator k h ≡ slips_of (one ∷ two ∷ []) k)
     → All (λ (a : AnsweredData). P a.call) one.slips → All (λ (a : AnsweredData). P a.call) two.slips → (k : ℕ) → All (λ (a : AnsweredData). P a.call) (of_operator k h)
@@ -81,9 +77,18 @@ each_of_two P one two h slips e f zero = All-same (λ (a : AnsweredData). P a.ca
 each_of_two P one two h slips e f (suc zero) = All-same (λ (a : AnsweredData). P a.call) _ _ (slips 1) f
 each_of_two P one two h slips e f (suc (suc k)) = All-same (λ (a : AnsweredData). P a.call) _ _ (slips (suc (suc k)) ∙ slips_past one two k) (All-nil _)
 
+-- what two seats did that were taken out and put back, and what was closed of them
+pub worked_by_two : {A : Type 0} (o m : MapData) (done : List A → SeatData → SeatData → Type 0) (first second : List A) (h : List EntryData) (l q : List SeatData) (one two one' two' : SeatData) → AreTaken l one two → q ≡ one' ∷ two' ∷ []
+    → done first one one' → done second two two' → IsHistoryOfSeats o m h q
+    → (x : SeatData) × (y : SeatData) × done first (seat_data 0 [] []) x × done second (seat_data 1 [] []) y × IsHistoryOfSeats o m h (x ∷ y ∷ [])
+worked_by_two o m done first second h l q one two one' two' taken is made made' closed =
+    (one', two', subst (λ (x : SeatData). done first x one') taken.first made, subst (λ (x : SeatData). done second x two') taken.second made', subst (λ (xs : List SeatData). IsHistoryOfSeats o m h xs) is closed)
+
 -- so what two seats were answered is what the closed history has
-pub theirs_of_two : (o m : MapData) (first second : List Call) (h : List EntryData) (l q : List SeatData) (one two one' two' : SeatData) → AreTaken l one two → q ≡ one' ∷ two' ∷ []
-    → HasMade one first one' → HasMade two second two' → IsHistoryOfSeats o m h q → AreTheirs first second h
-theirs_of_two o m first second h l q one two one' two' taken is made made' closed =
-    are_theirs one' two' first second h (subst (λ (xs : List SeatData). (k : ℕ) → of_operator k h ≡ slips_of xs k) is closed.slips)
-    (from_none one one' first 0 taken.first made) (from_none two two' second 1 taken.second made')
+pub theirs_of_two : (o m : MapData) (first second : List Call) (h : List EntryData) (one two : SeatData) → HasMade (seat_data 0 [] []) first one → HasMade (seat_data 1 [] []) second two → IsHistoryOfSeats o m h (one ∷ two ∷ []) → AreTheirs first second h
+theirs_of_two o m first second h one two made made' closed = are_theirs one two first second h closed.slips made.calls made'.calls
+
+-- what follows of the value of an answer
+pub of_each_ok : {A E : Type 0} (r : Result A E) (P Q : A → Type 0) → ((x : A) → P x → Q x) → IfOk r P → IfOk r Q
+of_each_ok (Ok x) P Q f p = f x p
+of_each_ok (Err e) P Q f p = tt

@@ -1,9 +1,10 @@
-//! Two operators at an editor of one map.
+//! Two operators make calls that each was given.
 
 ghost use Rattle.std.specs.Prelude.{◌≡◌, IfOk, IfSome};
 ghost use Rattle.crush_editor.specs.Book.{MakesAll};
 ghost use Rattle.crush_two_operators.specs.Calls.{AreTheirs, HasMade};
 
+use crate::together::{Work, Worked, work_together};
 use anyhow::Context;
 use crush_calls::Call;
 use crush_editor::{Closed, Desk, Editor, Seat, Started};
@@ -12,14 +13,14 @@ use crush_map::CrushMap;
 use std::alloc::Global;
 use std::marker::Brand;
 use std::sync::Wait;
-use std::thread::{Threads, join};
+use std::thread::Threads;
 
 /// Lets two operators make their calls at once, and hands out what the editor has at its close: the
 /// map before, the map after, and the history between them, which one thread could have made. The
 /// calls in it are exactly those of the two, each operator's in order.
 ///
 /// Beside it stands the later of what the two read after their last calls: who came last has read of
-/// all changes. An `Err` says that memory ran out.
+/// all changes. An `Err` says that memory ran out, or that the history is full.
 pub fn edit_at_once<R: Threads + Wait + Sync>(
     rt: &R,
     alloc: Global,
@@ -34,63 +35,29 @@ pub fn edit_at_once<R: Threads + Wait + Sync>(
     // once these are there: so the work stands in a function that is generic in the name and is called
     // at `Brand`, and proofs/at_once/edit_at_once/Invariants.antt says what the name stands for.
     let started = Started::new(map, 2, alloc).ok().context("out of memory")?;
-    work_together::<Brand, R>(rt, alloc, started, first, second)
+    work_together::<Brand, R, Call>(rt, alloc, started, first, second)
 }
 
-/// The same by the editor of a name.
-fn work_together<N: Desk + Send + Sync, R: Threads + Wait + Sync>(
-    rt: &R,
-    alloc: Global,
-    started: Started,
-    first: &[Call],
-    second: &[Call],
-) -> anyhow::Result<(Closed<Global>, Reading)>
-    requires gauge { started.table ≡ N.gauge }
-    requires opening { started.opening ≡ N.opening }
-    requires name { started.name ≡ N.name }
-    requires parts { (started.parts ≡ N.parts) × (N.parts ≡ 2) }
-    ensures all { IfOk result (λ r. MakesAll N.opening r.0.map r.0.history.items) }
-    ensures calls { IfOk result (λ r. AreTheirs first.now second.now r.0.history.items) }
-{
-    let (editor, mut seats) = Editor::<N>::open(started, alloc)
-        .ok()
-        .context("out of memory")?;
-    let two = seats.pop().context("no seat")?;
-    let one = seats.pop().context("no seat")?;
+/// The calls of a seat's operator are made one after the other. `None` says that memory ran out, or
+/// that the history is full.
+impl Work for Call {
+    ghost use Rattle.crush_two_operators.specs.Calls.{HasMade};
 
-    // Each thread owns its seat while it works, and gives it back; the editor is lent to both. That
-    // what a thread takes with it may cross threads is shown in proofs/Crossing.antt.
-    let shared = &editor;
-    let (one, two) = join(
-        rt,
-        move || -> Option<Worked<N>>
-            ensures { IfSome result (λ w. HasMade one first.entry.now w.seat) }
-        { work(rt, alloc, shared, one, first) },
-        move || -> Option<Worked<N>>
-            ensures { IfSome result (λ w. HasMade two second.entry.now w.seat) }
-        { work(rt, alloc, shared, two, second) },
-    );
-    let one = one.context("out of memory")?;
-    let two = two.context("out of memory")?;
-    let last = later(one.last, two.last);
+    ghost done = { λ calls old new. HasMade old calls new };
 
-    // `close` wants all seats back, in the order in which `open` handed them out.
-    seats.push(one.seat)?;
-    seats.push(two.seat)?;
-    Ok((editor.close(seats), last))
+    fn work<N: Desk, R: Wait>(
+        rt: &R,
+        alloc: Global,
+        editor: &Editor<N>,
+        seat: Seat<N>,
+        given: &[Call],
+    ) -> Option<Worked<N>> {
+        make_each(rt, alloc, editor, seat, given)
+    }
 }
 
-/// What a thread gives back: its seat, and what it read after its last call.
-#[derive(Drop)]
-struct Worked<N: Desk> {
-    seat: Seat<N>,
-    last: Reading,
-}
-
-/// Makes the calls of a seat's operator, one after the other, and reads after each how far the map
-/// is. A reading takes no lock, so it goes on while the other operator is inside a call. `None` says
-/// that memory ran out.
-fn work<N: Desk, R: Wait>(
+/// Makes the calls, and reads after each.
+fn make_each<N: Desk, R: Wait>(
     rt: &R,
     alloc: Global,
     editor: &Editor<N>,
@@ -105,9 +72,4 @@ fn work<N: Desk, R: Wait>(
         last = editor.reading(&mut seat);
     }
     Some(Worked { seat, last })
-}
-
-/// The reading with more changes.
-fn later(a: Reading, b: Reading) -> Reading {
-    if a.changes < b.changes { b } else { a }
 }

@@ -26,6 +26,7 @@ use std::io;
 
 mod at_once;
 mod plan;
+mod together;
 
 fn main(rt: HostRuntime) -> anyhow::Result<()> {
     let first = first_calls(rt.alloc())?;

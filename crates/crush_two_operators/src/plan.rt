@@ -6,6 +6,7 @@ ghost use Rattle.crush_calls.specs.declared.call.Call.TheVariants.{Guarded};
 ghost use Rattle.crush_editor.specs.Book.{MakesAll};
 ghost use Rattle.crush_two_operators.specs.Plan.{HasFollowed, IsFollowed};
 
+use crate::together::{Work, Worked, work_together};
 use anyhow::Context;
 use crush_calls::{Call, Edits, Reply, is_change};
 use crush_editor::{Closed, Desk, Editor, Seat, Started};
@@ -15,7 +16,7 @@ use crush_units::limits::MOST_ENTRIES;
 use std::alloc::Global;
 use std::marker::Brand;
 use std::sync::Wait;
-use std::thread::{Threads, join};
+use std::thread::Threads;
 
 /// Lets two operators work through one plan at once: its first edit is to be the first change of the
 /// map, its next the second, and so on. Each is made exactly once and in its order, whichever of the
@@ -33,43 +34,25 @@ pub fn follow_at_once<R: Threads + Wait + Sync>(
     ensures plan { IfOk result (λ c. IsFollowed plan.now c.history.items) }
 {
     let started = Started::new(map, 2, alloc).ok().context("out of memory")?;
-    follow_together::<Brand, R>(rt, alloc, started, plan)
+    let (closed, _last) = work_together::<Brand, R, Edit>(rt, alloc, started, plan, plan)?;
+    Ok(closed)
 }
 
-/// The same by the editor of a name.
-fn follow_together<N: Desk + Send + Sync, R: Threads + Wait + Sync>(
-    rt: &R,
-    alloc: Global,
-    started: Started,
-    plan: &[Edit],
-) -> anyhow::Result<Closed<Global>>
-    requires gauge { started.table ≡ N.gauge }
-    requires opening { started.opening ≡ N.opening }
-    requires name { started.name ≡ N.name }
-    requires parts { (started.parts ≡ N.parts) × (N.parts ≡ 2) }
-    ensures all { IfOk result (λ c. MakesAll N.opening c.map c.history.items) }
-    ensures plan { IfOk result (λ c. IsFollowed plan.now c.history.items) }
-{
-    let (editor, mut seats) = Editor::<N>::open(started, alloc)
-        .ok()
-        .context("out of memory")?;
-    let two = seats.pop().context("no seat")?;
-    let one = seats.pop().context("no seat")?;
-    let shared = &editor;
-    let (one, two) = join(
-        rt,
-        move || -> Option<Seat<N>>
-            ensures { IfSome result (λ seat. HasFollowed one plan.entry.now seat) }
-        { follow(rt, alloc, shared, one, plan) },
-        move || -> Option<Seat<N>>
-            ensures { IfSome result (λ seat. HasFollowed two plan.entry.now seat) }
-        { follow(rt, alloc, shared, two, plan) },
-    );
-    let one = one.context("a step was not made")?;
-    let two = two.context("a step was not made")?;
-    seats.push(one)?;
-    seats.push(two)?;
-    Ok(editor.close(seats))
+/// The steps of a plan are asked for until none is left. `None` says that one was not made.
+impl Work for Edit {
+    ghost use Rattle.crush_two_operators.specs.Plan.{HasFollowed};
+
+    ghost done = { λ plan old new. HasFollowed old plan new };
+
+    fn work<N: Desk, R: Wait>(
+        rt: &R,
+        alloc: Global,
+        editor: &Editor<N>,
+        seat: Seat<N>,
+        given: &[Edit],
+    ) -> Option<Worked<N>> {
+        follow(rt, alloc, editor, seat, given)
+    }
 }
 
 /// Works through a plan by a seat. It reads how many changes there are, asks for the step of that
@@ -81,14 +64,15 @@ fn follow<N: Desk, R: Wait>(
     editor: &Editor<N>,
     mut seat: Seat<N>,
     plan: &[Edit],
-) -> Option<Seat<N>>
-    ensures { IfSome result (λ after. HasFollowed seat plan.now after) }
+) -> Option<Worked<N>>
+    ensures { IfSome result (λ w. HasFollowed seat plan.now w.seat) }
 {
     for _ in 0..=MOST_ENTRIES {
-        let seen = editor.reading(&mut seat).changes;
+        let last = editor.reading(&mut seat);
+        let seen = last.changes;
         let number = seen as usize;
         if number >= plan.len() {
-            return Some(seat);
+            return Some(Worked { seat, last });
         }
         let call = step(alloc, seen as u32, &plan[number])?;
         let reply = editor.submit(rt, alloc, &mut seat, &call).ok()?;

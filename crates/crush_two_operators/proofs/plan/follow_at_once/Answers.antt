@@ -1,10 +1,14 @@
-use Rattle.std.proofs.Common.{sym, ◌∙◌, subst, IfOk}
+use Rattle.std.proofs.Common.{sym, ◌∙◌, subst}
 use Rattle.crush_editor.specs.Book.{MakesAll}
 use Rattle.crush_two_operators.proofs.Order.{of_ok}
+use Rattle.crush_two_operators.proofs.Following.{followed_by_two}
 use Rattle.crush_two_operators.proofs.plan.follow_at_once.Goals as goal
 
 -- the opening is the map that was given
 pub returns-clause-all : goal.returns-clause-all
 returns-clause-all g c =
     let o = of_ok _ _ _ (sym c.ok.ensures.value ∙ c.in_ok-started.ensures) c.new.ensures.opening in
-    subst (λ m. IfOk c.follow_together.result (λ r. MakesAll m r.map r.history.items)) o c.follow_together.ensures.all
+    subst (λ m. MakesAll m c.in_ok-closed.closed.map c.in_ok-closed.closed.history.items) o c.in_ok-closed.ensures.all
+
+pub returns-clause-plan : goal.returns-clause-plan
+returns-clause-plan g c = let s = c.in_ok-closed.ensures.seats in followed_by_two _ _ _ _ s.0 s.1 s.2 s.3 s.4

@@ -1,8 +1,8 @@
 use Rattle.crush_two_operators.proofs.plan.follow_at_once.Given as goal
 
 -- the editor's name: its gauge and its opening are those of what was started, and so is its ledger
-abbrev pub ghosts-follow_together-N-Desk : goal.ghosts-follow_together-N-Desk
-ghosts-follow_together-N-Desk g a = record { gauge = a.started.table; opening = a.started.opening }
+abbrev pub ghosts-work_together-N-Desk : goal.ghosts-work_together-N-Desk
+ghosts-work_together-N-Desk g a = record { gauge = a.started.table; opening = a.started.opening }
 
-abbrev pub ghosts-follow_together-N-Ledger : goal.ghosts-follow_together-N-Ledger
-ghosts-follow_together-N-Ledger g a = record { name = a.started.name; parts = a.started.parts }
+abbrev pub ghosts-work_together-N-Ledger : goal.ghosts-work_together-N-Ledger
+ghosts-work_together-N-Ledger g a = record { name = a.started.name; parts = a.started.parts }

@@ -2,11 +2,11 @@ use denote.Exit.{no}
 use denote.Param.Send.{param_send, arg_send}
 use Rattle.std.proofs.Common.{sym, ◌∙◌, arith}
 use Rattle.crush_two_operators.proofs.Crossing.{worker_send}
-use Rattle.crush_two_operators.proofs.Order.{of_ok, of_some, shorter, are_taken, put_back, back_in_order, theirs_of_two}
-use Rattle.crush_two_operators.proofs.at_once.work_together.Goals as goal
+use Rattle.crush_two_operators.proofs.Order.{of_ok, of_some, shorter, are_taken, put_back, back_in_order, worked_by_two}
+use Rattle.crush_two_operators.proofs.together.work_together.Goals as goal
 
 pub join-one-requires-send-F : goal.join-one-requires-send-F
-join-one-requires-send-F g c κs within = param_send _ _ (arg_send _ no _ (worker_send g.row.N g.row.R g.N.Desk g.N.Ledger _ _ _ _ c.type_bounds.sync-R _))
+join-one-requires-send-F g c κs within = param_send _ _ (arg_send _ no _ (worker_send g.row.N g.row.R g.row.W g.N.Desk g.N.Ledger _ _ _ _ c.type_bounds.sync-R c.type_bounds.sync-W _))
 
 pub close-requires-clause-count : goal.close-requires-clause-count
 close-requires-clause-count g c =
@@ -26,10 +26,10 @@ close-requires-clause-order g c =
     (λ k less. of_ok _ _ _ is c.open.ensures.seats k (omega arith)) in
     let first = of_some _ _ _ c.in_ok-one-2.ensures c.join-one.ensures.first in
     let second = of_some _ _ _ c.in_ok-two-2.ensures c.join-one.ensures.second in
-    back_in_order _ _ _ _ _ _ taken (put_back _ _ _ _ _ _ _ taken c.in_ok-push.ensures.items c.in_ok-push-2.ensures.items) first.operator second.operator
+    back_in_order _ _ _ _ _ _ taken (put_back _ _ _ _ _ _ _ taken c.in_ok-push.ensures.items c.in_ok-push-2.ensures.items) first.0 second.0
 
-pub returns-clause-calls : goal.returns-clause-calls
-returns-clause-calls g c =
+pub returns-clause-seats : goal.returns-clause-seats
+returns-clause-seats g c =
     let is = sym c.ok.ensures.value ∙ c.in_ok-editor.ensures in
     let n = of_ok _ _ _ is c.open.ensures.count in
     let v = c.in_ok-editor.seats.ok in
@@ -38,4 +38,4 @@ returns-clause-calls g c =
     (λ k less. of_ok _ _ _ is c.open.ensures.seats k (omega arith)) in
     let first = of_some _ _ _ c.in_ok-one-2.ensures c.join-one.ensures.first in
     let second = of_some _ _ _ c.in_ok-two-2.ensures c.join-one.ensures.second in
-    theirs_of_two _ _ _ _ _ _ _ _ _ _ _ taken (put_back _ _ _ _ _ _ _ taken c.in_ok-push.ensures.items c.in_ok-push-2.ensures.items) first second c.close.ensures.history
+    worked_by_two _ _ g.W.Work.done _ _ _ _ _ _ _ _ _ taken (put_back _ _ _ _ _ _ _ taken c.in_ok-push.ensures.items c.in_ok-push-2.ensures.items) first.1 second.1 c.close.ensures.history

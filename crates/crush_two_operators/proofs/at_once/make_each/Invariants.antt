@@ -1,6 +1,6 @@
 use Rattle.std.proofs.Common.{take}
 use Rattle.crush_two_operators.specs.Calls.{HasMade}
-use Rattle.crush_two_operators.proofs.at_once.work.Given as goal
+use Rattle.crush_two_operators.proofs.at_once.make_each.Given as goal
 
 -- the seat was answered the calls so far
 abbrev pub invariant-loop-call : goal.invariant-loop-call
