@@ -71,8 +71,9 @@ fn push_end(edit: &Edit, text: &mut Vec<u8>) -> Result<(), AllocError>
     text.extend_from_slice(b"\n")
 }
 
-/// An edit as a line for a shell.
-fn push_line(edit: &Edit, text: &mut Vec<u8>) -> Result<(), AllocError>
+/// An edit as a line for a shell: `ceph osd crush`, its command, and of a swap
+/// `--yes-i-really-mean-it`. An `Err` says that memory ran out.
+pub fn push_ceph_line(edit: &Edit, text: &mut Vec<u8>) -> Result<(), AllocError>
     ensures { OnOk result (text.new.items ≡ text.old.items ++ ceph_line edit.now) }
 {
     text.extend_from_slice(b"ceph osd crush ")?;
@@ -85,7 +86,7 @@ fn push_lines(edits: &[Edit], text: &mut Vec<u8>) -> Result<(), AllocError>
     ensures { OnOk result (text.new.items ≡ text.old.items ++ flat_map ceph_line edits.now) }
 {
     for edit in edits {
-        push_line(edit, text)?;
+        push_ceph_line(edit, text)?;
     }
     Ok(())
 }
@@ -96,7 +97,7 @@ fn push_call(call: &Call, text: &mut Vec<u8>) -> Result<(), AllocError>
         ≡ text.old.items ++ flat_map ceph_line (edits_of call.now)) }
 {
     match call {
-        Call::One(edit) => push_line(edit, text),
+        Call::One(edit) => push_ceph_line(edit, text),
         Call::Batch(edits) => push_lines(edits.as_slice(), text),
         Call::Guarded { edits, .. } => push_lines(edits.as_slice(), text),
     }
@@ -113,9 +114,9 @@ fn push_changing(entry: &Entry, text: &mut Vec<u8>) -> Result<(), AllocError>
     push_call(&entry.call, text)
 }
 
-/// How many lines there are.
+/// How many commands there are: `# N commands`. An `Err` says that memory ran out.
 #[tactic(auto, unfolding(crate::specs::Ceph::ceph_heading))]
-fn push_heading(count: u64, text: &mut Vec<u8>) -> Result<(), AllocError>
+pub fn push_ceph_heading(count: u64, text: &mut Vec<u8>) -> Result<(), AllocError>
     ensures { OnOk result (text.new.items ≡ text.old.items ++ ceph_heading count) }
 {
     let mut buffer = Buffer::new();
@@ -134,7 +135,7 @@ pub fn ceph_text(alloc: Global, entries: &[Entry]) -> Result<Vec<u8>, AllocError
     ensures { IfOk result (λ text. text.items ≡ ceph_text entries.now) }
 {
     let mut text = Vec::new(alloc);
-    push_heading(count_told(entries), &mut text)?;
+    push_ceph_heading(count_told(entries), &mut text)?;
     for entry in entries {
         push_changing(entry, &mut text)?;
     }

@@ -13,7 +13,7 @@ mod sentences;
 mod words;
 mod written;
 
-pub use ceph::ceph_text;
+pub use ceph::{ceph_text, push_ceph_heading, push_ceph_line};
 pub use explained::explained_text;
 pub use place::{Origin, fault_line, fault_text};
 pub use written::written_text;

@@ -11,7 +11,7 @@ use Rattle.crush_view.specs.Tallies.{is_made, is_removed, is_renamed, is_moved, 
 use Rattle.crush_view.specs.declared.since.tally.Tally.{Tally}
 
 -- one element more
-count_more : {X : Type 0} (p : X → Bool) (xs : List X) (i : ℕ) (x : X) → i < length xs → x ≡ get_or xs i x → count_by p (take (i + 1) xs) ≡ count_by p (take i xs) + one_if (p x)
+pub count_more : {X : Type 0} (p : X → Bool) (xs : List X) (i : ℕ) (x : X) → i < length xs → x ≡ get_or xs i x → count_by p (take (i + 1) xs) ≡ count_by p (take i xs) + one_if (p x)
 count_more p xs i x lt is = at (p x) refl where
   at : (b : Bool) → p x ≡ b → count_by p (take (i + 1) xs) ≡ count_by p (take i xs) + one_if (p x)
   at true e = let one : one_if (p x) ≡ 1 = ap one_if e in omega (arith, one, count_by_more_yes p xs i x lt (ap p (sym is) ∙ e))

@@ -12,8 +12,12 @@ pub record ItemData : Type 0 where
   pub view : ViewData
   pub holder : Option (List ℕ)
 
+-- an item with the name of the bucket that holds it
+abbrev pub with_holder : List Row → ViewData → ItemData
+with_holder t v = record { view = v; holder = option_and_then (λ p. name_of t (Bucket p)) v.parent }
+
 abbrev pub row_item : List Row → Row → ItemData
-row_item t r = record { view = row_view t r; holder = option_and_then (λ p. name_of t (Bucket p)) r.parent }
+row_item t r = with_holder t (row_view t r)
 
 abbrev pub item_of : List Row → ItemId → Option ItemData
 item_of t i = option_map (row_item t) (row_of t i)

@@ -10,6 +10,10 @@ mod steps;
 mod tree;
 mod words;
 
-pub use since::{no_item_is_told_where_rows_are_equal, nothing_changes_since_itself, write_since};
+pub use since::{
+    Seen, alg_bytes, class_bytes, class_ids_of, look_up, no_item_is_told_where_rows_are_equal,
+    nothing_changes_since_itself, push_kinds, push_part, push_tunables, same_algs, same_class,
+    same_class_ids, same_step, step_seen, tell_unless, type_bytes, weight_of, write_since,
+};
 pub use steps::{Step, walk, walk_below};
 pub use tree::{same_tables_have_one_tree, write_tree};

@@ -21,17 +21,20 @@ mod settings;
 mod tally;
 mod words;
 
-use columns::same_class_ids;
+pub use columns::{same_algs, same_class, same_class_ids};
 use crush_bytes::{WriteFault, put};
 use crush_map::CrushMap;
 use crush_units::ItemId;
 use ids::ids_of_both;
+pub use parts::push_part;
 use parts::{Compared, push_line};
-use seen::{class_ids_of, look_up};
+pub use seen::{Seen, class_ids_of, look_up, step_seen};
 use settings::push_settings;
+pub use settings::{push_kinds, push_tunables, same_step, tell_unless};
 use std::alloc::{AllocError, Allocator, Global};
 use std::io::Write;
 use tally::Tally;
+pub use words::{alg_bytes, class_bytes, type_bytes, weight_of};
 use words::{push_counts, push_totals};
 
 /// Writes what has changed from the old map to the new: a line for each item that differs, buckets

@@ -23,7 +23,7 @@ pub(crate) fn same_parent(before: Option<BucketId>, after: Option<BucketId>) -> 
 }
 
 /// Whether both have one class, or none.
-pub(crate) fn same_class(before: Option<&str>, after: Option<&str>) -> bool
+pub fn same_class(before: Option<&str>, after: Option<&str>) -> bool
     ensures { result ≡ same_text (option_map (λ c. c.now) before.entry)
         (option_map (λ c. c.now) after.entry) }
 {
@@ -37,7 +37,7 @@ pub(crate) fn same_class(before: Option<&str>, after: Option<&str>) -> bool
 }
 
 /// Whether both have one algorithm, or none.
-pub(crate) fn same_algs(before: Option<Alg>, after: Option<Alg>) -> bool
+pub fn same_algs(before: Option<Alg>, after: Option<Alg>) -> bool
     ensures { result ≡ same_algs before after }
 {
     match (before, after) {
@@ -48,7 +48,7 @@ pub(crate) fn same_algs(before: Option<Alg>, after: Option<Alg>) -> bool
 }
 
 /// Whether both have the same class ids, in order.
-pub(crate) fn same_class_ids<A: Allocator, B: Allocator>(
+pub fn same_class_ids<A: Allocator, B: Allocator>(
     before: &[ShadowId<A>],
     after: &[ShadowId<B>],
 ) -> bool

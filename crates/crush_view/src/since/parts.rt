@@ -135,8 +135,9 @@ fn push_changes(
     Ok(())
 }
 
-/// A part of these words where a column differs.
-fn push_part(same: bool, words: &[&[u8]], parts: &mut Vec<u8>) -> Result<(), AllocError>
+/// A part of these words, behind a semicolon, where a column differs. An `Err` says that memory ran
+/// out.
+pub fn push_part(same: bool, words: &[&[u8]], parts: &mut Vec<u8>) -> Result<(), AllocError>
     ensures { OnOk result (parts.new.items ≡ parts.old.items
         ++ behind (part same (flat_map (λ w. w.now) words.now))) }
 {

@@ -7,9 +7,11 @@ ghost use Rattle.crush_nodes.specs.SeenView.{view_data};
 ghost use Rattle.crush_table.specs.Stands.{Stands};
 ghost use Rattle.crush_table.specs.Table.{Row, name_of};
 ghost use Rattle.crush_units.specs.declared.id.ItemId.TheVariants.{Bucket};
-ghost use Rattle.crush_view.specs.ItemData.{item_of, own_class_ids};
+ghost use Rattle.crush_view.specs.ItemData.{item_of, own_class_ids, with_holder};
 ghost use Rattle.crush_view.specs.SeenItem.{seen_data};
+ghost use Rattle.crush_view.specs.SeenStep.{step_data};
 
+use crate::steps::Step;
 use crush_map::CrushMap;
 use crush_tree::{ShadowId, View};
 use crush_units::ItemId;
@@ -17,7 +19,7 @@ use std::alloc::Allocator;
 
 /// An item as a map has it.
 #[derive(Clone, Copy, Debug)]
-pub(crate) struct Seen<'a> {
+pub struct Seen<'a> {
     /// Its columns.
     pub view: View<'a>,
     /// The name of the bucket that holds it.
@@ -25,7 +27,7 @@ pub(crate) struct Seen<'a> {
 }
 
 /// What the map says of the item of this id. The map's index is asked, and nothing is searched.
-pub(crate) fn look_up<A: Allocator>(map: &CrushMap<A>, id: ItemId) -> Option<Seen<'_>>
+pub fn look_up<A: Allocator>(map: &CrushMap<A>, id: ItemId) -> Option<Seen<'_>>
     ensures { (t : List Row) → Stands map.now.forest t
         → option_map seen_data result ≡ item_of t id }
 {
@@ -36,6 +38,17 @@ pub(crate) fn look_up<A: Allocator>(map: &CrushMap<A>, id: ItemId) -> Option<See
         }
         None => None,
     }
+}
+
+/// The item of a step of the map's tree. The map's index is asked for the name of the bucket that holds
+/// it, and nothing is searched.
+pub fn step_seen<'a, A: Allocator>(map: &'a CrushMap<A>, step: &Step<'a, A>) -> Seen<'a>
+    ensures { (t : List Row) → Stands map.now.forest t
+        → seen_data result ≡ with_holder t (step_data step.now).item }
+{
+    let view = step.view();
+    let holder = holder_of(map, &view);
+    Seen { view, holder }
 }
 
 /// The name of the bucket that holds an item.
@@ -50,7 +63,7 @@ fn holder_of<'a, A: Allocator>(map: &'a CrushMap<A>, view: &View<'a>) -> Option<
 }
 
 /// The class ids of the item of this id, if it is a bucket.
-pub(crate) fn class_ids_of<A: Allocator>(map: &CrushMap<A>, id: ItemId) -> &[ShadowId<A>]
+pub fn class_ids_of<A: Allocator>(map: &CrushMap<A>, id: ItemId) -> &[ShadowId<A>]
     ensures { (t : List Row) → Stands map.now.forest t
         → each shadow_data result.now ≡ own_class_ids t id }
 {

@@ -23,16 +23,16 @@ pub(crate) fn push_settings(
     push_rules(old, new, out)
 }
 
-/// A line where the tunables differ.
-fn push_tunables(old: &Setting, new: &Setting, out: &mut Vec<u8>) -> Result<(), AllocError>
+/// A line where the tunables differ, in order. An `Err` says that memory ran out.
+pub fn push_tunables(old: &Setting, new: &Setting, out: &mut Vec<u8>) -> Result<(), AllocError>
     ensures { OnOk result (out.new.items ≡ out.old.items ++ tunables_line old.now new.now) }
 {
     tell_unless(same_tunables(old, new), b"tunables differ\n", out)?;
     Ok(())
 }
 
-/// A line where the types differ.
-fn push_kinds(old: &Setting, new: &Setting, out: &mut Vec<u8>) -> Result<(), AllocError>
+/// A line where the types differ, in whatever order. An `Err` says that memory ran out.
+pub fn push_kinds(old: &Setting, new: &Setting, out: &mut Vec<u8>) -> Result<(), AllocError>
     ensures { OnOk result (out.new.items ≡ out.old.items ++ kinds_line old.now new.now) }
 {
     tell_unless(same_kinds(old, new), b"types differ\n", out)?;
@@ -48,8 +48,8 @@ fn push_rules(old: &Setting, new: &Setting, out: &mut Vec<u8>) -> Result<(), All
     Ok(())
 }
 
-/// A line, unless both are the same.
-fn tell_unless(same: bool, text: &[u8], out: &mut Vec<u8>) -> Result<(), AllocError>
+/// A line, unless both are the same. An `Err` says that memory ran out.
+pub fn tell_unless(same: bool, text: &[u8], out: &mut Vec<u8>) -> Result<(), AllocError>
     ensures { OnOk result (out.new.items ≡ out.old.items ++ told_if_not same text.now) }
 {
     if same {
@@ -115,7 +115,7 @@ fn same_steps(old: &[KeptStep], new: &[KeptStep]) -> bool
 }
 
 /// Whether both are the same step. A bucket is compared by its id.
-fn same_step(old: &KeptStep, new: &KeptStep) -> bool
+pub fn same_step(old: &KeptStep, new: &KeptStep) -> bool
     ensures { result ≡ same_step (step_data old.now) (step_data new.now) }
 {
     match old {

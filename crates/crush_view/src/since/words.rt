@@ -54,7 +54,7 @@ pub(crate) fn place_of(alloc: Global, item: &Seen<'_>) -> Result<Vec<u8>, AllocE
 }
 
 /// A weight's text.
-pub(crate) fn weight_of(alloc: Global, weight: Weight) -> Result<Vec<u8>, AllocError>
+pub fn weight_of(alloc: Global, weight: Weight) -> Result<Vec<u8>, AllocError>
     ensures { IfOk result (λ text. text.items ≡ weight_text weight) }
 {
     let mut text = Vec::new(alloc);
@@ -63,7 +63,7 @@ pub(crate) fn weight_of(alloc: Global, weight: Weight) -> Result<Vec<u8>, AllocE
 }
 
 /// The name of an item's type. That of a device is `osd` where the setting has no type 0.
-pub(crate) fn type_bytes(setting: &Setting, id: ItemId, kind: TypeId) -> &[u8]
+pub fn type_bytes(setting: &Setting, id: ItemId, kind: TypeId) -> &[u8]
     ensures { result.now ≡ type_word setting.now id kind }
 {
     match setting.kind_name(kind) {
@@ -76,7 +76,7 @@ pub(crate) fn type_bytes(setting: &Setting, id: ItemId, kind: TypeId) -> &[u8]
 }
 
 /// A class, or the word for none.
-pub(crate) fn class_bytes<'a>(class: Option<&'a str>) -> &'a [u8]
+pub fn class_bytes<'a>(class: Option<&'a str>) -> &'a [u8]
     ensures { result.now ≡ class_or_none (option_map (λ c. c.now) class.entry) }
 {
     match class {
@@ -86,7 +86,7 @@ pub(crate) fn class_bytes<'a>(class: Option<&'a str>) -> &'a [u8]
 }
 
 /// The word of an algorithm, or nothing where there is none.
-pub(crate) fn alg_bytes(alg: Option<Alg>) -> &'static [u8]
+pub fn alg_bytes(alg: Option<Alg>) -> &'static [u8]
     ensures { result.now ≡ alg_word alg }
 {
     match alg {

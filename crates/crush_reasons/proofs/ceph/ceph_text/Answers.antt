@@ -7,7 +7,7 @@ use Rattle.crush_reasons.proofs.ceph.ceph_text.Goals as goal
 
 pub loop-entry-init : goal.loop-entry-init
 loop-entry-init c =
-    c.in_ok-push_heading.ensures
+    c.in_ok-push_ceph_heading.ensures
     ∙ ap (λ (l : List ℕ). l ++ ceph_heading c.count_told.result) c.new-text.ensures.items
     ∙ ap ceph_heading c.count_told.ensures
     ∙ sym (append-nil (ceph_heading (length (ceph_edits c.args.entries.now))))

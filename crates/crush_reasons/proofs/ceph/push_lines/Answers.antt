@@ -11,7 +11,7 @@ loop-edit-preserved c =
     let i = c.loop-edit.edit-index in
     let x = c.edit-item.result in
     let old = c.args.text.now.items in
-    c.in_ok-push_line.ensures
+    c.in_ok-push_ceph_line.ensures
     ∙ ap (λ (l : List ℕ). l ++ ceph_line x) c.loop-edit.invariant
     ∙ flat_map_more ceph_line old (take i edits) x
     ∙ ap (λ (es : List Edit). old ++ flat_map ceph_line es) (sym (take_more edits i x c.loop-edit-test.true ∙ ap (λ y. take i edits ++ y ∷ []) (sym c.edit-item.is)))

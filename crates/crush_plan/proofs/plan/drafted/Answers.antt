@@ -1,0 +1,5 @@
+use Rattle.crush_plan.proofs.Going.{draft_of}
+use Rattle.crush_plan.proofs.plan.drafted.Goals as goal
+
+pub returns : goal.returns
+returns g c = draft_of _ c.go.new.draft c.new.ensures.items c.in_ok-go.ensures

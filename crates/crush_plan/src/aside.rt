@@ -1,0 +1,140 @@
+//! What differs and is no difference: ids, which no command sets.
+
+ghost use Rattle.std.specs.Prelude.{◌≡◌, ◌+◌, ◌^◌, ◌<◌, ◌≤◌, ◌++◌, List, OnOk, IfOk};
+ghost use Rattle.std.specs.List.{count_by};
+ghost use Rattle.crush_table.specs.Count.{one_if};
+ghost use Rattle.crush_table.specs.Stands.{Stands};
+ghost use Rattle.crush_table.specs.Table.{Row};
+ghost use Rattle.crush_view.specs.SeenStep.{step_data};
+ghost use Rattle.crush_plan.specs.Aside.{CountsAside, aside_line, aside_text, other_class_ids, other_id};
+
+use crate::named::counterpart;
+use crush_bytes::put_all;
+use crush_map::CrushMap;
+use crush_view::{Seen, Step, class_ids_of, same_class_ids, step_seen, walk};
+use itoa::Buffer;
+use std::alloc::{AllocError, Allocator, Global};
+
+/// How many buckets that both maps have differ in what no command sets.
+#[derive(Clone, Copy, Debug, PartialEq, Eq)]
+pub struct Counts {
+    /// In their ids.
+    pub ids: usize,
+    /// In their class ids.
+    pub class_ids: usize,
+}
+
+/// Counts the buckets that both maps have, by their names, whose ids or class ids differ. An `Err`
+/// says that memory ran out.
+pub(crate) fn count_aside<A: Allocator, B: Allocator>(
+    alloc: Global,
+    map: &CrushMap<A>,
+    wanted: &CrushMap<B>,
+) -> Result<Counts, AllocError>
+    ensures { IfOk result (λ counts. (t u : List Row)
+        → Stands map.now.forest t → Stands wanted.now.forest u
+        → CountsAside t u counts) }
+{
+    let steps = walk(alloc, wanted)?;
+    Ok(Counts {
+        ids: count_ids(map, wanted, steps.as_slice()),
+        class_ids: count_class_ids(map, wanted, steps.as_slice()),
+    })
+}
+
+/// A count with one more, where the test says so.
+fn more(count: usize, test: bool) -> usize
+    requires { count + 1 < 2 ^ 64 }
+    ensures sum { result ≡ count + one_if test }
+    ensures most { result ≤ count + 1 }
+{
+    if test { count + 1 } else { count }
+}
+
+/// How many of these items have another id in the map.
+fn count_ids<A: Allocator, B: Allocator>(
+    map: &CrushMap<A>,
+    wanted: &CrushMap<B>,
+    steps: &[Step<'_, B>],
+) -> usize
+    ensures { (t u : List Row) → Stands map.now.forest t → Stands wanted.now.forest u
+        → result ≡ count_by (λ s. other_id t u (step_data s)) steps.now }
+{
+    let mut count: usize = 0;
+    for step in steps {
+        count = more(count, has_other_id(map, wanted, step));
+    }
+    count
+}
+
+/// How many of these items have other class ids in the map.
+fn count_class_ids<A: Allocator, B: Allocator>(
+    map: &CrushMap<A>,
+    wanted: &CrushMap<B>,
+    steps: &[Step<'_, B>],
+) -> usize
+    ensures { (t u : List Row) → Stands map.now.forest t → Stands wanted.now.forest u
+        → result ≡ count_by (λ s. other_class_ids t u (step_data s)) steps.now }
+{
+    let mut count: usize = 0;
+    for step in steps {
+        count = more(count, has_other_class_ids(map, wanted, step));
+    }
+    count
+}
+
+/// Whether the map has an item of this one's name with another id.
+fn has_other_id<A: Allocator, B: Allocator>(
+    map: &CrushMap<A>,
+    wanted: &CrushMap<B>,
+    step: &Step<'_, B>,
+) -> bool
+    ensures { (t u : List Row) → Stands map.now.forest t → Stands wanted.now.forest u
+        → result ≡ other_id t u (step_data step.now) }
+{
+    let there = step_seen(wanted, step);
+    match counterpart(map, &there) {
+        Some(here) => !here.view.id.is_same(there.view.id),
+        None => false,
+    }
+}
+
+/// Whether the map has an item of this one's name with other class ids.
+fn has_other_class_ids<A: Allocator, B: Allocator>(
+    map: &CrushMap<A>,
+    wanted: &CrushMap<B>,
+    step: &Step<'_, B>,
+) -> bool
+    ensures { (t u : List Row) → Stands map.now.forest t → Stands wanted.now.forest u
+        → result ≡ other_class_ids t u (step_data step.now) }
+{
+    let there = step_seen(wanted, step);
+    match counterpart(map, &there) {
+        Some(here) => !same_class_ids(
+            class_ids_of(map, here.view.id),
+            class_ids_of(wanted, there.view.id),
+        ),
+        None => false,
+    }
+}
+
+/// The lines of these counts.
+#[tactic(auto, unfolding(crate::specs::Aside::aside_text))]
+pub(crate) fn push_aside(counts: Counts, lines: &mut Vec<u8>) -> Result<(), AllocError>
+    ensures { OnOk result (lines.new.items ≡ lines.old.items ++ aside_text counts) }
+{
+    push_count(b"ids of ".as_slice(), counts.ids, lines)?;
+    push_count(b"class ids of ".as_slice(), counts.class_ids, lines)
+}
+
+/// A line, where there are any.
+fn push_count(what: &[u8], count: usize, lines: &mut Vec<u8>) -> Result<(), AllocError>
+    ensures { OnOk result (lines.new.items ≡ lines.old.items ++ aside_line what.now count) }
+{
+    if count == 0 {
+        return Ok(());
+    }
+    let mut buffer = Buffer::new();
+    let number = buffer.format(count).as_bytes();
+    put_all(lines, &[what, number, b" buckets differ\n".as_slice()]).map_err(|_| AllocError)
+}

@@ -1,0 +1,75 @@
+//! Buckets that come.
+
+ghost use Rattle.std.specs.Prelude.{OnOk};
+ghost use Rattle.crush_plan.specs.Draft.{GoesOn};
+
+use crate::compare::{Identity, loses_bucket};
+use crate::draft::Draft;
+use crate::names::free_of_lost;
+use crush_map::{CrushMap, Setting};
+use crush_units::{BucketId, ItemId, Name, TypeId};
+use std::alloc::{AllocError, Allocator, Global};
+
+/// Makes those of the wanted map's buckets that the map lacks, from -1 downward. Each gets the free
+/// id that is nearest to 0.
+pub(crate) fn make_buckets<A: Allocator + Clone, B: Allocator>(
+    draft: &mut Draft<A>,
+    wanted: &CrushMap<B>,
+    buckets: &[BucketId],
+) -> Result<(), AllocError>
+    ensures { OnOk result (GoesOn draft.old draft.new) }
+{
+    let coming = coming_buckets(draft.alloc, draft.identity, &draft.map, wanted, buckets)?;
+    for bucket in &coming {
+        make_bucket(draft, wanted, *bucket)?;
+    }
+    Ok(())
+}
+
+/// Those of the buckets that the map lacks, from -1 downward.
+fn coming_buckets<A: Allocator, B: Allocator>(
+    alloc: Global,
+    identity: Identity,
+    map: &CrushMap<A>,
+    wanted: &CrushMap<B>,
+    buckets: &[BucketId],
+) -> Result<Vec<BucketId>, AllocError> {
+    let mut coming = Vec::new(alloc);
+    for bucket in buckets {
+        if loses_bucket(identity, wanted, map, *bucket) {
+            coming.push(*bucket)?;
+        }
+    }
+    coming.sort_unstable_by_key(|bucket| bucket.distance());
+    Ok(coming)
+}
+
+/// Makes the bucket, and frees its name before, where the map has its type.
+fn make_bucket<A: Allocator + Clone, B: Allocator>(
+    draft: &mut Draft<A>,
+    wanted: &CrushMap<B>,
+    bucket: BucketId,
+) -> Result<(), AllocError>
+    ensures { OnOk result (GoesOn draft.old draft.new) }
+{
+    let Some(there) = wanted.find(ItemId::Bucket(bucket)) else {
+        return Ok(());
+    };
+    let Some(kind) = kind_name(draft.alloc, draft.map.setting(), there.kind)? else {
+        return Ok(());
+    };
+    free_of_lost(draft, wanted, Some(there.name))?;
+    draft.add_bucket(there.name.as_bytes(), kind)
+}
+
+/// A copy of the name of the type of this number, where the setting has it.
+fn kind_name(
+    alloc: Global,
+    setting: &Setting,
+    kind: TypeId,
+) -> Result<Option<Name<Global>>, AllocError> {
+    match setting.kind_name(kind) {
+        Some(name) => Ok(Some(name.try_copy(alloc)?)),
+        None => Ok(None),
+    }
+}

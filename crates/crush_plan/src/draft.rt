@@ -1,0 +1,191 @@
+//! A map on its way to another.
+
+ghost use Rattle.std.specs.Prelude.{◌≡◌, ◌++◌, ◌∷◌, [], OnOk, if◌then◌else◌};
+ghost use Rattle.crush_plan.specs.Draft.{GoesOn};
+
+use crate::compare::Identity;
+use crush_map::{CrushMap, Edit, EditFault, Location};
+use crush_units::{BucketId, DeviceId, ItemId, Name, Weight};
+use std::alloc::{AllocError, Allocator, Global};
+
+/// A map of which edits were made, and these edits.
+#[derive(Drop)]
+pub(crate) struct Draft<A: Allocator> {
+    /// In which memory edits are kept.
+    pub alloc: Global,
+    /// By what buckets are told apart.
+    pub identity: Identity,
+    /// The map after the edits.
+    pub map: CrushMap<A>,
+    /// The edits: each was done, and changed the map.
+    pub edits: Vec<Edit>,
+}
+
+/// A copy of a name that an item has. An `Err` says that memory ran out.
+pub(crate) fn copy_name(alloc: Global, name: &[u8]) -> Result<Name<Global>, AllocError> {
+    match Name::read(alloc, name) {
+        Ok(name) => Ok(name),
+        Err(_) => Err(AllocError),
+    }
+}
+
+impl<A: Allocator + Clone> Draft<A> {
+    /// Makes the edit, and keeps it where it is done and has changed the map.
+    pub(crate) fn give(&mut self, edit: Edit) -> Result<(), AllocError>
+        ensures { OnOk result (GoesOn self.old self.new) }
+    {
+        match self.map.apply(&edit) {
+            Ok(done) => self.keep(edit, done.changed),
+            Err(EditFault::Refused(_)) => Ok(()),
+            Err(EditFault::OutOfMemory) => Err(AllocError),
+        }
+    }
+
+    /// Keeps an edit that has changed the map.
+    fn keep(&mut self, edit: Edit, changed: bool) -> Result<(), AllocError>
+        ensures map { self.new.map ≡ self.old.map }
+        ensures edits { OnOk result (self.new.edits.items
+            ≡ self.old.edits.items ++ (if changed then edit ∷ [] else [])) }
+    {
+        if changed {
+            self.edits.push(edit)?;
+        }
+        Ok(())
+    }
+
+    /// A copy of the item's name, if it is there.
+    pub(crate) fn name_of(&self, id: ItemId) -> Result<Option<Name<Global>>, AllocError> {
+        match self.map.name_of(id) {
+            Some(name) => Ok(Some(copy_name(self.alloc, name.as_bytes())?)),
+            None => Ok(None),
+        }
+    }
+
+    /// The bucket, as the one pair of a location; no pair where it isn't there.
+    fn place(&self, bucket: BucketId) -> Result<Location, AllocError> {
+        let mut at = Location::new(self.alloc);
+        let Some(view) = self.map.find(ItemId::Bucket(bucket)) else {
+            return Ok(at);
+        };
+        let Some(kind) = self.map.setting().kind_name(view.kind) else {
+            return Ok(at);
+        };
+        match at.push(kind.as_bytes(), view.name.as_bytes()) {
+            Ok(()) => Ok(at),
+            Err(_) => Err(AllocError),
+        }
+    }
+
+    /// Removes the item.
+    pub(crate) fn remove(&mut self, id: ItemId) -> Result<(), AllocError>
+        ensures { OnOk result (GoesOn self.old self.new) }
+    {
+        match self.name_of(id)? {
+            Some(name) => self.give(Edit::Remove { name }),
+            None => Ok(()),
+        }
+    }
+
+    /// Has two buckets exchange their names and items.
+    pub(crate) fn swap(&mut self, a: BucketId, b: BucketId) -> Result<(), AllocError>
+        ensures { OnOk result (GoesOn self.old self.new) }
+    {
+        let a = self.name_of(ItemId::Bucket(a))?;
+        let b = self.name_of(ItemId::Bucket(b))?;
+        match (a, b) {
+            (Some(a), Some(b)) => self.give(Edit::Swap { a, b }),
+            _ => Ok(()),
+        }
+    }
+
+    /// Gives the bucket another name.
+    pub(crate) fn rename_bucket(&mut self, bucket: BucketId, to: &[u8]) -> Result<(), AllocError>
+        ensures { OnOk result (GoesOn self.old self.new) }
+    {
+        let to = copy_name(self.alloc, to)?;
+        match self.name_of(ItemId::Bucket(bucket))? {
+            Some(from) => self.give(Edit::Rename { from, to }),
+            None => Ok(()),
+        }
+    }
+
+    /// Makes a bucket of this name and type.
+    pub(crate) fn add_bucket(&mut self, name: &[u8], kind: Name<Global>) -> Result<(), AllocError>
+        ensures { OnOk result (GoesOn self.old self.new) }
+    {
+        let name = copy_name(self.alloc, name)?;
+        self.give(Edit::AddBucket { name, kind })
+    }
+
+    /// Puts the item below the bucket.
+    pub(crate) fn relocate(&mut self, id: ItemId, bucket: BucketId) -> Result<(), AllocError>
+        ensures { OnOk result (GoesOn self.old self.new) }
+    {
+        let at = self.place(bucket)?;
+        match self.name_of(id)? {
+            Some(name) => self.give(Edit::Move { name, at }),
+            None => Ok(()),
+        }
+    }
+
+    /// Gives the device this weight.
+    pub(crate) fn reweight(&mut self, device: DeviceId, weight: Weight) -> Result<(), AllocError>
+        ensures { OnOk result (GoesOn self.old self.new) }
+    {
+        match self.name_of(ItemId::Device(device))? {
+            Some(name) => self.give(Edit::Reweight { name, weight }),
+            None => Ok(()),
+        }
+    }
+
+    /// Gives each device below the bucket this weight.
+    pub(crate) fn reweight_below(
+        &mut self,
+        bucket: BucketId,
+        weight: Weight,
+    ) -> Result<(), AllocError>
+        ensures { OnOk result (GoesOn self.old self.new) }
+    {
+        match self.name_of(ItemId::Bucket(bucket))? {
+            Some(name) => self.give(Edit::ReweightSubtree { name, weight }),
+            None => Ok(()),
+        }
+    }
+
+    /// Puts a new device of this name below the bucket.
+    pub(crate) fn insert(
+        &mut self,
+        device: DeviceId,
+        name: &[u8],
+        weight: Weight,
+        bucket: BucketId,
+    ) -> Result<(), AllocError>
+        ensures { OnOk result (GoesOn self.old self.new) }
+    {
+        let name = copy_name(self.alloc, name)?;
+        let at = self.place(bucket)?;
+        self.give(Edit::Insert {
+            device,
+            name,
+            weight,
+            at,
+        })
+    }
+
+    /// Takes the class of the device of this name away.
+    pub(crate) fn remove_class(&mut self, name: &[u8]) -> Result<(), AllocError>
+        ensures { OnOk result (GoesOn self.old self.new) }
+    {
+        let name = copy_name(self.alloc, name)?;
+        self.give(Edit::RemoveClass { name })
+    }
+
+    /// Gives the device of this name this class.
+    pub(crate) fn set_class(&mut self, name: &[u8], class: &[u8]) -> Result<(), AllocError>
+        ensures { OnOk result (GoesOn self.old self.new) }
+    {
+        let name = copy_name(self.alloc, name)?;
+        let class = copy_name(self.alloc, class)?;
+        self.give(Edit::SetClass { name, class })
+    }
+}

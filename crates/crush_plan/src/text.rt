@@ -1,0 +1,124 @@
+//! The text of a plan.
+
+ghost use Rattle.std.specs.Prelude.{◌≡◌, ◌∷◌, [], ◌++◌, IfOk, OnOk, codes, flat_map, true};
+ghost use Rattle.crush_calls.specs.HistoryText.{edit_text};
+ghost use Rattle.crush_plan.specs.Aside.{aside_text};
+ghost use Rattle.crush_plan.specs.PlanText.{commented, mark, plan_line, plan_text, stay_heading, stay_text};
+
+use crate::aside::{Counts, push_aside};
+use crate::plan::{Plan, count_lines};
+use crush_bytes::put_all;
+use crush_calls::write_edit;
+use crush_edits::Edit;
+use crush_reasons::{push_ceph_heading, push_ceph_line};
+use itoa::Buffer;
+use std::alloc::{AllocError, Global};
+
+/// In which words the edits of a plan are printed.
+#[derive(Clone, Copy, Debug, PartialEq, Eq)]
+pub enum PlanWords {
+    /// As the lines of a script.
+    Script,
+    /// As Ceph's own commands.
+    Ceph,
+}
+
+/// Prints a plan: `# N commands`, each edit as a line; where anything differs then
+/// `# N differences stay` and a line for each, as a comment; and as comments how many buckets have
+/// other ids. An `Err` says that memory ran out.
+pub fn plan_text(alloc: Global, plan: &Plan, words: PlanWords) -> Result<Vec<u8>, AllocError>
+    ensures { IfOk result (λ text. text.items ≡ plan_text words plan.now) }
+{
+    let mut text = Vec::new(alloc);
+    let edits = plan.edits.as_slice();
+    push_ceph_heading(edits.len() as u64, &mut text)?;
+    push_edits(edits, words, &mut text)?;
+    push_rest(plan.rest.as_slice(), &mut text)?;
+    push_ids(alloc, plan.aside, &mut text)?;
+    Ok(text)
+}
+
+/// How many buckets have other ids, as comments.
+fn push_ids(alloc: Global, counts: Counts, text: &mut Vec<u8>) -> Result<(), AllocError>
+    ensures { OnOk result (text.new.items ≡ text.old.items ++ commented true (aside_text counts)) }
+{
+    let mut lines = Vec::new(alloc);
+    push_aside(counts, &mut lines)?;
+    push_comments(lines.as_slice(), text)
+}
+
+/// The lines of the edits.
+fn push_edits(edits: &[Edit], words: PlanWords, text: &mut Vec<u8>) -> Result<(), AllocError>
+    ensures { OnOk result (text.new.items ≡ text.old.items ++ flat_map (plan_line words) edits.now) }
+{
+    for edit in edits {
+        push_edit(edit, words, text)?;
+    }
+    Ok(())
+}
+
+/// The line of an edit.
+fn push_edit(edit: &Edit, words: PlanWords, text: &mut Vec<u8>) -> Result<(), AllocError>
+    ensures { OnOk result (text.new.items ≡ text.old.items ++ plan_line words edit.now) }
+{
+    match words {
+        PlanWords::Script => push_line(edit, text),
+        PlanWords::Ceph => push_ceph_line(edit, text),
+    }
+}
+
+/// An edit as a line of a script.
+fn push_line(edit: &Edit, text: &mut Vec<u8>) -> Result<(), AllocError>
+    ensures { OnOk result (text.new.items ≡ text.old.items ++ (edit_text edit.now ++ codes "\n")) }
+{
+    write_edit(edit, text).map_err(|_| AllocError)?;
+    text.extend_from_slice(b"\n")
+}
+
+/// What differs, as comments.
+fn push_rest(rest: &[u8], text: &mut Vec<u8>) -> Result<(), AllocError>
+    ensures { OnOk result (text.new.items ≡ text.old.items ++ stay_text rest.now) }
+{
+    if rest.is_empty() {
+        return Ok(());
+    }
+    push_heading(count_lines(rest), text)?;
+    push_comments(rest, text)
+}
+
+/// How many differences there are.
+#[tactic(auto, unfolding(crate::specs::PlanText::stay_heading))]
+fn push_heading(count: usize, text: &mut Vec<u8>) -> Result<(), AllocError>
+    ensures { OnOk result (text.new.items ≡ text.old.items ++ stay_heading count) }
+{
+    let mut buffer = Buffer::new();
+    let count = buffer.format(count).as_bytes();
+    put_all(
+        text,
+        &[b"# ".as_slice(), count, b" differences stay\n".as_slice()],
+    )
+    .map_err(|_| AllocError)
+}
+
+/// Lines, each behind `# `.
+fn push_comments(lines: &[u8], text: &mut Vec<u8>) -> Result<(), AllocError>
+    ensures { OnOk result (text.new.items ≡ text.old.items ++ commented true lines.now) }
+{
+    let mut at_head = true;
+    for byte in lines {
+        push_marked(at_head, *byte, text)?;
+        at_head = *byte == b'\n';
+    }
+    Ok(())
+}
+
+/// A byte, behind `# ` at the head of a line.
+fn push_marked(at_head: bool, byte: u8, text: &mut Vec<u8>) -> Result<(), AllocError>
+    ensures { OnOk result (text.new.items ≡ text.old.items ++ (mark at_head ++ byte ∷ [])) }
+{
+    if at_head {
+        text.extend_from_slice(b"# ")?;
+    }
+    text.push(byte)?;
+    Ok(())
+}

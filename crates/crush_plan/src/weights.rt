@@ -1,0 +1,118 @@
+//! Weights.
+
+ghost use Rattle.std.specs.Prelude.{OnOk};
+ghost use Rattle.crush_plan.specs.Draft.{GoesOn};
+
+mod common;
+
+use crate::compare::have_device;
+use crate::draft::Draft;
+use crate::staying::are_near;
+use common::{Subtree, subtrees};
+use crush_map::CrushMap;
+use crush_units::{DeviceId, ItemId, Weight};
+use std::alloc::{AllocError, Allocator};
+
+/// Which weights are set.
+#[derive(Clone, Copy, PartialEq, Eq)]
+pub(crate) enum Which {
+    /// Those that are to be less.
+    Less,
+    /// All that are to be others.
+    Other,
+}
+
+impl Which {
+    /// Whether the one weight is set to the other.
+    pub(crate) fn sets(self, from: Weight, to: Weight) -> bool {
+        match self {
+            Which::Less => to.units() < from.units() && !are_near(from, to),
+            Which::Other => !are_near(from, to),
+        }
+    }
+}
+
+/// Sets weights of devices that are placed in both maps: all below a bucket at once, where they are
+/// to have one weight and two or more have another, and then one by one.
+pub(crate) fn set_weights<A: Allocator + Clone, B: Allocator>(
+    draft: &mut Draft<A>,
+    wanted: &CrushMap<B>,
+    devices: &[DeviceId],
+    which: Which,
+) -> Result<(), AllocError>
+    ensures { OnOk result (GoesOn draft.old draft.new) }
+{
+    let found = subtrees(draft.alloc, &draft.map, wanted, which)?;
+    set_below(draft, found.as_slice())?;
+    set_one_by_one(draft, wanted, devices, which)
+}
+
+/// Sets the weights below each of the buckets.
+fn set_below<A: Allocator + Clone>(
+    draft: &mut Draft<A>,
+    found: &[Subtree],
+) -> Result<(), AllocError>
+    ensures { OnOk result (GoesOn draft.old draft.new) }
+{
+    for subtree in found {
+        draft.reweight_below(subtree.bucket, subtree.weight)?;
+    }
+    Ok(())
+}
+
+/// Sets weights one by one.
+fn set_one_by_one<A: Allocator + Clone, B: Allocator>(
+    draft: &mut Draft<A>,
+    wanted: &CrushMap<B>,
+    devices: &[DeviceId],
+    which: Which,
+) -> Result<(), AllocError>
+    ensures { OnOk result (GoesOn draft.old draft.new) }
+{
+    for device in devices {
+        set_weight(draft, wanted, *device, which)?;
+    }
+    Ok(())
+}
+
+/// Sets the weight of the device.
+fn set_weight<A: Allocator + Clone, B: Allocator>(
+    draft: &mut Draft<A>,
+    wanted: &CrushMap<B>,
+    device: DeviceId,
+    which: Which,
+) -> Result<(), AllocError>
+    ensures { OnOk result (GoesOn draft.old draft.new) }
+{
+    match other_weight(&draft.map, wanted, device, which) {
+        Some(weight) => draft.reweight(device, weight),
+        None => Ok(()),
+    }
+}
+
+/// The weight that the device of both maps is to have and has not.
+fn other_weight<A: Allocator, B: Allocator>(
+    map: &CrushMap<A>,
+    wanted: &CrushMap<B>,
+    device: DeviceId,
+    which: Which,
+) -> Option<Weight> {
+    if !have_device(map, wanted, device) {
+        return None;
+    }
+    let here = placed_weight(map, device)?;
+    let there = placed_weight(wanted, device)?;
+    if which.sets(here, there) {
+        Some(there)
+    } else {
+        None
+    }
+}
+
+/// What the device weighs, where a bucket holds it.
+fn placed_weight<A: Allocator>(map: &CrushMap<A>, device: DeviceId) -> Option<Weight> {
+    match map.find(ItemId::Device(device)) {
+        Some(view) if view.parent.is_some() => Some(view.weight),
+        _ => None,
+    }
+}

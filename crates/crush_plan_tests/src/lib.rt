@@ -1,0 +1,5 @@
+//! Tests of `crush_plan` through its public calls.
+#![tactic(auto)]
+
+#[cfg(test)]
+mod tests;
