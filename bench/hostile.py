@@ -203,6 +203,34 @@ def the_end_of_a_bucket(size):
     return filled(lines, size, lambda n: f"set osd.{count - 1} {n % 2} host=h0")
 
 
+def batches_of_two_on(lines, edits):
+    """Batches of two edits, which leave the map as it was, on a map of a few lines."""
+    return lambda size: filled(lines + [OPERATOR], size, lambda n: f"begin\n{edits}\ncommit")
+
+
+# One device that no bucket holds, whose id is the last that a table of places would have
+batches_of_a_far_class = batches_of_two_on([f"device {FAR - 1} x"], "set-device-class c x\nrm-device-class x")
+
+# The same of two devices of which one is behind that table, each of its own kind of look-up
+batches_of_near_and_far_classes = batches_of_two_on(
+    [f"device {FAR - 1} x", f"device {FAR} y"], "set-device-class c x\nset-device-class c y\nrm-device-class x\nrm-device-class y")
+
+# Two roots with the last ids that a table of slots would have
+batches_of_far_roots = batches_of_two_on(
+    TYPES + bucket("root", "a", FAR - 1, []) + bucket("root", "b", FAR - 2, []), "swap-bucket a b\nswap-bucket a b")
+
+# A device and a bucket of the last ids that such tables would have
+batches_of_a_far_device_and_a_far_bucket = batches_of_two_on(
+    [f"device {FAR - 1} x"] + TYPES + bucket("host", "h", FAR - 1, [("x", 1)]), "rename-bucket h g\nrename-bucket g h")
+
+
+def batches_of_a_move_and_a_weight(size):
+    """A device goes from one of two hosts to the other, and gets a weight."""
+    count = devices_for(size)
+    lines = flat(count, 2)
+    return filled(lines + [OPERATOR], size, lambda n: f"begin\nmove osd.0 host=h{(n + 1) % 2}\nreweight osd.0 {n % 7}\ncommit")
+
+
 def batches_of_long_names(size):
     """Batches of two on a map whose names are as long as a name may be."""
     lines = filled([], size // 2, lambda n: f"device {n} {long_name(n)}", MOST_DEVICES)
@@ -405,7 +433,10 @@ def spaces_of_operators(size):
     return filled([], size, lambda n: f"%operator o{n}", 10**7)
 
 
-INPUTS = {function.__name__: function for function in (
+INPUTS = {
+    "batches_of_a_far_class": batches_of_a_far_class, "batches_of_near_and_far_classes": batches_of_near_and_far_classes,
+    "batches_of_far_roots": batches_of_far_roots, "batches_of_a_far_device_and_a_far_bucket": batches_of_a_far_device_and_a_far_bucket,
+    **{function.__name__: function for function in (
     hundred_deep_reweights, deep_reweights, deep_subtrees, deep_renames, deep_moves, deep_absent, deep_batches,
     deep_pairs_of_edits, deep_swaps, devices_alone, long_names, long_absent_names, colliding_names, new_buckets,
     new_devices, flat_batches, batches_of_two, refused_batches, one_batch, removals_at_the_front,
@@ -413,8 +444,8 @@ INPUTS = {function.__name__: function for function in (
     routes_without_room, class_ids, new_buckets_of_class_ids, sixteen_operators, a_comment, a_word, blank_lines,
     comments_in_a_section, blanks_in_a_line, spaces_of_operators, moves_at_the_foot, moves_at_the_foot_of_far_ids,
     weights_at_the_foot, weights_at_the_foot_of_far_ids, swaps_at_the_foot_of_far_ids, classes_at_the_foot,
-    batches_of_a_far_device, full_swaps, swaps_of_far_ids, the_end_of_a_bucket,
-    batches_of_long_names, a_wide_level_over_a_nest, batches_of_sixteen_operators)}
+    batches_of_a_far_device, batches_of_a_move_and_a_weight, full_swaps, swaps_of_far_ids, the_end_of_a_bucket,
+    batches_of_long_names, a_wide_level_over_a_nest, batches_of_sixteen_operators)}}
 
 
 def timed(program, job, limit):

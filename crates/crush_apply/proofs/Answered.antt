@@ -58,6 +58,10 @@ pub when_passed : (a : List Row → Answer) (f g : ForestData) (e : EditFault) (
 when_passed a f g e (Ok d) h told = elim h [ ]
 when_passed a f g e (Err z) h told = subst (λ y. AnswersAs a f g (Err y)) (sym h) told
 
+-- an answer that is another's
+pub when_is : (a : List Row → Answer) (f g : ForestData) (x y : Result Done EditFault) → y ≡ x → AnswersAs a f g x → AnswersAs a f g y
+when_is a f g x y is told = subst (AnswersAs a f g) (sym is) told
+
 -- what the table answers alike
 pub when_same : (a b : List Row → Answer) (f g : ForestData) (x : Result Done EditFault) → ((t : List Row) → Stands f t → a t ≡ b t) → AnswersAs b f g x → AnswersAs a f g x
 when_same a b f g (Ok d) same told = record {

@@ -1,5 +1,5 @@
--- New weights that are taken back.
-use Rattle.std.proofs.Common.{◌≡◌, ℕ, Bool, true, false, not, List, [], ◌∷◌, ◌++◌, ap, sym, subst, ◌∙◌, refl, arith, ⊎_elim, nat_eq}
+-- Edits that are taken back.
+use Rattle.std.proofs.Common.{◌≡◌, ℕ, Bool, true, false, not, List, [], ◌∷◌, ◌++◌, ap, sym, subst, ◌∙◌, refl, arith, ⊎_elim, nat_eq, append-nil}
 use Rattle.std.specs.Prelude.{if◌then◌else◌, Option, Some, None, is_some, Result, Ok, Err, IsErrAnd}
 use Rattle.std.specs.Option.{option_map}
 use Rattle.std.proofs.lemmas.Bool.Decides.{eqb_tells}
@@ -8,30 +8,35 @@ use Rattle.crush_units.specs.declared.id.ItemId.TheVariants.{Device}
 use Rattle.crush_units.specs.Id.{same_id}
 use Rattle.crush_units.proofs.Ids.{same_id_tells}
 use Rattle.crush_table.specs.Count.{one_if}
-use Rattle.crush_table.specs.Table.{Row, row_of, is_placed, own_weight_of, weight_of, item_weight}
-use Rattle.crush_table.specs.Lawful.{Lawful, is_too_heavy}
-use Rattle.crush_table.specs.Columns.{set_weight}
-use Rattle.crush_table.specs.Forest.{ForestData, rows_of}
+use Rattle.crush_table.specs.Table.{Row, row_of, is_there, is_placed, own_weight_of, weight_of, item_weight}
+use Rattle.crush_table.specs.Same.{Same}
+use Rattle.crush_table.specs.Columns.{set_class, set_weight}
+use Rattle.crush_table.specs.Forest.{ForestData, rows_of, IsSound}
 use Rattle.crush_table.specs.Stands.{Stands}
-use Rattle.crush_table.proofs.Changes.{with_weight, with_weight-id, with_weight-parent}
-use Rattle.crush_table.proofs.Found.{Distinct, Distinct-tail, times, times-cons, is_placed-same}
-use Rattle.crush_table.proofs.Kept.{parent_of-map}
-use Rattle.crush_table.proofs.Stands.{stands_lawful}
+use Rattle.crush_table.proofs.Changes.{Same-set_weight, with_weight, with_weight-id, with_weight-parent}
+use Rattle.crush_table.proofs.Classes.{with_class, with_class-id}
+use Rattle.crush_table.proofs.Found.{Distinct, Distinct-tail, times, times-cons, is_placed-same, is_there-same}
+use Rattle.crush_table.proofs.Kept.{parent_of-map, is_there-map}
+use Rattle.crush_table.proofs.Same.{Lawful-same, Same-sym}
+use Rattle.crush_table.proofs.Stands.{stands_for_rows, stands_lawful}
 use Rattle.crush_table.proofs.Weighs.{lawful_light}
+use Rattle.crush_tree.specs.Changed.{SetsClass}
 use Rattle.crush_tree.specs.NewWeights.{ReplacesWeight}
 use Rattle.crush_edits.specs.declared.refusal.Refusal.{Refusal}
 use Rattle.crush_edits.specs.declared.refusal.Done.{Done}
 use Rattle.crush_edits.specs.declared.refusal.EditFault.{EditFault}
-use Rattle.crush_edits.specs.declared.refusal.EditFault.TheVariants.{Refused}
+use Rattle.crush_edits.specs.declared.refusal.EditFault.TheVariants.{Refused, OutOfMemory}
 use Rattle.crush_edits.specs.declared.edit.Edit.TheVariants.{Reweight}
 use Rattle.crush_edits.specs.Setting.{SettingData}
-use Rattle.crush_edits.specs.Answer.{After, Answer, answer, refused, done, kept, on_some}
-use Rattle.crush_edits.specs.Edit.{after, edit, refusal}
+use Rattle.crush_edits.specs.Answer.{Answer, refused, done}
+use Rattle.crush_edits.specs.Edit.{edit}
+use Rattle.crush_edits.specs.Outcome.{IsChange}
 use Rattle.crush_edits.proofs.Changes.{weights_kept}
-use Rattle.crush_apply.specs.declared.noted.Noted.{Noted}
-use Rattle.crush_apply.specs.Noted.{GivesBack, GiveBack, TellsBefore, AnswersNoted}
+use Rattle.crush_apply.specs.declared.noted.Undo.{Undo}
+use Rattle.crush_apply.specs.declared.noted.Undo.TheVariants.{Weight}
+use Rattle.crush_apply.specs.Noted.{as_list, done_alone, AnswersNoted, GivesAnyBack, GivesBack, GivesClass, GivesWeight, GiveBack}
 use Rattle.crush_apply.specs.Weighed.{CanReweight}
-use Rattle.crush_apply.proofs.Answered.{when_done, when_refused}
+use Rattle.crush_apply.proofs.Answered.{when_done, when_refused, when_lacking}
 use Rattle.crush_apply.proofs.Done.{own_light}
 use Rattle.crush_apply.proofs.Weights.{fitting, weight_stays, reweight_made}
 
@@ -74,68 +79,89 @@ weight_set f g d w v r t st placed = ⊎_elim
     (λ other. r.stands other.1 t st)
     (eqb_tells v w)
 
--- WHAT IS NOTED
+-- WHAT IS NOTED of a weight: the table has it
 own_of : (t : List Row) (d v : ℕ) → weight_of t (Device d) ≡ Some v → own_weight_of t (Device d) ≡ Some v
 own_of t d v is = by_own (own_weight_of t (Device d)) is where
   by_own : (o : Option ℕ) → option_map (item_weight t (Device d)) o ≡ Some v → o ≡ Some v
   by_own None e = absurd cc
   by_own (Some x) e = e
 
-done_parts : (o : Option Refusal) (t : List Row) (a : After) (c : Bool) (m : ℕ) (u : List Row) → answer o t a ≡ done c m u → (o ≡ None) × (a.table ≡ u)
-done_parts (Some r) t a c m u e = absurd cc
-done_parts None t a c m u e = (refl, cc)
-
--- the weight of a device that can get another gives the table back
-pub weight_noted : (s : SettingData) (t : List Row) (n : List ℕ) (w d v : ℕ) → Lawful t → CanReweight t n w d → weight_of t (Device d) ≡ Some v → TellsBefore (edit s t (Reweight n w)) (record { device = d; weight = v }) t
-weight_noted s t n w d v lawful can weighs c m u e =
-    let told = done_parts (refusal s t (Reweight n w)) t (after s t (Reweight n w)) c m u e in
-    let at : set_weight (Device d) w t ≡ u = ap (λ o. (on_some t o (λ i. kept (set_weight i w t))).table) (sym can.named) ∙ told.1 in
+-- the weight that a device had gives the forest back
+pub weight_given : (f g : ForestData) (d w v : ℕ) → IsSound f → is_placed (rows_of f) (Device d) ≡ true → ReplacesWeight d w f g (Some v) → GivesWeight d v g f
+weight_given f g d w v sound placed r =
+    let t = rows_of f in
+    let st = stands_for_rows f sound in
+    let u = set_weight (Device d) w t in
+    let after = weight_set f g d w v r t st placed in
     let which : Row → Bool = λ r. same_id r.id (Device d) in
-    let stays : is_placed (set_weight (Device d) w t) (Device d) ≡ is_placed t (Device d) = ap is_some (parent_of-map (with_weight which w) (with_weight-id which w) (with_weight-parent which w) t (Device d)) in
-    subst (λ z. GivesBack (record { device = d; weight = v }) z t) at (record {
-      placed = stays ∙ can.placed;
-      light = own_light t d v lawful (sym weighs);
-      lawful = lawful;
-      is = weight_back (Device d) v w t lawful.ids (own_of t d v weighs);
-    })
+    let stays : is_placed u (Device d) ≡ is_placed t (Device d) = ap is_some (parent_of-map (with_weight which w) (with_weight-id which w) (with_weight-parent which w) t (Device d)) in
+    let back : set_weight (Device d) v u ≡ t = weight_back (Device d) v w t sound.lawful.ids (own_of t d v (r.before t st)) in
+    let same : Same (set_weight (Device d) v (rows_of g)) t = subst (Same (set_weight (Device d) v (rows_of g))) back (Same-set_weight (Device d) v (rows_of g) u after.same) in
+    record {
+      placed = is_placed-same (rows_of g) u after.same.rows (stands_lawful g u after).ids (Device d) ∙ stays ∙ placed;
+      light = own_light t d v sound.lawful (sym (r.before t st));
+      fits = lawful_light (set_weight (Device d) v (rows_of g)) (Lawful-same t (set_weight (Device d) v (rows_of g)) (Same-sym (set_weight (Device d) v (rows_of g)) t same) sound.lawful);
+      is = r.back;
+    }
 
 -- what a call answers that notes it
-pub when_noted : (f g : ForestData) (s : SettingData) (n : List ℕ) (w d v : ℕ) (b : Bool) → ((t : List Row) → Stands f t → CanReweight t n w d) → ReplacesWeight d w f g (Some v) → b ≡ not (nat_eq v w)
-    → AnswersNoted (λ t. edit s t (Reweight n w)) f g (Ok (record { changed = b; made = 0 }, record { device = d; weight = v }))
-when_noted f g s n w d v b can r is = record {
+pub when_noted : {A : Type 0} (f g : ForestData) (s : SettingData) (n : List ℕ) (w d v : ℕ) (b : Bool) → IsSound f → ((t : List Row) → Stands f t → CanReweight t n w d) → ReplacesWeight d w f g (Some v) → b ≡ not (nat_eq v w)
+    → AnswersNoted {A = A} (λ t. edit s t (Reweight n w)) f g (Ok (record { changed = b; made = 0 }, Some (Weight d v)))
+when_noted f g s n w d v b sound can r is = record {
   answers = when_done _ f g _ still (λ t st.
       let at = can t st in (
         set_weight (Device d) w t,
         reweight_made s t n w d v at (fitting _ (r.fits t st)) (st.lawful.ids (Device d)) (r.before t st) ∙ ap (λ x. done x 0 (set_weight (Device d) w t)) (sym is),
         weight_set f g d w v r t st at.placed,
       ));
-  noted = λ t st. weight_noted s t n w d v st.lawful (can t st) (r.before t st);
+  noted = weight_given f g d w v sound (can (rows_of f) (stands_for_rows f sound)).placed r;
 } where
   still : b ≡ false → g ≡ f
   still none = ⊎_elim (λ same. r.same (ap Some same.1)) (λ other. absurd (let no : false ≡ true = sym none ∙ is ∙ ap not other.0 in cc)) (eqb_tells v w)
 
-pub when_unnoted : (a : List Row → Answer) (f g : ForestData) (q : Refusal) (x : Result (Done × Noted) EditFault) → IsErrAnd x (λ e. e ≡ Refused q) → g ≡ f → ((t : List Row) → Stands f t → a t ≡ refused q) → AnswersNoted a f g x
+pub when_unnoted : {A : Type 0} (a : List Row → Answer) (f g : ForestData) (q : Refusal) (x : Result (Done × Option (Undo A)) EditFault) → IsErrAnd x (λ e. e ≡ Refused q) → g ≡ f → ((t : List Row) → Stands f t → a t ≡ refused q) → AnswersNoted a f g x
 when_unnoted a f g q (Ok z) h same told = elim h [ ]
 when_unnoted a f g q (Err e) h same told = record { answers = when_refused a f g q (Err e) h same told; noted = tt }
 
--- A WEIGHT THAT IS GIVEN BACK
-pub can_placed : (f : ForestData) (x : Noted) (u t : List Row) → Stands f u → GivesBack x u t → is_placed (rows_of f) (Device x.device) ≡ true
-can_placed f x u t st back = is_placed-same (rows_of f) u st.same.rows (stands_lawful f u st).ids (Device x.device) ∙ back.placed
+pub when_short : {A : Type 0} (a : List Row → Answer) (f g : ForestData) (x : Result (Done × Option (Undo A)) EditFault) → IsErrAnd x (λ e. e ≡ OutOfMemory) → g ≡ f → ((t : List Row) → Stands f t → IsChange (a t)) → AnswersNoted a f g x
+when_short a f g (Ok z) h same changes = elim h [ ]
+when_short a f g (Err e) h same changes = record { answers = when_lacking a f g (Err e) h same changes; noted = tt }
 
-pub given_back : (f g : ForestData) (x : Noted) (a : Option ℕ) → ReplacesWeight x.device x.weight f g a → (u t : List Row) → Stands f u → GivesBack x u t → Stands g t
-given_back f g x None r u t st back =
-    absurd (let no : false ≡ true = r.fits u st ∙ ap (λ z. not (is_too_heavy z)) back.is ∙ ap not (lawful_light t back.lawful) in cc)
-given_back f g x (Some b) r u t st back = subst (Stands g) back.is (weight_set f g x.device x.weight b r u st back.placed)
+-- out of memory stays out of memory
+pub lacks_alone : {A : Type 0} (x : Result (Done × Option (Undo A)) EditFault) → done_alone x ≡ Err OutOfMemory → x ≡ Err OutOfMemory
+lacks_alone (Ok z) is = absurd cc
+lacks_alone (Err e) is = let same : e ≡ OutOfMemory = cc in ap Err same
+
+-- WHAT IS NOTED of a class
+pub class_given : (f g : ForestData) (d : ℕ) (c had : Option (List ℕ)) → IsSound f → is_there (rows_of f) (Device d) ≡ true → SetsClass d c f g had → GivesClass d had g f
+class_given f g d c had sound there r =
+    let t = rows_of f in
+    let u = set_class (Device d) c t in
+    let after = r.stands t (stands_for_rows f sound) in
+    record {
+      there = is_there-same (rows_of g) u after.same.rows (stands_lawful g u after).ids (Device d) ∙ is_there-map (with_class (Device d) c) (with_class-id (Device d) c) t (Device d) ∙ there;
+      is = r.back;
+    }
+
+-- WHAT IS TAKEN BACK
+pub weight_taken_back : (g h f : ForestData) (d w : ℕ) (a : Option ℕ) → IsSound g → ReplacesWeight d w g h a → GivesWeight d w g f → h ≡ f
+weight_taken_back g h f d w None sound r back = absurd (let no : false ≡ true = r.fits (rows_of g) (stands_for_rows g sound) ∙ ap not back.fits in cc)
+weight_taken_back g h f d w (Some b) sound r back = r.is ∙ sym back.is
 
 -- A LOG
-pub given_before : (log : List Noted) (x : Noted) (u v t : List Row) → GivesBack x u v → GiveBack log v t → GiveBack (log ++ x ∷ []) u t
-given_before [] x u v t one e = (u, refl, subst (GivesBack x u) e one)
-given_before (y ∷ log) x u v t one rest = (rest.0, given_before log x u v rest.0 one rest.1, rest.2)
+pub given_before : {A : Type 0} (log : List (Undo A)) (x : Undo A) (h g f : ForestData) → GivesBack x h g → GiveBack log g f → GiveBack (log ++ x ∷ []) h f
+given_before [] x h g f one e = (h, refl, subst (GivesBack x h) e one)
+given_before (y ∷ log) x h g f one rest = (rest.0, given_before log x h g rest.0 one rest.1, rest.2)
 
-last_given : (log : List Noted) (x : Noted) (u t : List Row) → GiveBack (log ++ x ∷ []) u t → (v : List Row) × GivesBack x u v × GiveBack log v t
-last_given [] x u t g = (t, subst (λ z. GivesBack x z t) (sym g.1) g.2, refl)
-last_given (y ∷ log) x u t g = let r = last_given log x u g.0 g.1 in (r.0, r.1, (g.0, r.2, g.2))
+-- with what may be noted last
+pub noted_last : {A : Type 0} (log : List (Undo A)) (o : Option (Undo A)) (h g f : ForestData) → GivesAnyBack o h g → GiveBack log g f → GiveBack (log ++ as_list o) h f
+noted_last log None h g f same back = subst (λ l. GiveBack l h f) (sym (append-nil log)) (subst (λ z. GiveBack log z f) (sym same) back)
+noted_last log (Some x) h g f one back = given_before log x h g f one back
+
+last_given : {A : Type 0} (log : List (Undo A)) (x : Undo A) (h f : ForestData) → GiveBack (log ++ x ∷ []) h f → (g : ForestData) × GivesBack x h g × GiveBack log g f
+last_given [] x h f g = (f, subst (λ z. GivesBack x z f) (sym g.1) g.2, refl)
+last_given (y ∷ log) x h f g = let r = last_given log x h g.0 g.1 in (r.0, r.1, (g.0, r.2, g.2))
 
 -- without what is noted last
-pub popped : (log rest : List Noted) (x : Noted) (u t : List Row) → log ≡ rest ++ x ∷ [] → GiveBack log u t → (v : List Row) × GivesBack x u v × GiveBack rest v t
-popped log rest x u t is back = last_given rest x u t (subst (λ l. GiveBack l u t) is back)
+pub popped : {A : Type 0} (log rest : List (Undo A)) (x : Undo A) (h f : ForestData) → log ≡ rest ++ x ∷ [] → GiveBack log h f → (g : ForestData) × GivesBack x h g × GiveBack rest g f
+popped log rest x h f is back = last_given rest x h f (subst (λ l. GiveBack l h f) is back)

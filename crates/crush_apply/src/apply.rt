@@ -13,15 +13,17 @@ ghost use Rattle.crush_edits.specs.Fits.{Fits};
 ghost use Rattle.crush_edits.specs.LawEdit.{IsEdit};
 ghost use Rattle.crush_edits.specs.Outcome.{IsDone, IsChange};
 ghost use Rattle.crush_apply.specs.Answered.{AnswersAs, KeepsRooms};
+ghost use Rattle.crush_apply.specs.Noted.{is_noted, done_alone, GivesAnyBack};
 ghost use Rattle.crush_apply.specs.declared.place.IfPlaced.TheVariants.{Refuse, KeepWeight, SetWeight};
 
 use crate::add_bucket::add_bucket;
 use crate::classes::{remove_class, set_class};
+use crate::noted::{Undo, done_alone, unnoted};
 use crate::place::{IfPlaced, place};
 use crate::relocate::relocate;
 use crate::remove::remove;
 use crate::rename::rename;
-use crate::reweight::reweight;
+use crate::reweight::reweight_noted;
 use crate::reweight_subtree::reweight_subtree;
 use crate::route::Arrival;
 use crate::swap::swap;
@@ -56,11 +58,11 @@ pub fn apply_edit<A: Allocator + Clone>(
 {
     hierarchy.recall_invariant();
     recall_forms(asked);
-    make(hierarchy, setting, asked)
+    done_alone(make(hierarchy, setting, asked))
 }
 
 /// A law of each edit: its names are names, its ids are in range, and its location is one.
-fn recall_forms(asked: &Edit)
+pub(crate) fn recall_forms(asked: &Edit)
     ensures { IsEdit asked.now }
 {
     match asked {
@@ -118,15 +120,18 @@ fn if_placed(asked: &Edit) -> IfPlaced
     }
 }
 
-/// Makes the edit, or tells why it isn't made.
-fn make<A: Allocator + Clone>(
+/// Makes the edit, and hands out what was done with what takes it back, where that is noted, or tells
+/// why it isn't made.
+pub(crate) fn make<A: Allocator + Clone>(
     hierarchy: &mut Hierarchy<A>,
     setting: &Setting,
     asked: &Edit,
-) -> Result<Done, EditFault>
+) -> Result<(Done, Option<Undo<A>>), EditFault>
     requires { Fits setting.now (rows_of hierarchy.old) }
     ensures made { AnswersAs (λ t. edit setting.now t asked.now)
-        hierarchy.old hierarchy.new result }
+        hierarchy.old hierarchy.new (done_alone result) }
+    ensures noted { is_noted asked.now ≡ true
+        → IfOk result (λ z. GivesAnyBack z.1 hierarchy.new hierarchy.old) }
     ensures memory { result ≡ Err EditFault.OutOfMemory → takes_memory asked.now ≡ true }
     ensures rooms { sets_weights asked.now ≡ true → KeepsRooms hierarchy.old hierarchy.new }
 {
@@ -155,15 +160,17 @@ fn make<A: Allocator + Clone>(
                 weight: *weight,
                 at,
             };
-            place(hierarchy, setting, if_placed(asked), &arrival)
+            unnoted(place(hierarchy, setting, if_placed(asked), &arrival))
         }
-        Edit::Move { name, at } => relocate(hierarchy, setting, name, at),
-        Edit::Swap { a, b } => swap(hierarchy, a, b),
-        Edit::Reweight { name, weight } => reweight(hierarchy, name, *weight),
-        Edit::ReweightSubtree { name, weight } => reweight_subtree(hierarchy, name, *weight),
-        Edit::Remove { name } => remove(hierarchy, setting, name),
-        Edit::AddBucket { name, kind } => add_bucket(hierarchy, setting, name, kind),
-        Edit::Rename { from, to } => rename(hierarchy, from, to),
+        Edit::Move { name, at } => unnoted(relocate(hierarchy, setting, name, at)),
+        Edit::Swap { a, b } => unnoted(swap(hierarchy, a, b)),
+        Edit::Reweight { name, weight } => reweight_noted(hierarchy, name, *weight),
+        Edit::ReweightSubtree { name, weight } => {
+            unnoted(reweight_subtree(hierarchy, name, *weight))
+        }
+        Edit::Remove { name } => unnoted(remove(hierarchy, setting, name)),
+        Edit::AddBucket { name, kind } => unnoted(add_bucket(hierarchy, setting, name, kind)),
+        Edit::Rename { from, to } => unnoted(rename(hierarchy, from, to)),
         Edit::SetClass { name, class } => set_class(hierarchy, name, class),
         Edit::RemoveClass { name } => remove_class(hierarchy, name),
     }

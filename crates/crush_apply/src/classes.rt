@@ -8,8 +8,9 @@ ghost use Rattle.crush_edits.specs.Setting.{SettingData};
 ghost use Rattle.crush_edits.specs.declared.edit.Edit.TheVariants.{SetClass, RemoveClass};
 ghost use Rattle.crush_edits.specs.Edit.{edit, refusal};
 ghost use Rattle.crush_apply.specs.Alone.{GetsClass};
-ghost use Rattle.crush_apply.specs.Answered.{AnswersAs};
+ghost use Rattle.crush_apply.specs.Noted.{AnswersNoted};
 
+use crate::noted::Undo;
 use crush_edits::{Done, EditFault, Refusal};
 use crush_hierarchy::Hierarchy;
 use crush_units::{DeviceId, ItemId, Name};
@@ -62,44 +63,51 @@ fn check_set_class<A: Allocator>(
     }
 }
 
-/// Gives the device of this name the class, or tells why it doesn't get it.
+/// Gives the device of this name the class, and hands out what was done with what takes it back, or
+/// tells why it doesn't get it.
 pub(crate) fn set_class<A: Allocator + Clone>(
     hierarchy: &mut Hierarchy<A>,
     name: &Name<Global>,
     class: &Name<Global>,
-) -> Result<Done, EditFault>
-    ensures { (s : SettingData) → AnswersAs (λ t. edit s t (SetClass name.now class.now))
+) -> Result<(Done, Option<Undo<A>>), EditFault>
+    ensures { (s : SettingData) → AnswersNoted (λ t. edit s t (SetClass name.now class.now))
         hierarchy.old hierarchy.new result }
 {
     hierarchy.recall_invariant();
     let Some(device) = check_set_class(hierarchy, name, class)? else {
-        return Ok(Done {
+        let done = Done {
             changed: false,
             made: 0,
-        });
+        };
+        return Ok((done, None));
     };
     let copy = class.try_copy(hierarchy.allocator().clone()?)?;
-    let _old = hierarchy.set_class(device, Some(copy));
-    Ok(Done {
+    let old = hierarchy.set_class(device, Some(copy));
+    let done = Done {
         changed: true,
         made: 0,
-    })
+    };
+    let undo = Undo::Class { device, class: old };
+    Ok((done, Some(undo)))
 }
 
-/// Takes the class of the device of this name away, or tells why it doesn't.
+/// Takes the class of the device of this name away, and hands out what was done with what takes it
+/// back, or tells why it doesn't.
 pub(crate) fn remove_class<A: Allocator>(
     hierarchy: &mut Hierarchy<A>,
     name: &Name<Global>,
-) -> Result<Done, EditFault>
-    ensures answers { (s : SettingData) → AnswersAs (λ t. edit s t (RemoveClass name.now))
+) -> Result<(Done, Option<Undo<A>>), EditFault>
+    ensures answers { (s : SettingData) → AnswersNoted (λ t. edit s t (RemoveClass name.now))
         hierarchy.old hierarchy.new result }
     ensures memory { result ≢ Err EditFault.OutOfMemory }
 {
     hierarchy.recall_invariant();
     let device = check_remove_class(hierarchy, name)?;
     let old = hierarchy.set_class(device, None);
-    Ok(Done {
+    let done = Done {
         changed: old.is_some(),
         made: 0,
-    })
+    };
+    let undo = Undo::Class { device, class: old };
+    Ok((done, Some(undo)))
 }

@@ -1,42 +1,60 @@
-//! Weights before edits that set others, noted so that the edits can be taken back.
+//! What takes edits back, noted as they are made.
 
 ghost use Rattle.std.specs.Prelude.{◌≡◌, List};
-ghost use Rattle.crush_table.specs.Table.{Row};
-ghost use Rattle.crush_table.specs.Stands.{Stands};
-ghost use Rattle.crush_edits.specs.Edit.{takes_memory};
-ghost use Rattle.crush_apply.specs.Answered.{KeepsRooms};
-ghost use Rattle.crush_apply.specs.Noted.{is_reweight, stays, are_in_place, GivesBack, GiveBack, CanGiveBack, CanTakeBack};
+ghost use Rattle.crush_table.specs.Forest.{ForestData};
+ghost use Rattle.crush_apply.specs.Noted.{is_noted, stays, are_in_place, done_alone, GivesBack, GiveBack, CanGiveBack, CanTakeBack};
 
-use crush_edits::Edit;
+use crush_edits::{Done, Edit, EditFault};
 use crush_hierarchy::Hierarchy;
-use crush_units::{DeviceId, Weight};
+use crush_units::{DeviceId, Name, Weight};
 use std::alloc::Allocator;
 
-/// The weight of a device before an edit.
-#[derive(Clone, Copy)]
-pub(crate) struct Noted {
-    pub(crate) device: DeviceId,
-    pub(crate) weight: Weight,
+/// What takes an edit back: it needs no memory.
+#[derive(Drop)]
+pub(crate) enum Undo<A: Allocator> {
+    /// The weight of a device before.
+    Weight {
+        device: DeviceId,
+        weight: Weight,
+    },
+    /// The class of a device before, or none.
+    Class {
+        device: DeviceId,
+        class: Option<Name<A>>,
+    },
 }
 
-/// Whether the edit gives one device another weight.
-fn is_reweight(asked: &Edit) -> bool
-    ensures { result ≡ is_reweight asked.now }
+/// What was done, without what takes it back.
+pub(crate) fn done_alone<A: Allocator>(
+    answer: Result<(Done, Option<Undo<A>>), EditFault>,
+) -> Result<Done, EditFault>
+    ensures { result ≡ done_alone answer }
 {
-    matches!(asked, Edit::Reweight { .. })
+    match answer {
+        Ok((done, _undo)) => Ok(done),
+        Err(fault) => Err(fault),
+    }
 }
 
-/// Whether memory is taken for the edit.
-fn takes_memory(asked: &Edit) -> bool
-    ensures { result ≡ takes_memory asked.now }
+/// What was done, where nothing is noted that takes it back.
+pub(crate) fn unnoted<A: Allocator>(
+    answer: Result<Done, EditFault>,
+) -> Result<(Done, Option<Undo<A>>), EditFault>
+    ensures { done_alone result ≡ answer }
 {
-    !matches!(
+    match answer {
+        Ok(done) => Ok((done, None)),
+        Err(fault) => Err(fault),
+    }
+}
+
+/// Whether it is noted what takes the edit back.
+fn is_noted(asked: &Edit) -> bool
+    ensures { result ≡ is_noted asked.now }
+{
+    matches!(
         asked,
-        Edit::Swap { .. }
-            | Edit::Reweight { .. }
-            | Edit::ReweightSubtree { .. }
-            | Edit::Remove { .. }
-            | Edit::RemoveClass { .. }
+        Edit::Reweight { .. } | Edit::SetClass { .. } | Edit::RemoveClass { .. }
     )
 }
 
@@ -45,14 +63,13 @@ fn stays(asked: &Edit, later: &[Edit]) -> bool
     ensures { result ≡ stays asked.now later.now }
 {
     if later.is_empty() {
-        !takes_memory(asked)
+        true
     } else {
-        is_reweight(asked)
+        is_noted(asked)
     }
 }
 
-/// Whether all can be made in place: no memory is taken for them, and each but the last gives a
-/// device another weight.
+/// Whether all can be made in place: each but the last can be taken back.
 pub(crate) fn are_in_place(edits: &[Edit]) -> bool
     ensures { result ≡ are_in_place edits.now }
 {
@@ -65,24 +82,28 @@ pub(crate) fn are_in_place(edits: &[Edit]) -> bool
     true
 }
 
-/// Gives the device the weight that it had.
-fn give_back<A: Allocator>(hierarchy: &mut Hierarchy<A>, noted: Noted)
-    requires { CanGiveBack noted hierarchy.old }
-    ensures stands { (u t : List Row) → Stands hierarchy.old u → GivesBack noted u t
-        → Stands hierarchy.new t }
-    ensures rooms { KeepsRooms hierarchy.old hierarchy.new }
+/// Takes an edit back.
+fn give_back<A: Allocator>(hierarchy: &mut Hierarchy<A>, undo: Undo<A>)
+    requires { CanGiveBack undo hierarchy.old }
+    ensures { (f : ForestData) → GivesBack undo hierarchy.old f → hierarchy.new ≡ f }
 {
-    let _weight = hierarchy.replace_weight(noted.device, noted.weight);
+    hierarchy.recall_invariant();
+    match undo {
+        Undo::Weight { device, weight } => {
+            let _weight = hierarchy.replace_weight(device, weight);
+        }
+        Undo::Class { device, class } => {
+            let _class = hierarchy.set_class(device, class);
+        }
+    }
 }
 
-/// Gives all devices the weights that they had, the last first.
-pub(crate) fn take_back<A: Allocator>(hierarchy: &mut Hierarchy<A>, mut log: Vec<Noted, A>)
+/// Takes all edits back, the last first.
+pub(crate) fn take_back<A: Allocator>(hierarchy: &mut Hierarchy<A>, mut log: Vec<Undo<A>, A>)
     requires { CanTakeBack log.items hierarchy.old }
-    ensures stands { (u t : List Row) → Stands hierarchy.old u → GiveBack log.items u t
-        → Stands hierarchy.new t }
-    ensures rooms { KeepsRooms hierarchy.old hierarchy.new }
+    ensures { (f : ForestData) → GiveBack log.items hierarchy.old f → hierarchy.new ≡ f }
 {
-    while let Some(noted) = log.pop() {
-        give_back(hierarchy, noted);
+    while let Some(undo) = log.pop() {
+        give_back(hierarchy, undo);
     }
 }

@@ -11,7 +11,7 @@ ghost use Rattle.crush_apply.specs.Answered.{AnswersAs, KeepsRooms};
 ghost use Rattle.crush_apply.specs.Noted.{AnswersNoted};
 ghost use Rattle.crush_apply.specs.Weighed.{CanReweight};
 
-use crate::noted::Noted;
+use crate::noted::{Undo, done_alone};
 use crush_edits::{Done, EditFault, Refusal};
 use crush_hierarchy::Hierarchy;
 use crush_units::{DeviceId, ItemId, Name, Weight};
@@ -73,8 +73,7 @@ pub(crate) fn reweight<A: Allocator>(
     ensures memory { result ≢ Err EditFault.OutOfMemory }
     ensures rooms { KeepsRooms hierarchy.old hierarchy.new }
 {
-    let (done, _noted) = reweight_noted(hierarchy, name, weight)?;
-    Ok(done)
+    done_alone(reweight_noted(hierarchy, name, weight))
 }
 
 /// Sets the weight of the placed device of this name, and hands out what was done with the weight
@@ -83,7 +82,7 @@ pub(crate) fn reweight_noted<A: Allocator>(
     hierarchy: &mut Hierarchy<A>,
     name: &Name<Global>,
     weight: Weight,
-) -> Result<(Done, Noted), EditFault>
+) -> Result<(Done, Option<Undo<A>>), EditFault>
     ensures answers { (s : SettingData) → AnswersNoted (λ t. edit s t (Reweight name.now weight))
         hierarchy.old hierarchy.new result }
     ensures memory { result ≢ Err EditFault.OutOfMemory }
@@ -98,9 +97,9 @@ pub(crate) fn reweight_noted<A: Allocator>(
         changed: before != weight,
         made: 0,
     };
-    let noted = Noted {
+    let undo = Undo::Weight {
         device,
         weight: before,
     };
-    Ok((done, noted))
+    Ok((done, Some(undo)))
 }

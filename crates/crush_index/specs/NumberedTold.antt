@@ -1,20 +1,17 @@
 -- What is told of numbers most of which are near to 0.
-use Rattle.std.specs.Prelude.{◌≡◌, ℕ, List, Option, None, if◌then◌else◌, nat_eq, nat_lt, get_or}
+use Rattle.std.specs.Prelude.{◌≡◌, ℕ, List, Option, None, if◌then◌else◌, nat_eq, get_or}
+use Rattle.std.specs.Option.{option_or}
 use Rattle.indexmap.specs.IndexMap.{get, hasher_of}
 use Rattle.crush_index.specs.declared.hashing.Hashing.{Hashing}
 use Rattle.crush_index.specs.declared.numbered.Numbered.{Numbered}
-
--- how many numbers have an entry in the table, counted from 0
-abbrev pub near_numbers : ℕ
-near_numbers = 131072
 
 -- the entry of a number, none past the last
 abbrev pub entry_at : {T : Type 0} → List (Option T) → ℕ → Option T
 entry_at entries n = get_or entries n None
 
--- what is kept of a number: its entry, or, further off, what is kept by itself
+-- what is kept of a number: its entry, or, where that is empty, what is kept by itself
 unfoldable pub told_at : {T : Type 0} → Numbered T → ℕ → Option T
-told_at numbered n = if nat_lt n near_numbers then entry_at numbered.near.items n else get nat_eq numbered.far n
+told_at numbered n = option_or (entry_at numbered.near.items n) (get nat_eq numbered.far n)
 
 -- the same of each number as before
 abbrev pub NumberedSame : {T : Type 0} → Numbered T → Numbered T → Type 0

@@ -2,6 +2,7 @@ pub mod Accepted
 pub mod Asked
 pub mod Changed
 pub mod Climbed
+pub mod Exact
 pub mod Memory
 pub mod NewWeights
 pub mod Sameness

@@ -289,7 +289,8 @@ fn memory_lacks_for_other_edits(rt: HostRuntime) {
     lack_at_each_growth(&rt, rt.alloc(), OTHERS);
 }
 
-/// A batch that is made, and one that is refused at its third edit.
+/// A batch that is made, one that is refused at its third edit, and one that is made in place, of which
+/// the first and the last edit take memory.
 const BATCHES: &[Call] = &[
     Call {
         asked: &[
@@ -324,6 +325,24 @@ const BATCHES: &[Call] = &[
         ],
         least: 2,
     },
+    Call {
+        asked: &[
+            Asked::SetClass("osd.0", "a-class-of-more-than-thirty-bytes"),
+            Asked::Reweight("osd.0", 1),
+            Asked::AddBucket("h9", "host"),
+        ],
+        told: Told::Batch(Ok(Dones {
+            edits: 3,
+            changed: 3,
+            made: 1,
+        })),
+        then: &[
+            Fact::HasClass("osd.0", "a-class-of-more-than-thirty-bytes"),
+            Fact::Weighs("osd.0", 1),
+            Fact::HasId("h9", -4),
+        ],
+        least: 3,
+    },
 ];
 
 #[test]
@@ -341,24 +360,24 @@ fn new_weights(rt: &impl Abort, alloc: Global, count: u32) -> Vec<Edit> {
     made
 }
 
-/// 512 new weights, and the same with a last edit that is refused.
+/// 64 new weights, and the same with a last edit that is refused.
 const WEIGHTS: &[Call] = &[
     Call {
         asked: &[],
         told: Told::Batch(Ok(Dones {
-            edits: 512,
-            changed: 512,
+            edits: 64,
+            changed: 64,
             made: 0,
         })),
         then: &[
-            Fact::Weighs("osd.0", 511),
-            Fact::Holds("default", &["h1", "h2"], 98815),
+            Fact::Weighs("osd.0", 63),
+            Fact::Holds("default", &["h1", "h2"], 98367),
         ],
         least: 1,
     },
     Call {
         asked: &[Asked::Remove("h2")],
-        told: Told::Batch(Err(BatchFault::Refused(512, Refusal::NotEmpty))),
+        told: Told::Batch(Err(BatchFault::Refused(64, Refusal::NotEmpty))),
         then: &[
             Fact::Weighs("osd.0", 65536),
             Fact::Holds("default", &["h1", "h2"], 163840),
@@ -367,10 +386,10 @@ const WEIGHTS: &[Call] = &[
     },
 ];
 
-/// Asserts of each call, behind 512 new weights, how often memory runs out for it at least.
+/// Asserts of each call, behind 64 new weights, how often memory runs out for it at least.
 fn lack_behind_weights(rt: &impl Abort, alloc: Global, calls: &[Call]) {
     for (place, call) in calls.iter().enumerate() {
-        let mut edits = new_weights(rt, alloc, 512);
+        let mut edits = new_weights(rt, alloc, 64);
         for asked in call.asked {
             edits.push(edit(rt, alloc, *asked)).expect(rt, "memory");
         }

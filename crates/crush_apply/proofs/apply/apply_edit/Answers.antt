@@ -1,6 +1,28 @@
+use Rattle.std.proofs.Common.{sym, ◌∙◌}
+use Rattle.crush_apply.proofs.Answered.{when_is}
 use Rattle.crush_apply.proofs.StillFits.{fits_answered}
+use Rattle.crush_apply.proofs.TakenBack.{lacks_alone}
 use Rattle.crush_apply.proofs.apply.apply_edit.Goals as goal
+
+pub returns-clause-done : goal.returns-clause-done
+returns-clause-done g c = (when_is _ _ _ _ _ c.done_alone.ensures c.make.ensures.made).done
+
+pub returns-clause-refused : goal.returns-clause-refused
+returns-clause-refused g c = (when_is _ _ _ _ _ c.done_alone.ensures c.make.ensures.made).refused
+
+pub returns-clause-change : goal.returns-clause-change
+returns-clause-change g c = (when_is _ _ _ _ _ c.done_alone.ensures c.make.ensures.made).change
+
+pub returns-clause-memory : goal.returns-clause-memory
+returns-clause-memory g c = λ is. c.make.ensures.memory (lacks_alone c.make.result (sym c.done_alone.ensures ∙ is))
+
+pub returns-clause-unchanged : goal.returns-clause-unchanged
+returns-clause-unchanged g c = (when_is _ _ _ _ _ c.done_alone.ensures c.make.ensures.made).unchanged
+
+pub returns-clause-still : goal.returns-clause-still
+returns-clause-still g c = (when_is _ _ _ _ _ c.done_alone.ensures c.make.ensures.made).still
 
 pub returns-clause-fits : goal.returns-clause-fits
 returns-clause-fits g c =
-    fits_answered c.args.setting.now c.args.hierarchy.now c.make.new.hierarchy c.args.asked.now c.make.result c.recall_invariant.ensures c.recall_forms.ensures c.requires.fits c.make.ensures.made.done c.make.ensures.made.unchanged
+    let told = when_is _ _ _ _ _ c.done_alone.ensures c.make.ensures.made in
+    fits_answered c.args.setting.now c.args.hierarchy.now c.make.new.hierarchy c.args.asked.now c.done_alone.result c.recall_invariant.ensures c.recall_forms.ensures c.requires.fits told.done told.unchanged

@@ -1,9 +1,8 @@
-use Rattle.std.proofs.Common.{◌+◌, ap, sym, subst, ◌∙◌, arith}
+use Rattle.std.proofs.Common.{◌+◌, ap, sym, ◌∙◌, arith, refl}
 use Rattle.std.specs.Prelude.{drop, Err}
 use Rattle.crush_nodes.proofs.Steps.{drop_at}
 use Rattle.crush_edits.specs.Batch.{batch_refused, batch_from}
-use Rattle.crush_apply.specs.Answered.{KeepsRooms}
-use Rattle.crush_apply.proofs.Batching.{fault_parts, stops_at, goes_on, on_err, stopped_before, first_stays, rest_stays, lacks_none, weighs_before}
+use Rattle.crush_apply.proofs.Batching.{fault_parts, stops_at, goes_on, on_err, kept_back, first_stays, rest_stays, noted_before}
 use Rattle.crush_apply.proofs.batch.make_all.Goals as goal
 
 pub returns-in-Err-Refused-clause-refused : goal.returns-in-Err-Refused-clause-refused
@@ -17,45 +16,17 @@ returns-in-Err-Refused-clause-refused g c = λ index r told t st.
     stops_at c.args.setting.now t at.0 es (drop k es) (drop (k + 1) es) c.loop-asked.dones c.asked-item.result c.in-Err-Refused.refusal at.1 left no
     ∙ (λ i. batch_refused (parts.0 i) ((sym c.in-Err-Refused.refusal-is ∙ parts.1) i))
 
-pub returns-in-Err-Refused-clause-alone : goal.returns-in-Err-Refused-clause-alone
-returns-in-Err-Refused-clause-alone g c = λ few.
-    on_err c.make_one.result _ c.in-Err-Refused.is c.make_one.ensures.unchanged
-    ∙ c.loop-asked.invariant.first (omega (arith, few, c.loop-asked-test.true))
-
 pub returns-in-Err-Refused-clause-log : goal.returns-in-Err-Refused-clause-log
 returns-in-Err-Refused-clause-log g c = λ can.
-    stopped_before c.args.setting.now c.args.edits.now _ c.loop-asked.asked-index c.loop-asked.dones _ _ _ _ c.loop-asked-test.true (c.loop-asked.invariant.noted can).begun
+    kept_back _ _ _ _ _ ((c.loop-asked.invariant.noted can).back c.loop-asked-test.true)
     (on_err c.make_one.result _ c.in-Err-Refused.is c.make_one.ensures.unchanged)
     (on_err c.make_one.result _ c.in-Err-Refused.is c.make_one.ensures.log)
 
-pub returns-in-Err-Refused-clause-rooms : goal.returns-in-Err-Refused-clause-rooms
-returns-in-Err-Refused-clause-rooms g c = λ can.
-    let same = on_err c.make_one.result _ c.in-Err-Refused.is c.make_one.ensures.unchanged in
-    subst (KeepsRooms c.args.hierarchy.now) (sym same) ((c.loop-asked.invariant.noted can).rooms c.loop-asked-test.true)
-
-pub returns-in-Err-OutOfMemory-clause-alone : goal.returns-in-Err-OutOfMemory-clause-alone
-returns-in-Err-OutOfMemory-clause-alone g c = λ few.
-    on_err c.make_one.result _ c.in-Err-OutOfMemory.is c.make_one.ensures.unchanged
-    ∙ c.loop-asked.invariant.first (omega (arith, few, c.loop-asked-test.true))
-
-pub returns-in-Err-OutOfMemory-clause-memory : goal.returns-in-Err-OutOfMemory-clause-memory
-returns-in-Err-OutOfMemory-clause-memory g c = λ can is.
-    let k = c.loop-asked.asked-index in
-    let es = c.args.edits.now in
-    let left = drop_at es k c.asked-item.result c.loop-asked-test.true c.asked-item.is in
-    let none = lacks_none c.asked-item.result (drop (k + 1) es) (first_stays c.asked-item.result (drop k es) (drop (k + 1) es) left (c.loop-asked.invariant.noted can).left) in
-    c.make_one.ensures.memory none (c.in-Err-OutOfMemory.is ∙ ap Err c.in-Err-OutOfMemory.field-0-is)
-
 pub returns-in-Err-OutOfMemory-clause-log : goal.returns-in-Err-OutOfMemory-clause-log
 returns-in-Err-OutOfMemory-clause-log g c = λ can.
-    stopped_before c.args.setting.now c.args.edits.now _ c.loop-asked.asked-index c.loop-asked.dones _ _ _ _ c.loop-asked-test.true (c.loop-asked.invariant.noted can).begun
+    kept_back _ _ _ _ _ ((c.loop-asked.invariant.noted can).back c.loop-asked-test.true)
     (on_err c.make_one.result _ c.in-Err-OutOfMemory.is c.make_one.ensures.unchanged)
     (on_err c.make_one.result _ c.in-Err-OutOfMemory.is c.make_one.ensures.log)
-
-pub returns-in-Err-OutOfMemory-clause-rooms : goal.returns-in-Err-OutOfMemory-clause-rooms
-returns-in-Err-OutOfMemory-clause-rooms g c = λ can.
-    let same = on_err c.make_one.result _ c.in-Err-OutOfMemory.is c.make_one.ensures.unchanged in
-    subst (KeepsRooms c.args.hierarchy.now) (sym same) ((c.loop-asked.invariant.noted can).rooms c.loop-asked-test.true)
 
 pub loop-asked-preserved : goal.loop-asked-preserved
 loop-asked-preserved g c =
@@ -78,21 +49,13 @@ loop-asked-preserved g c =
         changed = omega (arith, so_far.changed, more.changed);
         made = omega (arith, so_far.made, more.made);
       };
-      first = λ first. absurd (omega (arith, first));
       noted = λ can.
           let before = c.loop-asked.invariant.noted can in
           let stay = first_stays c.asked-item.result (drop k es) (drop (k + 1) es) left before.left in
           record {
-            begun = λ t st.
-                let at = before.begun t st in
-                let one = c.in-Ok.ensures.noted (omega (arith, can.room, c.loop-asked.invariant.len, c.loop-asked.invariant.capacity, c.loop-asked-test.true)) at.0 at.2 in (
-                  one.0,
-                  goes_on c.args.setting.now t at.0 one.0 es (drop k es) (drop (k + 1) es) c.loop-asked.dones c.asked-item.result c.in-Ok.done.changed c.in-Ok.done.made at.1 left one.1 ∙ ap (λ d. batch_from c.args.setting.now (drop (k + 1) es) d one.0) (sym more.sum),
-                  one.2,
-                  λ behind. one.3 (weighs_before c.asked-item.result es k stay behind) t (at.3 c.loop-asked-test.true),
-                );
             left = rest_stays c.asked-item.result (drop k es) (drop (k + 1) es) left before.left;
-            rooms = λ behind p. c.make_one.ensures.rooms (weighs_before c.asked-item.result es k stay behind) p ∙ before.rooms c.loop-asked-test.true p;
+            back = λ behind. c.in-Ok.ensures.noted (omega (arith, can.room, c.loop-asked.invariant.len, c.loop-asked.invariant.capacity, behind))
+                (noted_before c.asked-item.result es k stay behind) c.args.hierarchy.now (before.back c.loop-asked-test.true);
           };
       len = omega (arith, c.loop-asked.invariant.len, c.make_one.ensures.len);
       capacity = c.make_one.ensures.capacity ∙ c.loop-asked.invariant.capacity;

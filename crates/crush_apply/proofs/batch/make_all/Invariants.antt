@@ -11,8 +11,7 @@ invariant-loop-asked g l = record {
   begun : IsBegun l.setting l.edits l.fn.hierarchy (drop l.asked-index l.edits) l.dones l.hierarchy;
   fits : Fits l.setting (rows_of l.hierarchy);
   counts : AreDone l.asked-index l.dones;
-  first : l.asked-index ≡ 0 → l.hierarchy ≡ l.fn.hierarchy;
-  noted : CanBeNoted l.edits (vec_capacity l.fn.log) → IsNotedSoFar l.setting l.edits l.fn.hierarchy l.asked-index l.dones l.hierarchy l.log.items;
+  noted : CanBeNoted l.edits (vec_capacity l.fn.log) → IsNotedSoFar l.edits l.fn.hierarchy l.asked-index l.hierarchy l.log.items;
   len : vec_len l.log ≤ l.asked-index;
   capacity : vec_capacity l.log ≡ vec_capacity l.fn.log;
 }

@@ -1,13 +1,19 @@
-use Rattle.crush_apply.proofs.TakenBack.{can_placed, given_back}
+use Rattle.std.proofs.Common.{sym, subst, ◌∙◌}
+use Rattle.crush_apply.specs.Noted.{GivesBack}
+use Rattle.crush_apply.proofs.TakenBack.{weight_taken_back}
 use Rattle.crush_apply.proofs.noted.give_back.Goals as goal
 
 pub replace_weight-weight-requires : goal.replace_weight-weight-requires
 replace_weight-weight-requires g c =
-    let can = c.requires in
-    record {
-      placed = can_placed c.args.hierarchy.now c.args.noted can.0 can.1 can.2 can.3;
-      light = can.3.light;
-    }
+    let back = subst (λ u. GivesBack u c.args.hierarchy.now c.requires.0) c.in-Weight.is c.requires.1 in
+    record { placed = back.placed; light = back.light }
 
-pub returns-clause-stands : goal.returns-clause-stands
-returns-clause-stands g c = λ u t st back. given_back _ _ c.args.noted _ c.replace_weight-weight.ensures u t st back
+pub returns-in-Weight : goal.returns-in-Weight
+returns-in-Weight g c = λ f back.
+    weight_taken_back c.args.hierarchy.now _ f c.in-Weight.device c.in-Weight.weight _ c.recall_invariant.ensures c.replace_weight-weight.ensures (subst (λ u. GivesBack u c.args.hierarchy.now f) c.in-Weight.is back)
+
+pub set_class-class-requires : goal.set_class-class-requires
+set_class-class-requires g c = (subst (λ u. GivesBack u c.args.hierarchy.now c.requires.0) c.in-Class.is c.requires.1).there
+
+pub returns-in-Class : goal.returns-in-Class
+returns-in-Class g c = λ f back. c.set_class-class.ensures.is ∙ sym (subst (λ u. GivesBack u c.args.hierarchy.now f) c.in-Class.is back).is

@@ -1,24 +1,21 @@
-use Rattle.std.proofs.Common.{refl, ◌∙◌}
+use Rattle.std.proofs.Common.{List, sym, subst}
+use Rattle.crush_table.specs.Forest.{ForestData}
+use Rattle.crush_apply.specs.Noted.{GiveBack}
 use Rattle.crush_apply.proofs.TakenBack.{popped}
 use Rattle.crush_apply.proofs.noted.take_back.Goals as goal
 
-pub loop-noted-init : goal.loop-noted-init
-loop-noted-init g c = (c.requires, λ u t st back. (u, st, back), λ p. refl)
+pub loop-undo-init : goal.loop-undo-init
+loop-undo-init g c = (c.requires, λ f back. back)
 
 pub give_back-requires : goal.give_back-requires
 give_back-requires g c =
-    let can = c.loop-noted.invariant.0 in
-    let last = popped c.loop-noted.log.items c.pop.new.self.items c.in-Some.noted can.0 can.1 c.in-Some.ensures.items can.3 in
-    (can.0, last.0, can.2, last.1)
+    let can = c.loop-undo.invariant.0 in
+    let last = popped c.loop-undo.log.items c.pop.new.self.items c.in-Some.undo _ can.0 c.in-Some.ensures.items can.1 in
+    (last.0, last.1)
 
-pub loop-noted-preserved : goal.loop-noted-preserved
-loop-noted-preserved g c =
-    let can = c.loop-noted.invariant.0 in
-    let last = popped c.loop-noted.log.items c.pop.new.self.items c.in-Some.noted can.0 can.1 c.in-Some.ensures.items can.3 in (
-      (last.0, can.1, c.give_back.ensures.stands can.0 last.0 can.2 last.1, last.2),
-      λ u t st back.
-          let at = c.loop-noted.invariant.1 u t st back in
-          let one = popped c.loop-noted.log.items c.pop.new.self.items c.in-Some.noted at.0 t c.in-Some.ensures.items at.2 in
-          (one.0, c.give_back.ensures.stands at.0 one.0 at.1 one.1, one.2),
-      λ p. c.give_back.ensures.rooms p ∙ c.loop-noted.invariant.2 p,
-    )
+pub loop-undo-preserved : goal.loop-undo-preserved
+loop-undo-preserved g c =
+    let step : (f : ForestData) → GiveBack c.loop-undo.log.items c.loop-undo.hierarchy f → GiveBack c.pop.new.self.items c.give_back.new.hierarchy f = λ f back.
+    let last = popped c.loop-undo.log.items c.pop.new.self.items c.in-Some.undo c.loop-undo.hierarchy f c.in-Some.ensures.items back in
+    subst (λ z. GiveBack c.pop.new.self.items z f) (sym (c.give_back.ensures last.0 last.1)) last.2 in
+    ((c.loop-undo.invariant.0.0, step c.loop-undo.invariant.0.0 c.loop-undo.invariant.0.1), λ f back. step f (c.loop-undo.invariant.1 f back))

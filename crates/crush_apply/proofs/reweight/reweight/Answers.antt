@@ -1,11 +1,10 @@
-use Rattle.crush_apply.proofs.Answered.{when_passed}
+use Rattle.std.proofs.Common.{sym, ◌∙◌}
+use Rattle.crush_apply.proofs.Answered.{when_is}
+use Rattle.crush_apply.proofs.TakenBack.{lacks_alone}
 use Rattle.crush_apply.proofs.reweight.reweight.Goals as goal
 
-pub returns-in_err-done-clause-answers : goal.returns-in_err-done-clause-answers
-returns-in_err-done-clause-answers g c = λ s. when_passed _ _ _ _ _ c.from_residual.ensures.1 (c.in_err-done.ensures.answers s).answers
-
 pub returns-clause-answers : goal.returns-clause-answers
-returns-clause-answers g c = λ s. (c.in_ok-done.ensures.answers s).answers
+returns-clause-answers g c = λ s. when_is _ _ _ _ _ c.done_alone.ensures (c.reweight_noted.ensures.answers s).answers
 
-pub returns-clause-rooms : goal.returns-clause-rooms
-returns-clause-rooms g c = c.in_ok-done.ensures.rooms
+pub returns-clause-memory : goal.returns-clause-memory
+returns-clause-memory g c = λ is. c.reweight_noted.ensures.memory (lacks_alone c.reweight_noted.result (sym c.done_alone.ensures ∙ is))

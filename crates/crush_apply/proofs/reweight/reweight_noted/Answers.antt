@@ -26,4 +26,4 @@ returns-in_default-clause-answers g c = λ s.
     when_unnoted _ _ _ SumTooLarge _ refl c.in_default.ensures.none (λ t st. refused_edit s t (Reweight c.args.name.now c.args.weight) _ (reweight_refusal s t c.args.name.now c.args.weight c.in_ok-device.device (c.in_ok-device.ensures.can t st) true (too_heavy _ (c.in_default.ensures.fits t st))))
 
 pub returns-clause-answers : goal.returns-clause-answers
-returns-clause-answers g c = λ s. when_noted _ _ s c.args.name.now c.args.weight c.in_ok-device.device c.in-Some.before c.ne.result c.in_ok-device.ensures.can c.in-Some.ensures c.ne.ensures
+returns-clause-answers g c = λ s. when_noted _ _ s c.args.name.now c.args.weight c.in_ok-device.device c.in-Some.before c.ne.result c.recall_invariant.ensures c.in_ok-device.ensures.can c.in-Some.ensures c.ne.ensures
