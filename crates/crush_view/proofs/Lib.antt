@@ -1,4 +1,5 @@
 pub mod BelowLaws
+pub mod EntryLaws
 pub mod EqualItems
 pub mod EqualRows
 pub mod Examples

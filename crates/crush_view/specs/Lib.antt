@@ -1,9 +1,10 @@
 pub mod Counted
+pub mod Entries
 pub mod Equal
-pub mod Ids
 pub mod ItemData
 pub mod ItemParts
 pub mod ItemWords
+pub mod Listing
 pub mod SeenItem
 pub mod SeenStep
 pub mod Settings

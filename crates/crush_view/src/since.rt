@@ -6,7 +6,8 @@ ghost use Rattle.crush_bytes.specs.Writes.{Writes};
 ghost use Rattle.std.specs.Option.{option_map};
 ghost use Rattle.crush_table.specs.Stands.{Stands};
 ghost use Rattle.crush_table.specs.Table.{Row};
-ghost use Rattle.crush_view.specs.Since.{told, since_text, id_line};
+ghost use Rattle.crush_view.specs.Listing.{Lists};
+ghost use Rattle.crush_view.specs.Since.{told, all_ids, item_lines, since_text, id_line};
 ghost use Rattle.crush_view.specs.SinceLaws.{NothingSinceItself, NoItemWhereRowsAreEqual};
 ghost use Rattle.crush_view.specs.Tallies.{HasRoom, tally_of, tally_with};
 ghost use Rattle.crush_view.specs.ItemParts.{item_line};
@@ -15,6 +16,7 @@ ghost use Rattle.crush_view.specs.Counted.{IsCounted};
 
 mod columns;
 mod ids;
+mod listing;
 mod parts;
 mod seen;
 mod settings;
@@ -26,6 +28,7 @@ use crush_bytes::{WriteFault, put};
 use crush_map::CrushMap;
 use crush_units::ItemId;
 use ids::ids_of_both;
+use listing::{Listing, found_class_ids, found_seen, listing_of};
 pub use parts::push_part;
 use parts::{Compared, push_line};
 pub use seen::{Seen, class_ids_of, look_up, step_seen};
@@ -86,27 +89,44 @@ fn push_since<A: Allocator, B: Allocator>(
         → OnOk result (out.new.items ≡ out.old.items
         ++ since_text (told old.now.setting t) (told new.now.setting u)) }
 {
-    let ids = ids_of_both(alloc, old, new)?;
-    let counts = push_items(alloc, old, new, ids.as_slice(), out)?;
+    let before = listing_of(alloc, old)?;
+    let after = listing_of(alloc, new)?;
+    let counts = push_all_items(alloc, &before, &after, out)?;
     push_settings(old.setting(), new.setting(), out)?;
     push_totals(old.total(), new.total(), out)?;
     push_counts(&counts, out)?;
     Ok(())
 }
 
+/// The lines of all items, of which the answer is how many differ in which way.
+fn push_all_items<A: Allocator, B: Allocator>(
+    alloc: Global,
+    old: &Listing<'_, A>,
+    new: &Listing<'_, B>,
+    out: &mut Vec<u8>,
+) -> Result<Tally, AllocError>
+    ensures lines { (t u : List Row) → Lists t old.now.items.items → Lists u new.now.items.items
+        → OnOk result (out.new.items ≡ out.old.items
+        ++ item_lines (told old.now.setting.now t) (told new.now.setting.now u)) }
+    ensures counts { IfOk result (λ tally. (t u : List Row) → Lists t old.now.items.items
+        → Lists u new.now.items.items → tally ≡ tally_of t u (all_ids t u)) }
+{
+    let ids = ids_of_both(alloc, old, new)?;
+    push_items(old, new, ids.as_slice(), out)
+}
+
 /// The lines of the items of these ids, of which the answer is how many differ in which way.
 fn push_items<A: Allocator, B: Allocator>(
-    alloc: Global,
-    old: &CrushMap<A>,
-    new: &CrushMap<B>,
+    old: &Listing<'_, A>,
+    new: &Listing<'_, B>,
     ids: &[ItemId],
     out: &mut Vec<u8>,
 ) -> Result<Tally, AllocError>
-    ensures lines { (t u : List Row) → Stands old.now.forest t → Stands new.now.forest u
+    ensures lines { (t u : List Row) → Lists t old.now.items.items → Lists u new.now.items.items
         → OnOk result (out.new.items ≡ out.old.items
-        ++ flat_map (id_line (told old.now.setting t) (told new.now.setting u)) ids.now) }
-    ensures counts { IfOk result (λ tally. (t u : List Row)
-        → Stands old.now.forest t → Stands new.now.forest u → tally ≡ tally_of t u ids.now) }
+        ++ flat_map (id_line (told old.now.setting.now t) (told new.now.setting.now u)) ids.now) }
+    ensures counts { IfOk result (λ tally. (t u : List Row) → Lists t old.now.items.items
+        → Lists u new.now.items.items → tally ≡ tally_of t u ids.now) }
 {
     let mut tally = Tally::none();
     for id in ids {
@@ -115,28 +135,29 @@ fn push_items<A: Allocator, B: Allocator>(
     Ok(tally)
 }
 
-/// The line of the item of this id, and the counts with it. The maps' indexes are asked, and nothing
-/// is searched.
+/// The line of the item of this id, and the counts with it.
 #[tactic(auto, unfolding(crate::specs::Since::id_line))]
 fn push_item<A: Allocator, B: Allocator>(
-    old: &CrushMap<A>,
-    new: &CrushMap<B>,
+    old: &Listing<'_, A>,
+    new: &Listing<'_, B>,
     id: &ItemId,
     tally: Tally,
     out: &mut Vec<u8>,
 ) -> Result<Tally, AllocError>
     requires { HasRoom tally }
-    ensures line { (t u : List Row) → Stands old.now.forest t → Stands new.now.forest u
+    ensures line { (t u : List Row) → Lists t old.now.items.items → Lists u new.now.items.items
         → OnOk result (out.new.items ≡ out.old.items
-        ++ id_line (told old.now.setting t) (told new.now.setting u) id.now) }
-    ensures counts { IfOk result (IsCounted old.now.forest new.now.forest id.now tally) }
+        ++ id_line (told old.now.setting.now t) (told new.now.setting.now u) id.now) }
+    ensures counts { IfOk result (IsCounted old.now.items.items new.now.items.items id.now tally) }
 {
+    let before = old.find(*id);
+    let after = new.find(*id);
     let item = Compared {
-        old: old.setting(),
-        new: new.setting(),
-        before: look_up(old, *id),
-        after: look_up(new, *id),
-        same_class_ids: same_class_ids(class_ids_of(old, *id), class_ids_of(new, *id)),
+        old: old.setting,
+        new: new.setting,
+        before: found_seen(before),
+        after: found_seen(after),
+        same_class_ids: same_class_ids(found_class_ids(before), found_class_ids(after)),
     };
     push_compared(*id, &item, tally, out)
 }

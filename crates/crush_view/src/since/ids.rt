@@ -1,32 +1,28 @@
 //! The ids of two maps, each once.
 
-ghost use Rattle.std.specs.Prelude.{◌≡◌, ◌∷◌, [], ◌++◌, List, OnOk, IfOk, flat_map, map as each};
+ghost use Rattle.std.specs.Prelude.{◌≡◌, ◌++◌, List, OnOk, IfOk, flat_map, map as each};
 ghost use Rattle.crush_print.specs.MapText.{ascending, device_number};
-ghost use Rattle.crush_table.specs.Forest.{all_items};
-ghost use Rattle.crush_table.specs.Stands.{Stands};
 ghost use Rattle.crush_table.specs.Table.{Row, bucket_ids};
-ghost use Rattle.crush_nodes.specs.Seen.{items_of};
-ghost use Rattle.crush_view.specs.Ids.{ids_below};
+ghost use Rattle.crush_view.specs.Listing.{Lists, listed_id};
 ghost use Rattle.crush_view.specs.Since.{all_ids, once};
 
 use crate::since::columns::same_number;
-use crush_map::CrushMap;
-use crush_tree::{Bucket, Forest, Node};
+use crate::since::listing::{Listed, Listing};
 use crush_units::{BucketId, DeviceId, ItemId};
 use std::alloc::{AllocError, Allocator, Global};
 
 /// The ids of both maps, each once: buckets from -1 downward, and then devices upward.
 pub(crate) fn ids_of_both<A: Allocator, B: Allocator>(
     alloc: Global,
-    old: &CrushMap<A>,
-    new: &CrushMap<B>,
+    old: &Listing<'_, A>,
+    new: &Listing<'_, B>,
 ) -> Result<Vec<ItemId>, AllocError>
-    ensures { IfOk result (λ ids. (t u : List Row) → Stands old.now.forest t
-        → Stands new.now.forest u → ids.items ≡ all_ids t u) }
+    ensures { IfOk result (λ ids. (t u : List Row) → Lists t old.now.items.items
+        → Lists u new.now.items.items → ids.items ≡ all_ids t u) }
 {
     let mut found = Vec::new(alloc);
-    push_forest(old.forest(), &mut found)?;
-    push_forest(new.forest(), &mut found)?;
+    push_ids(old.items.as_slice(), &mut found)?;
+    push_ids(new.items.as_slice(), &mut found)?;
     let buckets = buckets_among(alloc, found.as_slice())?;
     let devices = devices_among(alloc, found.as_slice())?;
     let mut ids = Vec::new(alloc);
@@ -35,42 +31,17 @@ pub(crate) fn ids_of_both<A: Allocator, B: Allocator>(
     Ok(ids)
 }
 
-/// The ids of a forest's items.
-fn push_forest<A: Allocator>(forest: &Forest<A>, found: &mut Vec<ItemId>) -> Result<(), AllocError>
-    ensures { OnOk result (found.new.items ≡ found.old.items ++ ids_below (all_items forest.now)) }
+/// The ids of items.
+fn push_ids<A: Allocator>(
+    items: &[Listed<'_, A>],
+    found: &mut Vec<ItemId>,
+) -> Result<(), AllocError>
+    ensures { OnOk result (found.new.items ≡ found.old.items ++ each listed_id items.now) }
 {
-    push_nodes(forest.unplaced(), found)?;
-    push_nodes(forest.roots(), found)?;
-    Ok(())
-}
-
-/// The ids of the nodes, each with what is below it.
-fn push_nodes<A: Allocator>(nodes: &[Node<A>], found: &mut Vec<ItemId>) -> Result<(), AllocError>
-    ensures { OnOk result (found.new.items ≡ found.old.items ++ ids_below (items_of nodes.now)) }
-{
-    for node in nodes {
-        push_node(node, found)?;
+    for item in items {
+        found.push(item.node.id())?;
     }
     Ok(())
-}
-
-/// The id of a node, and those of what is below it.
-fn push_node<A: Allocator>(node: &Node<A>, found: &mut Vec<ItemId>) -> Result<(), AllocError>
-    ensures { OnOk result (found.new.items ≡ found.old.items
-        ++ ids_below (items_of (node.now ∷ []))) }
-{
-    found.push(node.id())?;
-    match node {
-        Node::Device(_) => Ok(()),
-        Node::Bucket(bucket) => {
-            let bucket: &Bucket<A> = bucket;
-            let items = bucket.items.as_slice();
-            for item in items {
-                push_node(item, found)?;
-            }
-            Ok(())
-        }
-    }
 }
 
 /// The buckets among the ids, from -1 downward.

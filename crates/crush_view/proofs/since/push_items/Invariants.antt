@@ -1,7 +1,7 @@
 use Rattle.std.proofs.Common.{◌≡◌, ◌++◌, List, take}
 use Rattle.std.specs.Prelude.{flat_map}
-use Rattle.crush_table.specs.Stands.{Stands}
 use Rattle.crush_table.specs.Table.{Row}
+use Rattle.crush_view.specs.Listing.{Lists}
 use Rattle.crush_view.specs.Since.{told, id_line}
 use Rattle.crush_view.specs.Tallies.{tally_of}
 use Rattle.crush_view.proofs.TallyLaws.{AtMost}
@@ -9,7 +9,7 @@ use Rattle.crush_view.proofs.since.push_items.Given as goal
 
 abbrev pub invariant-loop-id : goal.invariant-loop-id
 invariant-loop-id g l = record {
-  lines : (t u : List Row) → Stands l.old.forest t → Stands l.new.forest u → l.out.items ≡ l.fn.out.items ++ flat_map (id_line (told l.old.setting t) (told l.new.setting u)) (take l.id-index l.ids);
+  lines : (t u : List Row) → Lists t l.old.items.items → Lists u l.new.items.items → l.out.items ≡ l.fn.out.items ++ flat_map (id_line (told l.old.setting.now t) (told l.new.setting.now u)) (take l.id-index l.ids);
   most : AtMost l.id-index l.tally;
-  counts : (t u : List Row) → Stands l.old.forest t → Stands l.new.forest u → l.tally ≡ tally_of t u (take l.id-index l.ids);
+  counts : (t u : List Row) → Lists t l.old.items.items → Lists u l.new.items.items → l.tally ≡ tally_of t u (take l.id-index l.ids);
 }
