@@ -158,7 +158,7 @@ def at_once_fault(text, ran, words, since):
     status, printed, told = ran
     read, adjusted, scripts = read_job(text)
     refused = [line for line in (told if status == 5 else printed).splitlines(keepends=True) if is_refusal(line)]
-    due = first_line(status, refused, adjusted) + reasons(words, refused, adjusted)
+    due = first_line(status, refused, adjusted) + reasons(words, refused, adjusted, text)
     if status not in (0, 5) or told != due:
         return f"at once: status {status}, {told}\n--- and not {due}"
     if status == 5:

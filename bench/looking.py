@@ -156,11 +156,11 @@ def is_refusal(line):
     return " = refused " in line
 
 
-def reasons(words, refused, adjusted):
+def reasons(words, refused, adjusted, text):
     """What standard error is told below its one line, by the words of the command line: of the history lines of what
-    was refused, and of the weights that were replaced."""
+    was refused, and of the text and the weights of it that were replaced."""
     if "--explain" in words:
-        return refused_text(refused) + written_text(adjusted)
+        return refused_text(refused) + written_text(adjusted, text)
     return "".join(refused) if "--strict" in words else ""
 
 
@@ -171,11 +171,11 @@ def first_line(status, refused, adjusted):
     return f"crushedit: adjusted {len(adjusted)}\n" if adjusted else ""
 
 
-def ending(words, since, read, adjusted, scripts):
-    """Status, standard output and standard error of a run in turn. `adjusted` are the weights that were replaced."""
+def ending(words, since, read, adjusted, scripts, text):
+    """Status, standard output and standard error of a run in turn. `adjusted` are the weights of the text that were replaced."""
     map, made = run_in_turn(read, scripts)
     refused = [line for _, line in made if is_refusal(line)]
-    told = reasons(words, refused, adjusted)
+    told = reasons(words, refused, adjusted, text)
     if "--strict" in words and refused:
         return 5, "", first_line(5, refused, adjusted) + told
     history = "" if "--no-history" in words else "".join(line for _, line in made)

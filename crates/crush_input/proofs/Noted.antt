@@ -1,7 +1,8 @@
 -- What is noted of faults of bytes.
 use Rattle.std.proofs.Common.{◌≡◌, ℕ, ◌≤◌, Bool, true, false, List, Option, Some, None, length, refl, sym, ap, ◌∙◌}
 use Rattle.std.specs.Prelude.{IfSome}
-use Rattle.crush_reasons.specs.Place.{OriginData, fault_line, fault_text}
+use Rattle.crush_reasons.specs.Fault.{fault_line, fault_text}
+use Rattle.crush_reasons.specs.Place.{OriginData}
 use Rattle.crush_script.specs.Job.{IsJobFault}
 use Rattle.crush_script.specs.declared.fault.JobFault.{JobFault}
 use Rattle.crush_script.specs.declared.fault.JobFault.TheVariants.{BadLine, NoSuchCommand, OpenBatch, TooManyOperators, DuplicateOperator, Text, OutOfMemory, TooLong, TooManyCalls}

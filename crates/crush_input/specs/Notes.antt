@@ -3,7 +3,8 @@ use Rattle.std.specs.Prelude.{◌≡◌, ◌⊎◌, ℕ, ◌<◌, Bool, true, fa
 use Rattle.crush_calls.specs.History.{EntryData}
 use Rattle.crush_calls.specs.Refused.{refusals, refused_text}
 use Rattle.crush_reasons.specs.Explained.{explained_text}
-use Rattle.crush_reasons.specs.Place.{OriginData, fault_line, fault_text}
+use Rattle.crush_reasons.specs.Fault.{fault_line, fault_text}
+use Rattle.crush_reasons.specs.Place.{OriginData}
 use Rattle.crush_reasons.specs.Written.{written_text}
 use Rattle.crush_table.specs.Table.{Row}
 use Rattle.crush_script.specs.Lines.{map_part}

@@ -4,14 +4,22 @@ use Rattle.std.specs.Fmt.{digits}
 use Rattle.std.specs.Prelude.{codes}
 use Rattle.crush_edits.specs.declared.edit.Edit.TheVariants.{Move, Reweight, Remove, SetClass, Swap}
 use Rattle.crush_edits.specs.declared.refusal.Refusal.TheVariants.{NotEmpty, NoSuchItem}
+use Rattle.crush_bytes.specs.Words.{split, up_to_long, words_in}
 use Rattle.crush_calls.specs.declared.call.Call.TheVariants.{One, Batch, Guarded}
 use Rattle.crush_calls.specs.declared.call.Reply.TheVariants.{Done, Dones, Refused, BatchRefused, Stale}
 use Rattle.crush_calls.specs.HistoryText.{line_head, line_end}
 use Rattle.crush_script.specs.declared.fault.JobFault.TheVariants as job
-use Rattle.crush_text.specs.declared.fault.TextFaultKind.TheVariants.{UnknownType}
+use Rattle.crush_text.specs.declared.fault.TextFaultKind.TheVariants.{Ended, UnknownType}
 use Rattle.crush_reasons.specs.Ceph.{ceph_heading, ceph_line, ceph_text}
 use Rattle.crush_reasons.specs.Explained.{explained_text, reason_line}
-use Rattle.crush_reasons.specs.Place.{column_line, fault_line, fault_text, from_line, number_line}
+use Rattle.crush_reasons.specs.Fault.{fault_line, fault_text}
+use Rattle.crush_reasons.specs.Forms.{form_of}
+use Rattle.crush_reasons.specs.Place.{column_line, from_line, number_line}
+use Rattle.crush_reasons.specs.Flaws.{open_text}
+use Rattle.crush_reasons.specs.Misfit.{misfit_text, with_point}
+use Rattle.crush_reasons.specs.Shown.{told}
+use Rattle.crush_reasons.specs.Wanted.{further, opened}
+use Rattle.crush_script.specs.Lines.{words_between_blanks}
 use Rattle.crush_reasons.specs.Sentences.{job_sentence}
 
 -- of four commands two changed the map
@@ -48,14 +56,14 @@ explained : explained_text (codes "a" ∷ []) 1 (
     ∷ (record { operator = 0; call = Guarded 0 (Remove (codes "x") ∷ []); reply = Stale 1 })
     ∷ (record { operator = 0; call = Batch (Remove (codes "osd.0") ∷ Remove (codes "default") ∷ []); reply = BatchRefused 1 NotEmpty })
     ∷ [])
-    ≡ codes "# 1 a rm default = refused NotEmpty 39\n  the bucket holds items: move or remove them first\n# 3 a begin at 0 ; rm x ; commit = refused Stale 11 changes 1\n  the map has changed since: look at it again, and name the number of changes that is told\n# 4 a begin ; rm osd.0 ; rm default ; commit = refused at 1 NotEmpty 39\n  the bucket holds items: move or remove them first (the edits of a batch count from 0)\n"
+    ≡ codes "# 1 a rm default = refused NotEmpty 39\n  default holds items: move or remove them first\n# 3 a begin at 0 ; rm x ; commit = refused Stale 11 changes 1\n  the map has changed since: look at it again, and name the number of changes that is told\n# 4 a begin ; rm osd.0 ; rm default ; commit = refused at 1 NotEmpty 39\n  rm default: default holds items: move or remove them first\n"
 unfolding explained_text line_head line_end digits
 explained = refl
 
 -- a type that isn't declared, behind a tab in a second line
 unknown_type : fault_text (record { name = []; before = 0 }) (codes "type 0 osd\n\thots h2 {\n}\n") (job.Text (record { kind = UnknownType; place = 12 }))
     ≡ codes "  line 2, column 2\n     hots h2 {\n     ^\n  no type of this name is declared above\n"
-unfolding column_line digits
+unfolding column_line digits form_of words_in split up_to_long
 unknown_type = refl
 
 -- a line of a file that isn't a command
@@ -78,3 +86,14 @@ line_before = refl
 -- the line at which a flaw of a text stands
 third_line : fault_line (codes "a\nb\nc\n") (job.Text (record { kind = UnknownType; place = 4 })) ≡ 3
 third_line = refl
+
+-- a word of a command that doesn't fit, and a map that is cut
+comma : fault_text (record { name = []; before = 0 }) (codes "%operator a\nreweight osd.0 1,5\n") (job.BadLine 2)
+    ≡ codes "  line 2\n    reweight osd.0 1,5\n  reweight NAME WEIGHT: `1,5` is no weight; write 1.5\n"
+unfolding number_line from_line digits form_of misfit_text told with_point words_between_blanks
+comma = refl
+
+cut : fault_text (record { name = codes "map.txt"; before = 0 }) (codes "host h1 {\n\tid -2\n%operator a\n") (job.Text (record { kind = Ended; place = 17 }))
+    ≡ codes "  map.txt line 2, column 5\n     id -2\n        ^\n  the host h1 that begins at line 1 isn't closed\n"
+unfolding column_line digits further opened open_text words_in split up_to_long
+cut = refl

@@ -15,6 +15,9 @@ from_next n bytes = let e : suc n ≡ n + 1 = omega arith in ap (λ m. from_line
 pub two_pushed : (old a b one two : List ℕ) → one ≡ old ++ a → two ≡ one ++ b → two ≡ old ++ (a ++ b)
 two_pushed old a b one two e f = f ∙ ap (λ (l : List ℕ). l ++ b) e ∙ append_assoc old a b
 
+pub then_pushed : (old a b whole one two : List ℕ) → one ≡ old ++ a → two ≡ one ++ b → b ≡ whole → two ≡ old ++ (a ++ whole)
+then_pushed old a b whole one two e f g = two_pushed old a whole one two e (f ∙ ap (λ (l : List ℕ). one ++ l) g)
+
 pub three_pushed : (old a b c one two three : List ℕ) → one ≡ old ++ a → two ≡ one ++ b → three ≡ two ++ c → three ≡ old ++ (a ++ b ++ c)
 three_pushed old a b c one two three e f g = g ∙ ap (λ (l : List ℕ). l ++ c) (two_pushed old a b one two e f) ∙ append_assoc old (a ++ b) c
 

@@ -1,5 +1,12 @@
 pub mod Sentences
+pub mod Named
 pub mod Explained
 pub mod Ceph
+pub mod Shown
 pub mod Place
+pub mod Forms
+pub mod Misfit
+pub mod Wanted
+pub mod Flaws
+pub mod Fault
 pub mod Written

@@ -1,12 +1,10 @@
--- Where a fault of a job stands: its line, and of a text's fault the column and the place in that line.
-use Rattle.std.specs.Prelude.{ℕ, zero, suc, ◌+◌, ◌-◌, ◌==◌, ◌&&◌, List, [], ◌++◌, codes, decimal, drop, if◌then◌else◌, length, map, min, nat_lt, replicate, reverse, take}
+-- Lines of a job and places in a text, as they are shown.
+use Rattle.std.specs.Prelude.{ℕ, zero, suc, ◌+◌, ◌-◌, ◌==◌, List, [], ◌++◌, codes, decimal, drop, if◌then◌else◌, length, map, min, replicate, reverse, take}
 use Rattle.std.specs.List.{position_or_len}
-use Rattle.crush_script.specs.declared.fault.JobFault.{JobFault}
-use Rattle.crush_script.specs.declared.fault.JobFault.TheVariants.{BadLine, NoSuchCommand, OpenBatch, TooManyOperators, DuplicateOperator, Text, OutOfMemory, TooLong, TooManyCalls}
 use Rattle.crush_script.specs.Lines.{line_feeds}
 use Rattle.crush_reasons.specs.Explained.{reason_line}
 use Rattle.crush_reasons.specs.declared.place.Origin.{Origin}
-use Rattle.crush_reasons.specs.Sentences.{job_sentence}
+use Rattle.crush_reasons.specs.Shown.{shown_byte}
 
 -- where bytes of a job come from: the name of the file, empty where none is told, and how many lines of the job stand before the file's own
 pub record OriginData : Type 0 where
@@ -31,10 +29,6 @@ to_feed bytes = position_or_len (λ b. b == 10) bytes
 -- how many stand behind the last one
 abbrev pub behind_feed : List ℕ → ℕ
 behind_feed bytes = to_feed (reverse bytes)
-
--- a byte as it is shown: a tab as a space, another that isn't from 32 to 126 as `?`
-abbrev pub shown_byte : ℕ → ℕ
-shown_byte b = if nat_lt 31 b && nat_lt b 127 then b else if b == 9 then 32 else 63
 
 -- the rest of a line, of which 72 bytes are shown at most, behind four spaces
 abbrev pub shown_line : List ℕ → List ℕ
@@ -79,29 +73,8 @@ unfoldable pub number_line : OriginData → ℕ → List ℕ
 number_line origin line = codes "  " ++ name_head origin.name ++ codes "line " ++ decimal (own_line origin line) ++ codes "\n"
 
 -- A LINE of a job, counted from 1, and below it what was wanted
+abbrev pub line_at : List ℕ → ℕ → List ℕ
+line_at bytes line = from_line (line - 1) bytes
+
 abbrev pub at_line : OriginData → List ℕ → ℕ → List ℕ → List ℕ
-at_line origin bytes line sentence = number_line origin line ++ shown_line (from_line (line - 1) bytes) ++ reason_line sentence
-
--- FAULT LINE: the line of a job at which a fault stands, counted from 1, or 0 where it has none
-abbrev pub fault_line : List ℕ → JobFault → ℕ
-fault_line bytes (BadLine line) = line
-fault_line bytes (NoSuchCommand line) = line
-fault_line bytes (OpenBatch line) = line
-fault_line bytes (TooManyOperators line) = line
-fault_line bytes (DuplicateOperator line) = line
-fault_line bytes (TooManyCalls line) = line
-fault_line bytes (Text fault) = last_line (take fault.place bytes)
-fault_line bytes TooLong = 0
-fault_line bytes OutOfMemory = 0
-
--- FAULT TEXT: where a fault stands, and what was wanted; of a fault without a place that alone
-abbrev pub fault_text : OriginData → List ℕ → JobFault → List ℕ
-fault_text origin bytes (BadLine line) = at_line origin bytes line (job_sentence (BadLine line))
-fault_text origin bytes (NoSuchCommand line) = at_line origin bytes line (job_sentence (NoSuchCommand line))
-fault_text origin bytes (OpenBatch line) = at_line origin bytes line (job_sentence (OpenBatch line))
-fault_text origin bytes (TooManyOperators line) = at_line origin bytes line (job_sentence (TooManyOperators line))
-fault_text origin bytes (DuplicateOperator line) = at_line origin bytes line (job_sentence (DuplicateOperator line))
-fault_text origin bytes (TooManyCalls line) = at_line origin bytes line (job_sentence (TooManyCalls line))
-fault_text origin bytes (Text fault) = place_text origin bytes fault.place ++ reason_line (job_sentence (Text fault))
-fault_text origin bytes TooLong = reason_line (job_sentence TooLong)
-fault_text origin bytes OutOfMemory = reason_line (job_sentence OutOfMemory)
+at_line origin bytes line reason = number_line origin line ++ shown_line (line_at bytes line) ++ reason_line reason

@@ -4,7 +4,9 @@ use Rattle.crush_units.specs.declared.id.ItemId.{ItemId}
 use Rattle.crush_units.specs.declared.id.ItemId.TheVariants.{Device, Bucket}
 use Rattle.crush_units.specs.declared.weight.WeightFault.{WeightFault}
 use Rattle.crush_units.specs.Weight.{weight_of_text, weight_text}
+use Rattle.std.specs.List.{list_any}
 use Rattle.crush_bytes.specs.Words.{Word, texts, words}
+use Rattle.crush_script.specs.Lines.{line_feeds}
 use Rattle.crush_table.specs.Table.{Row, id_named, weight_of}
 use Rattle.crush_reasons.specs.declared.written.Scan.{Scan}
 
@@ -45,9 +47,20 @@ unfoldable pub item_lines : Bool → List Row → List (List ℕ) → List ℕ
 item_lines inside t [] = []
 item_lines inside t (w ∷ ws) = (if inside && bytes_eq w (codes "item") then item_line t ws else []) ++ item_lines (is_inside inside w) t ws
 
--- WRITTEN TEXT: a line for each `item NAME weight W` between braces of a map's text where NAME is a bucket that doesn't weigh W in the table
+-- OF A TEXT WHOSE LINES END IN CARRIAGE RETURNS ALONE: it has one line, and what stands behind a `#` is lost
+abbrev pub has_returns_alone : List ℕ → Bool
+has_returns_alone bytes = line_feeds bytes == 0 && list_any (λ b. b == 13) bytes
+
+abbrev pub returns_text : List ℕ → List ℕ
+returns_text bytes = if has_returns_alone bytes then codes "the text has carriage returns and no line feed: a comment goes on to its end\n" else []
+
+-- the lines of written weights: one for each `item NAME weight W` between braces of a map's text where NAME is a bucket that doesn't weigh W in the table
+abbrev pub weights_text : List Row → List ℕ → List ℕ
+weights_text t bytes = item_lines false t (texts (words 0 bytes).words)
+
+-- WRITTEN TEXT: that and these
 abbrev pub written_text : List Row → List ℕ → List ℕ
-written_text t bytes = item_lines false t (texts (words 0 bytes).words)
+written_text t bytes = returns_text bytes ++ weights_text t bytes
 
 -- the first of these words is one of this text
 abbrev pub IsNextWord : List ℕ → List Word → List Word → Type 0

@@ -1,16 +1,26 @@
 //! The lines of the entries that were refused, with reasons.
 
-ghost use Rattle.std.specs.Prelude.{◌≡◌, ◌<◌, ◌^◌, ◌++◌, IfOk, OnOk, length};
+ghost use Rattle.std.specs.Prelude.{◌≡◌, ◌<◌, ◌^◌, ◌++◌, IfOk, OnOk, codes, decimal, drop, length};
 ghost use Rattle.crush_calls.specs.Entries.{AreOf};
 ghost use Rattle.crush_calls.specs.HistoryText.{names_of, line_text};
 ghost use Rattle.crush_calls.specs.Script.{scripts_data};
-ghost use Rattle.crush_reasons.specs.Explained.{counting, explained_line, explained_text, reason_line};
-ghost use Rattle.crush_reasons.specs.Sentences.{reply_sentence};
+ghost use Rattle.crush_calls.specs.HistoryText.{edit_text};
+ghost use Rattle.crush_reasons.specs.Explained.{batched_reason, call_reason, explained_line, explained_text, first_reason, reason_line, stale_reason};
 
-use crate::sentences::reply_sentence;
+use crate::named::push_edit_reason;
+use crate::sentences::{STALE, refusal_sentence, reply_sentence};
 use crate::words::push_all;
-use crush_calls::{Entry, Reply, Script, is_refused, operator_name, write_entry};
+use crush_calls::{Call, Entry, Reply, Script, is_refused, operator_name, write_edit, write_entry};
+use crush_edits::{Edit, Refusal};
+use itoa::Buffer;
 use std::alloc::{AllocError, Global};
+
+/// The command of an edit.
+fn push_edit(edit: &Edit, text: &mut Vec<u8>) -> Result<(), AllocError>
+    ensures { OnOk result (text.new.items ≡ text.old.items ++ edit_text edit.now) }
+{
+    write_edit(edit, text).map_err(|_| AllocError)
+}
 
 /// The line of an entry.
 fn push_entry(
@@ -25,33 +35,95 @@ fn push_entry(
     write_entry(number, operator, &entry.call, entry.reply, text).map_err(|_| AllocError)
 }
 
-/// What stands behind the sentence of a reply: of a batch, from where its edits count.
-fn counting(reply: Reply) -> &'static str
-    ensures { result.now ≡ counting reply }
+/// The edits of a batch from one on.
+fn from_edit(index: usize, edits: &[Edit]) -> &[Edit]
+    ensures { result.now ≡ drop index edits.now }
 {
-    match reply {
-        Reply::Done(_) => "",
-        Reply::Dones(_) => "",
-        Reply::Refused(_) => "",
-        Reply::BatchRefused(_, _) => " (the edits of a batch count from 0)",
-        Reply::Stale(_) => "",
+    if index < edits.len() {
+        edits.split_at(index).1
+    } else {
+        &[]
     }
 }
 
-/// The line of a refusal's reason.
-fn push_reply(reply: Reply, text: &mut Vec<u8>) -> Result<(), AllocError>
-    ensures { OnOk result (text.new.items
-        ≡ text.old.items ++ reason_line (reply_sentence reply ++ counting reply)) }
+/// What was wanted of the first of these edits, behind its command.
+fn push_first(edits: &[Edit], refusal: Refusal, text: &mut Vec<u8>) -> Result<(), AllocError>
+    ensures { OnOk result (text.new.items ≡ text.old.items ++ first_reason edits.now refusal) }
 {
+    match edits {
+        [] => text.extend_from_slice(refusal_sentence(refusal).as_bytes()),
+        [edit, ..] => {
+            push_edit(edit, text)?;
+            text.extend_from_slice(b": ")?;
+            push_edit_reason(edit, refusal, text)
+        }
+    }
+}
+
+/// What was wanted where an edit of a batch was refused.
+fn push_batched(
+    edits: &[Edit],
+    index: u32,
+    refusal: Refusal,
+    text: &mut Vec<u8>,
+) -> Result<(), AllocError>
+    ensures { OnOk result (text.new.items
+        ≡ text.old.items ++ batched_reason edits.now index refusal) }
+{
+    push_first(from_edit(index as usize, edits), refusal, text)
+}
+
+/// What a number of changes is that a guarded batch names, where there were fewer.
+fn push_too_high(seen: u32, count: u32, text: &mut Vec<u8>) -> Result<(), AllocError>
+    ensures { OnOk result (text.new.items ≡ text.old.items
+        ++ (decimal seen ++ codes " counts the changes of this run: so far there were " ++ decimal count)) }
+{
+    let mut seen_buffer = Buffer::new();
+    let mut count_buffer = Buffer::new();
     push_all(
         &[
-            b"  ".as_slice(),
-            reply_sentence(reply).as_bytes(),
-            counting(reply).as_bytes(),
-            b"\n".as_slice(),
+            seen_buffer.format(seen).as_bytes(),
+            b" counts the changes of this run: so far there were ".as_slice(),
+            count_buffer.format(count).as_bytes(),
         ],
         text,
     )
+}
+
+/// What is told of a guarded batch that names another number of changes than there were.
+fn push_stale(seen: u32, count: u32, text: &mut Vec<u8>) -> Result<(), AllocError>
+    ensures { OnOk result (text.new.items ≡ text.old.items ++ stale_reason seen count) }
+{
+    if count < seen {
+        push_too_high(seen, count, text)
+    } else {
+        text.extend_from_slice(STALE.as_bytes())
+    }
+}
+
+/// What was wanted of a refused call.
+fn push_call_reason(call: &Call, reply: Reply, text: &mut Vec<u8>) -> Result<(), AllocError>
+    ensures { OnOk result (text.new.items ≡ text.old.items ++ call_reason call.now reply) }
+{
+    match (call, reply) {
+        (Call::One(edit), Reply::Refused(refusal)) => push_edit_reason(edit, refusal, text),
+        (Call::Batch(edits), Reply::BatchRefused(index, refusal))
+        | (Call::Guarded { edits, .. }, Reply::BatchRefused(index, refusal)) => {
+            push_batched(edits.as_slice(), index, refusal, text)
+        }
+        (Call::Guarded { seen, .. }, Reply::Stale(count)) => push_stale(*seen, count, text),
+        _ => text.extend_from_slice(reply_sentence(reply).as_bytes()),
+    }
+}
+
+/// The line of the reason of a refused call.
+fn push_reply(call: &Call, reply: Reply, text: &mut Vec<u8>) -> Result<(), AllocError>
+    ensures { OnOk result (text.new.items
+        ≡ text.old.items ++ reason_line (call_reason call.now reply)) }
+{
+    text.extend_from_slice(b"  ")?;
+    push_call_reason(call, reply, text)?;
+    text.extend_from_slice(b"\n")
 }
 
 /// The line of an entry and its reason, where it was refused.
@@ -68,11 +140,12 @@ fn push_explained(
         return Ok(());
     }
     push_entry(number, operator, entry, text)?;
-    push_reply(entry.reply, text)
+    push_reply(&entry.call, entry.reply, text)
 }
 
 /// The lines of the entries that were refused, each as the history has it, with its number there,
-/// and below each two spaces and what was wanted; of a batch, too, that its edits count from 0.
+/// and below each two spaces and what was wanted: by the name that is in the way, where the edit alone
+/// tells it, and of a batch behind the command of the edit that was refused.
 ///
 /// There are fewer than 2^32 entries, so that each has a number; a job's are at most 65,536. An
 /// `Err` says that memory ran out.

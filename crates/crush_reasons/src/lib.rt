@@ -8,12 +8,20 @@
 
 mod ceph;
 mod explained;
+mod fault;
+mod flaws;
+mod forms;
+mod misfit;
+mod named;
 mod place;
 mod sentences;
+mod shown;
+mod wanted;
 mod words;
 mod written;
 
 pub use ceph::{ceph_text, push_ceph_heading, push_ceph_line};
 pub use explained::explained_text;
-pub use place::{Origin, fault_line, fault_text};
+pub use fault::{fault_line, fault_text};
+pub use place::Origin;
 pub use written::written_text;

@@ -1,17 +1,13 @@
-//! Where a fault of a job stands, and what was wanted there.
+//! Lines of a job and places in a text, as they are shown.
 
-ghost use Rattle.std.specs.Prelude.{◌≡◌, ◌≤◌, ◌<◌, ◌^◌, ◌+◌, ◌-◌, ◌++◌, ◌==◌, IfOk, OnOk, if◌then◌else◌, length, map, replicate, take};
-ghost use Rattle.crush_reasons.specs.Explained.{reason_line};
-ghost use Rattle.crush_reasons.specs.Place.{at_line, at_place, behind_feed, behind_line, column_line, fault_line, fault_text, from_line, last_line, name_head, number_line, origin_data, own_line, place_text, shown_before, shown_byte, shown_line, sign_line, to_feed};
+ghost use Rattle.std.specs.Prelude.{◌≡◌, ◌≤◌, ◌<◌, ◌^◌, ◌+◌, ◌++◌, ◌==◌, OnOk, if◌then◌else◌, length, replicate};
+ghost use Rattle.crush_reasons.specs.Place.{at_place, behind_feed, behind_line, column_line, from_line, last_line, line_at, name_head, number_line, origin_data, own_line, place_text, shown_line, sign_line, to_feed};
 
-use crate::sentences::job_sentence;
-use crate::words::{push_all, push_reason};
-use crush_script::{JobFault, line_feeds};
+use crate::shown::{MOST_SHOWN, push_shown};
+use crate::words::{push_all, up_to};
+use crush_script::line_feeds;
 use itoa::Buffer;
-use std::alloc::{AllocError, Global};
-
-/// How many bytes of a line are shown at most.
-const MOST_SHOWN: usize = 72;
+use std::alloc::AllocError;
 
 /// How many of them stand before the place at most.
 const MOST_BEFORE: usize = 40;
@@ -28,7 +24,7 @@ pub struct Origin<'a> {
 
 impl<'a> Origin<'a> {
     /// The number of a line of the job in its own file. A line that was put before the first is 0.
-    fn own_line(self, line: usize) -> usize
+    pub(crate) fn own_line(self, line: usize) -> usize
         ensures { result ≡ own_line (origin_data self.entry) line }
     {
         line.saturating_sub(self.before)
@@ -36,7 +32,7 @@ impl<'a> Origin<'a> {
 }
 
 /// How many bytes stand before the first line feed.
-fn to_feed(bytes: &[u8]) -> usize
+pub(crate) fn to_feed(bytes: &[u8]) -> usize
     ensures value { result ≡ to_feed bytes.now }
     ensures within { result ≤ length bytes.now }
 {
@@ -58,7 +54,7 @@ fn further(behind: usize, byte: u8) -> usize
 }
 
 /// How many bytes stand behind the last line feed.
-fn behind_feed(bytes: &[u8]) -> usize
+pub(crate) fn behind_feed(bytes: &[u8]) -> usize
     requires { length bytes.now < 2 ^ 32 }
     ensures value { result ≡ behind_feed bytes.now }
     ensures within { result ≤ length bytes.now }
@@ -71,46 +67,11 @@ fn behind_feed(bytes: &[u8]) -> usize
 }
 
 /// The line at which a prefix of a job ends, counted from 1.
-fn last_line(before: &[u8]) -> usize
+pub(crate) fn last_line(before: &[u8]) -> usize
     requires { length before.now < 2 ^ 32 }
     ensures { result ≡ last_line before.now }
 {
     line_feeds(before) + 1
-}
-
-/// The bytes up to a place, all of them where it is beyond their end.
-fn up_to(place: usize, bytes: &[u8]) -> &[u8]
-    ensures value { result.now ≡ take place bytes.now }
-    ensures within { length result.now ≤ length bytes.now }
-{
-    if place < bytes.len() {
-        bytes.split_at(place).0
-    } else {
-        bytes
-    }
-}
-
-/// A byte as it is shown.
-fn shown_byte(byte: u8) -> u8
-    ensures { result ≡ shown_byte byte }
-{
-    match byte {
-        32..=126 => byte,
-        b'\t' => b' ',
-        _ => b'?',
-    }
-}
-
-/// Bytes as they are shown.
-fn push_shown(bytes: &[u8], text: &mut Vec<u8>) -> Result<(), AllocError>
-    ensures { OnOk result (text.new.items ≡ text.old.items ++ map shown_byte bytes.now) }
-{
-    for byte in bytes {
-        let Ok(()) = text.push(shown_byte(*byte)) else {
-            return Err(AllocError);
-        };
-    }
-    Ok(())
 }
 
 /// The rest of a line, 72 bytes of it at most.
@@ -218,7 +179,7 @@ fn push_end_of(
 }
 
 /// A place in a text.
-fn push_place(
+pub(crate) fn push_place(
     origin: Origin<'_>,
     bytes: &[u8],
     place: usize,
@@ -253,101 +214,23 @@ fn from_line(line: usize, bytes: &[u8]) -> &[u8]
     rest
 }
 
-/// A line, counted from 1, and below it what was wanted.
-fn push_at_line(
+/// The line of this number, counted from 1, and all behind it.
+pub(crate) fn line_at(bytes: &[u8], line: usize) -> &[u8]
+    ensures { result.now ≡ line_at bytes.now line }
+{
+    from_line(line.saturating_sub(1), bytes)
+}
+
+/// A line, counted from 1.
+pub(crate) fn push_at_line(
     origin: Origin<'_>,
     bytes: &[u8],
     line: usize,
-    sentence: &str,
     text: &mut Vec<u8>,
 ) -> Result<(), AllocError>
-    ensures { OnOk result (text.new.items
-        ≡ text.old.items ++ at_line (origin_data origin.entry) bytes.now line sentence.now) }
+    ensures { OnOk result (text.new.items ≡ text.old.items
+        ++ (number_line (origin_data origin.entry) line ++ shown_line (line_at bytes.now line))) }
 {
     push_number_line(origin, line, text)?;
-    push_line(from_line(line.saturating_sub(1), bytes), text)?;
-    push_reason(sentence, text)
-}
-
-/// A place in a text, and below it what was wanted.
-fn push_at_place(
-    origin: Origin<'_>,
-    bytes: &[u8],
-    place: usize,
-    sentence: &str,
-    text: &mut Vec<u8>,
-) -> Result<(), AllocError>
-    requires { length bytes.now < 2 ^ 32 }
-    ensures { OnOk result (text.new.items ≡ text.old.items
-        ++ (place_text (origin_data origin.entry) bytes.now place ++ reason_line sentence.now)) }
-{
-    push_place(origin, bytes, place, text)?;
-    push_reason(sentence, text)
-}
-
-/// Where a fault of a job stands.
-fn push_fault(
-    origin: Origin<'_>,
-    bytes: &[u8],
-    fault: JobFault,
-    text: &mut Vec<u8>,
-) -> Result<(), AllocError>
-    requires { length bytes.now < 2 ^ 32 }
-    ensures { OnOk result (text.new.items
-        ≡ text.old.items ++ fault_text (origin_data origin.entry) bytes.now fault) }
-{
-    let sentence = job_sentence(fault);
-    match fault {
-        JobFault::BadLine(line)
-        | JobFault::NoSuchCommand(line)
-        | JobFault::OpenBatch(line)
-        | JobFault::TooManyOperators(line)
-        | JobFault::DuplicateOperator(line)
-        | JobFault::TooManyCalls(line) => push_at_line(origin, bytes, line, sentence, text),
-        JobFault::Text(fault) => push_at_place(origin, bytes, fault.place, sentence, text),
-        JobFault::TooLong | JobFault::OutOfMemory => push_reason(sentence, text),
-    }
-}
-
-/// The line of a job at which a fault stands, counted from 1, or 0 where it has none.
-///
-/// The bytes are the whole job. The line counts in them, whichever file it came from.
-pub fn fault_line(bytes: &[u8], fault: JobFault) -> usize
-    requires { length bytes.now < 2 ^ 32 }
-    ensures { result ≡ fault_line bytes.now fault }
-{
-    match fault {
-        JobFault::BadLine(line)
-        | JobFault::NoSuchCommand(line)
-        | JobFault::OpenBatch(line)
-        | JobFault::TooManyOperators(line)
-        | JobFault::DuplicateOperator(line)
-        | JobFault::TooManyCalls(line) => line,
-        JobFault::Text(fault) => last_line(up_to(fault.place, bytes)),
-        JobFault::TooLong | JobFault::OutOfMemory => 0,
-    }
-}
-
-/// Where a fault of a job stands, and below it what was wanted: of a flaw of the map's text the
-/// line, the column, what the line has there and `^` below the place, of another fault the line
-/// alone. Of a fault without a place, as of bytes that are too many, it is what was wanted alone.
-///
-/// The bytes are the whole job, of which some lines stand before the file's own: the number that is
-/// told counts from 1 in that file, and a line that was put before its first is line 0. Columns
-/// count from 1. A line is shown from its beginning, or from 40 bytes before the place, and 72 bytes
-/// of it at most; a tab shows as a space, a byte that isn't from 32 to 126 as `?`. The name of the
-/// file stands before the line's number, unless it is empty. An `Err` says that memory ran out.
-pub fn fault_text(
-    alloc: Global,
-    origin: Origin<'_>,
-    bytes: &[u8],
-    fault: JobFault,
-) -> Result<Vec<u8>, AllocError>
-    requires { length bytes.now < 2 ^ 32 }
-    ensures { IfOk result (λ text. text.items
-        ≡ fault_text (origin_data origin.entry) bytes.now fault) }
-{
-    let mut text = Vec::new(alloc);
-    push_fault(origin, bytes, fault, &mut text)?;
-    Ok(text)
+    push_line(line_at(bytes, line), text)
 }

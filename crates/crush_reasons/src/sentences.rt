@@ -9,7 +9,7 @@ use crush_script::JobFault;
 use crush_text::TextFaultKind;
 
 /// What is told of a guarded batch that came too late.
-const STALE: &str =
+pub(crate) const STALE: &str =
     "the map has changed since: look at it again, and name the number of changes that is told";
 
 /// What is told of a fault of a map's text.
@@ -35,10 +35,10 @@ pub fn text_sentence(kind: TextFaultKind) -> &'static str
         TextFaultKind::SecondParent => {
             "a bucket above holds this item: an item stands in one bucket"
         }
-        TextFaultKind::OtherAlgorithm => "the algorithm is to be straw2, straw or list",
-        TextFaultKind::LeftOut => {
-            "weight sets, MSR steps and positions of items are not read: take them out first"
+        TextFaultKind::OtherAlgorithm => {
+            "the algorithm is to be straw2, straw or list: a bucket of another can't be edited here, and changing it moves data"
         }
+        TextFaultKind::LeftOut => "a map of this kind can't be edited here",
         TextFaultKind::UnknownBucketInRule => "a rule takes a bucket that is closed above",
         TextFaultKind::TooMany => "the map has as many of these already as it may have",
         TextFaultKind::SumTooLarge => {

@@ -1,9 +1,9 @@
-//! Bytes, pushed behind what a `Vec` holds.
+//! Bytes, pushed behind what a `Vec` holds, and words and parts of a text.
 
-ghost use Rattle.std.specs.Prelude.{◌≡◌, ◌++◌, OnOk, flat_map};
+ghost use Rattle.std.specs.Prelude.{◌≡◌, ◌≤◌, ◌++◌, ◌∷◌, [], MatchOption, OnOk, drop, flat_map, length, take};
 ghost use Rattle.crush_reasons.specs.Explained.{reason_line};
 
-use crush_bytes::put_all;
+use crush_bytes::{Reader, Token, put_all};
 use std::alloc::AllocError;
 
 /// All parts, one after the other.
@@ -14,6 +14,13 @@ pub(crate) fn push_all(parts: &[&[u8]], text: &mut Vec<u8>) -> Result<(), AllocE
     put_all(text, parts).map_err(|_| AllocError)
 }
 
+/// Bytes.
+pub(crate) fn push_bytes(bytes: &[u8], text: &mut Vec<u8>) -> Result<(), AllocError>
+    ensures { OnOk result (text.new.items ≡ text.old.items ++ bytes.now) }
+{
+    text.extend_from_slice(bytes)
+}
+
 /// A sentence on a line of its own.
 pub(crate) fn push_reason(sentence: &str, text: &mut Vec<u8>) -> Result<(), AllocError>
     ensures { OnOk result (text.new.items ≡ text.old.items ++ reason_line sentence.now) }
@@ -22,4 +29,45 @@ pub(crate) fn push_reason(sentence: &str, text: &mut Vec<u8>) -> Result<(), Allo
         &[b"  ".as_slice(), sentence.as_bytes(), b"\n".as_slice()],
         text,
     )
+}
+
+/// The bytes up to a place, all of them where it is beyond their end.
+pub(crate) fn up_to(place: usize, bytes: &[u8]) -> &[u8]
+    ensures value { result.now ≡ take place bytes.now }
+    ensures within { length result.now ≤ length bytes.now }
+{
+    if place < bytes.len() {
+        bytes.split_at(place).0
+    } else {
+        bytes
+    }
+}
+
+/// The bytes from a place on, none where it is beyond their end.
+pub(crate) fn from_place(place: usize, bytes: &[u8]) -> &[u8]
+    ensures { result.now ≡ drop place bytes.now }
+{
+    if place < bytes.len() {
+        bytes.split_at(place).1
+    } else {
+        b""
+    }
+}
+
+/// A word of a text, and the place of its first byte.
+#[derive(Clone, Copy)]
+pub(crate) struct PlacedWord<'a> {
+    pub(crate) place: usize,
+    pub(crate) text: &'a [u8],
+}
+
+/// The next word of a text with its place, if there is one.
+pub(crate) fn next_placed<'a>(reader: &mut Reader<'a>) -> Option<PlacedWord<'a>>
+    ensures next { MatchOption result (reader.old.words ≡ [])
+        (λ word. reader.old.words ≡ (record { place = word.place; text = word.text.now }) ∷ reader.new.words) }
+{
+    match reader.next() {
+        Token::Word { place, text } => Some(PlacedWord { place, text }),
+        _ => None,
+    }
 }

@@ -1,14 +1,16 @@
 //! Written weights of buckets that aren't their sums.
 
-ghost use Rattle.std.specs.Prelude.{◌≡◌, ◌<◌, ◌∷◌, ◌++◌, List, [], IfOk, IsTrue, MatchOption, OnOk, bytes_eq, if◌then◌else◌, length};
+ghost use Rattle.std.specs.Prelude.{◌≡◌, ◌<◌, ◌==◌, ◌∷◌, ◌++◌, List, [], IfOk, IsTrue, MatchOption, OnOk, bytes_eq, if◌then◌else◌, length};
+ghost use Rattle.std.specs.List.{list_any};
 ghost use Rattle.crush_units.specs.Weight.{weight_of_text};
 ghost use Rattle.crush_table.specs.Stands.{Stands};
 ghost use Rattle.crush_table.specs.Table.{Row, id_named};
-ghost use Rattle.crush_reasons.specs.Written.{IsNextWord, bucket_sum, first_line, is_inside, item_line, line_of_sum, line_of_weight, lines_left, sum_told, unequal_line, written_text};
+ghost use Rattle.crush_reasons.specs.Written.{IsNextWord, bucket_sum, first_line, is_inside, item_line, line_of_sum, line_of_weight, lines_left, sum_told, unequal_line, has_returns_alone, returns_text, weights_text, written_text};
 
 use crate::words::push_all;
 use crush_bytes::{Reader, Token};
 use crush_map::CrushMap;
+use crush_script::line_feeds;
 use crush_units::{ItemId, Weight};
 use std::alloc::{AllocError, Global};
 
@@ -163,7 +165,7 @@ impl<'a> Scan<'a> {
     /// A whole text, behind three empty words.
     #[tactic(auto, using(crate::proofs::Scanning::empty_first))]
     fn new(bytes: &'a [u8]) -> Scan<'a>
-        ensures { (t : List Row) → lines_left t result ≡ written_text t bytes.now }
+        ensures { (t : List Row) → lines_left t result ≡ weights_text t bytes.now }
     {
         Scan {
             inside: false,
@@ -220,9 +222,36 @@ impl<'a> Scan<'a> {
     }
 }
 
+/// Whether a carriage return stands in a text.
+fn has_return(bytes: &[u8]) -> bool
+    ensures { result ≡ list_any (λ b. b == 13) bytes.now }
+{
+    bytes.iter().any(|byte| *byte == b'\r')
+}
+
+/// Whether carriage returns stand in a text, and no line feed.
+fn has_returns_alone(bytes: &[u8]) -> bool
+    ensures { result ≡ has_returns_alone bytes.now }
+{
+    line_feeds(bytes) == 0 && has_return(bytes)
+}
+
+/// The line of such a text.
+fn push_returns(bytes: &[u8], text: &mut Vec<u8>) -> Result<(), AllocError>
+    ensures { OnOk result (text.new.items ≡ text.old.items ++ returns_text bytes.now) }
+{
+    if !has_returns_alone(bytes) {
+        return Ok(());
+    }
+    text.extend_from_slice(
+        b"the text has carriage returns and no line feed: a comment goes on to its end\n",
+    )
+}
+
 /// A line `NAME: W was written, the sum is W` for each `item NAME weight W` between braces of a
 /// map's text where NAME is a bucket of the map that weighs something else, in the order of the
-/// text. The weight that was written stands there as in the text, the sum with five decimals.
+/// text. The weight that was written stands there as in the text, the sum with five decimals. Before
+/// them comes the line of a text in which carriage returns stand and no line feed.
 ///
 /// The map is the one of that text, as it was read. An `Err` says that memory ran out.
 pub fn written_text(
@@ -234,6 +263,7 @@ pub fn written_text(
         → text.items ≡ written_text t bytes.now) }
 {
     let mut text = Vec::new(alloc);
+    push_returns(bytes, &mut text)?;
     let mut scan = Scan::new(bytes);
     scan.push_left(map, &mut text)?;
     Ok(text)

@@ -64,6 +64,38 @@ fn a_fault_is_told_with_its_place(rt: HostRuntime) {
     );
 }
 
+/// A map that ends in a bucket.
+const CUT: &[u8] = b"type 1 host\nhost h1 {\n\tid -2\n%operator a\n";
+
+/// A bucket with a word that no bucket has.
+const ALGO: &[u8] = b"type 1 host\nhost h1 {\n\tid -2\n\talgo straw2\n}\n";
+
+#[test]
+fn what_does_not_fit_is_told(rt: HostRuntime) {
+    let origin = Origin {
+        name: b"",
+        before: 0,
+    };
+    assert!(rt;
+        is_told(
+            &rt,
+            origin,
+            b"%operator a\nreweight osd.0 1,5\n",
+            b"  line 2\n    reweight osd.0 1,5\n  reweight NAME WEIGHT: `1,5` is no weight; write 1.5\n"
+        ) && is_told(
+            &rt,
+            origin,
+            CUT,
+            b"  line 3, column 5\n     id -2\n        ^\n  the host h1 that begins at line 2 isn't closed\n"
+        ) && is_told(
+            &rt,
+            origin,
+            ALGO,
+            b"  line 4, column 2\n     algo straw2\n     ^\n  another word is wanted here: id or alg; in the host h1 that begins at line 2\n"
+        )
+    );
+}
+
 /// A map and two scripts that were joined: of each the line of its operator was put before it.
 const JOINED: &[u8] = b"# nothing\n%operator alice\nrm x\n%operator bob\nrm y\nfly z\n";
 
@@ -163,7 +195,7 @@ fn commands_and_reasons_are_told(rt: HostRuntime) {
             &rt,
             &mut job,
             b"# 2 commands\nceph osd crush reweight osd.0 2.00000\nceph osd crush move h2 rack=r1 root=default\n",
-            b"# 3 a rm default = refused NotEmpty 39\n  the bucket holds items: move or remove them first\n"
+            b"# 3 a rm default = refused NotEmpty 39\n  default holds items: move or remove them first\n"
         )
     );
     drop(job);

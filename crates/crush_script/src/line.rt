@@ -122,9 +122,9 @@ fn word_at(text: &[u8]) -> usize
     text.len()
 }
 
-/// The words of a line that are left to read. Contracts see them as a list.
+/// The words of a line in a section that are left to read. Contracts see them as a list.
 #[derive(Drop)]
-pub(crate) struct LineWords<'a> {
+pub struct LineWords<'a> {
     text: &'a [u8],
 }
 
@@ -140,7 +140,7 @@ impl<'a> Model for LineWords<'a> {
 
 impl<'a> LineWords<'a> {
     /// All words of a line. `#` begins a comment, wherever it stands.
-    pub(crate) fn of_line(line: &'a [u8]) -> LineWords<'a>
+    pub fn of_line(line: &'a [u8]) -> LineWords<'a>
         ensures { result ≡ line_words line.now }
     {
         let line = without_return(line);
@@ -149,7 +149,7 @@ impl<'a> LineWords<'a> {
     }
 
     /// Takes the next word.
-    pub(crate) fn next(&mut self) -> Option<&'a [u8]>
+    pub fn next(&mut self) -> Option<&'a [u8]>
         ensures { MatchOption result (self.old ≡ [])
             (λ word. self.old ≡ word.now ∷ self.new) }
     {

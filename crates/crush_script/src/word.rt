@@ -1,8 +1,9 @@
 //! What one word of a command says: a pair, a device's name, or a number of changes.
 
 ghost use Rattle.std.specs.Prelude.{◌≡◌, ◌==◌, ◌||◌, not, length, slice_index};
-ghost use Rattle.crush_script.specs.Words.{count_of, device_named};
+ghost use Rattle.crush_script.specs.Words.{count_of, device_named, pair_of};
 
+use crate::line::place_of;
 use crush_bytes::number::number_up_to;
 use crush_units::DeviceId;
 use crush_units::limits::{LAST_DEVICE_ID, MOST_ENTRIES};
@@ -15,7 +16,7 @@ fn begins_plain(digits: &[u8]) -> bool
 }
 
 /// The id of the device `osd.N`, which is N, where the name is of that form.
-pub(crate) fn device_named(name: &[u8]) -> Option<DeviceId>
+pub fn device_named(name: &[u8]) -> Option<DeviceId>
     ensures { result ≡ device_named name.now }
 {
     if name.len() < 5 {
@@ -30,7 +31,7 @@ pub(crate) fn device_named(name: &[u8]) -> Option<DeviceId>
 }
 
 /// The number of changes that digits write, however many they are, where a history can have so many.
-pub(crate) fn count_of(digits: &[u8]) -> Option<u32>
+pub fn count_of(digits: &[u8]) -> Option<u32>
     ensures { result ≡ count_of digits.now }
 {
     if digits.is_empty() {
@@ -48,4 +49,16 @@ pub(crate) fn count_of(digits: &[u8]) -> Option<u32>
         }
     }
     Some(value as u32)
+}
+
+/// The two parts of a word `TYPE=NAME`, of which the second is empty where there is no `=`.
+pub fn cut_pair(word: &[u8]) -> (&[u8], &[u8])
+    ensures kind { result.0.now ≡ (pair_of word.now).kind }
+    ensures name { result.1.now ≡ (pair_of word.now).name }
+{
+    let (kind, rest) = word.split_at(place_of(b'=', word));
+    match rest {
+        [] => (kind, rest),
+        [_, name @ ..] => (kind, name),
+    }
 }

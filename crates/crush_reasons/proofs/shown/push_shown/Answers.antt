@@ -1,7 +1,7 @@
 use Rattle.std.proofs.Common.{◌++◌, ◌∷◌, [], List, ℕ, ◌∙◌, ap, append_assoc, get_or, map, sym, take}
 use Rattle.std.proofs.lemmas.List.{map_push, take_more}
-use Rattle.crush_reasons.specs.Place.{shown_byte}
-use Rattle.crush_reasons.proofs.place.push_shown.Goals as goal
+use Rattle.crush_reasons.specs.Shown.{shown_byte}
+use Rattle.crush_reasons.proofs.shown.push_shown.Goals as goal
 
 pub loop-byte-preserved : goal.loop-byte-preserved
 loop-byte-preserved c =

@@ -1,0 +1,163 @@
+//! Where a fault of a job stands, and what was wanted there.
+
+ghost use Rattle.std.specs.Prelude.{◌≡◌, ◌<◌, ◌^◌, ◌++◌, IfOk, OnOk, length};
+ghost use Rattle.crush_text.specs.declared.fault.TextFault.{TextFault};
+ghost use Rattle.crush_reasons.specs.Explained.{reason_line};
+ghost use Rattle.crush_reasons.specs.Fault.{bad_line_reason, fault_line, fault_text, first_line, flaw_text};
+ghost use Rattle.crush_reasons.specs.Place.{at_line, number_line, origin_data, shown_line};
+
+use crate::flaws::{flaw_place, push_flaw_reason};
+use crate::misfit::push_line_reason;
+use crate::place::{Origin, last_line, line_at, push_at_line, push_place, to_feed};
+use crate::sentences::job_sentence;
+use crate::words::{push_reason, up_to};
+use crush_script::{JobFault, LineWords};
+use crush_text::TextFault;
+use std::alloc::{AllocError, Global};
+
+/// The first line of these.
+fn first_line(bytes: &[u8]) -> &[u8]
+    ensures { result.now ≡ first_line bytes.now }
+{
+    bytes.split_at(to_feed(bytes)).0
+}
+
+/// What is told of a line that isn't of its form.
+fn push_bad_line_reason(
+    origin: Origin<'_>,
+    bytes: &[u8],
+    line: usize,
+    text: &mut Vec<u8>,
+) -> Result<(), AllocError>
+    ensures { OnOk result (text.new.items ≡ text.old.items
+        ++ bad_line_reason (origin_data origin.entry) bytes.now line) }
+{
+    if origin.own_line(line) == 0 {
+        return text.extend_from_slice(
+            b"the file's name is no operator's: begin it with a line %operator NAME",
+        );
+    }
+    push_line_reason(LineWords::of_line(first_line(line_at(bytes, line))), text)
+}
+
+/// A line that isn't of its form, and below it the form and the word that doesn't fit.
+fn push_bad_line(
+    origin: Origin<'_>,
+    bytes: &[u8],
+    line: usize,
+    text: &mut Vec<u8>,
+) -> Result<(), AllocError>
+    ensures { OnOk result (text.new.items ≡ text.old.items
+        ++ at_line (origin_data origin.entry) bytes.now line
+        (bad_line_reason (origin_data origin.entry) bytes.now line)) }
+{
+    push_at_line(origin, bytes, line, text)?;
+    text.extend_from_slice(b"  ")?;
+    push_bad_line_reason(origin, bytes, line, text)?;
+    text.extend_from_slice(b"\n")
+}
+
+/// A line, and below it a sentence.
+fn push_line_fault(
+    origin: Origin<'_>,
+    bytes: &[u8],
+    line: usize,
+    sentence: &str,
+    text: &mut Vec<u8>,
+) -> Result<(), AllocError>
+    ensures { OnOk result (text.new.items
+        ≡ text.old.items ++ at_line (origin_data origin.entry) bytes.now line sentence.now) }
+{
+    push_at_line(origin, bytes, line, text)?;
+    push_reason(sentence, text)
+}
+
+/// The place of a flaw of the map's text, and below it what was wanted.
+fn push_flaw(
+    origin: Origin<'_>,
+    bytes: &[u8],
+    fault: TextFault,
+    text: &mut Vec<u8>,
+) -> Result<(), AllocError>
+    requires { length bytes.now < 2 ^ 32 }
+    ensures { OnOk result (text.new.items
+        ≡ text.old.items ++ flaw_text (origin_data origin.entry) bytes.now fault) }
+{
+    push_place(origin, bytes, flaw_place(bytes, fault), text)?;
+    text.extend_from_slice(b"  ")?;
+    push_flaw_reason(origin, bytes, fault, text)?;
+    text.extend_from_slice(b"\n")
+}
+
+/// Where a fault of a job stands, and what was wanted there.
+fn push_fault(
+    origin: Origin<'_>,
+    bytes: &[u8],
+    fault: JobFault,
+    text: &mut Vec<u8>,
+) -> Result<(), AllocError>
+    requires { length bytes.now < 2 ^ 32 }
+    ensures { OnOk result (text.new.items
+        ≡ text.old.items ++ fault_text (origin_data origin.entry) bytes.now fault) }
+{
+    let sentence = job_sentence(fault);
+    match fault {
+        JobFault::BadLine(line) => push_bad_line(origin, bytes, line, text),
+        JobFault::NoSuchCommand(line)
+        | JobFault::OpenBatch(line)
+        | JobFault::TooManyOperators(line)
+        | JobFault::DuplicateOperator(line)
+        | JobFault::TooManyCalls(line) => push_line_fault(origin, bytes, line, sentence, text),
+        JobFault::Text(fault) => push_flaw(origin, bytes, fault, text),
+        JobFault::TooLong | JobFault::OutOfMemory => push_reason(sentence, text),
+    }
+}
+
+/// The line of a job at which a fault is told, counted from 1, or 0 where it has none: of a map that
+/// ends too early the last with a word.
+///
+/// The bytes are the whole job. The line counts in them, whichever file it came from.
+pub fn fault_line(bytes: &[u8], fault: JobFault) -> usize
+    requires { length bytes.now < 2 ^ 32 }
+    ensures { result ≡ fault_line bytes.now fault }
+{
+    match fault {
+        JobFault::BadLine(line)
+        | JobFault::NoSuchCommand(line)
+        | JobFault::OpenBatch(line)
+        | JobFault::TooManyOperators(line)
+        | JobFault::DuplicateOperator(line)
+        | JobFault::TooManyCalls(line) => line,
+        JobFault::Text(fault) => last_line(up_to(flaw_place(bytes, fault), bytes)),
+        JobFault::TooLong | JobFault::OutOfMemory => 0,
+    }
+}
+
+/// Where a fault of a job stands, and below it what was wanted: of a flaw of the map's text the
+/// line, the column, what the line has there and `^` below the place, of another fault the line
+/// alone. Of a fault without a place, as of bytes that are too many, it is what was wanted alone.
+///
+/// What was wanted is told by the bytes, too: of a command its form and the first word that doesn't
+/// fit, of a word or a number of the map's text which are wanted and what is open there, and of a
+/// text that ends too early, at its last word, what isn't closed.
+///
+/// The bytes are the whole job, of which some lines stand before the file's own: the number that is
+/// told counts from 1 in that file, and a line that was put before its first is line 0. Columns
+/// count from 1. A line is shown from its beginning, or from 40 bytes before the place, and 72 bytes
+/// of it at most; a tab and a carriage return show as a space, another byte that isn't from 32 to 126
+/// as `?`. The name of the file stands before the line's number, unless it is empty. An `Err` says
+/// that memory ran out.
+pub fn fault_text(
+    alloc: Global,
+    origin: Origin<'_>,
+    bytes: &[u8],
+    fault: JobFault,
+) -> Result<Vec<u8>, AllocError>
+    requires { length bytes.now < 2 ^ 32 }
+    ensures { IfOk result (λ text. text.items
+        ≡ fault_text (origin_data origin.entry) bytes.now fault) }
+{
+    let mut text = Vec::new(alloc);
+    push_fault(origin, bytes, fault, &mut text)?;
+    Ok(text)
+}

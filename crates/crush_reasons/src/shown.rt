@@ -1,0 +1,44 @@
+//! Bytes of a job or a map, as a person sees them.
+
+ghost use Rattle.std.specs.Prelude.{◌≡◌, ◌++◌, OnOk, map};
+ghost use Rattle.crush_reasons.specs.Shown.{shown_byte, told};
+
+use crate::words::push_all;
+use std::alloc::AllocError;
+
+/// How many bytes of a line or of a word are shown at most.
+pub(crate) const MOST_SHOWN: usize = 72;
+
+/// A byte as it is shown.
+fn shown_byte(byte: u8) -> u8
+    ensures { result ≡ shown_byte byte }
+{
+    match byte {
+        32..=126 => byte,
+        b'\t' | b'\r' => b' ',
+        _ => b'?',
+    }
+}
+
+/// Bytes as they are shown.
+pub(crate) fn push_shown(bytes: &[u8], text: &mut Vec<u8>) -> Result<(), AllocError>
+    ensures { OnOk result (text.new.items ≡ text.old.items ++ map shown_byte bytes.now) }
+{
+    for byte in bytes {
+        let Ok(()) = text.push(shown_byte(*byte)) else {
+            return Err(AllocError);
+        };
+    }
+    Ok(())
+}
+
+/// A word, 72 bytes of it at most, in backquotes.
+#[tactic(auto, unfolding(crate::specs::Shown::told))]
+pub(crate) fn push_told(word: &[u8], text: &mut Vec<u8>) -> Result<(), AllocError>
+    ensures { OnOk result (text.new.items ≡ text.old.items ++ told word.now) }
+{
+    let (front, _) = word.split_at(word.len().min(MOST_SHOWN));
+    text.extend_from_slice(b"`")?;
+    push_shown(front, text)?;
+    text.extend_from_slice(b"`")
+}
