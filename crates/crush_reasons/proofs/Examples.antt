@@ -15,7 +15,7 @@ use Rattle.crush_reasons.specs.Explained.{explained_text, reason_line}
 use Rattle.crush_reasons.specs.Fault.{fault_line, fault_text}
 use Rattle.crush_reasons.specs.Forms.{form_of}
 use Rattle.crush_reasons.specs.Place.{column_line, from_line, number_line}
-use Rattle.crush_reasons.specs.Flaws.{open_text}
+use Rattle.crush_reasons.specs.Flaws.{begins_at, open_text}
 use Rattle.crush_reasons.specs.Misfit.{misfit_text, with_point}
 use Rattle.crush_reasons.specs.Shown.{told}
 use Rattle.crush_reasons.specs.Wanted.{further, opened}
@@ -95,5 +95,5 @@ comma = refl
 
 cut : fault_text (record { name = codes "map.txt"; before = 0 }) (codes "host h1 {\n\tid -2\n%operator a\n") (job.Text (record { kind = Ended; place = 17 }))
     ≡ codes "  map.txt line 2, column 5\n     id -2\n        ^\n  the host h1 that begins at line 1 isn't closed\n"
-unfolding column_line digits further opened open_text words_in split up_to_long
+unfolding begins_at column_line digits further opened open_text words_in split up_to_long
 cut = refl

@@ -5,7 +5,7 @@ use Rattle.crush_edits.specs.declared.refusal.Refusal.{Refusal}
 use Rattle.crush_calls.specs.declared.call.Call.{Call}
 use Rattle.crush_calls.specs.declared.call.Call.TheVariants.{One, Batch, Guarded}
 use Rattle.crush_calls.specs.declared.call.Reply.{Reply}
-use Rattle.crush_calls.specs.declared.call.Reply.TheVariants.{Done, Dones, Refused, BatchRefused, Stale}
+use Rattle.crush_calls.specs.declared.call.Reply.TheVariants.{Refused, BatchRefused, Stale}
 use Rattle.crush_calls.specs.History.{EntryData}
 use Rattle.crush_calls.specs.HistoryText.{edit_text, entry_text}
 use Rattle.crush_calls.specs.Refused.{is_refused}
@@ -25,8 +25,14 @@ abbrev pub batched_reason : List Edit → ℕ → Refusal → List ℕ
 batched_reason es index r = first_reason (drop index es) r
 
 -- of a guarded batch that names more changes than there were what the number is, and of another how to go on
+unfoldable pub so_far : ℕ → List ℕ
+so_far count = codes " counts the changes of this run: so far there were " ++ decimal count
+
+abbrev pub too_high : ℕ → ℕ → List ℕ
+too_high seen count = decimal seen ++ so_far count
+
 abbrev pub stale_reason : ℕ → ℕ → List ℕ
-stale_reason seen count = if nat_lt count seen then decimal seen ++ codes " counts the changes of this run: so far there were " ++ decimal count else stale_sentence
+stale_reason seen count = if nat_lt count seen then too_high seen count else stale_sentence
 
 -- REASON of a refused call
 abbrev pub call_reason : Call → Reply → List ℕ

@@ -1,11 +1,11 @@
 //! The lines of the entries that were refused, with reasons.
 
-ghost use Rattle.std.specs.Prelude.{◌≡◌, ◌<◌, ◌^◌, ◌++◌, IfOk, OnOk, codes, decimal, drop, length};
+ghost use Rattle.std.specs.Prelude.{◌≡◌, ◌<◌, ◌^◌, ◌++◌, IfOk, OnOk, drop, length};
 ghost use Rattle.crush_calls.specs.Entries.{AreOf};
 ghost use Rattle.crush_calls.specs.HistoryText.{names_of, line_text};
 ghost use Rattle.crush_calls.specs.Script.{scripts_data};
 ghost use Rattle.crush_calls.specs.HistoryText.{edit_text};
-ghost use Rattle.crush_reasons.specs.Explained.{batched_reason, call_reason, explained_line, explained_text, first_reason, reason_line, stale_reason};
+ghost use Rattle.crush_reasons.specs.Explained.{batched_reason, call_reason, explained_line, explained_text, first_reason, reason_line, so_far, stale_reason, too_high};
 
 use crate::named::push_edit_reason;
 use crate::sentences::{STALE, refusal_sentence, reply_sentence};
@@ -73,21 +73,28 @@ fn push_batched(
     push_first(from_edit(index as usize, edits), refusal, text)
 }
 
-/// What a number of changes is that a guarded batch names, where there were fewer.
-fn push_too_high(seen: u32, count: u32, text: &mut Vec<u8>) -> Result<(), AllocError>
-    ensures { OnOk result (text.new.items ≡ text.old.items
-        ++ (decimal seen ++ codes " counts the changes of this run: so far there were " ++ decimal count)) }
+/// How many changes there were.
+#[tactic(auto, unfolding(crate::specs::Explained::so_far))]
+fn push_so_far(count: u32, text: &mut Vec<u8>) -> Result<(), AllocError>
+    ensures { OnOk result (text.new.items ≡ text.old.items ++ so_far count) }
 {
-    let mut seen_buffer = Buffer::new();
-    let mut count_buffer = Buffer::new();
+    let mut buffer = Buffer::new();
     push_all(
         &[
-            seen_buffer.format(seen).as_bytes(),
             b" counts the changes of this run: so far there were ".as_slice(),
-            count_buffer.format(count).as_bytes(),
+            buffer.format(count).as_bytes(),
         ],
         text,
     )
+}
+
+/// What a number of changes is that a guarded batch names, where there were fewer.
+fn push_too_high(seen: u32, count: u32, text: &mut Vec<u8>) -> Result<(), AllocError>
+    ensures { OnOk result (text.new.items ≡ text.old.items ++ too_high seen count) }
+{
+    let mut buffer = Buffer::new();
+    text.extend_from_slice(buffer.format(seen).as_bytes())?;
+    push_so_far(count, text)
 }
 
 /// What is told of a guarded batch that names another number of changes than there were.

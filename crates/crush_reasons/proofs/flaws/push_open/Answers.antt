@@ -1,4 +1,4 @@
-use Rattle.std.proofs.Common.{◌++◌, List, ℕ, ap, codes, drop, take, ◌∙◌}
+use Rattle.std.proofs.Common.{◌++◌, ap, codes, drop, take, ◌∙◌}
 use Rattle.std.proofs.lemmas.Result.{on_ok_weaker}
 use Rattle.crush_bytes.specs.Words.{words}
 use Rattle.crush_reasons.specs.Flaws.{begins_at, open_text, two_of}

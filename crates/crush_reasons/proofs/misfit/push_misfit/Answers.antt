@@ -1,4 +1,4 @@
-use Rattle.std.proofs.Common.{ap, sym, ◌∙◌}
+use Rattle.std.proofs.Common.{sym, ◌∙◌}
 use Rattle.std.proofs.lemmas.Result.{on_ok_weaker}
 use Rattle.crush_reasons.proofs.Misfits.{no_word_left, told_behind, wrong_word}
 use Rattle.crush_reasons.proofs.misfit.push_misfit.Goals as goal
