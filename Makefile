@@ -67,6 +67,7 @@ recipe: $(PROGRAM)
 
 trials: $(PROGRAM)
 	python3 bench/against_reference.py $(PROGRAM) 1000
+	python3 bench/plans.py $(PROGRAM) 1000
 	python3 bench/at_once.py $(PROGRAM) 200
 	python3 bench/refused_memory.py $(PROGRAM)
 	python3 bench/limits.py $(PROGRAM) --fits 1024

@@ -97,6 +97,10 @@ CASES = [
     ("--explain, and a SCRIPT is a directory", "$C --explain -s . job", 3, unread_text("read fault"), "none"),
     ("--explain, and the MAP of --since is a directory", "$C --explain --since . job", 3,
      unread_text("since: read fault"), "none"),
+    ("--explain, and the MAP of --to isn't there", "$C --explain --to missing job", 3,
+     unread_text("to: read fault", "missing", MISSING), "none"),
+    ("the MAP of --to never ends", "$C --to /dev/zero job", 1, "crushedit: to: TooLong", "none"),
+    ("the MAP of --to is a FIFO", "mkfifo f; sed '/^%/,$d' job > f & $C --to f job | head -n 1", 0, "", "13"),
     ("--explain, and standard input is closed", "$C --explain <&-", 3, unread_text("read fault"), "none"),
 ]
 # What can't be tried as root, who may look into each folder.

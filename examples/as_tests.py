@@ -33,7 +33,7 @@ SEPARATOR = "\x1e"
 # What stands between the parts of a job of crush_growths.
 PART_SEPARATOR = "\x1f"
 # What standard error is told first of a run that was not done, where the status is another than 1.
-STATUSES = {"crushedit: refused ": 5, "crushedit: read fault": 3}
+STATUSES = {"crushedit: refused ": 5, "crushedit: differs ": 5, "crushedit: read fault": 3, "crushedit: to: read fault": 3}
 # How many jobs of chance there are, and of which seed.
 CHANCE, SEED = 200, 1
 # The words before a job's name, for each run of a job that has more than one.
@@ -61,7 +61,7 @@ def mode(job):
 
 def map_of(out):
     """What is written but for the history."""
-    return lines_before(out, "# 1 (?!commands$)")
+    return lines_before(out, "# 1 (?!commands$|differences stay$)")
 
 
 def summary(out, err):

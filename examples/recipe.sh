@@ -2,9 +2,11 @@
 # Edits the cluster's CRUSH map by crushedit, up to the step that changes the cluster, which it leaves to you.
 #
 #     crushedit-recipe COMMANDS FOLDER
+#     crushedit-recipe --to WANTED FOLDER
 #
-# COMMANDS is a file of commands, one a line, as `reweight osd.2 1.0`; FOLDER is made, and must not be there
-# yet: it keeps the map as it was (map.bin), the map after (new.bin), and what lies between. Each step that
+# COMMANDS is a file of commands, one a line, as `reweight osd.2 1.0`; WANTED is the text of the map that is wanted, of
+# which the commands are made. FOLDER is made, and must not be there yet: it keeps the map as it was (map.bin), the map
+# after (new.bin), the commands that take the change back (back), and what lies between. Each step that
 # doesn't come out as it should stops the whole, with a line on standard error and a status above 0; the cluster
 # is as it was then, and FOLDER is gone. docs/OPERATING.md says why each of them is there.
 #
@@ -69,20 +71,29 @@ rule_of() {
         "$folder/map.txt"
 }
 
-usage="usage: crushedit-recipe COMMANDS FOLDER"
+usage="usage: crushedit-recipe COMMANDS FOLDER, or crushedit-recipe --to WANTED FOLDER"
 if [ "${1:-}" = --help ]; then
     echo "$usage"
     echo
-    echo "Makes the commands of a file, one a line as \`reweight osd.2 1.0\`, on the map of the cluster, shows what changes,"
-    echo "and prints the command that sets the new map and the one that goes back. It changes nothing itself. FOLDER is"
-    echo "made, and keeps both maps. CEPH=\"sudo ceph\", CRUSHTOOL and CRUSHEDIT name other programs; REPLICAS=\"3 6\" are the"
+    echo "Makes the commands of a file, one a line as \`reweight osd.2 1.0\`, on the map of the cluster, or with --to those that"
+    echo "lead to the map of the text WANTED, shows what changes, and prints the command that sets the new map, the one that goes"
+    echo "back, and the commands that take back this change alone. It changes nothing itself. FOLDER is made, and keeps both"
+    echo "maps, and the commands that take back as \`back\`. CEPH=\"sudo ceph\", CRUSHTOOL and CRUSHEDIT name other programs; REPLICAS=\"3 6\" are the"
     echo "sizes of pools that the rules are tried with, $REPLICAS if nothing is said."
     exit 0
+fi
+wanted=
+if [ "${1:-}" = --to ]; then
+    [ $# -eq 3 ] || stop "$usage"
+    shift
+    wanted=$1
+    case $wanted in -*) wanted=./$wanted ;; esac
 fi
 [ $# -eq 2 ] || stop "$usage"
 commands=$1 folder=$2
 case $folder in -*) folder=./$folder ;; esac
 [ -s "$commands" ] || stop "$commands is empty or isn't there"
+[ ! "$wanted" ] || check_map "$wanted" "a text that was cut is a smaller map"
 mkdir "$folder" || stop "$folder must be new, so that no map that was kept is written over"
 # What stops takes the folder with it, so that the next try may have it.
 trap 'rm -rf "$folder"' EXIT
@@ -109,6 +120,20 @@ if [ -s "$folder/adjusted" ]; then
 fi
 check_map "$folder/before.txt" "crushedit printed a part"
 [ "$(devices_of "$folder/before.txt")" -eq "$(devices_of "$folder/map.txt")" ] || stop "crushedit lost devices"
+
+# With --to the commands are those that lead to the wanted map, by which nothing that differs may stay.
+if [ "$wanted" ]; then
+    commands=$folder/commands
+    $CRUSHEDIT --strict --explain --to "$wanted" "$folder/map.txt" >"$commands" 2>"$folder/errors" || {
+        cat "$folder/errors" >&2
+        stop "no commands lead to $wanted"
+    }
+    if grep -q '^# 0 commands$' "$commands"; then
+        cat "$commands"
+        echo "Nothing is to be set: the map is the wanted one."
+        exit 0
+    fi
+fi
 
 # 3. The job: the map, and the commands behind a line that names an operator.
 awk 1 "$folder/map.txt" >"$folder/job.txt"
@@ -137,6 +162,10 @@ if grep ' = .* made [1-9]' "$folder/new.txt" >"$folder/made"; then
     echo "New buckets were made. Are all their names as you meant them?"
     cat "$folder/made"
 fi
+$CRUSHEDIT --explain --to "$folder/map.txt" "$folder/new.txt" >"$folder/back" 2>"$folder/errors" || {
+    cat "$folder/errors" >&2
+    stop "what takes the change back couldn't be told"
+}
 [ "$(devices_of "$folder/new.txt")" -gt 0 ] || echo "No device is left in the map. Is that what you meant?"
 
 # 6. Compiled. crushtool -c takes the sums as they are written, --reweight sums them anew in Ceph's own way.
@@ -179,4 +208,7 @@ echo "Nothing is changed yet. From this command on data moves; after \`$CEPH osd
 echo "    $CEPH osd setcrushmap -i $(quoted "$folder/new.bin") $version"
 echo "and this one goes back to the map that was:"
 echo "    $CEPH osd setcrushmap -i $(quoted "$folder/map.bin")"
+echo "Where others have changed the map since, these commands take back this change alone:"
+sed 's/^/    /' "$folder/back"
+echo "    crushedit-recipe $(quoted "$folder/back") ANOTHER_FOLDER"
 trap - EXIT

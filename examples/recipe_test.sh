@@ -57,15 +57,21 @@ chmod +x "$work/sudo"
 
 # try NAME STATUS WORDS COMMANDS: the recipe's status, and words that what it tells has to have.
 try() {
-    rm -rf "$work/folder"
     printf '%b' "$4" >"$work/commands"
+    run "$1" "$2" "$3" "$work/commands"
+}
+# run NAME STATUS WORDS WORD ..: the same of the recipe with these words before its folder.
+run() {
+    name=$1 due=$2 words=$3
+    shift 3
+    rm -rf "$work/folder"
     CEPH=${ceph:-$work/ceph} CRUSHTOOL=$work/crushtool CRUSHEDIT=${tried:-$program} REPLICAS=${replicas:-} \
-        "$recipe" "$work/commands" "$work/folder" >"$work/told" 2>&1
+        "$recipe" "$@" "$work/folder" >"$work/told" 2>&1
     status=$?
-    if [ $status -eq "$2" ] && grep -q -e "$3" "$work/told" && [ ! -e "$work/asked" ]; then
-        echo "passed: $1"
+    if [ $status -eq "$due" ] && grep -q -e "$words" "$work/told" && [ ! -e "$work/asked" ]; then
+        echo "passed: $name"
     else
-        echo "FAILED: $1: status $status"
+        echo "FAILED: $name: status $status"
         cat "$work/told"
         failed=1
     fi
@@ -114,7 +120,7 @@ try "a refused job tells why" 1 "^  the item is a bucket: " "reweight h1 1.0\n"
 try "a faulty line tells what is wanted" 1 "^  the first word of a line is to be a command" "fly h1\n"
 never "the line is told by the job's number" "line [0-9][0-9]"
 try "data may be held back" 0 "osd set norebalance" "reweight osd.2 1.0\n"
-if "$recipe" --help >"$work/told" 2>&1 && grep -q "^usage: crushedit-recipe COMMANDS FOLDER$" "$work/told"; then
+if "$recipe" --help >"$work/told" 2>&1 && grep -q "^usage: crushedit-recipe COMMANDS FOLDER, or crushedit-recipe --to WANTED FOLDER$" "$work/told"; then
     echo "passed: --help"
 else
     echo "FAILED: --help"
@@ -139,6 +145,32 @@ printf '# begin crush map\n# end crush map\n' >"$work/cluster"
 try "a map without a device" 1 "has no device" "reweight osd.2 1.0\n"
 rm "$work/cluster"
 try "a map that isn't there" 1 "getcrushmap failed" "reweight osd.2 1.0\n"
+cat "$map" >"$work/cluster"
+# A wanted map: its commands are made, nothing that differs stays, and the day after there is nothing to do.
+sed 's/osd.2 weight 0.50000/osd.2 weight 1.00000/' "$map" >"$work/wanted"
+run "a wanted map" 0 "setcrushmap -i $work/folder/new.bin 42" --to "$work/wanted"
+[ "$(cat "$work/folder/commands")" = "$(printf '# 1 commands\nreweight osd.2 1.00000')" ] ||
+    { echo "FAILED: the commands to a wanted map are others"; failed=1; }
+grep -v '^# [0-9]' "$work/folder/new.txt" >"$work/cluster"
+run "the day after" 0 "^# 0 commands$" --to "$work/wanted"
+never "a command is shown where the map is the wanted one" setcrushmap
+[ ! -e "$work/folder" ] || { echo "FAILED: a folder of nothing stays behind a wanted map"; failed=1; }
+sed 's/tries 50/tries 51/' "$work/wanted" >"$work/tuned"
+run "a wanted map that no command leads to" 1 "^tunables differ$" --to "$work/tuned"
+head -n 30 "$map" >"$work/cut"
+run "a wanted map that was cut" 1 "isn't a whole map" --to "$work/cut"
+run "no wanted map" 1 "is empty or isn't there" --to "$work/missing"
+cat "$map" >"$work/cluster"
+# What takes a change back leaves what others have changed since.
+try "what takes the change back" 0 "^    crushedit-recipe $work/folder/back " "move osd.0 host=h2\nadd-bucket r1 rack\n"
+{ grep -v '^# [0-9]' "$work/folder/new.txt"; printf '%%operator bob\nreweight osd.1 2.0\n'; } >"$work/job"
+"$program" --no-history "$work/job" >"$work/cluster"
+cp "$work/folder/back" "$work/back"
+run "a change is taken back, and another's stays" 0 "^osd.0 (0): from h2 (-3) to h1 (-2)$" "$work/back"
+{ cat "$map"; printf '%%operator bob\nreweight osd.1 2.0\n'; } >"$work/job"
+"$program" --no-history --since "$work/folder/after.txt" "$work/job" >"$work/told"
+grep -q "^0 made, 0 removed, 0 renamed, 0 moved, 0 of other weight, 0 of other class$" "$work/told" ||
+    { echo "FAILED: another's change is taken back too"; cat "$work/told"; failed=1; }
 cat "$map" >"$work/cluster"
 # Ceph may tell more than the version: the guard stays, or there is no command to copy.
 printf '42\n2026-11-26 WARNING: a monitor is slow\n' >"$work/version"

@@ -18,7 +18,8 @@ part_noted options name run.Write notes named told = told
 part_noted options name run.Memory notes named told = told
 part_noted options name run.Thread notes named told = told
 part_noted options name (run.Refused n) notes named told = told
-part_noted options name (run.Since s) notes named told = told
+part_noted options name (run.Differs n) notes named told = told
+part_noted options name (run.Other w s) notes named told = told
 
 -- where nothing is noted, that is
 pub quiet_part : (options : Options) (f : RunFault) (notes : List ℕ) → notes ≡ [] → IsPartNoted options f notes
@@ -28,7 +29,8 @@ quiet_part options run.Write notes none = none
 quiet_part options run.Memory notes none = none
 quiet_part options run.Thread notes none = none
 quiet_part options (run.Refused n) notes none = none
-quiet_part options (run.Since s) notes none = none
+quiet_part options (run.Differs n) notes none = none
+quiet_part options (run.Other w s) notes none = none
 
 pub quiet_file : (explain : Bool) (name : List ℕ) (f : RunFault) (notes : List ℕ) → notes ≡ [] → IsFileNoted explain name f notes
 quiet_file explain name (run.Job j) notes none = none
@@ -37,4 +39,5 @@ quiet_file explain name run.Write notes none = none
 quiet_file explain name run.Memory notes none = none
 quiet_file explain name run.Thread notes none = none
 quiet_file explain name (run.Refused n) notes none = none
-quiet_file explain name (run.Since s) notes none = none
+quiet_file explain name (run.Differs n) notes none = none
+quiet_file explain name (run.Other w s) notes none = none

@@ -76,7 +76,8 @@ no_job_of_all run.Write all bytes input h = absurd h
 no_job_of_all run.Memory all bytes input h = tt
 no_job_of_all run.Thread all bytes input h = absurd h
 no_job_of_all (run.Refused n) all bytes input h = absurd h
-no_job_of_all (run.Since s) all bytes input h = absurd h
+no_job_of_all (run.Differs n) all bytes input h = absurd h
+no_job_of_all (run.Other w s) all bytes input h = absurd h
 
 pub read_fault_of_input : (f : RunFault) (all : Option (List ℕ)) → IsInputFault f → IsReadFault all f
 read_fault_of_input (run.Job f) all h = absurd h
@@ -85,4 +86,5 @@ read_fault_of_input run.Write all h = absurd h
 read_fault_of_input run.Memory all h = tt
 read_fault_of_input run.Thread all h = absurd h
 read_fault_of_input (run.Refused n) all h = absurd h
-read_fault_of_input (run.Since s) all h = absurd h
+read_fault_of_input (run.Differs n) all h = absurd h
+read_fault_of_input (run.Other w s) all h = absurd h

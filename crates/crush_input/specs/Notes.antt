@@ -14,8 +14,8 @@ use Rattle.crush_script.specs.declared.fault.JobFault.TheVariants as job
 use Rattle.crush_options.specs.declared.asked.Mode.{Mode}
 use Rattle.crush_input.specs.declared.fault.RunFault.{RunFault}
 use Rattle.crush_input.specs.declared.fault.RunFault.TheVariants as run
-use Rattle.crush_input.specs.declared.fault.SinceFault.{SinceFault}
-use Rattle.crush_input.specs.declared.fault.SinceFault.TheVariants as since
+use Rattle.crush_input.specs.declared.fault.OtherFault.{OtherFault}
+use Rattle.crush_input.specs.declared.fault.OtherFault.TheVariants as unread
 use Rattle.crush_input.specs.Origins.{whole_of}
 
 -- OF CALLS THAT WERE REFUSED: with reasons where those are asked for, without in another strict run, and else nothing
@@ -48,33 +48,29 @@ abbrev pub IsFileNoted : Bool → List ℕ → RunFault → List ℕ → Type 0
 IsFileNoted explain name run.Read notes = (explain ≡ false → notes ≡ []) × ((notes ≡ []) ⊎ IsUnopened name notes)
 IsFileNoted explain name fault notes = notes ≡ []
 
--- of a flaw of the map since which changes are asked for its place, with the name of its file
+-- of a flaw of another map its place, with the name of its file
 abbrev pub flaw_notes : Bool → List ℕ → List ℕ → TextFault → List ℕ
 flaw_notes explain name bytes fault = if explain then fault_text (whole_of name) bytes (job.Text fault) else []
 
 -- of a fault of it that, where its bytes are known; where it isn't read what is noted of its file; and of its length nothing
-abbrev pub IsSinceNoted : Bool → List ℕ → Option (List ℕ) → SinceFault → List ℕ → Type 0
-IsSinceNoted explain name all (since.Text fault) notes = (explain ≡ false → notes ≡ []) × IfSome all (λ bytes. notes ≡ flaw_notes explain name bytes fault)
-IsSinceNoted explain name all since.TooLong notes = notes ≡ []
-IsSinceNoted explain name all since.Read notes = IsFileNoted explain name run.Read notes
+abbrev pub IsOtherNoted : Bool → List ℕ → Option (List ℕ) → OtherFault → List ℕ → Type 0
+IsOtherNoted explain name all (unread.Text fault) notes = (explain ≡ false → notes ≡ []) × IfSome all (λ bytes. notes ≡ flaw_notes explain name bytes fault)
+IsOtherNoted explain name all unread.TooLong notes = notes ≡ []
+IsOtherNoted explain name all unread.Read notes = IsFileNoted explain name run.Read notes
 
 -- NOTES OF ANOTHER MAP of a file of this name: those of its fault, and of any other nothing
 abbrev pub IsMapNoted : Bool → List ℕ → Option (List ℕ) → RunFault → List ℕ → Type 0
-IsMapNoted explain name all (run.Since fault) notes = IsSinceNoted explain name all fault notes
+IsMapNoted explain name all (run.Other which fault) notes = IsOtherNoted explain name all fault notes
 IsMapNoted explain name all fault notes = notes ≡ []
 
--- runs that end so have a history whose refused calls are told
-abbrev pub has_history : RunFault → Bool
-has_history run.Write = true
-has_history (run.Refused n) = true
-has_history fault = false
-
--- NOTES OF A HISTORY: those of its calls that were refused, and of the weights that were written
-abbrev pub HistoryNoted : {X : Type 0} → Mode → List ℕ → List (List ℕ) → List EntryData → Result X RunFault → List ℕ → Type 0
-HistoryNoted mode weights names h (Ok x) notes = notes ≡ history_notes mode weights names h
-HistoryNoted mode weights names h (Err run.Write) notes = notes ≡ history_notes mode weights names h
-HistoryNoted mode weights names h (Err (run.Refused n)) notes = notes ≡ history_notes mode weights names h
-HistoryNoted mode weights names h (Err fault) notes = Unit {0}
+-- NOTES OF A HISTORY: those of its calls that were refused, and of the weights that were written; behind them the lines of what
+-- stays behind a plan, where that ends the run
+abbrev pub HistoryNoted : {X : Type 0} → Mode → List ℕ → List (List ℕ) → List EntryData → List ℕ → Result X RunFault → List ℕ → Type 0
+HistoryNoted mode weights names h rest (Ok x) notes = notes ≡ history_notes mode weights names h
+HistoryNoted mode weights names h rest (Err run.Write) notes = notes ≡ history_notes mode weights names h
+HistoryNoted mode weights names h rest (Err (run.Refused n)) notes = notes ≡ history_notes mode weights names h
+HistoryNoted mode weights names h rest (Err (run.Differs n)) notes = notes ≡ history_notes mode weights names h ++ rest
+HistoryNoted mode weights names h rest (Err fault) notes = Unit {0}
 
 -- NOTES WITHOUT A HISTORY: of a fault of bytes, where they are known, its place; of any other fault nothing, and nothing but
 -- refused calls where no reasons are asked for
@@ -82,15 +78,18 @@ abbrev pub IsFaultNoted : Bool → (ℕ → OriginData) → Option (List ℕ) �
 IsFaultNoted explain origin all (run.Job fault) notes = (explain ≡ false → notes ≡ []) × IfSome all (λ bytes. notes ≡ place_notes explain origin bytes fault)
 IsFaultNoted explain origin all run.Write notes = explain ≡ false → notes ≡ []
 IsFaultNoted explain origin all (run.Refused n) notes = Unit {0}
+IsFaultNoted explain origin all (run.Differs n) notes = Unit {0}
 IsFaultNoted explain origin all fault notes = notes ≡ []
 
 abbrev pub IsNoted : {X : Type 0} → Bool → (ℕ → OriginData) → Option (List ℕ) → Result X RunFault → List ℕ → Type 0
 IsNoted explain origin all (Ok x) notes = explain ≡ false → notes ≡ []
 IsNoted explain origin all (Err fault) notes = IsFaultNoted explain origin all fault notes
 
--- STRICT: a strict run that comes to its output has no refused entry, and one that ends by refusals tells how many there are
+-- STRICT: a strict run that comes to its output, or to what stays behind a plan, has no refused entry, and one that ends by refusals
+-- tells how many there are
 abbrev pub IsStrict : {X : Type 0} → Bool → List EntryData → Result X RunFault → Type 0
 IsStrict strict h (Ok x) = strict ≡ true → refusals h ≡ 0
 IsStrict strict h (Err run.Write) = strict ≡ true → refusals h ≡ 0
 IsStrict strict h (Err (run.Refused n)) = (strict ≡ true) × (n ≡ refusals h) × (0 < n)
+IsStrict strict h (Err (run.Differs n)) = (strict ≡ true) × (refusals h ≡ 0)
 IsStrict strict h (Err fault) = Unit {0}

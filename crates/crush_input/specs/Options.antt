@@ -8,13 +8,17 @@ use Rattle.crush_text.specs.Flaw.{IsMapFlaw}
 use Rattle.crush_options.specs.declared.asked.Options.{Options}
 use Rattle.crush_options.specs.declared.asked.Printed.{Printed}
 use Rattle.crush_options.specs.declared.asked.Printed.TheVariants as printed
+use Rattle.crush_options.specs.declared.asked.Wanted.{Wanted}
 use Rattle.crush_units.specs.declared.limits.TheConstants.{LONGEST_JOB}
 use Rattle.crush_input.specs.declared.asked.Asked.{Asked}
 use Rattle.crush_input.specs.declared.asked.Asked.TheVariants as asked
+use Rattle.crush_input.specs.declared.asked.WantedMap.{WantedMap}
 use Rattle.crush_input.specs.declared.fault.RunFault.{RunFault}
 use Rattle.crush_input.specs.declared.fault.RunFault.TheVariants as run
-use Rattle.crush_input.specs.declared.fault.SinceFault.{SinceFault}
-use Rattle.crush_input.specs.declared.fault.SinceFault.TheVariants as since
+use Rattle.crush_input.specs.declared.fault.OtherFault.{OtherFault}
+use Rattle.crush_input.specs.declared.fault.OtherFault.TheVariants as unread
+use Rattle.crush_input.specs.declared.fault.OtherMap.{OtherMap}
+use Rattle.crush_input.specs.declared.fault.OtherMap.TheVariants as beside
 use Rattle.crush_input.specs.declared.summary.Summary.{Summary}
 use Rattle.crush_input.specs.Input.{job_bytes}
 use Rattle.crush_input.specs.Notes.{IsMapNoted, IsNoted, IsUnopened}
@@ -28,34 +32,44 @@ pub record IsTextOf (m : MapData) (bytes : List ℕ) : Type 0 where
   pub text : IsMapText bytes m.setting table adjusted
   pub stands : Stands m.forest table
 
--- what is printed where the words ask for it; of a map since which changes are asked for, what its file has is its text
+-- the map is the wanted one of which the words name the file, and it is as they say that its commands are found and printed
+pub record IsWantedOf (content : List ℕ → Option (List ℕ)) (words : Wanted) (wanted : WantedMap) : Type 0 where
+  pub map : IfSome (content words.map.bytes.items) (IsTextOf wanted.map)
+  pub as_ceph : wanted.as_ceph ≡ words.as_ceph
+  pub by_name : wanted.by_name ≡ words.by_name
+
+-- what is printed where the words ask for it; of another map, what its file has is its text
 abbrev pub IsAskedOf : (List ℕ → Option (List ℕ)) → Printed → Asked → Type 0
 IsAskedOf content printed.Map what = what ≡ asked.Map
 IsAskedOf content printed.Tree what = what ≡ asked.Tree
 IsAskedOf content printed.AsCeph what = what ≡ asked.AsCeph
 IsAskedOf content (printed.Since name) (asked.Since m) = IfSome (content name.bytes.items) (IsTextOf m)
 IsAskedOf content (printed.Since name) what = ⊥
+IsAskedOf content (printed.To words) (asked.To wanted) = IsWantedOf content words wanted
+IsAskedOf content (printed.To words) what = ⊥
 
--- why the bytes of a map since which changes are asked for give none: they have this flaw, or are more than a job may have
-abbrev pub IsSinceFault : List ℕ → SinceFault → Type 0
-IsSinceFault bytes (since.Text fault) = (length bytes ≤ LONGEST_JOB) × IsMapFlaw bytes fault
-IsSinceFault bytes since.TooLong = LONGEST_JOB < length bytes
-IsSinceFault bytes since.Read = Unit {0}
+-- why the bytes of another map give none: they have this flaw, or are more than a job may have
+abbrev pub IsOtherFault : List ℕ → OtherFault → Type 0
+IsOtherFault bytes (unread.Text fault) = (length bytes ≤ LONGEST_JOB) × IsMapFlaw bytes fault
+IsOtherFault bytes unread.TooLong = LONGEST_JOB < length bytes
+IsOtherFault bytes unread.Read = Unit {0}
 
--- what may fail while such a map is read
-abbrev pub IsMapFault : Option (List ℕ) → RunFault → Type 0
-IsMapFault all (run.Since fault) = IfSome all (λ bytes. IsSinceFault bytes fault)
-IsMapFault all run.Memory = Unit {0}
-IsMapFault all fault = ⊥
+-- what may fail while such a map is read for this
+abbrev pub IsMapFault : OtherMap → Option (List ℕ) → RunFault → Type 0
+IsMapFault why all (run.Other which fault) = (which ≡ why) × IfSome all (λ bytes. IsOtherFault bytes fault)
+IsMapFault why all run.Memory = Unit {0}
+IsMapFault why all fault = ⊥
 
 -- and while what the words ask for is made: that alone, and only where they ask for one
 abbrev pub IsAskedFault : (List ℕ → Option (List ℕ)) → Printed → RunFault → Type 0
-IsAskedFault content (printed.Since name) fault = IsMapFault (content name.bytes.items) fault
+IsAskedFault content (printed.Since name) fault = IsMapFault beside.Since (content name.bytes.items) fault
+IsAskedFault content (printed.To words) fault = IsMapFault beside.To (content words.map.bytes.items) fault
 IsAskedFault content what fault = ⊥
 
 -- what is noted of a fault of what the words ask for
 abbrev pub IsAskedNoted : (List ℕ → Option (List ℕ)) → Bool → Printed → RunFault → List ℕ → Type 0
 IsAskedNoted content explain (printed.Since name) fault notes = IsMapNoted explain name.bytes.items (content name.bytes.items) fault notes
+IsAskedNoted content explain (printed.To words) fault notes = IsMapNoted explain words.map.bytes.items (content words.map.bytes.items) fault notes
 IsAskedNoted content explain what fault notes = ⊥
 
 -- one of these names of scripts is this
@@ -89,6 +103,6 @@ IsPartNoted options fault notes = notes ≡ []
 -- NOTED AS ASKED: a fault of another map by its place there, one of a read by its file, and else as of any run, with the places of
 -- a fault in the file that it comes from
 abbrev pub IsNotedAsAsked : (List ℕ → Option (List ℕ)) → Options → Option (List ℕ) → Result Summary RunFault → List ℕ → Type 0
-IsNotedAsAsked content options input (Err (run.Since fault)) notes = IsAskedNoted content options.mode.explain options.printed (run.Since fault) notes
+IsNotedAsAsked content options input (Err (run.Other which fault)) notes = IsAskedNoted content options.mode.explain options.printed (run.Other which fault) notes
 IsNotedAsAsked content options input (Err run.Read) notes = IsReadNoted options notes
 IsNotedAsAsked content options input result notes = IsNoted options.mode.explain (job_origin content options input) (job_bytes content options input) result notes

@@ -6,9 +6,18 @@ use crush_text::TextFault;
 use std::alloc::{AllocError, AllocFailed};
 use thiserror::Error;
 
-/// Why the map since which changes are asked for was not read.
+/// What a map is read for beside the job's.
+#[derive(Clone, Copy, Debug, PartialEq, Eq)]
+pub enum OtherMap {
+    /// What has changed since it is told.
+    Since,
+    /// Commands lead to it.
+    To,
+}
+
+/// Why a map beside the job's was not read.
 #[derive(Clone, Copy, Debug, PartialEq, Eq, Error)]
-pub enum SinceFault {
+pub enum OtherFault {
     /// Its text has this flaw, whose place is that of a byte of its file. Out of memory is never
     /// told here, but as [`RunFault::Memory`].
     #[error("{0}")]
@@ -43,22 +52,13 @@ pub enum RunFault {
     /// In a strict run so many calls were refused. Nothing was written.
     #[error("refused {0}")]
     Refused(u32),
-    /// A job was read, and then the map since which changes are asked for was not. Nothing was
-    /// written.
-    #[error("since: {0}")]
-    Since(SinceFault),
-}
-
-impl RunFault {
-    ghost use Rattle.crush_input.specs.Notes.{has_history};
-    ghost use Rattle.std.specs.Prelude.{◌≡◌};
-
-    /// Whether a run that ends so has a history, whose refused calls are told.
-    pub fn has_history(self) -> bool
-        ensures { result ≡ has_history self }
-    {
-        matches!(self, RunFault::Write | RunFault::Refused(_))
-    }
+    /// A job was read, and then the map that is read for this was not. Nothing was written.
+    #[error("another map: {1}")]
+    Other(OtherMap, OtherFault),
+    /// In a strict run so many differences stay between the map behind all commands of a plan and the
+    /// wanted one. Nothing was written.
+    #[error("differs {0}")]
+    Differs(usize),
 }
 
 impl<T: Drop> From<AllocFailed<T>> for RunFault {

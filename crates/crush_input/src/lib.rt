@@ -1,5 +1,5 @@
-//! What a run is given, and what is told of it: the job read of its files or of a reader, the map since
-//! which changes are asked for, and the notes below the one line. Nothing here needs an editor or a
+//! What a run is given, and what is told of it: the job read of its files or of a reader, another map
+//! that is asked for, and the notes below the one line. Nothing here needs an editor or a
 //! thread.
 //!
 //! [`read_whole`] reads the job that a command line names, [`asked_of`] what is printed of it; a
@@ -15,12 +15,12 @@ mod job;
 mod joined;
 mod notes;
 mod origins;
-mod since;
+mod other;
 mod stopped;
 mod summary;
 
-pub use asked::{Asked, Plan, asked_of};
-pub use fault::{RunFault, SinceFault};
+pub use asked::{Asked, Request, WantedMap, asked_of};
+pub use fault::{OtherFault, OtherMap, RunFault};
 pub use files::{Opens, SystemFiles};
 pub use input::read_bytes;
 pub use job::{job_of, read_whole};

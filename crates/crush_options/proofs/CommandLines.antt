@@ -65,3 +65,11 @@ scripts_in_order = (refl, refl)
 two_printed : (fault_of program (codes "--tree" ∷ codes "--since" ∷ codes "m" ∷ []) ≡ []) × (one_of (codes "tree") (matches_of program (codes "--tree" ∷ codes "--since" ∷ codes "m" ∷ [])) ≡ Some (codes "true"))
 unfolding clap_on_literals
 two_printed = (refl, refl)
+
+to : (fault_of program (codes "--to" ∷ codes "w.txt" ∷ codes "--as-ceph" ∷ codes "--by-name" ∷ codes "j.txt" ∷ []) ≡ []) × (first_of (codes "to") (matches_of program (codes "--to" ∷ codes "w.txt" ∷ codes "--as-ceph" ∷ codes "--by-name" ∷ codes "j.txt" ∷ [])) ≡ Some (codes "w.txt")) × (one_of (codes "by-name") (matches_of program (codes "--to" ∷ codes "w.txt" ∷ codes "--as-ceph" ∷ codes "--by-name" ∷ codes "j.txt" ∷ [])) ≡ Some (codes "true"))
+unfolding clap_on_literals
+to = (refl, refl, refl)
+
+to_without_a_map : fault_of program (codes "--to" ∷ []) ≡ InvalidValue ∷ []
+unfolding clap_on_literals
+to_without_a_map = refl

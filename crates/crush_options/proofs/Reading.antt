@@ -1,11 +1,11 @@
 -- What is read of the words that were matched, and what a refusal of them says.
-use Rattle.std.proofs.Common.{◌≡◌, ◌<◌, [], List, Bool, true, false, Option, Some, None, ap, codes, inr, lit<, sym, subst, ◌∙◌}
+use Rattle.std.proofs.Common.{◌≡◌, [], List, Option, Some, None, ap, inr, sym, subst, ◌∙◌}
 use Rattle.std.specs.Borrow.{Bor}
 use Rattle.std.specs.Prelude.{option_map}
-use Rattle.clap.specs.Words.{Row, Text, fault_of, first_of, matches_of, one_of}
+use Rattle.clap.specs.Words.{Row, Text, fault_of, matches_of}
 use Rattle.crush_options.specs.declared.asked.OptionsFault.{OptionsFault}
 use Rattle.crush_options.specs.declared.asked.OptionsFault.TheVariants.{Help, Refused, Memory}
-use Rattle.crush_options.specs.Options.{AreSaid, AsksTooMuch, IsFaultIn, IsFlag, IsRefusedFor, IsTooMuch, count_said, program}
+use Rattle.crush_options.specs.Options.{AsksTooMuch, IsFaultIn, IsRefusedFor, IsTooMuch, program}
 
 -- a value that isn't there
 pub none_read : (r : Option (Bor Text)) (x y : Option Text) → r ≡ None → option_map (λ s. s.now) r ≡ x → x ≡ y → y ≡ None
@@ -26,20 +26,3 @@ pub refused_much : (rows : List Row) (why : Text) (fault : OptionsFault) → IsT
 refused_much rows why (Help text) much told = told
 refused_much rows why (Refused text) much told = much
 refused_much rows why Memory much told = tt
-
--- what words there are, once each flag is known
-pub said : (rows : List Row) (t c u d : Bool) (s : Option Text) → IsFlag (one_of (codes "tree") rows) t → first_of (codes "since") rows ≡ s → IsFlag (one_of (codes "as-ceph") rows) c → t ≡ u → c ≡ d → AreSaid rows u s d
-said rows t c u d s tree since ceph e f = record {
-  tree = subst (IsFlag (one_of (codes "tree") rows)) e tree;
-  since = since;
-  as_ceph = subst (IsFlag (one_of (codes "as-ceph") rows)) f ceph;
-}
-
--- the tree and the changes since a map are two, and so are those and the commands
-pub tree_and_since : (s : Text) (d : Bool) → 1 < count_said true (Some s) d
-tree_and_since s true = lit< tt
-tree_and_since s false = lit< tt
-
-pub since_and_ceph : (s : Text) (u : Bool) → 1 < count_said u (Some s) true
-since_and_ceph s true = lit< tt
-since_and_ceph s false = lit< tt

@@ -1,5 +1,5 @@
 -- What the words of a command line ask for.
-use Rattle.std.specs.Prelude.{◌≡◌, ◌≢◌, ◌⊎◌, ◌+◌, ◌<◌, ◌≤◌, ℕ, Bool, true, false, not, List, [], length, map, Option, Some, None, codes, if◌then◌else◌, is_some, option_map, unwrap_or, String}
+use Rattle.std.specs.Prelude.{◌≡◌, ◌≢◌, ◌⊎◌, ◌<◌, ◌≤◌, true, not, List, [], length, map, Some, codes, option_map, unwrap_or, String}
 use Rattle.clap.specs.declared.builder.action.ArgAction.TheVariants.{Set, SetTrue, Append}
 use Rattle.clap.specs.declared.error.kind.ErrorKind.{ErrorKind}
 use Rattle.clap.specs.declared.error.kind.ErrorKind.TheVariants.{DisplayHelp, DisplayVersion, OutOfMemory}
@@ -7,9 +7,8 @@ use Rattle.clap.specs.Words.{App, IsAmong, Kinds, Row, Rule, Text, all_of, fault
 use Rattle.crush_options.specs.declared.asked.Options.{Options}
 use Rattle.crush_options.specs.declared.asked.OptionsFault.{OptionsFault}
 use Rattle.crush_options.specs.declared.asked.OptionsFault.TheVariants.{Help, Refused, Memory}
-use Rattle.crush_options.specs.declared.asked.Printed.{Printed}
-use Rattle.crush_options.specs.declared.asked.Printed.TheVariants.{Map, Tree, Since, AsCeph}
 use Rattle.crush_options.specs.declared.command_line.TheConstants.{MOST_SCRIPTS}
+use Rattle.crush_options.specs.Printed.{IsFlag, IsPrinted, SayTooMuch}
 
 -- a flag `--NAME`
 abbrev pub flag : Text → Rule
@@ -38,15 +37,14 @@ with_modes = with_rule (with_rule (with_rule named (flag (codes "in-turn"))) (fl
 abbrev pub with_printed : App
 with_printed = with_rule (with_rule (with_rule with_modes (flag (codes "tree"))) (option (codes "since"))) (flag (codes "as-ceph"))
 
--- THE COMMAND LINE: `[--in-turn] [--no-history] [--strict] [--tree] [--since MAP] [--as-ceph] [--explain] [-s SCRIPT].. [FILE]`
-abbrev pub program : App
-program = with_rule (with_rule (with_rule with_printed (flag (codes "explain"))) scripts) file
+-- with those that ask for a plan
+abbrev pub with_wanted : App
+with_wanted = with_rule (with_rule with_printed (option (codes "to"))) (flag (codes "by-name"))
 
--- a flag is set where the words have it, and else not, also where nothing tells of it
-pub record IsFlag (text : Option Text) (flag : Bool) : Type 0 where
-  pub given : text ≡ Some (codes "true") → flag ≡ true
-  pub absent : text ≡ Some (codes "false") → flag ≡ false
-  pub none : text ≡ None → flag ≡ false
+-- THE COMMAND LINE: `[--in-turn] [--no-history] [--strict] [--tree] [--since MAP] [--as-ceph] [--to MAP] [--by-name] [--explain]
+-- [-s SCRIPT].. [FILE]`
+abbrev pub program : App
+program = with_rule (with_rule (with_rule with_wanted (flag (codes "explain"))) scripts) file
 
 -- the texts of names
 abbrev pub names_text : {Z : Type 0} → List (String Z) → List Text
@@ -56,37 +54,9 @@ names_text names = map (λ name. name.bytes.items) names
 abbrev pub all_named : Text → List Row → List Text
 all_named id rows = unwrap_or (all_of id rows) []
 
--- the words that say what is printed: whether `--tree` and `--as-ceph` are there, and the value of `--since`
-pub record AreSaid (rows : List Row) (is_tree : Bool) (old_map : Option Text) (is_ceph : Bool) : Type 0 where
-  pub tree : IsFlag (one_of (codes "tree") rows) is_tree
-  pub since : first_of (codes "since") rows ≡ old_map
-  pub as_ceph : IsFlag (one_of (codes "as-ceph") rows) is_ceph
-
--- WHAT IS PRINTED: the map, unless one of the words is there; then none of the others is
-abbrev pub IsPrinted : List Row → Printed → Type 0
-IsPrinted rows Map = AreSaid rows false None false
-IsPrinted rows Tree = AreSaid rows true None false
-IsPrinted rows (Since name) = AreSaid rows false (Some name.bytes.items) false
-IsPrinted rows AsCeph = AreSaid rows false None true
-
--- how many of the three words there are
-abbrev pub one_where : Bool → ℕ
-one_where there = if there then 1 else 0
-
-abbrev pub count_said : Bool → Option Text → Bool → ℕ
-count_said tree since as_ceph = one_where tree + one_where (is_some since) + one_where as_ceph
-
--- two of the three words are there
-pub record SaysTwo (rows : List Row) : Type 0 where
-  pub tree : Bool
-  pub since : Option Text
-  pub as_ceph : Bool
-  pub said : AreSaid rows tree since as_ceph
-  pub two : 1 < count_said tree since as_ceph
-
--- each word is one of the program's, but there are too many together: two of the three, or more than 16 scripts
+-- each word is one of the program's, but there are too many together: some that don't go together, or more than 16 scripts
 abbrev pub IsTooMuch : List Row → Type 0
-IsTooMuch rows = SaysTwo rows ⊎ (MOST_SCRIPTS < length (all_named (codes "script") rows))
+IsTooMuch rows = SayTooMuch rows ⊎ (MOST_SCRIPTS < length (all_named (codes "script") rows))
 
 -- the options are those of the words as they were read
 pub record AreRead (rows : List Row) (options : Options) : Type 0 where

@@ -17,6 +17,17 @@ pub struct Mode {
     pub explain: bool,
 }
 
+/// The map that commands are to lead to, and how they are found and printed.
+#[derive(Debug, Drop)]
+pub struct Wanted {
+    /// The name of its file.
+    pub map: String,
+    /// Whether the commands are printed as Ceph's own.
+    pub as_ceph: bool,
+    /// Whether a bucket is told by its name and type alone, and not by its id.
+    pub by_name: bool,
+}
+
 /// What is printed of the map after the scripts.
 #[derive(Debug, Drop)]
 pub enum Printed {
@@ -28,6 +39,8 @@ pub enum Printed {
     Since(String),
     /// The commands that changed it, as Ceph's own.
     AsCeph,
+    /// The commands that lead from it to a wanted map.
+    To(Wanted),
 }
 
 /// What the program is asked to do.

@@ -1,10 +1,11 @@
 //! The command line.
 
-ghost use Rattle.std.specs.Prelude.{◌≡◌, ◌≤◌, IfErr, IfOk, codes, false, length, map, option_map};
+ghost use Rattle.std.specs.Prelude.{◌≡◌, ◌≤◌, IfErr, IfOk, None, Some, codes, false, length, map, option_map};
 ghost use Rattle.clap.specs.Words.{all_of, app_of, fault_of, first_of, found_of, kind_of, one_of, rows_of, rule_of, with_rule};
-ghost use Rattle.crush_options.specs.Options.{AreRead, AsksTooMuch, IsAsked, IsFaultIn, IsFaultOf, IsFlag, IsPrinted, IsRefusedFor, all_named, file, flag, names_text, option, program, scripts, with_modes, with_printed};
+ghost use Rattle.crush_options.specs.Options.{AreRead, AsksTooMuch, IsAsked, IsFaultIn, IsFaultOf, IsRefusedFor, all_named, file, flag, names_text, option, program, scripts, with_modes, with_printed, with_wanted};
+ghost use Rattle.crush_options.specs.Printed.{AreSaid, IsApartFault, IsFlag, IsPrinted, said_by, said_data};
 
-use crate::asked::{Mode, Options, OptionsFault, Printed};
+use crate::asked::{Mode, Options, OptionsFault, Printed, Wanted};
 use clap::error::ErrorKind;
 use clap::{Arg, ArgAction, ArgMatches, Command, Error};
 use std::alloc::{AllocError, Global};
@@ -71,15 +72,19 @@ that were made. ` = refused ` marks a command that changed nothing, with a name
 and an error number of Linux; the next one is tried all the same.
 
 In the place of the map `--tree` prints its tree, `--since MAP` what has changed
-since the map of a file, and `--as-ceph` the commands that changed it, as lines
-for a shell; at most one of the three.
+since the map of a file, `--as-ceph` the commands that changed it, as lines for
+a shell, and `--to MAP` the commands that lead from it to the map of a file, and
+what differs then, which no command changes; at most one of the four, but `--to`
+with `--as-ceph`. Where MAP is another cluster's, whose buckets have other ids,
+`--by-name` takes them for those of their names.
 
 Standard error gets `crushedit: adjusted N` where N buckets were written with
 another weight than the sum of their devices, and got the sum. With `--strict`
 it gets `crushedit: refused N` where N commands or batches were refused, and
-their lines. With `--explain` it tells more below: where a fault of the input
-stands and what was wanted there, and of each refused command or batch its line
-and what was wanted.
+their lines, or `crushedit: differs N` where N differences to the map of `--to`
+stay, and their lines. With `--explain` it tells more below: where a fault of
+the input stands and what was wanted there, and of each refused command or batch
+its line and what was wanted.
 
 Exit status:
     0    the run was done, also where commands were refused, without --strict
@@ -87,11 +92,15 @@ Exit status:
     2    the command line is refused
     3    FILE can't be opened, or reading or writing failed
     4    out of memory, or no thread could be started; nothing was written
-    5    with --strict: a command was refused, and nothing was written
+    5    with --strict: a call was refused, or differences stay; nothing written
 ";
 
 /// What is told where words ask for two things to be printed.
-const TWO_PRINTED: &str = "error: at most one of --tree, --since and --as-ceph\n";
+const TWO_PRINTED: &str =
+    "error: at most one of --tree, --since, --as-ceph and --to, but --to with --as-ceph\n";
+
+/// What is told where buckets are to be told by their names, and no map is wanted.
+const NAMES_ALONE: &str = "error: --by-name goes with --to\n";
 
 /// How many files of scripts there can be: a job has as many operators.
 const MOST_SCRIPTS: usize = 16;
@@ -175,12 +184,23 @@ fn with_printed<'a>(alloc: Global) -> Result<Command<'a>, AllocError>
         .arg(flag(alloc, "as-ceph", as_ceph))
 }
 
+/// The command with the words that ask for a plan, too.
+fn with_wanted<'a>(alloc: Global) -> Result<Command<'a>, AllocError>
+    ensures { IfOk result (λ command. app_of command ≡ with_wanted) }
+{
+    let to = "Print the commands that lead to the map of this file";
+    let by_name = "With --to: tell buckets by their names, not by their ids";
+    with_printed(alloc)?
+        .arg(option(alloc, "to", "MAP", to))?
+        .arg(flag(alloc, "by-name", by_name))
+}
+
 /// All words that the program takes.
 fn command<'a>(alloc: Global) -> Result<Command<'a>, AllocError>
     ensures { IfOk result (λ command. app_of command ≡ program) }
 {
     let explain = "Tell where and why, below the one line on standard error";
-    with_printed(alloc)?
+    with_wanted(alloc)?
         .arg(flag(alloc, "explain", explain))?
         .arg(scripts(alloc))?
         .arg(file(alloc))
@@ -203,21 +223,77 @@ fn refused(alloc: Global, text: &str) -> OptionsFault
     }
 }
 
-/// What the words ask to be printed, of which there is at most one.
+/// What the words say of what is printed.
+#[derive(Clone, Copy)]
+struct Said<'a> {
+    tree: bool,
+    since: Option<&'a str>,
+    as_ceph: bool,
+    to: Option<&'a str>,
+    by_name: bool,
+}
+
+/// What the words say of what is printed.
+fn said_of<'a>(matches: &'a ArgMatches<'_>) -> Said<'a>
+    ensures { AreSaid (rows_of (found_of matches.now)) (said_data result) }
+{
+    Said {
+        tree: is_set(matches, "tree"),
+        since: matches.get_str("since"),
+        as_ceph: is_set(matches, "as-ceph"),
+        to: matches.get_str("to"),
+        by_name: is_set(matches, "by-name"),
+    }
+}
+
+/// What is printed where no map is wanted.
+fn printed_without_to(alloc: Global, said: Said<'_>) -> Result<Printed, OptionsFault>
+    ensures asked { said.entry.to ≡ None
+        → IfOk result (λ printed. said_by printed ≡ said_data said.entry) }
+    ensures fault { said.entry.to ≡ None → IfErr result (IsApartFault (said_data said.entry)) }
+{
+    match said.since {
+        _ if said.by_name => Err(refused(alloc, NAMES_ALONE)),
+        None if said.tree && said.as_ceph => Err(refused(alloc, TWO_PRINTED)),
+        None if said.tree => Ok(Printed::Tree),
+        None if said.as_ceph => Ok(Printed::AsCeph),
+        None => Ok(Printed::Map),
+        Some(_) if said.tree => Err(refused(alloc, TWO_PRINTED)),
+        Some(_) if said.as_ceph => Err(refused(alloc, TWO_PRINTED)),
+        Some(name) => Ok(Printed::Since(String::from_str(alloc, name)?)),
+    }
+}
+
+/// What is printed where the map of a file of this name is wanted.
+fn printed_to(alloc: Global, said: Said<'_>, name: &str) -> Result<Printed, OptionsFault>
+    ensures asked { option_map (λ name. name.now) said.entry.to ≡ Some name.now
+        → IfOk result (λ printed. said_by printed ≡ said_data said.entry) }
+    ensures fault { option_map (λ name. name.now) said.entry.to ≡ Some name.now
+        → IfErr result (IsApartFault (said_data said.entry)) }
+{
+    match said.since {
+        None if said.tree => Err(refused(alloc, TWO_PRINTED)),
+        None => {
+            let map = String::from_str(alloc, name)?;
+            Ok(Printed::To(Wanted {
+                map,
+                as_ceph: said.as_ceph,
+                by_name: said.by_name,
+            }))
+        }
+        Some(_) => Err(refused(alloc, TWO_PRINTED)),
+    }
+}
+
+/// What the words ask to be printed.
 fn printed_of(alloc: Global, matches: &ArgMatches<'_>) -> Result<Printed, OptionsFault>
     ensures asked { IfOk result (IsPrinted (rows_of (found_of matches.now))) }
     ensures fault { IfErr result (AsksTooMuch (rows_of (found_of matches.now))) }
 {
-    let tree = is_set(matches, "tree");
-    let as_ceph = is_set(matches, "as-ceph");
-    match matches.get_str("since") {
-        None if tree && as_ceph => Err(refused(alloc, TWO_PRINTED)),
-        None if tree => Ok(Printed::Tree),
-        None if as_ceph => Ok(Printed::AsCeph),
-        None => Ok(Printed::Map),
-        Some(_) if tree => Err(refused(alloc, TWO_PRINTED)),
-        Some(_) if as_ceph => Err(refused(alloc, TWO_PRINTED)),
-        Some(name) => Ok(Printed::Since(String::from_str(alloc, name)?)),
+    let said = said_of(matches);
+    match said.to {
+        None => printed_without_to(alloc, said),
+        Some(name) => printed_to(alloc, said, name),
     }
 }
 
@@ -295,8 +371,9 @@ fn fault_of(alloc: Global, error: &Error) -> OptionsFault
 }
 
 /// Reads the words of a command line behind the program's name: `[--in-turn] [--no-history]
-/// [--strict] [--tree | --since MAP | --as-ceph] [--explain] [-s SCRIPT].. [FILE]`, in any order,
-/// with up to 16 scripts. Each word is one of these or refused: none is ignored.
+/// [--strict] [--tree | --since MAP | --as-ceph | --to MAP [--as-ceph] [--by-name]] [--explain]
+/// [-s SCRIPT].. [FILE]`, in any order, with up to 16 scripts. Each word is one of these or refused:
+/// none is ignored.
 pub fn options<S: AsStr>(alloc: Global, words: &[S]) -> Result<Options, OptionsFault>
     ensures asked { IfOk result (IsAsked (map S.text words.now)) }
     ensures fault { IfErr result (IsFaultIn (map S.text words.now)) }

@@ -1,11 +1,10 @@
 -- The text of a plan.
 use Rattle.std.specs.Prelude.{ℕ, ◌==◌, Bool, true, List, [], ◌∷◌, ◌++◌, if◌then◌else◌, codes, decimal, flat_map, length}
-use Rattle.std.specs.List.{count_by}
 use Rattle.crush_edits.specs.declared.edit.Edit.{Edit}
 use Rattle.crush_calls.specs.HistoryText.{edit_text}
 use Rattle.crush_reasons.specs.Ceph.{ceph_heading, ceph_line}
 use Rattle.crush_plan.specs.Aside.{aside_text}
-use Rattle.crush_plan.specs.declared.plan.Plan.{Plan}
+use Rattle.crush_plan.specs.Plan.{PlanData, line_count}
 use Rattle.crush_plan.specs.declared.text.PlanWords.{PlanWords}
 use Rattle.crush_plan.specs.declared.text.PlanWords.TheVariants.{Script, Ceph}
 
@@ -13,10 +12,6 @@ use Rattle.crush_plan.specs.declared.text.PlanWords.TheVariants.{Script, Ceph}
 abbrev pub plan_line : PlanWords → Edit → List ℕ
 plan_line Script e = edit_text e ++ codes "\n"
 plan_line Ceph e = ceph_line e
-
--- how many lines a text has
-abbrev pub line_count : List ℕ → ℕ
-line_count text = count_by (λ b. b == 10) text
 
 -- lines, each behind `# `; at the head of one, or within
 abbrev pub mark : Bool → List ℕ
@@ -35,6 +30,6 @@ stay_text [] = []
 stay_text (b ∷ bs) = stay_heading (line_count (b ∷ bs)) ++ commented true (b ∷ bs)
 
 -- PLAN TEXT: how many edits, a line for each, what stays, and which ids differ
-unfoldable pub plan_text : PlanWords → Plan → List ℕ
+unfoldable pub plan_text : PlanWords → PlanData → List ℕ
 plan_text words plan =
-    ceph_heading (length plan.edits.items) ++ flat_map (plan_line words) plan.edits.items ++ stay_text plan.rest.items ++ commented true (aside_text plan.aside)
+    ceph_heading (length plan.edits) ++ flat_map (plan_line words) plan.edits ++ stay_text plan.rest ++ commented true (aside_text plan.aside)

@@ -5,8 +5,7 @@ ghost use Rattle.crush_table.specs.Stands.{Stands};
 ghost use Rattle.crush_table.specs.Table.{Row};
 ghost use Rattle.crush_view.specs.Since.{told};
 ghost use Rattle.crush_plan.specs.Draft.{GoesOn, IsDraftOf};
-ghost use Rattle.crush_plan.specs.Plan.{GoesTo, IsBetter, IsPlan, Stay};
-ghost use Rattle.crush_plan.specs.PlanText.{line_count};
+ghost use Rattle.crush_plan.specs.Plan.{GoesTo, IsBetter, IsPlan, Stay, line_count, plan_data};
 
 use crate::aside::{Counts, count_aside};
 use crate::buckets::make_buckets;
@@ -36,11 +35,8 @@ pub struct Plan {
     pub aside: Counts,
 }
 
-/// Finds the edits that lead from a map to another.
-///
-/// Where with the
-/// edits no fewer differences stay than without, nor as many and fewer other ids, there are none. An
-/// `Err` says that memory ran out.
+/// Finds the edits that lead from a map to another. Where with them no fewer differences stay than
+/// without, nor as many and fewer other ids, there are none. An `Err` says that memory ran out.
 pub fn find_plan<A: Allocator + Clone, B: Allocator>(
     alloc: Global,
     identity: Identity,
@@ -49,7 +45,7 @@ pub fn find_plan<A: Allocator + Clone, B: Allocator>(
 ) -> Result<Plan, AllocError>
     ensures { IfOk result (λ plan. (t u : List Row)
         → Stands map.now.forest t → Stands wanted.now.forest u
-        → IsPlan (told map.now.setting t) (told wanted.now.setting u) plan) }
+        → IsPlan (told map.now.setting t) (told wanted.now.setting u) (plan_data plan)) }
 {
     let before = without_edits(alloc, map, wanted)?;
     let after = with_edits(alloc, identity, map, wanted)?;
@@ -68,7 +64,7 @@ fn without_edits<A: Allocator, B: Allocator>(
     ensures none { IfOk result (λ plan. plan.edits.items ≡ []) }
     ensures stays { IfOk result (λ plan. (t u : List Row)
         → Stands map.now.forest t → Stands wanted.now.forest u
-        → Stay (told map.now.setting t) (told wanted.now.setting u) plan) }
+        → Stay (told map.now.setting t) (told wanted.now.setting u) (plan_data plan)) }
 {
     let rest = stays(alloc, map, wanted)?;
     let aside = count_aside(alloc, map, wanted)?;
@@ -88,7 +84,7 @@ fn with_edits<A: Allocator + Clone, B: Allocator>(
 ) -> Result<Plan, AllocError>
     ensures { IfOk result (λ plan. (t u : List Row)
         → Stands map.now.forest t → Stands wanted.now.forest u
-        → GoesTo (told map.now.setting t) (told wanted.now.setting u) plan) }
+        → GoesTo (told map.now.setting t) (told wanted.now.setting u) (plan_data plan)) }
 {
     let draft = drafted(alloc, identity, map.try_copy()?, wanted)?;
     let rest = stays(alloc, &draft.map, wanted)?;
@@ -100,7 +96,7 @@ fn with_edits<A: Allocator + Clone, B: Allocator>(
 /// Whether with the one plan fewer differences stay than with the other, or as many and fewer other
 /// ids.
 fn is_better(after: &Plan, before: &Plan) -> bool
-    ensures { result ≡ true → IsBetter after.now before.now }
+    ensures { result ≡ true → IsBetter (plan_data after.now) (plan_data before.now) }
 {
     let (more, fewer) = (before.count_differences(), after.count_differences());
     fewer < more || (fewer == more && after.aside.ids < before.aside.ids)

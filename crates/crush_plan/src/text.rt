@@ -3,6 +3,7 @@
 ghost use Rattle.std.specs.Prelude.{◌≡◌, ◌∷◌, [], ◌++◌, IfOk, OnOk, codes, flat_map, true};
 ghost use Rattle.crush_calls.specs.HistoryText.{edit_text};
 ghost use Rattle.crush_plan.specs.Aside.{aside_text};
+ghost use Rattle.crush_plan.specs.Plan.{plan_data};
 ghost use Rattle.crush_plan.specs.PlanText.{commented, mark, plan_line, plan_text, stay_heading, stay_text};
 
 use crate::aside::{Counts, push_aside};
@@ -27,7 +28,7 @@ pub enum PlanWords {
 /// `# N differences stay` and a line for each, as a comment; and as comments how many buckets have
 /// other ids. An `Err` says that memory ran out.
 pub fn plan_text(alloc: Global, plan: &Plan, words: PlanWords) -> Result<Vec<u8>, AllocError>
-    ensures { IfOk result (λ text. text.items ≡ plan_text words plan.now) }
+    ensures { IfOk result (λ text. text.items ≡ plan_text words (plan_data plan.now)) }
 {
     let mut text = Vec::new(alloc);
     let edits = plan.edits.as_slice();

@@ -7,8 +7,10 @@ use Rattle.crush_script.specs.declared.fault.JobFault.TheVariants.{BadLine, NoSu
 use Rattle.crush_script.specs.Fault.{is_out_of_memory, lacks_memory}
 use Rattle.crush_input.specs.declared.fault.RunFault.{RunFault}
 use Rattle.crush_input.specs.declared.fault.RunFault.TheVariants as run
-use Rattle.crush_input.specs.declared.fault.SinceFault.{SinceFault}
-use Rattle.crush_input.specs.declared.fault.SinceFault.TheVariants as since
+use Rattle.crush_input.specs.declared.fault.OtherFault.{OtherFault}
+use Rattle.crush_input.specs.declared.fault.OtherFault.TheVariants as unread
+use Rattle.crush_input.specs.declared.fault.OtherMap.{OtherMap}
+use Rattle.crush_input.specs.declared.fault.OtherMap.TheVariants as beside
 use Rattle.crush_input.specs.declared.summary.Summary.{Summary}
 
 -- out of memory, wherever it was
@@ -43,15 +45,24 @@ job_fault OutOfMemory = out_of_memory
 abbrev pub refused_line : ℕ → List ℕ
 refused_line count = codes "crushedit: refused " ++ decimal count ++ codes "\n"
 
--- a fault of the text of the map since which changes are asked for
-abbrev pub since_text_fault : TextFault → List ℕ
-since_text_fault f = codes "crushedit: since: byte " ++ decimal f.place ++ codes ": " ++ fault_name f.kind ++ codes "\n"
+-- how many differences stay behind the plan of a strict run
+abbrev pub differs_line : ℕ → List ℕ
+differs_line count = codes "crushedit: differs " ++ decimal count ++ codes "\n"
+
+-- a fault of another map is told behind the word that asks for it
+abbrev pub map_word : OtherMap → List ℕ
+map_word beside.Since = codes "since"
+map_word beside.To = codes "to"
+
+-- a fault of its text
+abbrev pub other_text_fault : OtherMap → TextFault → List ℕ
+other_text_fault which f = codes "crushedit: " ++ map_word which ++ codes ": byte " ++ decimal f.place ++ codes ": " ++ fault_name f.kind ++ codes "\n"
 
 -- a fault of that map
-abbrev pub since_fault : SinceFault → List ℕ
-since_fault (since.Text f) = if is_out_of_memory f.kind then out_of_memory else since_text_fault f
-since_fault since.TooLong = codes "crushedit: since: TooLong\n"
-since_fault since.Read = codes "crushedit: since: read fault\n"
+abbrev pub other_fault : OtherMap → OtherFault → List ℕ
+other_fault which (unread.Text f) = if is_out_of_memory f.kind then out_of_memory else other_text_fault which f
+other_fault which unread.TooLong = codes "crushedit: " ++ map_word which ++ codes ": TooLong\n"
+other_fault which unread.Read = codes "crushedit: " ++ map_word which ++ codes ": read fault\n"
 
 -- a run that was not done
 abbrev pub run_fault : RunFault → List ℕ
@@ -61,22 +72,30 @@ run_fault run.Write = codes "crushedit: write fault\n"
 run_fault run.Memory = out_of_memory
 run_fault run.Thread = codes "crushedit: no thread\n"
 run_fault (run.Refused count) = refused_line count
-run_fault (run.Since f) = since_fault f
+run_fault (run.Differs count) = differs_line count
+run_fault (run.Other which f) = other_fault which f
 
 -- one line, or nothing where all is well and no weight was replaced
 abbrev pub report_line : Result Summary RunFault → List ℕ
 report_line (Ok s) = if s.adjusted == 0 then [] else adjusted_line s.adjusted
 report_line (Err f) = run_fault f
 
--- what is told of a fault of the map since which changes are asked for, and of a run that was not done: what was wanted, unless the
--- run notes it
+-- what is told of a fault of another map, and of a run that was not done: what was wanted, unless the run notes it
 abbrev pub memory_reason : List ℕ
 memory_reason = codes "  there is less memory than the job wants\n"
 
-abbrev pub since_reason : SinceFault → List ℕ
-since_reason (since.Text f) = if is_out_of_memory f.kind then memory_reason else []
-since_reason since.TooLong = codes "  the file of --since has at most 16777216 bytes\n"
-since_reason since.Read = codes "  the file of --since is to be there, and to be read to its end\n"
+abbrev pub long_reason : OtherMap → List ℕ
+long_reason beside.Since = codes "  the file of --since has at most 16777216 bytes\n"
+long_reason beside.To = codes "  the file of --to has at most 16777216 bytes\n"
+
+abbrev pub unread_reason : OtherMap → List ℕ
+unread_reason beside.Since = codes "  the file of --since is to be there, and to be read to its end\n"
+unread_reason beside.To = codes "  the file of --to is to be there, and to be read to its end\n"
+
+abbrev pub other_reason : OtherMap → OtherFault → List ℕ
+other_reason which (unread.Text f) = if is_out_of_memory f.kind then memory_reason else []
+other_reason which unread.TooLong = long_reason which
+other_reason which unread.Read = unread_reason which
 
 abbrev pub fault_reason : RunFault → List ℕ
 fault_reason (run.Job f) = if lacks_memory f then memory_reason else []
@@ -85,7 +104,8 @@ fault_reason run.Write = codes "  standard output took less than the whole: what
 fault_reason run.Memory = memory_reason
 fault_reason run.Thread = codes "  the system started no thread for an operator: --in-turn wants none\n"
 fault_reason (run.Refused count) = []
-fault_reason (run.Since f) = since_reason f
+fault_reason (run.Differs count) = []
+fault_reason (run.Other which f) = other_reason which f
 
 abbrev pub outcome_reason : Result Summary RunFault → List ℕ
 outcome_reason (Ok s) = []
@@ -99,10 +119,10 @@ report_lines explain outcome = report_line outcome ++ (if explain then outcome_r
 abbrev pub report_text : Bool → Result Summary RunFault → List ℕ → List ℕ
 report_text explain outcome notes = report_lines explain outcome ++ notes
 
-abbrev pub since_status : SinceFault → ℕ
-since_status (since.Text f) = if is_out_of_memory f.kind then 4 else 1
-since_status since.TooLong = 1
-since_status since.Read = 3
+abbrev pub other_status : OtherFault → ℕ
+other_status (unread.Text f) = if is_out_of_memory f.kind then 4 else 1
+other_status unread.TooLong = 1
+other_status unread.Read = 3
 
 abbrev pub fault_status : RunFault → ℕ
 fault_status (run.Job f) = if lacks_memory f then 4 else 1
@@ -111,10 +131,11 @@ fault_status run.Write = 3
 fault_status run.Memory = 4
 fault_status run.Thread = 4
 fault_status (run.Refused count) = 5
-fault_status (run.Since f) = since_status f
+fault_status (run.Differs count) = 5
+fault_status (run.Other which f) = other_status f
 
 -- 0 where the run was done, 1 for what is no job or no map, 3 where reading or writing failed, 4 out of memory or without a thread, 5 where
--- calls of a strict run were refused
+-- calls of a strict run were refused, or differences stay behind its plan
 abbrev pub status : Result Summary RunFault → ℕ
 status (Ok s) = 0
 status (Err f) = fault_status f

@@ -1,12 +1,13 @@
 //! What a run tells on standard error, and the status with which the program ends.
 
-ghost use Rattle.std.specs.Prelude.{◌≡◌, [], if◌then◌else◌};
+ghost use Rattle.std.specs.Prelude.{◌≡◌, ◌++◌, [], codes, if◌then◌else◌};
 ghost use Rattle.crush_bytes.specs.Writes.{Writes, AppendsPrefix};
 ghost use Rattle.crush_report.specs.OptionsReport.{IsHelpWhole, IsOptionsStatus, options_error, options_output};
-ghost use Rattle.crush_report.specs.Report.{adjusted_line, fault_reason, line_fault, text_fault, job_fault, outcome_reason, run_fault, refused_line, report_line, report_lines, report_text, since_fault, since_reason, since_status, since_text_fault, status};
+ghost use Rattle.crush_report.specs.Report.{adjusted_line, fault_reason, line_fault, text_fault, job_fault, outcome_reason, run_fault, refused_line, report_line, report_lines, report_text, status};
+ghost use Rattle.crush_report.specs.Report.{differs_line, long_reason, map_word, other_fault, other_reason, other_status, other_text_fault, unread_reason};
 
 use crush_bytes::{WriteFault, put, put_all};
-use crush_input::{RunFault, SinceFault, Summary};
+use crush_input::{OtherFault, OtherMap, RunFault, Summary};
 use crush_options::OptionsFault;
 use crush_script::JobFault;
 use crush_text::TextFault;
@@ -74,10 +75,24 @@ fn write_job_fault<E: Write>(fault: JobFault, err: &mut E) -> Result<(), WriteFa
     }
 }
 
-/// Writes the line of a flaw of the text of the map since which changes are asked for.
-fn write_since_text<E: Write>(fault: TextFault, err: &mut E) -> Result<(), WriteFault>
+/// The word that asks for another map.
+fn map_word(which: OtherMap) -> &'static [u8]
+    ensures { result.now ≡ map_word which }
+{
+    match which {
+        OtherMap::Since => b"since",
+        OtherMap::To => b"to",
+    }
+}
+
+/// Writes the line of a flaw of the text of another map.
+fn write_other_text<E: Write>(
+    which: OtherMap,
+    fault: TextFault,
+    err: &mut E,
+) -> Result<(), WriteFault>
     ensures { Writes result (E.contents err.old) (E.contents err.new)
-        (since_text_fault fault) }
+        (other_text_fault which fault) }
 {
     let mut buffer = Buffer::new();
     let place = buffer.format(fault.place).as_bytes();
@@ -85,7 +100,9 @@ fn write_since_text<E: Write>(fault: TextFault, err: &mut E) -> Result<(), Write
     put_all(
         err,
         &[
-            b"crushedit: since: byte ".as_slice(),
+            b"crushedit: ".as_slice(),
+            map_word(which),
+            b": byte ".as_slice(),
             place,
             b": ".as_slice(),
             name,
@@ -94,15 +111,32 @@ fn write_since_text<E: Write>(fault: TextFault, err: &mut E) -> Result<(), Write
     )
 }
 
-/// Writes the line of a fault of the map since which changes are asked for.
-fn write_since_fault<E: Write>(fault: SinceFault, err: &mut E) -> Result<(), WriteFault>
-    ensures { Writes result (E.contents err.old) (E.contents err.new) (since_fault fault) }
+/// Writes the line of another map of which this is told.
+fn write_of_map<E: Write>(
+    which: OtherMap,
+    what: &'static [u8],
+    err: &mut E,
+) -> Result<(), WriteFault>
+    ensures { Writes result (E.contents err.old) (E.contents err.new)
+        (codes "crushedit: " ++ map_word which ++ what.now) }
+{
+    put_all(err, &[b"crushedit: ".as_slice(), map_word(which), what])
+}
+
+/// Writes the line of a fault of another map.
+fn write_other_fault<E: Write>(
+    which: OtherMap,
+    fault: OtherFault,
+    err: &mut E,
+) -> Result<(), WriteFault>
+    ensures { Writes result (E.contents err.old) (E.contents err.new)
+        (other_fault which fault) }
 {
     match fault {
-        SinceFault::Text(fault) if JobFault::Text(fault).lacks_memory() => put(err, OUT_OF_MEMORY),
-        SinceFault::Text(fault) => write_since_text(fault, err),
-        SinceFault::TooLong => put(err, b"crushedit: since: TooLong\n"),
-        SinceFault::Read => put(err, b"crushedit: since: read fault\n"),
+        OtherFault::Text(fault) if JobFault::Text(fault).lacks_memory() => put(err, OUT_OF_MEMORY),
+        OtherFault::Text(fault) => write_other_text(which, fault, err),
+        OtherFault::TooLong => write_of_map(which, b": TooLong\n", err),
+        OtherFault::Read => write_of_map(which, b": read fault\n", err),
     }
 }
 
@@ -118,7 +152,8 @@ fn write_run_fault<E: Write>(fault: RunFault, err: &mut E) -> Result<(), WriteFa
         RunFault::Memory => put(err, OUT_OF_MEMORY),
         RunFault::Thread => put(err, b"crushedit: no thread\n"),
         RunFault::Refused(count) => write_refused(count, err),
-        RunFault::Since(fault) => write_since_fault(fault, err),
+        RunFault::Differs(count) => write_differs(count, err),
+        RunFault::Other(which, fault) => write_other_fault(which, fault, err),
     }
 }
 
@@ -132,6 +167,19 @@ fn write_refused<E: Write>(count: u32, err: &mut E) -> Result<(), WriteFault>
     put_all(
         err,
         &[b"crushedit: refused ".as_slice(), count, b"\n".as_slice()],
+    )
+}
+
+/// Writes how many differences stay behind the plan of a strict run.
+fn write_differs<E: Write>(count: usize, err: &mut E) -> Result<(), WriteFault>
+    ensures { Writes result (E.contents err.old) (E.contents err.new)
+        (differs_line count) }
+{
+    let mut buffer = Buffer::new();
+    let count = buffer.format(count).as_bytes();
+    put_all(
+        err,
+        &[b"crushedit: differs ".as_slice(), count, b"\n".as_slice()],
     )
 }
 
@@ -175,15 +223,35 @@ fn put_report<E: Write>(outcome: &Result<Summary, RunFault>, err: &mut E)
     let _ = write_report(outcome, err);
 }
 
-/// What was wanted where the map since which changes are asked for was not read.
-fn since_reason(fault: SinceFault) -> &'static [u8]
-    ensures { result.now ≡ since_reason fault }
+/// What was wanted of another map that is too long.
+fn long_reason(which: OtherMap) -> &'static [u8]
+    ensures { result.now ≡ long_reason which }
+{
+    match which {
+        OtherMap::Since => b"  the file of --since has at most 16777216 bytes\n",
+        OtherMap::To => b"  the file of --to has at most 16777216 bytes\n",
+    }
+}
+
+/// What was wanted of another map that couldn't be read.
+fn unread_reason(which: OtherMap) -> &'static [u8]
+    ensures { result.now ≡ unread_reason which }
+{
+    match which {
+        OtherMap::Since => b"  the file of --since is to be there, and to be read to its end\n",
+        OtherMap::To => b"  the file of --to is to be there, and to be read to its end\n",
+    }
+}
+
+/// What was wanted where another map was not read.
+fn other_reason(which: OtherMap, fault: OtherFault) -> &'static [u8]
+    ensures { result.now ≡ other_reason which fault }
 {
     match fault {
-        SinceFault::Text(fault) if JobFault::Text(fault).lacks_memory() => MEMORY_REASON,
-        SinceFault::Text(_) => b"",
-        SinceFault::TooLong => b"  the file of --since has at most 16777216 bytes\n",
-        SinceFault::Read => b"  the file of --since is to be there, and to be read to its end\n",
+        OtherFault::Text(fault) if JobFault::Text(fault).lacks_memory() => MEMORY_REASON,
+        OtherFault::Text(_) => b"",
+        OtherFault::TooLong => long_reason(which),
+        OtherFault::Read => unread_reason(which),
     }
 }
 
@@ -202,8 +270,8 @@ fn fault_reason(fault: RunFault) -> &'static [u8]
         RunFault::Memory => MEMORY_REASON,
         RunFault::Thread =>
             b"  the system started no thread for an operator: --in-turn wants none\n",
-        RunFault::Refused(_) => b"",
-        RunFault::Since(fault) => since_reason(fault),
+        RunFault::Refused(_) | RunFault::Differs(_) => b"",
+        RunFault::Other(which, fault) => other_reason(which, fault),
     }
 }
 
@@ -263,13 +331,13 @@ fn put_prefix<E: Write>(bytes: &[u8], err: &mut E)
 }
 
 /// The status of a run whose other map was not read.
-fn since_status(fault: SinceFault) -> u8
-    ensures { result ≡ since_status fault }
+fn other_status(fault: OtherFault) -> u8
+    ensures { result ≡ other_status fault }
 {
     match fault {
-        SinceFault::Text(fault) if JobFault::Text(fault).lacks_memory() => 4,
-        SinceFault::Text(_) | SinceFault::TooLong => 1,
-        SinceFault::Read => 3,
+        OtherFault::Text(fault) if JobFault::Text(fault).lacks_memory() => 4,
+        OtherFault::Text(_) | OtherFault::TooLong => 1,
+        OtherFault::Read => 3,
     }
 }
 
@@ -280,10 +348,10 @@ fn status_of(outcome: &Result<Summary, RunFault>) -> u8
     match outcome {
         Ok(_) => 0,
         Err(RunFault::Memory | RunFault::Thread) => 4,
-        Err(RunFault::Refused(_)) => 5,
+        Err(RunFault::Refused(_) | RunFault::Differs(_)) => 5,
         Err(RunFault::Job(fault)) if fault.lacks_memory() => 4,
         Err(RunFault::Job(_)) => 1,
-        Err(RunFault::Since(fault)) => since_status(*fault),
+        Err(RunFault::Other(_, fault)) => other_status(*fault),
         Err(RunFault::Read | RunFault::Write) => 3,
     }
 }
@@ -304,11 +372,12 @@ pub struct Told {
 /// |---|---|---|
 /// | 0 | the run was done | `crushedit: adjusted N` where N written weights of bucket items were replaced, else none |
 /// | 1 | the input is no job | `crushedit: line L: NAME`, `crushedit: byte P: NAME` or `crushedit: TooLong` |
-/// | 1 | the map since which changes are asked for is none | `crushedit: since: byte P: NAME` or `crushedit: since: TooLong` |
-/// | 3 | reading or writing failed | `crushedit: read fault`, `crushedit: since: read fault`, `crushedit: write fault` |
+/// | 1 | the map of `--since` or `--to` is none | the same behind `crushedit: since: ` or `crushedit: to: ` |
+/// | 3 | reading or writing failed | `crushedit: read fault`, `crushedit: since: read fault`, `crushedit: to: read fault`, `crushedit: write fault` |
 /// | 4 | a growth was refused, whatever the fault that says so | `crushedit: out of memory` |
 /// | 4 | a worker couldn't be started | `crushedit: no thread` |
 /// | 5 | calls of a strict run were refused | `crushedit: refused N`, and their lines in the notes |
+/// | 5 | differences stay behind the plan of a strict run | `crushedit: differs N`, and their lines in the notes |
 ///
 /// Where writing fails, the answer says so: a prefix of all that stands there, never the whole, and the
 /// status is the same.

@@ -6,6 +6,8 @@ use Rattle.crush_options.specs.declared.asked.Options.{Options}
 use Rattle.crush_options.specs.declared.asked.Printed.{Printed}
 use Rattle.crush_options.specs.declared.asked.Printed.TheVariants as printed
 use Rattle.crush_input.specs.declared.asked.Asked.{Asked}
+use Rattle.crush_input.specs.declared.fault.OtherMap.{OtherMap}
+use Rattle.crush_input.specs.declared.fault.OtherMap.TheVariants as beside
 use Rattle.crush_input.specs.declared.fault.RunFault.{RunFault}
 use Rattle.crush_input.specs.declared.fault.RunFault.TheVariants as run
 use Rattle.crush_input.specs.declared.summary.Summary.{Summary}
@@ -19,20 +21,22 @@ use Rattle.crush_run.specs.Stages.{IsEarlyFault, IsOutcomeFault}
 use Rattle.crush_input.specs.Stages.{IsReadFault}
 
 -- a fault of what is asked for comes before there is a history
-early_of_map : (all : Option (List ℕ)) (f : RunFault) → IsMapFault all f → IsEarlyFault f
-early_of_map all (run.Job j) h = absurd h
-early_of_map all run.Read h = absurd h
-early_of_map all run.Write h = absurd h
-early_of_map all run.Memory h = tt
-early_of_map all run.Thread h = absurd h
-early_of_map all (run.Refused n) h = absurd h
-early_of_map all (run.Since s) h = tt
+early_of_map : (why : OtherMap) (all : Option (List ℕ)) (f : RunFault) → IsMapFault why all f → IsEarlyFault f
+early_of_map why all (run.Job j) h = absurd h
+early_of_map why all run.Read h = absurd h
+early_of_map why all run.Write h = absurd h
+early_of_map why all run.Memory h = tt
+early_of_map why all run.Thread h = absurd h
+early_of_map why all (run.Refused n) h = absurd h
+early_of_map why all (run.Differs n) h = absurd h
+early_of_map why all (run.Other w s) h = tt
 
 pub early_of_asked : (content : List ℕ → Option (List ℕ)) (what : Printed) (f : RunFault) → IsAskedFault content what f → IsEarlyFault f
 early_of_asked content printed.Map f h = absurd h
 early_of_asked content printed.Tree f h = absurd h
-early_of_asked content (printed.Since name) f h = early_of_map (content name.bytes.items) f h
+early_of_asked content (printed.Since name) f h = early_of_map beside.Since (content name.bytes.items) f h
 early_of_asked content printed.AsCeph f h = absurd h
+early_of_asked content (printed.To words) f h = early_of_map beside.To (content words.map.bytes.items) f h
 
 -- a run that ended early came to no output
 ended_before : (content : List ℕ → Option (List ℕ)) (options : Options) (bytes : List ℕ) (job : JobData) (f : RunFault) (old new : Option (List ℕ)) (notes : List ℕ) → IsEarlyFault f → EndsAsAsked content options bytes job (Err f) old new notes
@@ -42,7 +46,8 @@ ended_before content options bytes job run.Write old new notes early = absurd ea
 ended_before content options bytes job run.Memory old new notes early = tt
 ended_before content options bytes job run.Thread old new notes early = tt
 ended_before content options bytes job (run.Refused n) old new notes early = absurd early
-ended_before content options bytes job (run.Since s) old new notes early = tt
+ended_before content options bytes job (run.Differs n) old new notes early = absurd early
+ended_before content options bytes job (run.Other w s) old new notes early = tt
 
 pub ended_before_output : (content : List ℕ → Option (List ℕ)) (options : Options) (bytes : List ℕ) (job : JobData) (r : Result Summary RunFault) (f : RunFault) (old new : Option (List ℕ)) (notes : List ℕ) → r ≡ Err f → IsEarlyFault f
     → EndsAsAsked content options bytes job r old new notes
@@ -58,7 +63,8 @@ ended content options what bytes job (Err run.Write) old new notes is ends = rec
 ended content options what bytes job (Err run.Memory) old new notes is ends = tt
 ended content options what bytes job (Err run.Thread) old new notes is ends = tt
 ended content options what bytes job (Err (run.Refused n)) old new notes is ends = record { what = what; asked = is; ends = ends }
-ended content options what bytes job (Err (run.Since s)) old new notes is ends = tt
+ended content options what bytes job (Err (run.Differs n)) old new notes is ends = record { what = what; asked = is; ends = ends }
+ended content options what bytes job (Err (run.Other w s)) old new notes is ends = tt
 
 pub ended_as_asked : (content : List ℕ → Option (List ℕ)) (options : Options) (what : Asked) (bytes : List ℕ) (job : JobData) (weights : List ℕ) (r : Result Summary RunFault) (old new : Option (List ℕ)) (notes : List ℕ) → IsAskedOf content options.printed what
     → weights ≡ weight_notes options.mode.explain bytes job.table → Ends options.mode what job weights r old new notes → EndsAsAsked content options bytes job r old new notes
@@ -73,28 +79,31 @@ options_fault_of_read content options all run.Write h = absurd h
 options_fault_of_read content options all run.Memory h = tt
 options_fault_of_read content options all run.Thread h = absurd h
 options_fault_of_read content options all (run.Refused n) h = absurd h
-options_fault_of_read content options all (run.Since s) h = absurd h
+options_fault_of_read content options all (run.Differs n) h = absurd h
+options_fault_of_read content options all (run.Other w s) h = absurd h
 
-fault_of_map : (content : List ℕ → Option (List ℕ)) (options : Options) (all own : Option (List ℕ)) (f : RunFault) → IfSome all HasJob → IsAskedFault content options.printed f → IsMapFault own f → IsOptionsFault content options all f
-fault_of_map content options all own (run.Job j) has asked h = absurd h
-fault_of_map content options all own run.Read has asked h = absurd h
-fault_of_map content options all own run.Write has asked h = absurd h
-fault_of_map content options all own run.Memory has asked h = tt
-fault_of_map content options all own run.Thread has asked h = absurd h
-fault_of_map content options all own (run.Refused n) has asked h = absurd h
-fault_of_map content options all own (run.Since s) has asked h = (has, asked)
+fault_of_map : (content : List ℕ → Option (List ℕ)) (options : Options) (why : OtherMap) (all own : Option (List ℕ)) (f : RunFault) → IfSome all HasJob → IsAskedFault content options.printed f → IsMapFault why own f → IsOptionsFault content options all f
+fault_of_map content options why all own (run.Job j) has asked h = absurd h
+fault_of_map content options why all own run.Read has asked h = absurd h
+fault_of_map content options why all own run.Write has asked h = absurd h
+fault_of_map content options why all own run.Memory has asked h = tt
+fault_of_map content options why all own run.Thread has asked h = absurd h
+fault_of_map content options why all own (run.Refused n) has asked h = absurd h
+fault_of_map content options why all own (run.Differs n) has asked h = absurd h
+fault_of_map content options why all own (run.Other w s) has asked h = (has, asked)
 
 -- a fault of what is asked for is one of another map
-asked_is_map : (content : List ℕ → Option (List ℕ)) (what : Printed) (f : RunFault) → IsAskedFault content what f → (own : Option (List ℕ)) × IsMapFault own f
+asked_is_map : (content : List ℕ → Option (List ℕ)) (what : Printed) (f : RunFault) → IsAskedFault content what f → (why : OtherMap) × (own : Option (List ℕ)) × IsMapFault why own f
 asked_is_map content printed.Map f h = absurd h
 asked_is_map content printed.Tree f h = absurd h
-asked_is_map content (printed.Since name) f h = (content name.bytes.items, h)
+asked_is_map content (printed.Since name) f h = (beside.Since, content name.bytes.items, h)
 asked_is_map content printed.AsCeph f h = absurd h
+asked_is_map content (printed.To words) f h = (beside.To, content words.map.bytes.items, h)
 
 pub options_fault_of_asked : (content : List ℕ → Option (List ℕ)) (options : Options) (all : Option (List ℕ)) (f : RunFault) → IfSome all HasJob → IsAskedFault content options.printed f → IsOptionsFault content options all f
 options_fault_of_asked content options all f has asked =
     let own = asked_is_map content options.printed f asked in
-    fault_of_map content options all own.0 f has asked own.1
+    fault_of_map content options own.0 all own.1 f has asked own.2
 
 pub options_fault_of_outcome : (content : List ℕ → Option (List ℕ)) (options : Options) (all : Option (List ℕ)) (r : Result Summary RunFault) → IfSome all HasJob → IfErr r (IsOutcomeFault options.mode)
     → IfErr r (IsOptionsFault content options all)
@@ -105,7 +114,8 @@ options_fault_of_outcome content options all (Err run.Write) has h = has
 options_fault_of_outcome content options all (Err run.Memory) has h = tt
 options_fault_of_outcome content options all (Err run.Thread) has h = (h, has)
 options_fault_of_outcome content options all (Err (run.Refused n)) has h = (h, has)
-options_fault_of_outcome content options all (Err (run.Since s)) has h = absurd h
+options_fault_of_outcome content options all (Err (run.Differs n)) has h = (h, has)
+options_fault_of_outcome content options all (Err (run.Other w s)) has h = absurd h
 
 -- where what was read is a job, it is one
 pub job_where_done : {X : Type 0} (r : Result X RunFault) (all : Option (List ℕ)) → IfSome all HasJob → IfOk r (λ _. IfSome all HasJob)
@@ -122,28 +132,31 @@ ending_as_asked content options input (Err run.Write) notes h told = told
 ending_as_asked content options input (Err run.Memory) notes h told = told
 ending_as_asked content options input (Err run.Thread) notes h told = told
 ending_as_asked content options input (Err (run.Refused n)) notes h told = told
-ending_as_asked content options input (Err (run.Since s)) notes h told = absurd h
+ending_as_asked content options input (Err (run.Differs n)) notes h told = told
+ending_as_asked content options input (Err (run.Other w s)) notes h told = absurd h
 
 -- what is noted of a fault of what the words ask for, which is another map alone, is noted as asked
-noted_of_map : (content : List ℕ → Option (List ℕ)) (options : Options) (input own : Option (List ℕ)) (name : List ℕ) (f : RunFault) (notes : List ℕ) → IsMapFault own f → IsMapNoted options.mode.explain name own f notes
+noted_of_map : (content : List ℕ → Option (List ℕ)) (options : Options) (why : OtherMap) (input own : Option (List ℕ)) (name : List ℕ) (f : RunFault) (notes : List ℕ) → IsMapFault why own f → IsMapNoted options.mode.explain name own f notes
     → IsAskedNoted content options.mode.explain options.printed f notes → IsNotedAsAsked content options input (Err f) notes
-noted_of_map content options input own name (run.Job j) notes may told asked = absurd may
-noted_of_map content options input own name run.Read notes may told asked = absurd may
-noted_of_map content options input own name run.Write notes may told asked = absurd may
-noted_of_map content options input own name run.Memory notes may told asked = told
-noted_of_map content options input own name run.Thread notes may told asked = absurd may
-noted_of_map content options input own name (run.Refused n) notes may told asked = absurd may
-noted_of_map content options input own name (run.Since s) notes may told asked = asked
+noted_of_map content options why input own name (run.Job j) notes may told asked = absurd may
+noted_of_map content options why input own name run.Read notes may told asked = absurd may
+noted_of_map content options why input own name run.Write notes may told asked = absurd may
+noted_of_map content options why input own name run.Memory notes may told asked = told
+noted_of_map content options why input own name run.Thread notes may told asked = absurd may
+noted_of_map content options why input own name (run.Refused n) notes may told asked = absurd may
+noted_of_map content options why input own name (run.Differs n) notes may told asked = absurd may
+noted_of_map content options why input own name (run.Other w s) notes may told asked = asked
 
 asked_is_noted : (content : List ℕ → Option (List ℕ)) (explain : Bool) (what : Printed) (f : RunFault) (notes : List ℕ) → IsAskedFault content what f → IsAskedNoted content explain what f notes
-    → (own : Option (List ℕ)) × (name : List ℕ) × IsMapFault own f × IsMapNoted explain name own f notes
+    → (why : OtherMap) × (own : Option (List ℕ)) × (name : List ℕ) × IsMapFault why own f × IsMapNoted explain name own f notes
 asked_is_noted content explain printed.Map f notes h told = absurd h
 asked_is_noted content explain printed.Tree f notes h told = absurd h
-asked_is_noted content explain (printed.Since name) f notes h told = (content name.bytes.items, name.bytes.items, h, told)
+asked_is_noted content explain (printed.Since name) f notes h told = (beside.Since, content name.bytes.items, name.bytes.items, h, told)
 asked_is_noted content explain printed.AsCeph f notes h told = absurd h
+asked_is_noted content explain (printed.To words) f notes h told = (beside.To, content words.map.bytes.items, words.map.bytes.items, h, told)
 
 pub noted_as_asked : (content : List ℕ → Option (List ℕ)) (options : Options) (input : Option (List ℕ)) (f : RunFault) (notes : List ℕ) → IsAskedFault content options.printed f → IsAskedNoted content options.mode.explain options.printed f notes
     → IsNotedAsAsked content options input (Err f) notes
 noted_as_asked content options input f notes h told =
     let own = asked_is_noted content options.mode.explain options.printed f notes h told in
-    noted_of_map content options input own.0 own.1 f notes own.2 own.3 told
+    noted_of_map content options own.0 input own.1 own.2 f notes own.3 own.4 told

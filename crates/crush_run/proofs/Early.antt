@@ -6,6 +6,7 @@ use Rattle.crush_input.specs.declared.fault.RunFault.{RunFault}
 use Rattle.crush_input.specs.declared.fault.RunFault.TheVariants as run
 use Rattle.crush_input.specs.Notes.{HistoryNoted, IsFaultNoted, IsNoted, IsStrict}
 use Rattle.crush_reasons.specs.Place.{OriginData}
+use Rattle.crush_run.specs.Planned.{IsWhole}
 use Rattle.crush_run.specs.Stages.{IsEarlyFault, IsScriptsFault}
 use Rattle.crush_input.specs.Stages.{IsInputFault, IsNoJob, IsReadFault}
 
@@ -17,23 +18,39 @@ strict_of_early X strict h run.Write early = absurd early
 strict_of_early X strict h run.Memory early = tt
 strict_of_early X strict h run.Thread early = tt
 strict_of_early X strict h (run.Refused n) early = absurd early
-strict_of_early X strict h (run.Since s) early = tt
+strict_of_early X strict h (run.Differs n) early = absurd early
+strict_of_early X strict h (run.Other w s) early = tt
 
 pub early_strict : {X : Type 0} (strict : Bool) (h : List EntryData) (r : Result X RunFault) (f : RunFault) → r ≡ Err f → IsEarlyFault f → IsStrict strict h r
 early_strict {X = X} strict h r f is early = rw is (strict_of_early X strict h f early)
 
--- nor is anything of a history noted
-told_of_early : (X : Type 0) (mode : Mode) (weights : List ℕ) (names : List (List ℕ)) (h : List EntryData) (f : RunFault) (notes : List ℕ) → IsEarlyFault f → HistoryNoted {X = X} mode weights names h (Err f) notes
-told_of_early X mode weights names h (run.Job j) notes early = tt
-told_of_early X mode weights names h run.Read notes early = tt
-told_of_early X mode weights names h run.Write notes early = absurd early
-told_of_early X mode weights names h run.Memory notes early = tt
-told_of_early X mode weights names h run.Thread notes early = tt
-told_of_early X mode weights names h (run.Refused n) notes early = absurd early
-told_of_early X mode weights names h (run.Since s) notes early = tt
+-- nor is one of what stays behind a plan
+whole_of_early : (X : Type 0) (strict : Bool) (rest : List ℕ) (f : RunFault) → IsEarlyFault f → IsWhole {X = X} strict rest (Err f)
+whole_of_early X strict rest (run.Job j) early = tt
+whole_of_early X strict rest run.Read early = tt
+whole_of_early X strict rest run.Write early = absurd early
+whole_of_early X strict rest run.Memory early = tt
+whole_of_early X strict rest run.Thread early = tt
+whole_of_early X strict rest (run.Refused n) early = absurd early
+whole_of_early X strict rest (run.Differs n) early = absurd early
+whole_of_early X strict rest (run.Other w s) early = tt
 
-pub early_told : {X : Type 0} (mode : Mode) (weights : List ℕ) (names : List (List ℕ)) (h : List EntryData) (r : Result X RunFault) (f : RunFault) (notes : List ℕ) → r ≡ Err f → IsEarlyFault f → HistoryNoted mode weights names h r notes
-early_told {X = X} mode weights names h r f notes is early = rw is (told_of_early X mode weights names h f notes early)
+pub early_whole : {X : Type 0} (strict : Bool) (rest : List ℕ) (r : Result X RunFault) (f : RunFault) → r ≡ Err f → IsEarlyFault f → IsWhole strict rest r
+early_whole {X = X} strict rest r f is early = rw is (whole_of_early X strict rest f early)
+
+-- nor is anything of a history noted
+told_of_early : (X : Type 0) (mode : Mode) (weights : List ℕ) (names : List (List ℕ)) (h : List EntryData) (rest : List ℕ) (f : RunFault) (notes : List ℕ) → IsEarlyFault f → HistoryNoted {X = X} mode weights names h rest (Err f) notes
+told_of_early X mode weights names h rest (run.Job j) notes early = tt
+told_of_early X mode weights names h rest run.Read notes early = tt
+told_of_early X mode weights names h rest run.Write notes early = absurd early
+told_of_early X mode weights names h rest run.Memory notes early = tt
+told_of_early X mode weights names h rest run.Thread notes early = tt
+told_of_early X mode weights names h rest (run.Refused n) notes early = absurd early
+told_of_early X mode weights names h rest (run.Differs n) notes early = absurd early
+told_of_early X mode weights names h rest (run.Other w s) notes early = tt
+
+pub early_told : {X : Type 0} (mode : Mode) (weights : List ℕ) (names : List (List ℕ)) (h : List EntryData) (rest : List ℕ) (r : Result X RunFault) (f : RunFault) (notes : List ℕ) → r ≡ Err f → IsEarlyFault f → HistoryNoted mode weights names h rest r notes
+early_told {X = X} mode weights names h rest r f notes is early = rw is (told_of_early X mode weights names h rest f notes early)
 
 -- of a reader's fault, and of the scripts', nothing is noted
 noted_of_input : (explain : Bool) (origin : ℕ → OriginData) (all : Option (List ℕ)) (f : RunFault) (notes : List ℕ) → IsInputFault f → notes ≡ [] → IsFaultNoted explain origin all f notes
@@ -43,7 +60,8 @@ noted_of_input explain origin all run.Write notes h none = absurd h
 noted_of_input explain origin all run.Memory notes h none = none
 noted_of_input explain origin all run.Thread notes h none = absurd h
 noted_of_input explain origin all (run.Refused n) notes h none = absurd h
-noted_of_input explain origin all (run.Since s) notes h none = absurd h
+noted_of_input explain origin all (run.Differs n) notes h none = absurd h
+noted_of_input explain origin all (run.Other w s) notes h none = absurd h
 
 pub input_noted : {X : Type 0} (explain : Bool) (origin : ℕ → OriginData) (all : Option (List ℕ)) (r : Result X RunFault) (f : RunFault) (notes : List ℕ) → r ≡ Err f → IsInputFault f → notes ≡ [] → IsNoted explain origin all r notes
 input_noted explain origin all r f notes is h none = rw is (noted_of_input explain origin all f notes h none)
@@ -55,7 +73,8 @@ noted_of_scripts explain in_turn origin all run.Write notes h none = absurd h
 noted_of_scripts explain in_turn origin all run.Memory notes h none = none
 noted_of_scripts explain in_turn origin all run.Thread notes h none = none
 noted_of_scripts explain in_turn origin all (run.Refused n) notes h none = absurd h
-noted_of_scripts explain in_turn origin all (run.Since s) notes h none = absurd h
+noted_of_scripts explain in_turn origin all (run.Differs n) notes h none = absurd h
+noted_of_scripts explain in_turn origin all (run.Other w s) notes h none = absurd h
 
 pub scripts_noted : {X : Type 0} (explain in_turn : Bool) (origin : ℕ → OriginData) (all : Option (List ℕ)) (r : Result X RunFault) (f : RunFault) (notes : List ℕ) → r ≡ Err f → IsScriptsFault in_turn f → notes ≡ [] → IsNoted explain origin all r notes
 scripts_noted explain in_turn origin all r f notes is h none = rw is (noted_of_scripts explain in_turn origin all f notes h none)
@@ -68,7 +87,8 @@ early_of_input run.Write h = absurd h
 early_of_input run.Memory h = tt
 early_of_input run.Thread h = absurd h
 early_of_input (run.Refused n) h = absurd h
-early_of_input (run.Since s) h = absurd h
+early_of_input (run.Differs n) h = absurd h
+early_of_input (run.Other w s) h = absurd h
 
 pub early_of_scripts : (in_turn : Bool) (f : RunFault) → IsScriptsFault in_turn f → IsEarlyFault f
 early_of_scripts in_turn (run.Job j) h = absurd h
@@ -77,7 +97,8 @@ early_of_scripts in_turn run.Write h = absurd h
 early_of_scripts in_turn run.Memory h = tt
 early_of_scripts in_turn run.Thread h = tt
 early_of_scripts in_turn (run.Refused n) h = absurd h
-early_of_scripts in_turn (run.Since s) h = absurd h
+early_of_scripts in_turn (run.Differs n) h = absurd h
+early_of_scripts in_turn (run.Other w s) h = absurd h
 
 pub early_of_no_job : (all : Option (List ℕ)) (f : RunFault) → IsNoJob all f → IsEarlyFault f
 early_of_no_job all (run.Job j) h = tt
@@ -86,7 +107,8 @@ early_of_no_job all run.Write h = absurd h
 early_of_no_job all run.Memory h = tt
 early_of_no_job all run.Thread h = absurd h
 early_of_no_job all (run.Refused n) h = absurd h
-early_of_no_job all (run.Since s) h = absurd h
+early_of_no_job all (run.Differs n) h = absurd h
+early_of_no_job all (run.Other w s) h = absurd h
 
 pub early_of_read : (all : Option (List ℕ)) (f : RunFault) → IsReadFault all f → IsEarlyFault f
 early_of_read all (run.Job j) h = tt
@@ -95,4 +117,5 @@ early_of_read all run.Write h = absurd h
 early_of_read all run.Memory h = tt
 early_of_read all run.Thread h = absurd h
 early_of_read all (run.Refused n) h = absurd h
-early_of_read all (run.Since s) h = absurd h
+early_of_read all (run.Differs n) h = absurd h
+early_of_read all (run.Other w s) h = absurd h

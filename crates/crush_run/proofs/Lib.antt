@@ -5,5 +5,6 @@ pub mod Early
 pub mod Headings
 pub mod Lists
 pub mod Noted
+pub mod Plans
 pub mod Runs
 pub mod Told

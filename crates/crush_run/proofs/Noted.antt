@@ -1,5 +1,5 @@
 -- What is noted of an ending, and of a history.
-use Rattle.std.proofs.Common.{◌≡◌, ◌≢◌, ℕ, ◌+◌, Bool, true, false, cond, List, [], ◌∷◌, ◌++◌, Option, Some, None, Result, Ok, Err, refl, sym, subst, ◌∙◌, arith}
+use Rattle.std.proofs.Common.{◌≡◌, ◌≢◌, ℕ, ◌+◌, Bool, true, false, cond, List, [], ◌∷◌, ◌++◌, Option, Some, None, Result, Ok, Err, refl, sym, ap, subst, ◌∙◌, arith}
 use Rattle.std.specs.Prelude.{IfErr, IfSome, slice_index_or}
 use Rattle.std.specs.Io.KnownBytes.{Appends, Keeps}
 use Rattle.crush_bytes.specs.Writes.{AppendsLess}
@@ -18,9 +18,11 @@ use Rattle.crush_input.specs.declared.fault.RunFault.{RunFault}
 use Rattle.crush_input.specs.declared.fault.RunFault.TheVariants as run
 use Rattle.crush_input.specs.declared.summary.Summary.{Summary}
 use Rattle.crush_input.specs.Input.{IsInput}
-use Rattle.crush_input.specs.Notes.{HistoryNoted, IsFaultNoted, IsNoted, has_history, history_notes, refused_notes, IsStrict}
+use Rattle.crush_input.specs.Notes.{HistoryNoted, IsFaultNoted, IsNoted, history_notes, refused_notes, IsStrict}
 use Rattle.crush_run.specs.Run.{IsRunFault, lines_asked, main_text, summed}
-use Rattle.crush_run.specs.Stages.{EndsLeft, IsWritingFault}
+use Rattle.crush_plan.specs.Plan.{PlanData}
+use Rattle.crush_run.specs.Planned.{IsWhole}
+use Rattle.crush_run.specs.Stages.{EndsLeft, IsWritingFault, told_by}
 use Rattle.crush_input.proofs.Noted.{from_same, place_of_all}
 use Rattle.crush_run.proofs.Runs.{main_text_is_some}
 
@@ -34,7 +36,8 @@ ending_of_all mode o all bytes (Err run.Write) notes input h told = told
 ending_of_all mode o all bytes (Err run.Memory) notes input h told = told
 ending_of_all mode o all bytes (Err run.Thread) notes input h told = told
 ending_of_all mode o all bytes (Err (run.Refused n)) notes input h told = told
-ending_of_all mode o all bytes (Err (run.Since s)) notes input h told = absurd h
+ending_of_all mode o all bytes (Err (run.Differs n)) notes input h told = told
+ending_of_all mode o all bytes (Err (run.Other w s)) notes input h told = absurd h
 
 -- where no entry was refused there are no lines
 none_refused : (names : List (List ℕ)) (n : ℕ) (h : List EntryData) → refusals h ≡ 0 → refused_text names n h ≡ []
@@ -64,28 +67,30 @@ keeps_same None = tt
 keeps_same (Some xs) = refl
 
 -- a run that was out of memory before anything was written
-pub memory_ends : (mode : Mode) (what : Asked) (adjusted : ℕ) (m : MapData) (weights : List ℕ) (names : List (List ℕ)) (h : List EntryData) (r : Result Summary RunFault) (old : Option (List ℕ)) (notes : List ℕ) → r ≡ Err run.Memory → notes ≡ []
-    → EndsLeft mode what adjusted m weights names h r old old notes
-memory_ends mode what adjusted m weights names h r old notes is none = record {
-  writes = λ t stands. rw is (less_of_both old old _ _ (nothing_is_less old _ (main_text_is_some what m.setting t h)));
+pub memory_ends : (mode : Mode) (what : Asked) (plan : PlanData) (adjusted : ℕ) (m : MapData) (weights : List ℕ) (names : List (List ℕ)) (h : List EntryData) (r : Result Summary RunFault) (old : Option (List ℕ)) (notes : List ℕ) → r ≡ Err run.Memory → notes ≡ []
+    → EndsLeft mode what plan adjusted m weights names h r old old notes
+memory_ends mode what plan adjusted m weights names h r old notes is none = record {
+  writes = λ t stands. rw is (less_of_both old old _ _ (nothing_is_less old _ (main_text_is_some what plan m.setting t h)));
   summary = rw is tt;
   nothing = rw is (λ other. keeps_same old);
   fault = rw is tt;
   strict = rw is tt;
+  whole = rw is tt;
   told = rw is tt;
   noted = λ origin all. rw is none;
 }
 
 -- one that is done
-pub done_ends : (mode : Mode) (what : Asked) (adjusted : ℕ) (m : MapData) (weights : List ℕ) (names : List (List ℕ)) (h : List EntryData) (s : Summary) (old new : Option (List ℕ)) (notes : List ℕ)
-    → ((t : List Row) → Stands m.forest t → Appends old new (main_text what m.setting t h ++ lines_asked mode.history names h))
-    → s ≡ summed adjusted h → (mode.strict ≡ true → refusals h ≡ 0) → (mode.explain ≡ false → weights ≡ []) → notes ≡ history_notes mode weights names h → EndsLeft mode what adjusted m weights names h (Ok s) old new notes
-done_ends mode what adjusted m weights names h s old new notes writes sum strict plain is = record {
+pub done_ends : (mode : Mode) (what : Asked) (plan : PlanData) (adjusted : ℕ) (m : MapData) (weights : List ℕ) (names : List (List ℕ)) (h : List EntryData) (s : Summary) (old new : Option (List ℕ)) (notes : List ℕ)
+    → ((t : List Row) → Stands m.forest t → Appends old new (main_text what plan m.setting t h ++ lines_asked mode.history names h))
+    → s ≡ summed adjusted h → (mode.strict ≡ true → refusals h ≡ 0) → (mode.strict ≡ true → plan.rest ≡ []) → (mode.explain ≡ false → weights ≡ []) → notes ≡ history_notes mode weights names h → EndsLeft mode what plan adjusted m weights names h (Ok s) old new notes
+done_ends mode what plan adjusted m weights names h s old new notes writes sum strict whole plain is = record {
   writes = writes;
   summary = sum;
   nothing = tt;
   fault = tt;
   strict = strict;
+  whole = whole;
   told = is;
   noted = λ origin all. quiet_notes mode weights names h notes plain strict is;
 }
@@ -98,38 +103,53 @@ strict_of_fault strict h run.Write told = told
 strict_of_fault strict h run.Memory told = tt
 strict_of_fault strict h run.Thread told = tt
 strict_of_fault strict h (run.Refused n) told = told
-strict_of_fault strict h (run.Since s) told = tt
+strict_of_fault strict h (run.Differs n) told = told
+strict_of_fault strict h (run.Other w s) told = tt
 
-told_of_fault : (mode : Mode) (weights : List ℕ) (names : List (List ℕ)) (h : List EntryData) (f : RunFault) (own notes : List ℕ) → notes ≡ cond (has_history f) own [] → own ≡ history_notes mode weights names h
-    → HistoryNoted {X = Summary} mode weights names h (Err f) notes
-told_of_fault mode weights names h (run.Job j) own notes is told = tt
-told_of_fault mode weights names h run.Read own notes is told = tt
-told_of_fault mode weights names h run.Write own notes is told = is ∙ told
-told_of_fault mode weights names h run.Memory own notes is told = tt
-told_of_fault mode weights names h run.Thread own notes is told = tt
-told_of_fault mode weights names h (run.Refused n) own notes is told = is ∙ told
-told_of_fault mode weights names h (run.Since s) own notes is told = tt
+whole_of_fault : (strict : Bool) (rest : List ℕ) (f : RunFault) → IsWhole {X = Unit {0}} strict rest (Err f) → IsWhole {X = Summary} strict rest (Err f)
+whole_of_fault strict rest (run.Job j) told = tt
+whole_of_fault strict rest run.Read told = tt
+whole_of_fault strict rest run.Write told = told
+whole_of_fault strict rest run.Memory told = tt
+whole_of_fault strict rest run.Thread told = tt
+whole_of_fault strict rest (run.Refused n) told = tt
+whole_of_fault strict rest (run.Differs n) told = told
+whole_of_fault strict rest (run.Other w s) told = tt
 
-noted_of_fault : (mode : Mode) (weights : List ℕ) (names : List (List ℕ)) (h : List EntryData) (f : RunFault) (own notes : List ℕ) (origin : ℕ → OriginData) (all : Option (List ℕ)) → IsWritingFault mode.strict f → IsStrict {X = Unit {0}} mode.strict h (Err f)
-    → (mode.explain ≡ false → weights ≡ []) → notes ≡ cond (has_history f) own [] → own ≡ history_notes mode weights names h → IsFaultNoted mode.explain origin all f notes
-noted_of_fault mode weights names h (run.Job j) own notes origin all may strict plain is told = absurd may
-noted_of_fault mode weights names h run.Read own notes origin all may strict plain is told = absurd may
-noted_of_fault mode weights names h run.Write own notes origin all may strict plain is told = quiet_notes mode weights names h notes plain strict (is ∙ told)
-noted_of_fault mode weights names h run.Memory own notes origin all may strict plain is told = is
-noted_of_fault mode weights names h run.Thread own notes origin all may strict plain is told = absurd may
-noted_of_fault mode weights names h (run.Refused n) own notes origin all may strict plain is told = tt
-noted_of_fault mode weights names h (run.Since s) own notes origin all may strict plain is told = absurd may
+told_of_fault : (mode : Mode) (weights : List ℕ) (names : List (List ℕ)) (h : List EntryData) (rest : List ℕ) (f : RunFault) (own all notes : List ℕ) → IsWhole {X = Unit {0}} mode.strict rest (Err f) → notes ≡ told_by f own all
+    → own ≡ history_notes mode weights names h → (mode.strict ≡ true → all ≡ own ++ rest) → HistoryNoted {X = Summary} mode weights names h rest (Err f) notes
+told_of_fault mode weights names h rest (run.Job j) own all notes whole is told behind = tt
+told_of_fault mode weights names h rest run.Read own all notes whole is told behind = tt
+told_of_fault mode weights names h rest run.Write own all notes whole is told behind = is ∙ told
+told_of_fault mode weights names h rest run.Memory own all notes whole is told behind = tt
+told_of_fault mode weights names h rest run.Thread own all notes whole is told behind = tt
+told_of_fault mode weights names h rest (run.Refused n) own all notes whole is told behind = is ∙ told
+told_of_fault mode weights names h rest (run.Differs n) own all notes whole is told behind = is ∙ behind whole.0 ∙ ap (λ (l : List ℕ). l ++ rest) told
+told_of_fault mode weights names h rest (run.Other w s) own all notes whole is told behind = tt
 
-pub fault_ends : (mode : Mode) (what : Asked) (adjusted : ℕ) (m : MapData) (weights : List ℕ) (names : List (List ℕ)) (h : List EntryData) (r : Result Summary RunFault) (f : RunFault) (old new : Option (List ℕ)) (own notes : List ℕ) → r ≡ Err f
-    → ((t : List Row) → Stands m.forest t → AppendsLess old new (main_text what m.setting t h ++ lines_asked mode.history names h))
-    → (f ≢ run.Write → Keeps old new) → IsWritingFault mode.strict f → IsStrict {X = Unit {0}} mode.strict h (Err f)
-    → (mode.explain ≡ false → weights ≡ []) → notes ≡ cond (has_history f) own [] → own ≡ history_notes mode weights names h → EndsLeft mode what adjusted m weights names h r old new notes
-fault_ends mode what adjusted m weights names h r f old new own notes is writes nothing may strict plain said told = record {
+noted_of_fault : (mode : Mode) (weights : List ℕ) (names : List (List ℕ)) (h : List EntryData) (f : RunFault) (own whole notes : List ℕ) (origin : ℕ → OriginData) (all : Option (List ℕ)) → IsWritingFault mode.strict f
+    → IsStrict {X = Unit {0}} mode.strict h (Err f) → (mode.explain ≡ false → weights ≡ []) → notes ≡ told_by f own whole → own ≡ history_notes mode weights names h → IsFaultNoted mode.explain origin all f notes
+noted_of_fault mode weights names h (run.Job j) own whole notes origin all may strict plain is told = absurd may
+noted_of_fault mode weights names h run.Read own whole notes origin all may strict plain is told = absurd may
+noted_of_fault mode weights names h run.Write own whole notes origin all may strict plain is told = quiet_notes mode weights names h notes plain strict (is ∙ told)
+noted_of_fault mode weights names h run.Memory own whole notes origin all may strict plain is told = is
+noted_of_fault mode weights names h run.Thread own whole notes origin all may strict plain is told = absurd may
+noted_of_fault mode weights names h (run.Refused n) own whole notes origin all may strict plain is told = tt
+noted_of_fault mode weights names h (run.Differs n) own whole notes origin all may strict plain is told = tt
+noted_of_fault mode weights names h (run.Other w s) own whole notes origin all may strict plain is told = absurd may
+
+pub fault_ends : (mode : Mode) (what : Asked) (plan : PlanData) (adjusted : ℕ) (m : MapData) (weights : List ℕ) (names : List (List ℕ)) (h : List EntryData) (r : Result Summary RunFault) (f : RunFault) (old new : Option (List ℕ)) (own all notes : List ℕ)
+    → r ≡ Err f → ((t : List Row) → Stands m.forest t → AppendsLess old new (main_text what plan m.setting t h ++ lines_asked mode.history names h))
+    → (f ≢ run.Write → Keeps old new) → IsWritingFault mode.strict f → IsStrict {X = Unit {0}} mode.strict h (Err f) → IsWhole {X = Unit {0}} mode.strict plan.rest (Err f)
+    → (mode.explain ≡ false → weights ≡ []) → notes ≡ told_by f own all → own ≡ history_notes mode weights names h → (mode.strict ≡ true → all ≡ own ++ plan.rest)
+    → EndsLeft mode what plan adjusted m weights names h r old new notes
+fault_ends mode what plan adjusted m weights names h r f old new own all notes is writes nothing may strict whole plain said told behind = record {
   writes = λ t stands. rw is (writes t stands);
   summary = rw is tt;
   nothing = rw is nothing;
   fault = rw is may;
   strict = rw is (strict_of_fault mode.strict h f strict);
-  told = rw is (told_of_fault mode weights names h f own notes said told);
-  noted = λ origin all. rw is (noted_of_fault mode weights names h f own notes origin all may strict plain said told);
+  whole = rw is (whole_of_fault mode.strict plan.rest f whole);
+  told = rw is (told_of_fault mode weights names h plan.rest f own all notes whole said told behind);
+  noted = λ origin bytes. rw is (noted_of_fault mode weights names h f own all notes origin bytes may strict plain said told);
 }

@@ -4,6 +4,7 @@ use Rattle.std.proofs.lemmas.List.{length-append, length-map}
 use Rattle.std.proofs.lemmas.List.Elements.{All-nil, All-cons}
 use Rattle.crush_bytes.specs.Writes.{Writes}
 use Rattle.crush_table.specs.Forest.{rows_of}
+use Rattle.crush_table.specs.Stands.{Stands}
 use Rattle.crush_table.specs.Table.{Row}
 use Rattle.crush_edits.specs.Setting.{SettingData}
 use Rattle.crush_map.specs.MapData.{MapData, MapStands}
@@ -26,10 +27,13 @@ use Rattle.crush_input.specs.declared.asked.Asked.TheVariants as asked
 use Rattle.crush_input.specs.declared.fault.RunFault.{RunFault}
 use Rattle.crush_input.specs.declared.summary.Summary.{Summary}
 use Rattle.crush_script.specs.Job.{JobData}
+use Rattle.crush_plan.specs.Plan.{PlanData}
+use Rattle.crush_run.specs.Planned.{IsPlanned, plan_words}
 use Rattle.crush_run.specs.Run.{Ends, IsRunOf, lines_asked, main_text, output_of}
 use Rattle.crush_input.specs.Notes.{weight_notes}
 use Rattle.crush_run.specs.Stages.{EndsLeft, HaveRun, IsEarlyFault, RunsScripts}
-use Rattle.crush_run.proofs.Early.{early_strict, early_told}
+use Rattle.crush_run.proofs.Early.{early_strict, early_told, early_whole}
+use Rattle.crush_run.proofs.Plans.{plan_text_is_some, some_plan, some_plan_is}
 use Rattle.crush_run.proofs.Told.{nothing_written}
 
 -- the turns of the scripts are a run, in turn and at once
@@ -107,16 +111,17 @@ unfolding ceph_text ceph_heading
 ceph_text_is_some h = omega arith
 
 -- whatever is asked for, its text isn't empty
-pub main_text_is_some : (asked : Asked) (s : SettingData) (t : List Row) (h : List EntryData) → 0 < length (main_text asked s t h)
-main_text_is_some asked.Map s t h = map_text_is_some s t
-main_text_is_some asked.Tree s t h = tree_text_is_some s t
-main_text_is_some (asked.Since m) s t h = since_text_is_some (told m.setting (rows_of m.forest)) (told s t)
-main_text_is_some asked.AsCeph s t h = ceph_text_is_some h
+pub main_text_is_some : (asked : Asked) (plan : PlanData) (s : SettingData) (t : List Row) (h : List EntryData) → 0 < length (main_text asked plan s t h)
+main_text_is_some asked.Map plan s t h = map_text_is_some s t
+main_text_is_some asked.Tree plan s t h = tree_text_is_some s t
+main_text_is_some (asked.Since m) plan s t h = since_text_is_some (told m.setting (rows_of m.forest)) (told s t)
+main_text_is_some asked.AsCeph plan s t h = ceph_text_is_some h
+main_text_is_some (asked.To w) plan s t h = plan_text_is_some (plan_words w.as_ceph) plan
 
 -- so no output is empty
-output_is_some : (asked : Asked) (history : Bool) (job : JobData) (h : List EntryData) → 0 < length (output_of asked history job h)
-output_is_some asked history job h =
-    let some = main_text_is_some asked job.setting (table_after job.setting job.table h) h in
+output_is_some : (asked : Asked) (plan : PlanData) (history : Bool) (job : JobData) (h : List EntryData) → 0 < length (output_of asked plan history job h)
+output_is_some asked plan history job h =
+    let some = main_text_is_some asked plan job.setting (table_after job.setting job.table h) h in
     simp length-append (omega (arith, some))
 
 -- where nothing was written of a job, nothing is a prefix of what its turns would have had written
@@ -124,29 +129,36 @@ pub ended_early : (mode : Mode) (asked : Asked) (job : JobData) (weights : List 
     → Ends mode asked job weights r old old notes
 ended_early mode asked job weights r f old notes is early =
     let h = turns job.setting job.table job.scripts in
+    let plan = some_plan asked job.setting (table_after job.setting job.table h) in
     record {
       history = h;
       run = turns_run mode.in_turn job;
-      writes = nothing_written r f old (output_of asked mode.history job h) (output_is_some asked mode.history job h) is;
+      plan = plan;
+      planned = some_plan_is asked job.setting (table_after job.setting job.table h);
+      writes = nothing_written r f old (output_of asked plan mode.history job h) (output_is_some asked plan mode.history job h) is;
       summary = rw is tt;
       strict = early_strict mode.strict h r f is early;
-      noted = early_told mode weights (names_of job.scripts) h r f notes is early;
+      whole = early_whole mode.strict plan.rest r f is early;
+      noted = early_told mode weights (names_of job.scripts) h plan.rest r f notes is early;
     }
 
 -- a run that left a map and a history ends with it
-pub left_ends : (mode : Mode) (what : Asked) (job : JobData) (adjusted : ℕ) (m : MapData) (lines weights : List ℕ) (names : List (List ℕ)) (h es : List EntryData) (r : Result Summary RunFault) (old new : Option (List ℕ)) (notes : List ℕ)
-    → EndsLeft mode what adjusted m lines names es r old new notes → HaveRun mode.in_turn job m h → names ≡ names_of job.scripts → es ≡ h → adjusted ≡ job.adjusted → lines ≡ weights → Ends mode what job weights r old new notes
-left_ends mode what job adjusted m lines weights names h es r old new notes left ran same entries replaced written =
-    let own = subst (λ (e : List EntryData). EndsLeft mode what adjusted m lines names e r old new notes) entries left in
-    let named = subst (λ (n : List (List ℕ)). EndsLeft mode what adjusted m lines n h r old new notes) same own in
-    let summed = subst (λ (a : ℕ). EndsLeft mode what a m lines (names_of job.scripts) h r old new notes) replaced named in
-    let ends = subst (λ (w : List ℕ). EndsLeft mode what job.adjusted m w (names_of job.scripts) h r old new notes) written summed in
+pub left_ends : (mode : Mode) (what : Asked) (plan : PlanData) (job : JobData) (adjusted : ℕ) (m : MapData) (lines weights : List ℕ) (names : List (List ℕ)) (h es : List EntryData) (r : Result Summary RunFault) (old new : Option (List ℕ)) (notes : List ℕ)
+    → EndsLeft mode what plan adjusted m lines names es r old new notes → ((t : List Row) → Stands m.forest t → IsPlanned what m.setting t plan) → HaveRun mode.in_turn job m h → names ≡ names_of job.scripts → es ≡ h → adjusted ≡ job.adjusted → lines ≡ weights → Ends mode what job weights r old new notes
+left_ends mode what plan job adjusted m lines weights names h es r old new notes left planned ran same entries replaced written =
+    let own = subst (λ (e : List EntryData). EndsLeft mode what plan adjusted m lines names e r old new notes) entries left in
+    let named = subst (λ (n : List (List ℕ)). EndsLeft mode what plan adjusted m lines n h r old new notes) same own in
+    let summed = subst (λ (a : ℕ). EndsLeft mode what plan a m lines (names_of job.scripts) h r old new notes) replaced named in
+    let ends = subst (λ (w : List ℕ). EndsLeft mode what plan job.adjusted m w (names_of job.scripts) h r old new notes) written summed in
     record {
       history = h;
       run = ran.run;
-      writes = subst (λ (s : SettingData). Writes r old new (main_text what s (table_after job.setting job.table h) h ++ lines_asked mode.history (names_of job.scripts) h)) ran.stands.setting (ends.writes _ ran.stands.forest);
+      plan = plan;
+      planned = subst (λ (s : SettingData). IsPlanned what s (table_after job.setting job.table h) plan) ran.stands.setting (planned _ ran.stands.forest);
+      writes = subst (λ (s : SettingData). Writes r old new (main_text what plan s (table_after job.setting job.table h) h ++ lines_asked mode.history (names_of job.scripts) h)) ran.stands.setting (ends.writes _ ran.stands.forest);
       summary = ends.summary;
       strict = ends.strict;
+      whole = ends.whole;
       noted = ends.told;
     }
 

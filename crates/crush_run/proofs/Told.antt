@@ -23,7 +23,8 @@ run_fault_of_all mode (Err run.Write) all bytes input h = has_job all bytes inpu
 run_fault_of_all mode (Err run.Memory) all bytes input h = tt
 run_fault_of_all mode (Err run.Thread) all bytes input h = (h.0, has_job all bytes input h.1)
 run_fault_of_all mode (Err (run.Refused n)) all bytes input h = (h.0, has_job all bytes input h.1)
-run_fault_of_all mode (Err (run.Since s)) all bytes input h = absurd h
+run_fault_of_all mode (Err (run.Differs n)) all bytes input h = (h.0, has_job all bytes input h.1)
+run_fault_of_all mode (Err (run.Other w s)) all bytes input h = absurd h
 
 -- where a job was read, there is one
 pub is_job : (r : Result Summary RunFault) (bytes : List ℕ) → HasJob bytes → IfOk r (λ _. HasJob bytes)
@@ -39,7 +40,8 @@ run_fault_of_job mode (Err run.Write) all has h = has
 run_fault_of_job mode (Err run.Memory) all has h = tt
 run_fault_of_job mode (Err run.Thread) all has h = (h, has)
 run_fault_of_job mode (Err (run.Refused n)) all has h = (h, has)
-run_fault_of_job mode (Err (run.Since s)) all has h = absurd h
+run_fault_of_job mode (Err (run.Differs n)) all has h = (h, has)
+run_fault_of_job mode (Err (run.Other w s)) all has h = absurd h
 
 -- a fault of the scripts is one of the outcome
 pub outcome_fault_of_scripts : (mode : Mode) (f : RunFault) → IsScriptsFault mode.in_turn f → IsOutcomeFault mode f
@@ -49,7 +51,8 @@ outcome_fault_of_scripts mode run.Write h = absurd h
 outcome_fault_of_scripts mode run.Memory h = h
 outcome_fault_of_scripts mode run.Thread h = h
 outcome_fault_of_scripts mode (run.Refused n) h = absurd h
-outcome_fault_of_scripts mode (run.Since s) h = h
+outcome_fault_of_scripts mode (run.Differs n) h = absurd h
+outcome_fault_of_scripts mode (run.Other w s) h = h
 
 -- and so is one of what is written
 pub outcome_fault_of_writing : (mode : Mode) (r : Result Summary RunFault) → IfErr r (IsWritingFault mode.strict) → IfErr r (IsOutcomeFault mode)
@@ -60,7 +63,8 @@ outcome_fault_of_writing mode (Err run.Write) h = h
 outcome_fault_of_writing mode (Err run.Memory) h = h
 outcome_fault_of_writing mode (Err run.Thread) h = absurd h
 outcome_fault_of_writing mode (Err (run.Refused n)) h = h
-outcome_fault_of_writing mode (Err (run.Since s)) h = h
+outcome_fault_of_writing mode (Err (run.Differs n)) h = h
+outcome_fault_of_writing mode (Err (run.Other w s)) h = h
 
 -- after a fault before anything was written, nothing is a prefix of the output, which isn't empty
 pub nothing_written : (r : Result Summary RunFault) (f : RunFault) (old : Option (List ℕ)) (text : List ℕ) → 0 < length text → r ≡ Err f → Writes r old old text
@@ -74,7 +78,8 @@ run_fault_of_input mode run.Write all h = absurd h
 run_fault_of_input mode run.Memory all h = tt
 run_fault_of_input mode run.Thread all h = absurd h
 run_fault_of_input mode (run.Refused n) all h = absurd h
-run_fault_of_input mode (run.Since s) all h = absurd h
+run_fault_of_input mode (run.Differs n) all h = absurd h
+run_fault_of_input mode (run.Other w s) all h = absurd h
 
 -- bytes that are no job have a fault of the run
 pub run_fault_of_no_job : (mode : Mode) (f : RunFault) (all : Option (List ℕ)) → IsNoJob all f → IsRunFault mode all f
@@ -84,4 +89,5 @@ run_fault_of_no_job mode run.Write all h = absurd h
 run_fault_of_no_job mode run.Memory all h = tt
 run_fault_of_no_job mode run.Thread all h = absurd h
 run_fault_of_no_job mode (run.Refused n) all h = absurd h
-run_fault_of_no_job mode (run.Since s) all h = absurd h
+run_fault_of_no_job mode (run.Differs n) all h = absurd h
+run_fault_of_no_job mode (run.Other w s) all h = absurd h

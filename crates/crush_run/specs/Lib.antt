@@ -1,4 +1,5 @@
 pub mod Options
+pub mod Planned
 pub mod Run
 pub mod Script
 pub mod Stages

@@ -12,7 +12,7 @@ use Rattle.crush_input.specs.Options.{IsAskedFault, IsAskedOf}
 
 -- when each fault is told: one of another map only where a job was read, and else as of any run
 abbrev pub IsOptionsFault : (List ℕ → Option (List ℕ)) → Options → Option (List ℕ) → RunFault → Type 0
-IsOptionsFault content options all (run.Since fault) = IfSome all HasJob × IsAskedFault content options.printed (run.Since fault)
+IsOptionsFault content options all (run.Other which fault) = IfSome all HasJob × IsAskedFault content options.printed (run.Other which fault)
 IsOptionsFault content options all fault = IsRunFault options.mode all fault
 
 -- what the words ask for was there, and the run is one with it, of which the weights written in these bytes are noted
@@ -21,10 +21,11 @@ pub record EndsAsked (content : List ℕ → Option (List ℕ)) (options : Optio
   pub asked : IsAskedOf content options.printed what
   pub ends : Ends options.mode what job (weight_notes options.mode.explain bytes job.table) result old new notes
 
--- ENDS AS ASKED: said of a run that was done, that failed to write, or that was strict and met refusals; any other came to no
--- output
+-- ENDS AS ASKED: said of a run that was done, that failed to write, or that was strict and met refusals or differences; any other
+-- came to no output
 abbrev pub EndsAsAsked : (List ℕ → Option (List ℕ)) → Options → List ℕ → JobData → Result Summary RunFault → Option (List ℕ) → Option (List ℕ) → List ℕ → Type 0
 EndsAsAsked content options bytes job (Ok s) old new notes = EndsAsked content options bytes job (Ok s) old new notes
 EndsAsAsked content options bytes job (Err run.Write) old new notes = EndsAsked content options bytes job (Err run.Write) old new notes
 EndsAsAsked content options bytes job (Err (run.Refused n)) old new notes = EndsAsked content options bytes job (Err (run.Refused n)) old new notes
+EndsAsAsked content options bytes job (Err (run.Differs n)) old new notes = EndsAsked content options bytes job (Err (run.Differs n)) old new notes
 EndsAsAsked content options bytes job (Err fault) old new notes = Unit {0}

@@ -8,6 +8,8 @@ use Rattle.crush_print.specs.MapText.{map_text}
 use Rattle.crush_view.specs.Since.{told, since_text}
 use Rattle.crush_view.specs.TreeText.{tree_text}
 use Rattle.crush_reasons.specs.Ceph.{ceph_text}
+use Rattle.crush_plan.specs.Plan.{PlanData}
+use Rattle.crush_plan.specs.PlanText.{plan_text}
 use Rattle.crush_calls.specs.History.{EntryData, IsLegal, of_operator, table_after, changes, turns}
 use Rattle.crush_calls.specs.Turns.{calls_at, calls_of}
 use Rattle.crush_calls.specs.HistoryText.{entries_text, names_of}
@@ -20,6 +22,7 @@ use Rattle.crush_input.specs.declared.fault.RunFault.TheVariants as run
 use Rattle.crush_input.specs.declared.summary.Summary.{Summary}
 use Rattle.crush_input.specs.Notes.{HistoryNoted, IsStrict}
 use Rattle.crush_input.specs.Faults.{IsRefusal}
+use Rattle.crush_run.specs.Planned.{IsPlanned, IsWhole, plan_words}
 
 -- RUN: a history of a job. Each reply is the table's at that point; the calls of each operator are its script's, in order, and
 -- there are no others; in turn the scripts run one after the other
@@ -33,17 +36,19 @@ abbrev pub lines_asked : Bool → List (List ℕ) → List EntryData → List �
 lines_asked history names h = if history then entries_text names 1 h else []
 
 -- what is asked for of a map with this setting and this table, which it has after a history: its text, its tree, what has
--- changed in it since another map, or the commands that changed it
-abbrev pub main_text : Asked → SettingData → List Row → List EntryData → List ℕ
-main_text asked.Map s t h = map_text s t
-main_text asked.Tree s t h = tree_text s t
-main_text (asked.Since m) s t h = since_text (told m.setting (rows_of m.forest)) (told s t)
-main_text asked.AsCeph s t h = ceph_text h
+-- changed in it since another map, the commands that changed it, or a plan from it
+abbrev pub main_text : Asked → PlanData → SettingData → List Row → List EntryData → List ℕ
+main_text asked.Map plan s t h = map_text s t
+main_text asked.Tree plan s t h = tree_text s t
+main_text (asked.Since m) plan s t h = since_text (told m.setting (rows_of m.forest)) (told s t)
+main_text asked.AsCeph plan s t h = ceph_text h
+main_text (asked.To wanted) plan s t h = plan_text (plan_words wanted.as_ceph) plan
 
--- OUTPUT: what is asked for of the map after the history, and behind it the lines that are asked for
-abbrev pub output_of : Asked → Bool → JobData → List EntryData → List ℕ
-output_of what history job h =
-    main_text what job.setting (table_after job.setting job.table h) h ++ lines_asked history (names_of job.scripts) h
+-- OUTPUT: what is asked for of the map after the history, and behind it the lines that are asked for. But for a plan it is a function
+-- of the job, its history and what is asked for
+abbrev pub output_of : Asked → PlanData → Bool → JobData → List EntryData → List ℕ
+output_of what plan history job h =
+    main_text what plan job.setting (table_after job.setting job.table h) h ++ lines_asked history (names_of job.scripts) h
 
 -- SUMMARY: the written weights that were replaced, the calls, and those that changed the map
 abbrev pub summed : ℕ → List EntryData → Summary
@@ -52,18 +57,22 @@ summed adjusted h = record { adjusted = adjusted; calls = length h; changes = ch
 abbrev pub summary_of : JobData → List EntryData → Summary
 summary_of job h = summed job.adjusted h
 
--- ENDS: there is a run of the job whose output is written, or after a fault a prefix of it that isn't the whole, which the
--- summary sums up, whose refused entries end it where it is strict, and are noted, with these lines of written weights
+-- ENDS: there is a run of the job, and a plan where one is asked for, whose output is written, or after a fault a prefix of it that
+-- isn't the whole, which the summary sums up, and which refused entries, or what stays behind the plan, end where it is strict; they
+-- are noted, with these lines of written weights
 pub record Ends (mode : Mode) (what : Asked) (job : JobData) (weights : List ℕ) (result : Result Summary RunFault) (old new : Option (List ℕ)) (notes : List ℕ) : Type 0 where
   pub history : List EntryData
   pub run : IsRunOf mode.in_turn job history
-  pub writes : Writes result old new (output_of what mode.history job history)
+  pub plan : PlanData
+  pub planned : IsPlanned what job.setting (table_after job.setting job.table history) plan
+  pub writes : Writes result old new (output_of what plan mode.history job history)
   pub summary : IfOk result (λ (s : Summary). s ≡ summary_of job history)
   pub strict : IsStrict mode.strict history result
-  pub noted : HistoryNoted mode weights (names_of job.scripts) history result notes
+  pub whole : IsWhole mode.strict plan.rest result
+  pub noted : HistoryNoted mode weights (names_of job.scripts) history plan.rest result notes
 
--- when each fault is told: Job of bytes that are no job, Write, Thread and Refused only of bytes that are one, Thread never in
--- turn, Refused of strict runs alone, and none of another map, which no run of a job reads
+-- when each fault is told: Job of bytes that are no job, Write, Thread, Refused and Differs only of bytes that are one, Thread never
+-- in turn, Refused and Differs of strict runs alone, and none of another map, which no run of a job reads
 abbrev pub IsRunFault : Mode → Option (List ℕ) → RunFault → Type 0
 IsRunFault mode all (run.Job fault) = IsRefusal all fault
 IsRunFault mode all run.Write = IfSome all HasJob
@@ -71,4 +80,5 @@ IsRunFault mode all run.Read = Unit {0}
 IsRunFault mode all run.Memory = Unit {0}
 IsRunFault mode all run.Thread = (mode.in_turn ≡ false) × IfSome all HasJob
 IsRunFault mode all (run.Refused n) = (mode.strict ≡ true) × IfSome all HasJob
-IsRunFault mode all (run.Since fault) = ⊥
+IsRunFault mode all (run.Differs n) = (mode.strict ≡ true) × IfSome all HasJob
+IsRunFault mode all (run.Other which fault) = ⊥

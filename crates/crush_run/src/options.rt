@@ -10,7 +10,7 @@ ghost use Rattle.crush_run.specs.Options.{EndsAsAsked, IsOptionsFault};
 use crate::ending::Ending;
 use crate::gate::NoGate;
 use crate::run::run_read;
-use crush_input::{Opens, Plan, RunFault, asked_of, read_whole};
+use crush_input::{Opens, Request, RunFault, asked_of, read_whole};
 use crush_options::Options;
 use std::io::{Read, Write};
 use std::random::RandomSource;
@@ -22,8 +22,8 @@ use std::thread::Threads;
 /// opened is one that can't be read, and is told as [`RunFault::Read`]; where reasons are asked for,
 /// the notes are its name and the system's reason.
 ///
-/// A map since which changes are asked for is read once the job is, and told of as
-/// [`RunFault::Since`]; its file may have as many bytes as a job. Of a flaw of its text the notes
+/// A map since which changes are asked for, or to which commands, is read once the job is, and told of
+/// as [`RunFault::Other`]; its file may have as many bytes as a job. Of a flaw of its text the notes
 /// are the place, with the name of the file, where reasons are asked for.
 ///
 /// Behind a job that doesn't end in a line feed comes one, and before a script whose first line with
@@ -79,5 +79,5 @@ where
         Ok(asked) => asked,
         Err(stopped) => return Ending::of_stopped(stopped),
     };
-    run_read(rt, &NoGate, &Plan { mode, asked }, job, output)
+    run_read(rt, &NoGate, &Request { mode, asked }, job, output)
 }

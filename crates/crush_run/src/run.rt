@@ -11,25 +11,29 @@ ghost use Rattle.crush_script.specs.Job.{HasJob, IsJob, JobData, JobStands};
 ghost use Rattle.crush_calls.specs.Script.{scripts_data};
 ghost use Rattle.crush_reasons.specs.Place.{OriginData};
 ghost use Rattle.crush_input.specs.Input.{TakesFew};
-ghost use Rattle.crush_input.specs.Notes.{IsNoted, IsStrict, has_history, weight_notes};
+ghost use Rattle.crush_input.specs.Notes.{IsNoted, IsStrict, weight_notes};
 ghost use Rattle.crush_input.specs.Origins.{no_origin};
 ghost use Rattle.crush_run.specs.Run.{Ends, IsRunFault, lines_asked, main_text, summed};
 ghost use Rattle.crush_reasons.specs.Ceph.{ceph_text};
-ghost use Rattle.crush_run.specs.Stages.{EndsLeft, IsOutcomeFault, IsScriptsFault, IsWritingFault, RunsScripts};
+ghost use Rattle.crush_plan.specs.Plan.{plan_data};
+ghost use Rattle.crush_run.specs.Planned.{IsWhole};
+ghost use Rattle.crush_run.specs.Stages.{EndsLeft, IsOutcomeFault, IsScriptsFault, IsWritingFault, RunsScripts, told_by};
 ghost use Rattle.crush_units.specs.declared.limits.TheConstants.{MOST_ENTRIES, MOST_OPERATORS};
 
 use crate::at_once::run_at_once;
 use crate::ending::Ending;
 use crate::gate::Gate;
 use crate::in_turn::run_in_turn;
+use crate::planned::{check_whole, plan_asked, whole_notes, write_plan};
 use crush_bytes::{WriteFault, put};
 use crush_calls::{Entry, Script, count_changes, history_text};
 use crush_editor::{Closed, Unkept};
 use crush_input::{
-    Asked, Origins, Plan, RunFault, Summary, Weighed, check_strict, history_notes, job_of,
+    Asked, Origins, Request, RunFault, Summary, Weighed, check_strict, history_notes, job_of,
     read_bytes,
 };
 use crush_map::CrushMap;
+use crush_plan::Plan;
 use crush_print::write_map;
 use crush_reasons::ceph_text;
 use crush_script::Job;
@@ -76,6 +80,7 @@ fn write_ceph<W: Write>(alloc: Global, entries: &[Entry], writer: &mut W) -> Res
 fn write_asked<W: Write>(
     alloc: Global,
     asked: &Asked,
+    plan: &Plan,
     map: &CrushMap<Global>,
     entries: &[Entry],
     writer: &mut W,
@@ -83,7 +88,7 @@ fn write_asked<W: Write>(
     requires { length entries.now ≤ MOST_ENTRIES }
     ensures writes { (t : List Row) → Stands map.now.forest t
         → Writes result (W.contents writer.old) (W.contents writer.new)
-        (main_text asked.now map.now.setting t entries.now) }
+        (main_text asked.now (plan_data plan.now) map.now.setting t entries.now) }
     ensures none { result ≡ Err WriteFault.OutOfMemory
         → Keeps (W.contents writer.old) (W.contents writer.new) }
 {
@@ -95,6 +100,7 @@ fn write_asked<W: Write>(
             write_since(alloc, old, map, writer)
         }
         Asked::AsCeph => write_ceph(alloc, entries, writer),
+        Asked::To(wanted) => write_plan(alloc, wanted.as_ceph, plan, writer),
     }
 }
 
@@ -105,6 +111,8 @@ struct Left<'a> {
     adjusted: u32,
     /// The map after the history.
     map: &'a CrushMap<Global>,
+    /// The plan from it, where one is asked for.
+    plan: &'a Plan,
     scripts: &'a [Script],
     /// The history.
     entries: &'a [Entry],
@@ -113,10 +121,11 @@ struct Left<'a> {
 }
 
 /// Writes what is asked for of the map, and behind it the history where it is asked for, unless the
-/// run is strict and calls were refused. Both are laid out before anything is written.
+/// run is strict and calls were refused, or something stays behind its plan. Both are laid out before
+/// anything is written.
 fn write_outcome<W: Write>(
     alloc: Global,
-    plan: &Plan,
+    request: &Request,
     left: &Left<'_>,
     writer: &mut W,
 ) -> Result<(), RunFault>
@@ -124,16 +133,26 @@ fn write_outcome<W: Write>(
     requires operators { AreOf (length left.now.scripts.now) left.now.entries.now }
     ensures writes { (t : List Row) → Stands left.now.map.now.forest t
         → Writes result (W.contents writer.old) (W.contents writer.new)
-        (main_text plan.now.asked left.now.map.now.setting t left.now.entries.now
-        ++ lines_asked plan.now.mode.history (names_of (scripts_data left.now.scripts.now)) left.now.entries.now) }
+        (main_text request.now.asked (plan_data left.now.plan.now) left.now.map.now.setting t
+        left.now.entries.now
+        ++ lines_asked request.now.mode.history (names_of (scripts_data left.now.scripts.now)) left.now.entries.now) }
     ensures nothing { IfErr result (λ fault. fault ≢ RunFault.Write
         → Keeps (W.contents writer.old) (W.contents writer.new)) }
-    ensures fault { IfErr result (IsWritingFault plan.now.mode.strict) }
-    ensures strict { IsStrict plan.now.mode.strict left.now.entries.now result }
+    ensures fault { IfErr result (IsWritingFault request.now.mode.strict) }
+    ensures strict { IsStrict request.now.mode.strict left.now.entries.now result }
+    ensures whole { IsWhole request.now.mode.strict left.now.plan.now.rest.items result }
 {
-    check_strict(plan.mode.strict, left.entries)?;
-    let lines = lines_asked(alloc, plan.mode.history, left.scripts, left.entries)?;
-    write_asked(alloc, &plan.asked, left.map, left.entries, writer)?;
+    check_strict(request.mode.strict, left.entries)?;
+    check_whole(request.mode.strict, left.plan)?;
+    let lines = lines_asked(alloc, request.mode.history, left.scripts, left.entries)?;
+    write_asked(
+        alloc,
+        &request.asked,
+        left.plan,
+        left.map,
+        left.entries,
+        writer,
+    )?;
     put(writer, lines.as_slice())?;
     Ok(())
 }
@@ -150,39 +169,53 @@ fn summary_of(left: &Left<'_>) -> Summary
     }
 }
 
-/// The end of a run by a fault: what was refused is told where there is a history.
-fn end_by(alloc: Global, fault: RunFault, notes: Vec<u8>) -> Ending
+/// The end of a run by a fault. Where there is a history, what was refused is told, and where what
+/// stays behind a plan ends the run, that too.
+fn end_by(alloc: Global, fault: RunFault, notes: Vec<u8>, whole: Vec<u8>) -> Ending
     ensures outcome { result.outcome ≡ Err fault }
-    ensures notes { result.notes.items ≡ (if has_history fault then notes.items else []) }
+    ensures notes { result.notes.items ≡ told_by fault notes.items whole.items }
 {
-    if fault.has_history() {
-        return Ending {
+    match fault {
+        RunFault::Write | RunFault::Refused(_) => Ending {
             outcome: Err(fault),
             notes,
-        };
+        },
+        RunFault::Differs(_) => Ending {
+            outcome: Err(fault),
+            notes: whole,
+        },
+        _ => Ending::quietly(alloc, fault),
     }
-    Ending::quietly(alloc, fault)
 }
 
-/// Writes what is asked for, and tells of the calls that were refused and of written weights, where
-/// that is asked for.
-fn end_run<W: Write>(alloc: Global, plan: &Plan, left: &Left<'_>, writer: &mut W) -> Ending
+/// Writes what is asked for, and tells of the calls that were refused, of written weights and of what
+/// stays, where that is asked for.
+fn end_run<W: Write>(alloc: Global, request: &Request, left: &Left<'_>, writer: &mut W) -> Ending
     requires few { length left.now.entries.now ≤ MOST_ENTRIES }
     requires operators { AreOf (length left.now.scripts.now) left.now.entries.now }
-    requires plain { plan.now.mode.explain ≡ false → left.now.weights.now ≡ [] }
-    ensures { EndsLeft plan.now.mode plan.now.asked left.now.adjusted left.now.map.now
-        left.now.weights.now (names_of (scripts_data left.now.scripts.now)) left.now.entries.now result.outcome
+    requires plain { request.now.mode.explain ≡ false → left.now.weights.now ≡ [] }
+    ensures { EndsLeft request.now.mode request.now.asked (plan_data left.now.plan.now)
+        left.now.adjusted left.now.map.now left.now.weights.now (names_of (scripts_data left.now.scripts.now)) left.now.entries.now result.outcome
         (W.contents writer.old) (W.contents writer.new) result.notes.items }
 {
-    let Ok(notes) = history_notes(alloc, plan.mode, left.scripts, left.entries, left.weights) else {
+    let Ok(notes) = history_notes(
+        alloc,
+        request.mode,
+        left.scripts,
+        left.entries,
+        left.weights,
+    ) else {
         return Ending::quietly(alloc, RunFault::Memory);
     };
-    match write_outcome(alloc, plan, left, writer) {
+    let Ok(whole) = whole_notes(alloc, request.mode.strict, notes.as_slice(), left.plan) else {
+        return Ending::quietly(alloc, RunFault::Memory);
+    };
+    match write_outcome(alloc, request, left, writer) {
         Ok(()) => Ending {
             outcome: Ok(summary_of(left)),
             notes,
         },
-        Err(fault) => end_by(alloc, fault, notes),
+        Err(fault) => end_by(alloc, fault, notes, whole),
     }
 }
 
@@ -230,20 +263,20 @@ fn run_scripts<H: AllocGlobal + Threads + Wait + Sync, G: Gate + Sync>(
 pub(crate) fn run_read<H: AllocGlobal + Threads + Wait + Sync, G: Gate + Sync, W: Write>(
     rt: &H,
     gate: &G,
-    plan: &Plan,
+    request: &Request,
     weighed: Weighed,
     writer: &mut W,
 ) -> Ending
     requires few { length weighed.job.scripts.items ≤ MOST_OPERATORS }
-    requires plain { plan.now.mode.explain ≡ false → weighed.weights.items ≡ [] }
+    requires plain { request.now.mode.explain ≡ false → weighed.weights.items ≡ [] }
     ensures ends { (read : JobData) → JobStands weighed.job read
-        → Ends plan.now.mode plan.now.asked read weighed.weights.items result.outcome
+        → Ends request.now.mode request.now.asked read weighed.weights.items result.outcome
         (W.contents writer.old) (W.contents writer.new) result.notes.items }
     ensures nothing { IfErr result.outcome (λ fault. fault ≢ RunFault.Write
         → Keeps (W.contents writer.old) (W.contents writer.new)) }
-    ensures fault { IfErr result.outcome (IsOutcomeFault plan.now.mode) }
+    ensures fault { IfErr result.outcome (IsOutcomeFault request.now.mode) }
     ensures noted { (origin : ℕ → OriginData) (all : Option (List ℕ))
-        → IsNoted plan.now.mode.explain origin all result.outcome result.notes.items }
+        → IsNoted request.now.mode.explain origin all result.outcome result.notes.items }
 {
     let alloc = rt.alloc();
     let Weighed { job, weights } = weighed;
@@ -255,7 +288,7 @@ pub(crate) fn run_read<H: AllocGlobal + Threads + Wait + Sync, G: Gate + Sync, W
     let Ok(named) = headings(alloc, scripts.as_slice()) else {
         return Ending::quietly(alloc, RunFault::Memory);
     };
-    let closed = match run_scripts(rt, gate, plan.mode.in_turn, map, scripts) {
+    let closed = match run_scripts(rt, gate, request.mode.in_turn, map, scripts) {
         Ok(closed) => closed,
         Err(fault) => return Ending::quietly(alloc, fault),
     };
@@ -264,36 +297,40 @@ pub(crate) fn run_read<H: AllocGlobal + Threads + Wait + Sync, G: Gate + Sync, W
         map,
         history,
     } = closed;
+    let Ok(plan) = plan_asked(alloc, &request.asked, &map) else {
+        return Ending::quietly(alloc, RunFault::Memory);
+    };
     let entries = history.as_slice();
     let left = Left {
         adjusted,
         map: &map,
+        plan: &plan,
         scripts: named.as_slice(),
         entries,
         weights: weights.as_slice(),
     };
-    end_run(alloc, plan, &left, writer)
+    end_run(alloc, request, &left, writer)
 }
 
 /// Runs a job of which these are the bytes, as [`run_job`] runs one that it reads.
-fn run_bytes<H, G, W>(rt: &H, gate: &G, plan: &Plan, bytes: Vec<u8>, writer: &mut W) -> Ending
+fn run_bytes<H, G, W>(rt: &H, gate: &G, request: &Request, bytes: Vec<u8>, writer: &mut W) -> Ending
 where
     H: AllocGlobal + RandomSource + Threads + Wait + Sync,
     G: Gate + Sync,
     W: Write,
     ensures job { IfOk result.outcome (λ _. HasJob bytes.items) }
     ensures output { (job : JobData) → IsJob bytes.items job
-        → Ends plan.now.mode plan.now.asked job
-        (weight_notes plan.now.mode.explain bytes.items job.table) result.outcome
+        → Ends request.now.mode request.now.asked job
+        (weight_notes request.now.mode.explain bytes.items job.table) result.outcome
         (W.contents writer.old) (W.contents writer.new) result.notes.items }
-    ensures noted { IsNoted plan.now.mode.explain no_origin (Some bytes.items)
+    ensures noted { IsNoted request.now.mode.explain no_origin (Some bytes.items)
         result.outcome result.notes.items }
     ensures nothing { IfErr result.outcome (λ fault. fault ≢ RunFault.Write
         → Keeps (W.contents writer.old) (W.contents writer.new)) }
-    ensures fault { IfErr result.outcome (IsRunFault plan.now.mode (Some bytes.items)) }
+    ensures fault { IfErr result.outcome (IsRunFault request.now.mode (Some bytes.items)) }
 {
-    match job_of(rt, plan.mode.explain, Origins::none(), bytes) {
-        Ok(job) => run_read(rt, gate, plan, job, writer),
+    match job_of(rt, request.mode.explain, Origins::none(), bytes) {
+        Ok(job) => run_read(rt, gate, request, job, writer),
         Err(stopped) => Ending::of_stopped(stopped),
     }
 }
@@ -302,12 +339,13 @@ where
 /// them and, where the mode asks for it, a line for each call with its reply.
 ///
 /// In turn the scripts run one after the other, in the order of their sections, so that what is
-/// written is a function of the bytes read. Otherwise each operator has a thread of its own, and
+/// written, but for a plan, is a function of the bytes read. Otherwise each operator has a thread of its own, and
 /// the calls come in an order that nothing but their scripts orders. The gate is called before and
 /// after each call.
 ///
 /// A strict run in which calls were refused ends with [`RunFault::Refused`], and their lines are
-/// its notes: all calls were made and judged, and nothing is written. Where the mode asks for
+/// its notes: all calls were made and judged, and nothing is written. One in which differences to a
+/// wanted map stay behind its plan ends with [`RunFault::Differs`], and notes the lines of these. Where the mode asks for
 /// reasons, the notes say of each call that was refused, in whatever run, what was wanted, behind
 /// these which written weights of buckets aren't their sums, and of a fault of the bytes where it
 /// stands.
@@ -322,7 +360,13 @@ where
 ///
 /// The names of a job come from strangers; so they are hashed with keys that the system draws, or
 /// without, where it draws none. Nothing that is written depends on them.
-pub fn run_job<H, G, R, W>(rt: &H, gate: &G, plan: &Plan, reader: &mut R, writer: &mut W) -> Ending
+pub fn run_job<H, G, R, W>(
+    rt: &H,
+    gate: &G,
+    request: &Request,
+    reader: &mut R,
+    writer: &mut W,
+) -> Ending
 where
     H: AllocGlobal + RandomSource + Threads + Wait + Sync,
     G: Gate + Sync,
@@ -336,12 +380,12 @@ where
     // calls are noted, with the written weights of the bytes.
     ensures output { (bytes : List ℕ) (job : JobData) → R.remaining reader.old ≡ Some bytes
         → IsJob bytes job
-        → Ends plan.now.mode plan.now.asked job
-        (weight_notes plan.now.mode.explain bytes job.table) result.outcome
+        → Ends request.now.mode request.now.asked job
+        (weight_notes request.now.mode.explain bytes job.table) result.outcome
         (W.contents writer.old) (W.contents writer.new) result.notes.items }
 
     // A fault of the bytes is noted with its place, and without reasons refused calls alone are.
-    ensures noted { IsNoted plan.now.mode.explain no_origin (R.remaining reader.old)
+    ensures noted { IsNoted request.now.mode.explain no_origin (R.remaining reader.old)
         result.outcome result.notes.items }
 
     // Only a failed write leaves anything.
@@ -352,10 +396,10 @@ where
     ensures taken { TakesFew (R.remaining reader.old) (R.remaining reader.new) }
 
     // Bytes are refused for what is wrong with them, and only a job's are run and written of.
-    ensures fault { IfErr result.outcome (IsRunFault plan.now.mode (R.remaining reader.old)) }
+    ensures fault { IfErr result.outcome (IsRunFault request.now.mode (R.remaining reader.old)) }
 {
     match read_bytes(rt.alloc(), reader) {
-        Ok(bytes) => run_bytes(rt, gate, plan, bytes, writer),
+        Ok(bytes) => run_bytes(rt, gate, request, bytes, writer),
         Err(fault) => Ending::quietly(rt.alloc(), fault),
     }
 }

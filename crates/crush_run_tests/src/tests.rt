@@ -2,7 +2,7 @@
 
 use crush_options::Mode;
 use crush_report::report;
-use crush_run::{Asked, Ending, Gate, NoGate, Plan, RunFault, Summary, run_job};
+use crush_run::{Asked, Ending, Gate, NoGate, Request, RunFault, Summary, run_job};
 use std::io::{Read, Write};
 use std::process::Abort;
 use std::random::RandomSource;
@@ -70,11 +70,11 @@ where
     R: Read,
     W: Write,
 {
-    let plan = Plan {
+    let request = Request {
         mode,
         asked: Asked::Map,
     };
-    let Ending { outcome, notes } = run_job(rt, gate, &plan, reader, writer);
+    let Ending { outcome, notes } = run_job(rt, gate, &request, reader, writer);
     drop(notes);
     outcome
 }

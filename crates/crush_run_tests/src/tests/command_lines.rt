@@ -99,6 +99,43 @@ fn further_words_are_read(rt: HostRuntime) {
     );
 }
 
+/// Whether the words ask for commands to the map of this file.
+fn ask_to(rt: &impl AllocGlobal, words: &[&str], map: &str, as_ceph: bool, by_name: bool) -> bool {
+    let read = options(rt.alloc(), words);
+    let asked = match &read {
+        Ok(options) => wants(options, map, as_ceph, by_name),
+        Err(_) => false,
+    };
+    drop(read);
+    asked
+}
+
+/// Whether commands to the map of this file are asked for.
+fn wants(options: &Options, map: &str, as_ceph: bool, by_name: bool) -> bool {
+    match &options.printed {
+        Printed::To(wanted) => {
+            wanted.map.as_str() == map && wanted.as_ceph == as_ceph && wanted.by_name == by_name
+        }
+        _ => false,
+    }
+}
+
+#[test]
+fn words_of_a_plan_are_read(rt: HostRuntime) {
+    assert!(rt;
+        ask_to(&rt, &["--to", "m.txt", "j"], "m.txt", false, false)
+            && ask_to(&rt, &["--as-ceph", "--to=m"], "m", true, false)
+            && ask_to(&rt, &["--to=m", "--by-name", "--strict"], "m", false, true)
+            && ask_to(
+                &rt,
+                &["--by-name", "--as-ceph", "--to", "m"],
+                "m",
+                true,
+                true
+            )
+    );
+}
+
 /// Whether the words are refused, with a text that is a line of an error.
 fn are_refused(rt: &impl AllocGlobal, words: &[&str]) -> bool {
     let read = options(rt.alloc(), words);
@@ -122,6 +159,12 @@ const OTHER_WORDS: &[&[&str]] = &[
     &["--tree", "--since", "m"],
     &["--as-ceph", "--tree"],
     &["--since=m", "--as-ceph"],
+    &["--to=m", "--tree"],
+    &["--to", "m", "--since", "n"],
+    &["--since=m", "--to=n", "--as-ceph"],
+    &["--by-name"],
+    &["--since=m", "--by-name"],
+    &["--to"],
     &["-sa"; 17],
 ];
 
@@ -141,6 +184,8 @@ const HELP: &[&str] = &[
     "--tree ",
     "--since <MAP> ",
     "--as-ceph ",
+    "--to <MAP> ",
+    "--by-name ",
     "--explain ",
     "-s, --script <SCRIPT> ",
     "\n    %operator alice\n    add osd.12 1.8 host=node3 rack=r2 root=default\n    reweight osd.2 1.0\n",

@@ -5,7 +5,7 @@ use super::strict::{End, ends_so, refused_two};
 use super::{PLAIN, joined, summary};
 use crush_options::Mode;
 use crush_report::report;
-use crush_run::{Asked, RunFault, SinceFault, Summary};
+use crush_run::{Asked, OtherFault, OtherMap, RunFault, Summary};
 use crush_script::JobFault;
 use crush_text::{TextFault, TextFaultKind};
 
@@ -91,7 +91,7 @@ const OTHER_PLACE: &[u8] =
 #[test]
 fn a_fault_of_the_other_map_is_told_with_its_file(rt: HostRuntime) {
     let files: &[(&str, &[u8])] = &[("m", PLAIN), ("x", FLAWED)];
-    let flaw = Err(RunFault::Since(SinceFault::Text(UNKNOWN)));
+    let flaw = Err(RunFault::Other(OtherMap::Since, OtherFault::Text(UNKNOWN)));
     let words = ["--explain", "--since", "x", "m"];
     assert!(rt; ends_with(&rt, &words, files, flaw, (b"", OTHER_PLACE)));
 }
@@ -125,7 +125,10 @@ fn a_fault_of_a_script_is_told_in_its_own_file(rt: HostRuntime) {
 #[test]
 fn a_file_that_cannot_be_opened_is_told_with_the_reason(rt: HostRuntime) {
     let files: &[(&str, &[u8])] = &[("m", PLAIN)];
-    let (read, since) = (Err(RunFault::Read), Err(RunFault::Since(SinceFault::Read)));
+    let (read, since) = (
+        Err(RunFault::Read),
+        Err(RunFault::Other(OtherMap::Since, OtherFault::Read)),
+    );
     let told = b"  x/y: entity not found\n";
     assert!(rt;
         ends_with(&rt, &["--explain", "x/y"], files, read, (b"", told))

@@ -1,8 +1,8 @@
-//! What has changed since another map.
+//! What has changed since another map, and commands that lead to one.
 
 use super::scripts::ends_so;
 use super::{PLAIN, is_told, joined, summary};
-use crush_run::{RunFault, SinceFault};
+use crush_run::{OtherFault, OtherMap, RunFault};
 use crush_script::JobFault;
 use crush_text::{TextFault, TextFaultKind};
 
@@ -30,8 +30,8 @@ const UNKNOWN: TextFault = TextFault {
 #[test]
 fn the_other_map_is_refused_behind_the_job(rt: HostRuntime) {
     let files: &[(&str, &[u8])] = &[("m", PLAIN), ("x", FLAWED)];
-    let flaw = Err(RunFault::Since(SinceFault::Text(UNKNOWN)));
-    let read = Err(RunFault::Since(SinceFault::Read));
+    let flaw = Err(RunFault::Other(OtherMap::Since, OtherFault::Text(UNKNOWN)));
+    let read = Err(RunFault::Other(OtherMap::Since, OtherFault::Read));
     let job = Err(RunFault::Job(JobFault::Text(UNKNOWN)));
     assert!(rt;
         ends_so(&rt, &["--since", "x", "m"], files, flaw, b"")
@@ -39,5 +39,50 @@ fn the_other_map_is_refused_behind_the_job(rt: HostRuntime) {
             && ends_so(&rt, &["--since", "none", "x"], files, job, b"")
             && is_told(&rt, &flaw, b"crushedit: since: byte 12: UnknownType\n", 1)
             && is_told(&rt, &read, b"crushedit: since: read fault\n", 3)
+    );
+}
+
+/// The plan to the map of osd.0 as it was.
+const BACK: &[u8] =
+    b"# 1 commands\nmove osd.0 host=h1\n# 1 a create-or-move osd.0 5.00000 host=h2 = done changed 1 made 0\n";
+
+#[test]
+fn a_moved_device_is_wanted_where_it_was(rt: HostRuntime) {
+    let script = b"%operator a\ncreate-or-move osd.0 5.0 host=h2\n";
+    let job = joined(&rt, PLAIN, script);
+    let files: &[(&str, &[u8])] = &[("m", PLAIN), ("j", job.as_slice())];
+    let none = b"# 0 commands\n";
+    assert!(rt;
+        ends_so(&rt, &["--to", "m", "j"], files, Ok(summary(0, 1, 1)), BACK)
+            && ends_so(
+                &rt,
+                &["--to", "m", "--strict", "m"],
+                files,
+                Ok(summary(0, 0, 0)),
+                none
+            )
+    );
+}
+
+#[test]
+fn the_wanted_map_is_refused_behind_the_job(rt: HostRuntime) {
+    let files: &[(&str, &[u8])] = &[("m", PLAIN), ("x", FLAWED)];
+    let flaw = Err(RunFault::Other(OtherMap::To, OtherFault::Text(UNKNOWN)));
+    let read = Err(RunFault::Other(OtherMap::To, OtherFault::Read));
+    let long = Err(RunFault::Other(OtherMap::To, OtherFault::TooLong));
+    let job = Err(RunFault::Job(JobFault::Text(UNKNOWN)));
+    assert!(rt;
+        ends_so(&rt, &["--to", "x", "m"], files, flaw, b"")
+            && ends_so(&rt, &["--to", "none", "m"], files, read, b"")
+            && ends_so(&rt, &["--to", "none", "x"], files, job, b"")
+            && is_told(&rt, &flaw, b"crushedit: to: byte 12: UnknownType\n", 1)
+            && is_told(&rt, &read, b"crushedit: to: read fault\n", 3)
+            && is_told(&rt, &long, b"crushedit: to: TooLong\n", 1)
+            && is_told(
+                &rt,
+                &Err(RunFault::Differs(7)),
+                b"crushedit: differs 7\n",
+                5
+            )
     );
 }

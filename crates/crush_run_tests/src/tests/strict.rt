@@ -3,7 +3,7 @@
 use super::{MODE, PLAIN, joined, summary};
 use crush_options::Mode;
 use crush_report::report;
-use crush_run::{Asked, NoGate, Plan, RunFault, Summary, run_job};
+use crush_run::{Asked, NoGate, Request, RunFault, Summary, run_job};
 use std::random::RandomSource;
 use std::sync::Wait;
 use std::thread::Threads;
@@ -35,9 +35,9 @@ pub(super) fn ends_so(
 ) -> bool {
     let mut out = Vec::new(rt.alloc());
     let mut err = Vec::new(rt.alloc());
-    let plan = Plan { mode, asked };
-    let ending = run_job(rt, &NoGate, &plan, &mut &*job, &mut out);
-    drop(plan);
+    let request = Request { mode, asked };
+    let ending = run_job(rt, &NoGate, &request, &mut &*job, &mut out);
+    drop(request);
     let told_so = report(
         &ending.outcome,
         mode.explain,

@@ -1,5 +1,5 @@
 use Rattle.std.proofs.Common.{◌≡◌, ◌≤◌, take}
-use Rattle.crush_plan.specs.PlanText.{line_count}
+use Rattle.crush_plan.specs.Plan.{line_count}
 use Rattle.crush_plan.proofs.plan.count_lines.Given as goal
 
 abbrev pub invariant-loop-byte : goal.invariant-loop-byte

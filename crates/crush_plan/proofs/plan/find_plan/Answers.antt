@@ -1,13 +1,14 @@
 use Rattle.std.proofs.Common.{◌≡◌, List, refl, sym, subst, inl, inr}
 use Rattle.crush_edits.specs.declared.edit.Edit.{Edit}
 use Rattle.crush_plan.specs.Leads.{Leads}
+use Rattle.crush_plan.specs.Plan.{plan_data}
 use Rattle.crush_plan.proofs.plan.find_plan.Goals as goal
 
 pub returns-then-is_better : goal.returns-then-is_better
 returns-then-is_better g c = λ t u a b. record {
   goes = c.in_ok-after.ensures t u a b;
   better = inr (record {
-    other = c.in_ok-before.before;
+    other = plan_data c.in_ok-before.before;
     none = c.in_ok-before.ensures.none;
     stay = c.in_ok-before.ensures.stays t u a b;
     better = c.is_better.ensures c.if-is_better.true;

@@ -9,24 +9,29 @@ use Rattle.crush_run.proofs.run.run_read.Goals as goal
 -- without room for the names nothing comes of the job
 pub returns-in_default-clause-ends : goal.returns-in_default-clause-ends
 returns-in_default-clause-ends g c = λ read stands.
-    ended_early c.args.plan.now.mode c.args.plan.now.asked read _ _ _ _ _ c.quietly.ensures.outcome tt
+    ended_early c.args.request.now.mode c.args.request.now.asked read _ _ _ _ _ c.quietly.ensures.outcome tt
 
 pub returns-in-Err-clause-ends : goal.returns-in-Err-clause-ends
 returns-in-Err-clause-ends g c = λ read stands.
-    ended_early c.args.plan.now.mode c.args.plan.now.asked read _ _ _ _ _ c.quietly-in-Err.ensures.outcome (early_of_scripts _ _ c.in-Err.ensures.fault)
+    ended_early c.args.request.now.mode c.args.request.now.asked read _ _ _ _ _ c.quietly-in-Err.ensures.outcome (early_of_scripts _ _ c.in-Err.ensures.fault)
 
 pub returns-in-Err-clause-fault : goal.returns-in-Err-clause-fault
-returns-in-Err-clause-fault g c = rw c.quietly-in-Err.ensures.outcome (outcome_fault_of_scripts c.args.plan.now.mode _ c.in-Err.ensures.fault)
+returns-in-Err-clause-fault g c = rw c.quietly-in-Err.ensures.outcome (outcome_fault_of_scripts c.args.request.now.mode _ c.in-Err.ensures.fault)
 
 pub returns-in-Err-clause-noted : goal.returns-in-Err-clause-noted
 returns-in-Err-clause-noted g c = λ origin all. scripts_noted _ _ origin all _ _ _ c.quietly-in-Err.ensures.outcome c.in-Err.ensures.fault c.quietly-in-Err.ensures.quiet
+
+-- nor without room for the plan
+pub returns-in_default-plan_asked-clause-ends : goal.returns-in_default-plan_asked-clause-ends
+returns-in_default-plan_asked-clause-ends g c = λ read stands.
+    ended_early c.args.request.now.mode c.args.request.now.asked read _ _ _ _ _ c.quietly-in_default-plan_asked.ensures.outcome tt
 
 -- what is left of the job is written, and what was refused is noted
 pub returns-clause-ends : goal.returns-clause-ends
 returns-clause-ends g c = λ read stands.
     let ran = c.in-Ok-run_scripts.ensures.runs read stands.map stands.scripts in
     let same = ap (λ xs. names_of (scripts_data xs)) c.as_slice-2.ensures.value ∙ c.in-Ok.ensures.names ∙ ap (λ xs. names_of (scripts_data xs)) c.as_slice.ensures.value ∙ ap names_of stands.scripts in
-    left_ends c.args.plan.now.mode c.args.plan.now.asked read _ _ _ _ _ _ _ _ _ _ _ c.end_run.ensures ran same c.as_slice-entries.ensures.value stands.adjusted c.as_slice-3.ensures.value
+    left_ends c.args.request.now.mode c.args.request.now.asked _ read _ _ _ _ _ _ _ _ _ _ _ c.end_run.ensures c.in-Ok-plan_asked.ensures ran same c.as_slice-entries.ensures.value stands.adjusted c.as_slice-3.ensures.value
 
 pub returns-clause-fault : goal.returns-clause-fault
-returns-clause-fault g c = outcome_fault_of_writing c.args.plan.now.mode _ c.end_run.ensures.fault
+returns-clause-fault g c = outcome_fault_of_writing c.args.request.now.mode _ c.end_run.ensures.fault

@@ -1,5 +1,6 @@
 use Rattle.std.proofs.lemmas.Result.{err_from_is_err_and}
 use Rattle.crush_bytes.proofs.Appending.{less_of_both, nothing_is_less, then_less}
+use Rattle.crush_plan.specs.Plan.{plan_data}
 use Rattle.crush_run.proofs.Runs.{main_text_is_some}
 use Rattle.crush_run.proofs.run.write_outcome.Goals as goal
 
@@ -7,13 +8,19 @@ use Rattle.crush_run.proofs.run.write_outcome.Goals as goal
 pub returns-in_err-check_strict-clause-writes : goal.returns-in_err-check_strict-clause-writes
 returns-in_err-check_strict-clause-writes g c = λ t stands.
     let p = err_from_is_err_and c.from_residual.result c.from_residual.ensures.1 in
-    rw p.1 (less_of_both _ _ _ _ (nothing_is_less _ _ (main_text_is_some c.args.plan.now.asked c.args.left.now.map.now.setting t c.args.left.now.entries.now)))
+    rw p.1 (less_of_both _ _ _ _ (nothing_is_less _ _ (main_text_is_some c.args.request.now.asked (plan_data c.args.left.now.plan.now) c.args.left.now.map.now.setting t c.args.left.now.entries.now)))
+
+-- and where differences stay
+pub returns-in_err-check_whole-clause-writes : goal.returns-in_err-check_whole-clause-writes
+returns-in_err-check_whole-clause-writes g c = λ t stands.
+    let p = err_from_is_err_and c.from_residual-in_err-check_whole.result c.from_residual-in_err-check_whole.ensures.1 in
+    rw p.1 (less_of_both _ _ _ _ (nothing_is_less _ _ (main_text_is_some c.args.request.now.asked (plan_data c.args.left.now.plan.now) c.args.left.now.map.now.setting t c.args.left.now.entries.now)))
 
 -- where there was no room for the lines, nothing was written of a text that isn't empty
 pub returns-in_err-lines-clause-writes : goal.returns-in_err-lines-clause-writes
 returns-in_err-lines-clause-writes g c = λ t stands.
     let p = err_from_is_err_and c.from_residual-in_err-lines.result c.from_residual-in_err-lines.ensures.1 in
-    rw p.1 (less_of_both _ _ _ _ (nothing_is_less _ _ (main_text_is_some c.args.plan.now.asked c.args.left.now.map.now.setting t c.args.left.now.entries.now)))
+    rw p.1 (less_of_both _ _ _ _ (nothing_is_less _ _ (main_text_is_some c.args.request.now.asked (plan_data c.args.left.now.plan.now) c.args.left.now.map.now.setting t c.args.left.now.entries.now)))
 
 pub returns-in_err-write_asked-clause-writes : goal.returns-in_err-write_asked-clause-writes
 returns-in_err-write_asked-clause-writes g c = λ t stands.

@@ -1,0 +1,85 @@
+"""What stays between a map and the one that is wanted, told by names, and the text of a plan, by the plain model."""
+
+from looking import place_of, tree_rows, type_name
+from model import is_change, run_one, shown, text_of
+
+
+def counterpart(map, other, name):
+    """Whether the map has this item of the other one: one of its name, both buckets, or devices of one id."""
+    if name not in map.items:
+        return False
+    if map.is_device(name) and other.is_device(name):
+        return map.items[name]["id"] == other.items[name]["id"]
+    return map.is_device(name) == other.is_device(name)
+
+
+def place(map, name):
+    return map.parent(name) or place_of(map, name)
+
+
+def parts(map, wanted, name):
+    """What there is to tell of an item that both have."""
+    one, other = map.items[name], wanted.items[name]
+    if type_name(map, name) != type_name(wanted, name) and not map.is_device(name):
+        yield f"type {type_name(map, name)}, wanted {type_name(wanted, name)}"
+    if place(map, name) != place(wanted, name):
+        yield f"in {place(map, name)}, wanted in {place(wanted, name)}"
+    if map.is_device(name) and abs(one["weight"] - other["weight"]) > 1:
+        yield f"weight {text_of(one['weight'])}, wanted {text_of(other['weight'])}"
+    for word, key in (("class", "class"), ("alg", "alg")):
+        if one.get(key) != other.get(key):
+            yield f"{word} {one.get(key) or '(none)'}, wanted {other.get(key) or '(none)'}"
+
+
+def rule_lines(map):
+    return [[line if number is None else line.format(map.with_id(number)) for line, number in rule["lines"]]
+            for rule in map.rules]
+
+
+def stays(map, wanted):
+    """The lines of what differs."""
+    lines = []
+    for _, name in tree_rows(wanted):
+        if counterpart(map, wanted, name):
+            told = list(parts(map, wanted, name))
+        else:
+            told = [f"wanted as {type_name(wanted, name)} in {place(wanted, name)}"]
+        if told:
+            lines.append(f"{name}: {'; '.join(told)}")
+    lines += [f"{name}: not wanted" for _, name in tree_rows(map) if not counterpart(wanted, map, name)]
+    lines += ["tunables differ"] * (list(map.tunables) != list(wanted.tunables))
+    lines += ["types differ"] * (map.types != wanted.types)
+    return lines + ["rules differ"] * (rule_lines(map) != rule_lines(wanted))
+
+
+def aside(map, wanted):
+    """The lines of ids that differ, of buckets that both have."""
+    both = [name for name in wanted.items if not wanted.is_device(name) and counterpart(map, wanted, name)]
+    pairs = [(map.items[name], wanted.items[name]) for name in both]
+    ids = sum(one["id"] != other["id"] for one, other in pairs)
+    class_ids = sum(list(one.get("ids", ())) != list(other.get("ids", ())) for one, other in pairs)
+    return [f"{what} of {count} buckets differ" for what, count in (("ids", ids), ("class ids", class_ids)) if count]
+
+
+def made_by(map, commands):
+    """The map behind these commands, each as its words, of which each is done and changes the map; or what is wrong."""
+    for words in commands:
+        map, line = run_one(map, words)
+        if not is_change(line):
+            raise ValueError(f"a command of a plan isn't done, or changes nothing: {line}")
+        if shown(words) != " ".join(words):
+            raise ValueError(f"a command of a plan reads as another: {shown(words)}")
+    return map
+
+
+def plan_text(commands, map, wanted):
+    """The text of a plan of these commands, which lead to the map."""
+    rest = stays(map, wanted)
+    lines = [f"# {len(commands)} commands", *(" ".join(words) for words in commands)]
+    lines += [f"# {len(rest)} differences stay"] * bool(rest) + [f"# {line}" for line in rest + aside(map, wanted)]
+    return "".join(line + "\n" for line in lines)
+
+
+def commands_of(text):
+    """The commands of a plan's text, each as its words."""
+    return [line.split() for line in text.splitlines() if not line.startswith("#")]

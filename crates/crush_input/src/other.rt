@@ -1,0 +1,132 @@
+//! A map that is read beside the job's.
+
+ghost use Rattle.std.specs.Prelude.{◌≡◌, ◌≤◌, ℕ, Bool, List, Option, Some, IfOk, IfErr, IfSome, length};
+ghost use Rattle.crush_text.specs.Flaw.{IsFlawOrOutOfMemory};
+ghost use Rattle.crush_input.specs.Notes.{IsFileNoted, IsMapNoted, flaw_notes};
+ghost use Rattle.crush_input.specs.Options.{IsMapFault, IsTextOf};
+ghost use Rattle.crush_input.specs.Stages.{IsInputFault};
+ghost use Rattle.crush_units.specs.declared.limits.TheConstants.{LONGEST_JOB};
+
+use crate::fault::{OtherFault, OtherMap, RunFault};
+use crate::files::Opens;
+use crate::input::read_file;
+use crate::job::drawn_hashing;
+use crate::stopped::Stopped;
+use crush_map::CrushMap;
+use crush_reasons::{Origin, fault_text};
+use crush_script::JobFault;
+use crush_text::{TextFault, read_map_in};
+use crush_units::limits::LONGEST_JOB;
+use std::alloc::{AllocError, Global};
+use std::random::RandomSource;
+
+/// Where a flaw of a text stands and what was wanted there, where that is asked for.
+fn flaw_notes(
+    alloc: Global,
+    explain: bool,
+    name: &str,
+    text: &[u8],
+    fault: TextFault,
+) -> Result<Vec<u8>, AllocError>
+    requires { length text.now ≤ LONGEST_JOB }
+    ensures { IfOk result (λ notes. notes.items ≡ flaw_notes explain name.now text.now fault) }
+{
+    if !explain {
+        return Ok(Vec::new(alloc));
+    }
+    let origin = Origin {
+        name: name.as_bytes(),
+        before: 0,
+    };
+    fault_text(alloc, origin, text, JobFault::Text(fault))
+}
+
+/// Why a text is no map, and where; or out of memory, also where there is none to tell it.
+fn stopped_at(
+    alloc: Global,
+    explain: bool,
+    which: OtherMap,
+    name: &str,
+    text: &[u8],
+    fault: TextFault,
+) -> Stopped
+    requires few { length text.now ≤ LONGEST_JOB }
+    requires flaw { IsFlawOrOutOfMemory text.now fault }
+    ensures fault { IsMapFault which (Some text.now) result.fault }
+    ensures noted { IsMapNoted explain name.now (Some text.now) result.fault result.notes.items }
+{
+    if JobFault::Text(fault).lacks_memory() {
+        return Stopped::quietly(alloc, RunFault::Memory);
+    }
+    match flaw_notes(alloc, explain, name, text, fault) {
+        Ok(notes) => Stopped {
+            fault: RunFault::Other(which, OtherFault::Text(fault)),
+            notes,
+        },
+        Err(_) => Stopped::quietly(alloc, RunFault::Memory),
+    }
+}
+
+/// The map of this text of a file of this name, which may be no longer than a job.
+fn map_of<H: AllocGlobal + RandomSource>(
+    rt: &H,
+    explain: bool,
+    which: OtherMap,
+    name: &str,
+    text: &[u8],
+) -> Result<CrushMap<Global>, Stopped>
+    ensures map { IfOk result (λ m. IsTextOf m text.now) }
+    ensures fault { IfErr result (λ stopped. IsMapFault which (Some text.now) stopped.fault) }
+    ensures noted { IfErr result (λ stopped.
+        IsMapNoted explain name.now (Some text.now) stopped.fault stopped.notes.items) }
+{
+    let alloc = rt.alloc();
+    if text.len() > LONGEST_JOB {
+        return Err(Stopped::quietly(alloc, RunFault::Other(which, OtherFault::TooLong)));
+    }
+    match read_map_in(alloc, drawn_hashing(rt), alloc, text) {
+        Ok((map, _)) => Ok(map),
+        Err(fault) => Err(stopped_at(alloc, explain, which, name, text, fault)),
+    }
+}
+
+impl Stopped {
+    /// The same of a map that is read for this.
+    fn of_other(self, which: OtherMap) -> Stopped
+        requires { IsInputFault self.fault }
+        ensures fault { (all : Option (List ℕ)) → IsMapFault which all result.fault }
+        ensures noted { (explain : Bool) (name : List ℕ) (all : Option (List ℕ))
+            → IsFileNoted explain name self.fault self.notes.items
+            → IsMapNoted explain name all result.fault result.notes.items }
+    {
+        let Stopped { fault, notes } = self;
+        match fault {
+            RunFault::Read => Stopped {
+                fault: RunFault::Other(which, OtherFault::Read),
+                notes,
+            },
+            _ => Stopped { fault, notes },
+        }
+    }
+}
+
+/// Reads the map of the file of this name, for this.
+pub(crate) fn read_other<H: AllocGlobal + RandomSource, F: Opens>(
+    rt: &H,
+    files: &F,
+    explain: bool,
+    which: OtherMap,
+    name: &str,
+) -> Result<CrushMap<Global>, Stopped>
+    ensures map { IfOk result (λ m. IfSome (F.content files.now name.now) (IsTextOf m)) }
+    ensures fault { IfErr result (λ stopped.
+        IsMapFault which (F.content files.now name.now) stopped.fault) }
+    ensures noted { IfErr result (λ stopped.
+        IsMapNoted explain name.now (F.content files.now name.now) stopped.fault
+        stopped.notes.items) }
+{
+    match read_file(rt.alloc(), files, explain, name) {
+        Ok(bytes) => map_of(rt, explain, which, name, bytes.as_slice()),
+        Err(stopped) => Err(stopped.of_other(which)),
+    }
+}

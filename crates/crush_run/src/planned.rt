@@ -1,0 +1,117 @@
+//! The plan that a run prints.
+
+ghost use Rattle.std.specs.Prelude.{◌≡◌, ◌++◌, [], Err, IfErr, IfOk, List, true};
+ghost use Rattle.std.specs.Io.KnownBytes.{Keeps};
+ghost use Rattle.crush_table.specs.Stands.{Stands};
+ghost use Rattle.crush_table.specs.Table.{Row};
+ghost use Rattle.crush_bytes.specs.Writes.{Writes};
+ghost use Rattle.crush_plan.specs.Plan.{plan_data};
+ghost use Rattle.crush_plan.specs.PlanText.{plan_text};
+ghost use Rattle.crush_run.specs.Planned.{IsDiffersFault, IsPlanned, IsWhole, plan_words};
+
+use crush_bytes::{WriteFault, put};
+use crush_input::{Asked, RunFault, WantedMap};
+use crush_map::CrushMap;
+use crush_plan::{Counts, Identity, Plan, PlanWords, find_plan, plan_text};
+use std::alloc::{AllocError, Global};
+use std::io::Write;
+
+/// By what the buckets of the two maps are told.
+fn identity_of(wanted: &WantedMap) -> Identity {
+    if wanted.by_name {
+        Identity::Names
+    } else {
+        Identity::Ids
+    }
+}
+
+/// The words in which a plan is printed.
+fn plan_words(as_ceph: bool) -> PlanWords
+    ensures { result ≡ plan_words as_ceph }
+{
+    if as_ceph {
+        PlanWords::Ceph
+    } else {
+        PlanWords::Script
+    }
+}
+
+/// A plan of which nothing is told.
+fn no_plan(alloc: Global) -> Plan
+    ensures { result.rest.items ≡ [] }
+{
+    Plan {
+        edits: Vec::new(alloc),
+        rest: Vec::new(alloc),
+        aside: Counts {
+            ids: 0,
+            class_ids: 0,
+        },
+    }
+}
+
+/// The plan that leads from the map to the wanted one, where one is asked for.
+pub(crate) fn plan_asked(
+    alloc: Global,
+    asked: &Asked,
+    map: &CrushMap<Global>,
+) -> Result<Plan, AllocError>
+    ensures { IfOk result (λ plan. (t : List Row) → Stands map.now.forest t
+        → IsPlanned asked.now map.now.setting t (plan_data plan)) }
+{
+    match asked {
+        Asked::To(wanted) => {
+            wanted.map.forest().recall_invariant();
+            find_plan(alloc, identity_of(wanted), map, &wanted.map)
+        }
+        _ => Ok(no_plan(alloc)),
+    }
+}
+
+/// Ends a strict run in which differences stay behind its plan: [`RunFault::Differs`] with how many.
+pub(crate) fn check_whole(strict: bool, plan: &Plan) -> Result<(), RunFault>
+    ensures whole { IsWhole strict plan.now.rest.items result }
+    ensures fault { IfErr result (IsDiffersFault strict) }
+{
+    if !strict || plan.rest.is_empty() {
+        return Ok(());
+    }
+    Err(RunFault::Differs(plan.count_differences()))
+}
+
+/// Behind the notes of a strict run the lines of what stays, which are told where they end it; of any
+/// other run nothing.
+pub(crate) fn whole_notes(
+    alloc: Global,
+    strict: bool,
+    notes: &[u8],
+    plan: &Plan,
+) -> Result<Vec<u8>, AllocError>
+    ensures { IfOk result (λ lines. strict ≡ true
+        → lines.items ≡ notes.now ++ plan.now.rest.items) }
+{
+    let mut lines = Vec::new(alloc);
+    if strict {
+        lines.extend_from_slice(notes)?;
+        lines.extend_from_slice(plan.rest.as_slice())?;
+    }
+    Ok(lines)
+}
+
+/// Writes a plan.
+pub(crate) fn write_plan<W: Write>(
+    alloc: Global,
+    as_ceph: bool,
+    plan: &Plan,
+    writer: &mut W,
+) -> Result<(), WriteFault>
+    ensures writes { Writes result (W.contents writer.old) (W.contents writer.new)
+        (plan_text (plan_words as_ceph) (plan_data plan.now)) }
+    ensures none { result ≡ Err WriteFault.OutOfMemory
+        → Keeps (W.contents writer.old) (W.contents writer.new) }
+{
+    let Ok(text) = plan_text(alloc, plan, plan_words(as_ceph)) else {
+        return Err(WriteFault::OutOfMemory);
+    };
+    put(writer, text.as_slice())
+}
