@@ -186,7 +186,7 @@ def parted(text):
 
 def any_name(dice, number):
     """The name of a script's file: it may be of an operator that others are called by too, or of none."""
-    name = dice.choice([f"op{number}.txt"] * 32 + [f"op{number}", f"op{number}.b.txt", "my script.txt", ".txt", "same"])
+    name = dice.choice([f"op{number}.txt"] * 32 + [f"op{number}", f"op{number}.b.txt", "my script.txt", "a#b.txt", ".txt", "same"])
     return dice.choice(["", f"{number}/", f"./{number}/"] if name.startswith("op") else [f"{number}/"]) + name
 
 

@@ -329,7 +329,8 @@ def joined(text, name, scripts):
     for script, own in scripts:
         text += "" if text.endswith("\n") else "\n"
         operator = script.rpartition("/")[2].partition(".")[0]
-        put = "" if begins_section(own) else f"%operator {operator}\n"
+        named = f"%operator {operator}\n" if is_of("name", operator) else "%operator\n"
+        put = "" if begins_section(own) else named
         files.append((script, text.count("\n") + 1, 0 if put else 1))
         text += put + own
     return text, files

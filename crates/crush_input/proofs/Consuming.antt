@@ -4,8 +4,7 @@ use Rattle.std.proofs.lemmas.List.{append-nil, length-append, take_at, take_all}
 use Rattle.std.proofs.KnownBytes.{Consumes-kept, Consumes-trans}
 use Rattle.std.specs.Prelude.{IfSome}
 use Rattle.std.specs.Io.KnownBytes.{Consumes, IsAtEnd, Keeps}
-use Rattle.crush_input.specs.declared.input.TheConstants.{MOST_BYTES}
-use Rattle.crush_input.specs.Input.{TakesFew}
+use Rattle.crush_input.specs.Input.{TakesFew, TakesMost}
 
 -- nothing is taken yet
 pub Consumes-nothing : (a : Option (List ℕ)) → Consumes a a []
@@ -41,9 +40,9 @@ pub Consumes-piece : (a b c : Option (List ℕ)) (x p z : List ℕ) → Consumes
 Consumes-piece a b c x p z h k e = subst (Consumes a c) (sym e) (Consumes-trans a b c x p h k)
 
 -- a read that failed took no byte
-pub few_kept : (a b c : Option (List ℕ)) (x : List ℕ) → Consumes a b x → Keeps b c → length x ≤ MOST_BYTES → TakesFew a c
-few_kept a b c x h k few = (x, few, Consumes-kept a b c x h k)
+pub most_kept : (most : ℕ) (a b c : Option (List ℕ)) (x : List ℕ) → Consumes a b x → Keeps b c → length x ≤ most → TakesMost most a c
+most_kept most a b c x h k few = (x, few, Consumes-kept a b c x h k)
 
 -- a piece that was read is taken, whatever becomes of it
-pub few_then : (a b c : Option (List ℕ)) (x y : List ℕ) → Consumes a b x → Consumes b c y → length x + length y ≤ MOST_BYTES → TakesFew a c
-few_then a b c x y h k few = (x ++ y, omega (arith, few, length-append x y), Consumes-trans a b c x y h k)
+pub most_then : (most : ℕ) (a b c : Option (List ℕ)) (x y : List ℕ) → Consumes a b x → Consumes b c y → length x + length y ≤ most → TakesMost most a c
+most_then most a b c x y h k few = (x ++ y, omega (arith, few, length-append x y), Consumes-trans a b c x y h k)

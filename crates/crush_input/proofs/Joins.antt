@@ -1,11 +1,11 @@
 -- Scripts joined behind a job of which not all may have been read.
-use Rattle.std.proofs.Common.{◌≡◌, ℕ, ◌≤◌, ◌<◌, ◌+◌, List, [], ◌∷◌, ◌++◌, Option, Some, None, length, drop, get_or, map, arith, length-append, sym, ap, subst, ◌∙◌}
-use Rattle.std.proofs.lemmas.List.{append_assoc, append-nil, drop_all, drop_more}
+use Rattle.std.proofs.Common.{◌≡◌, ℕ, ◌≤◌, ◌<◌, ◌+◌, List, [], ◌∷◌, ◌++◌, Option, Some, None, length, drop, get_or, map, take, arith, length-append, sym, ap, subst, ◌∙◌}
+use Rattle.std.proofs.lemmas.List.{append_assoc, append-nil, drop_all, drop_more, length-take, take_all}
 use Rattle.std.specs.Prelude.{IfSome, String}
 use Rattle.crush_units.specs.declared.limits.TheConstants.{LONGEST_JOB}
 use Rattle.crush_input.specs.declared.input.Joined.{Joined}
 use Rattle.crush_input.specs.declared.joined.Part.{Part}
-use Rattle.crush_input.specs.Input.{IsInput, IsJoined}
+use Rattle.crush_input.specs.Input.{IsInput, IsJoined, IsReadBehind, left_behind}
 use Rattle.crush_input.specs.Joined.{PartData, joined, joined_known, line_end, operator_line, part_data, part_known, part_of, parts_of, with_scripts}
 use Rattle.crush_input.specs.Origins.{origin_in, whole_of}
 use Rattle.crush_input.proofs.Noted.{ComeFrom}
@@ -14,43 +14,45 @@ use Rattle.crush_input.proofs.Noted.{ComeFrom}
 two_lengths : (a b c d : List ℕ) → length a + length d ≤ length (a ++ b ++ c ++ d)
 two_lengths a b c d = omega (arith, length-append (a ++ b ++ c) d, length-append (a ++ b) c, length-append a b)
 
-joined_input : (a b s t : List ℕ) (name : List ℕ) → IsInput a b → IsInput s t → IsInput (joined a name s) (joined b name t)
+-- what was read of a script, of which no more is read than is left of a job, is all of it where both are no longer than a job
+script_read : (before s t : List ℕ) → s ≡ take (left_behind before) t → length before + length s ≤ LONGEST_JOB → s ≡ t
+script_read before s t is short =
+    let few : length t ≤ left_behind before = omega (arith, short, ap length is, length-take (left_behind before) t) in
+    is ∙ take_all (left_behind before) t few
+
+script_whole : (before s t : List ℕ) → s ≡ take (left_behind before) t → length before + length t ≤ LONGEST_JOB → s ≡ t
+script_whole before s t is short =
+    let few : length t ≤ left_behind before = omega (arith, short) in
+    is ∙ take_all (left_behind before) t few
+
+joined_input : (a b s t : List ℕ) (name : List ℕ) → IsInput a b → s ≡ take (left_behind a) t → IsInput (joined a name s) (joined b name t)
 joined_input a b s t name job script = record {
   read = λ short.
       let few = two_lengths a (line_end a) (operator_line name s) s in
-      λ i. joined (job.read (omega (arith, short, few)) i) name (script.read (omega (arith, short, few)) i);
+      λ i. joined (job.read (omega (arith, short, few)) i) name (script_read a s t script (omega (arith, short, few)) i);
   whole = λ short.
       let few = two_lengths b (line_end b) (operator_line name t) t in
-      λ i. joined (job.whole (omega (arith, short, few)) i) name (script.whole (omega (arith, short, few)) i);
+      let first = job.whole (omega (arith, short, few)) in
+      λ i. joined (first i) name (script_whole a s t script (omega (arith, short, few, ap length first)) i);
 }
 
 -- what was read of both is read of them together, and stands where it does there
-joined_read : (read more : Joined) (b s t name : List ℕ) (parts : List PartData) → IsJoined read b parts → IsInput s t → more.bytes.items ≡ joined read.bytes.items name s
-    → map part_data more.parts.items ≡ map part_data read.parts.items ++ part_of read.bytes.items name s ∷ [] → IsJoined more (joined b name t) (parts ++ part_of b name t ∷ [])
-joined_read read more b s t name parts job script is own = record {
-  bytes = subst (λ (z : List ℕ). IsInput z (joined b name t)) (sym is) (joined_input read.bytes.items b s t name job.bytes script);
+joined_read : (read more : Joined) (b t name : List ℕ) (parts : List PartData) → IsJoined read b parts → IsReadBehind read more name (Some t) → IsJoined more (joined b name t) (parts ++ part_of b name t ∷ [])
+joined_read read more b t name parts job behind = record {
+  bytes = subst (λ (z : List ℕ). IsInput z (joined b name t)) (sym behind.bytes) (joined_input read.bytes.items b behind.script t name job.bytes behind.read);
   parts = λ short.
       let few = two_lengths b (line_end b) (operator_line name t) t in
       let first = job.bytes.whole (omega (arith, short, few)) in
-      let second = script.whole (omega (arith, short, few)) in
-      own ∙ (λ i. job.parts (omega (arith, short, few)) i ++ part_of (first i) name (second i) ∷ []);
+      let second = script_whole read.bytes.items behind.script t behind.read (omega (arith, short, few, ap length first)) in
+      behind.parts ∙ (λ i. job.parts (omega (arith, short, few)) i ++ part_of (first i) name (second i) ∷ []);
 }
 
-joined_known_read : (known script : Option (List ℕ)) (read more : Joined) (s name : List ℕ) (parts : List PartData) → IfSome known (λ b. IsJoined read b parts) → IfSome script (IsInput s) → more.bytes.items ≡ joined read.bytes.items name s
-    → map part_data more.parts.items ≡ map part_data read.parts.items ++ part_of read.bytes.items name s ∷ [] → IfSome (joined_known known name script) (λ b. IsJoined more b (parts ++ part_known known name script))
-joined_known_read None script read more s name parts first second is own = tt
-joined_known_read (Some b) None read more s name parts first second is own = tt
-joined_known_read (Some b) (Some t) read more s name parts first second is own = joined_read read more b s t name parts first second is own
-
--- so after one script more, whose name is also written otherwise
-pub one_script_more : (content : List ℕ → Option (List ℕ)) (known : Option (List ℕ)) (read more : Joined) (s t name path text : List ℕ) (parts : List PartData) → path ≡ name → text ≡ name → t ≡ s
-    → IfSome known (λ b. IsJoined read b parts) → IfSome (content path) (IsInput s) → more.bytes.items ≡ joined read.bytes.items text t
-    → map part_data more.parts.items ≡ map part_data read.parts.items ++ part_of read.bytes.items text t ∷ [] → IfSome (joined_known known name (content name)) (λ b. IsJoined more b (parts ++ part_known known name (content name)))
-one_script_more content known read more s t name path text parts opened called given first second is own =
-    let script : IfSome (content name) (IsInput s) = subst (λ (n : List ℕ). IfSome (content n) (IsInput s)) opened second in
-    let bytes : more.bytes.items ≡ joined read.bytes.items name s = is ∙ (λ i. joined read.bytes.items (called i) (given i)) in
-    let stands : map part_data more.parts.items ≡ map part_data read.parts.items ++ part_of read.bytes.items name s ∷ [] = own ∙ (λ i. map part_data read.parts.items ++ part_of read.bytes.items (called i) (given i) ∷ []) in
-    joined_known_read known (content name) read more s name parts first script bytes stands
+-- so after one script more
+pub one_script_more : (known script : Option (List ℕ)) (read more : Joined) (name : List ℕ) (parts : List PartData) → IfSome known (λ b. IsJoined read b parts) → IsReadBehind read more name script
+    → IfSome (joined_known known name script) (λ b. IsJoined more b (parts ++ part_known known name script))
+one_script_more None script read more name parts job behind = tt
+one_script_more (Some b) None read more name parts job behind = tt
+one_script_more (Some b) (Some t) read more name parts job behind = joined_read read more b t name parts job behind
 
 module _ {Z : Type 0} (content : List ℕ → Option (List ℕ)) where
   -- the scripts from a place on are that of the name there, and then the others

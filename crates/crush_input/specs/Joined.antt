@@ -1,6 +1,7 @@
 -- A job of several files: the first, and behind it the scripts of others.
 use Rattle.std.specs.Prelude.{ℕ, ◌+◌, ◌-◌, ◌==◌, Bool, true, false, ◌&&◌, ◌||◌, List, [], ◌∷◌, ◌++◌, Option, Some, None, codes, if◌then◌else◌, length, take, drop, slice_index, String}
 use Rattle.std.specs.List.{position_or_len}
+use Rattle.crush_units.specs.Name.{is_name}
 use Rattle.crush_script.specs.Lines.{line_feeds}
 use Rattle.crush_input.specs.declared.joined.Part.{Part}
 
@@ -36,9 +37,13 @@ last_part name = drop (folder_length 0 0 name) name
 abbrev pub operator_of : List ℕ → List ℕ
 operator_of name = take (position_or_len (λ b. b == 46) (last_part name)) (last_part name)
 
+-- the line that begins the section of an operator; bytes that are no name are left out of it, and a job has no line without one
+abbrev pub section_head : List ℕ → List ℕ
+section_head operator = if is_name operator then codes "%operator " ++ operator ++ codes "\n" else codes "%operator\n"
+
 -- the line that names the operator of a script that doesn't itself
 abbrev pub operator_line : List ℕ → List ℕ → List ℕ
-operator_line name script = if begins_section_in true false script then [] else codes "%operator " ++ operator_of name ++ codes "\n"
+operator_line name script = if begins_section_in true false script then [] else section_head (operator_of name)
 
 -- JOINED: a job, and behind it the script of a file of this name
 abbrev pub joined : List ℕ → List ℕ → List ℕ → List ℕ

@@ -2,7 +2,7 @@
 
 ghost use Rattle.std.specs.Prelude.{◌≡◌, ◌≤◌, ◌<◌, ◌≢◌, ◌++◌, ◌∷◌, ℕ, List, [], Option, None, OnOk, IfOk, IfErr, IfSome, length, map, take};
 ghost use Rattle.std.specs.Io.KnownBytes.{Consumes};
-ghost use Rattle.crush_input.specs.Input.{IsInput, IsJoined, first_bytes, job_bytes, job_parts, TakesFew};
+ghost use Rattle.crush_input.specs.Input.{IsInput, IsJoined, IsReadBehind, first_bytes, job_bytes, job_parts, left_behind, TakesFew, TakesMost};
 ghost use Rattle.crush_input.specs.Joined.{PartData, joined, part_data, part_of, parts_of, with_scripts};
 ghost use Rattle.crush_input.specs.Notes.{IsFileNoted};
 ghost use Rattle.crush_input.specs.Options.{IsPartNoted};
@@ -38,33 +38,50 @@ pub fn read_bytes<R: Read>(alloc: Global, reader: &mut R) -> Result<Vec<u8>, Run
     ensures bytes { IfOk result (λ bytes. IfSome (R.remaining reader.old)
         (λ all. bytes.items ≡ take MOST_BYTES all)) }
 {
+    read_most(alloc, MOST_BYTES, reader)
+}
+
+/// Reads as that does, to the end or so many bytes, by at most as many reads.
+fn read_most<R: Read>(alloc: Global, most: usize, reader: &mut R) -> Result<Vec<u8>, RunFault>
+    ensures few { IfOk result (λ bytes. length bytes.items ≤ most) }
+    ensures fault { IfErr result IsInputFault }
+    ensures consumed { IfOk result (λ bytes.
+        Consumes (R.remaining reader.old) (R.remaining reader.new) bytes.items) }
+    ensures taken { IfErr result (λ _.
+        TakesMost most (R.remaining reader.old) (R.remaining reader.new)) }
+    ensures bytes { IfOk result (λ bytes. IfSome (R.remaining reader.old)
+        (λ all. bytes.items ≡ take most all)) }
+{
     let mut bytes = Vec::new(alloc);
+    if most == 0 {
+        return Ok(bytes);
+    }
     let mut piece = [0u8; PIECE];
-    for _ in 0..MOST_BYTES {
-        let want = (MOST_BYTES - bytes.len()).min(PIECE);
+    for _ in 0..most {
+        let want = (most - bytes.len()).min(PIECE);
         let room = &mut piece[..want];
         match reader.read(room) {
             Ok(0) => return Ok(bytes),
             Ok(count) => bytes.extend_from_slice(&room[..count])?,
             Err(_) => return Err(RunFault::Read),
         }
-        if bytes.len() == MOST_BYTES {
+        if bytes.len() == most {
             return Ok(bytes);
         }
     }
     Ok(bytes)
 }
 
-/// Reads to the end as that does. Nothing is noted of what fails.
-fn read_quietly<R: Read>(alloc: Global, reader: &mut R) -> Result<Vec<u8>, Stopped>
-    ensures few { IfOk result (λ bytes. length bytes.items ≤ MOST_BYTES) }
+/// Reads to the end or so many bytes. Nothing is noted of what fails.
+fn read_quietly<R: Read>(alloc: Global, most: usize, reader: &mut R) -> Result<Vec<u8>, Stopped>
+    ensures few { IfOk result (λ bytes. length bytes.items ≤ most) }
     ensures bytes { IfOk result (λ bytes. IfSome (R.remaining reader.old)
-        (λ all. bytes.items ≡ take MOST_BYTES all)) }
+        (λ all. bytes.items ≡ take most all)) }
     ensures fault { IfErr result (λ stopped. IsInputFault stopped.fault) }
     ensures quiet { IfErr result (λ stopped. stopped.notes.items ≡ []) }
-    ensures taken { TakesFew (R.remaining reader.old) (R.remaining reader.new) }
+    ensures taken { TakesMost most (R.remaining reader.old) (R.remaining reader.new) }
 {
-    match read_bytes(alloc, reader) {
+    match read_most(alloc, most, reader) {
         Ok(bytes) => Ok(bytes),
         Err(fault) => Err(Stopped::quietly(alloc, fault)),
     }
@@ -85,7 +102,7 @@ pub(crate) fn read_file<F: Opens>(
         IsFileNoted explain name.now stopped.fault stopped.notes.items) }
 {
     match files.open(name) {
-        Ok(mut file) => read_quietly(alloc, &mut file),
+        Ok(mut file) => read_quietly(alloc, MOST_BYTES, &mut file),
         Err(error) => Err(unopened(alloc, explain, name, error)),
     }
 }
@@ -107,7 +124,7 @@ fn read_first<F: Opens, R: Read>(
         IsPartNoted options.now stopped.fault stopped.notes.items) }
 {
     match &options.file {
-        None => read_quietly(alloc, input),
+        None => read_quietly(alloc, MOST_BYTES, input),
         Some(name) => read_file(alloc, files, options.mode.explain, name.as_str()),
     }
 }
@@ -120,6 +137,13 @@ pub(crate) struct Joined<'a> {
 }
 
 impl<'a> Joined<'a> {
+    /// How many bytes more may be read: one more than a job may still have, so that a longer one shows.
+    fn left(&self) -> usize
+        ensures { result ≡ left_behind self.now.bytes.items }
+    {
+        MOST_BYTES.saturating_sub(self.bytes.len())
+    }
+
     /// Puts the script of a file of this name behind.
     fn push(&mut self, name: &'a [u8], script: &[u8]) -> Result<(), AllocError>
         ensures bytes { OnOk result
@@ -133,6 +157,48 @@ impl<'a> Joined<'a> {
             return Err(AllocError);
         };
         Ok(())
+    }
+
+    /// Reads what an open file of this name has, up to what is left of a job, and puts it behind as a
+    /// script.
+    fn read_behind<R: Read>(
+        &mut self,
+        alloc: Global,
+        name: &'a str,
+        file: &mut R,
+    ) -> Result<(), Stopped>
+        ensures read { OnOk result
+            (IsReadBehind self.old self.new name.now (R.remaining file.old)) }
+        ensures taken { TakesMost (left_behind self.old.bytes.items) (R.remaining file.old)
+            (R.remaining file.new) }
+        ensures fault { IfErr result (λ stopped. IsInputFault stopped.fault) }
+        ensures quiet { IfErr result (λ stopped. stopped.notes.items ≡ []) }
+    {
+        let script = read_quietly(alloc, self.left(), file)?;
+        match self.push(name.as_bytes(), script.as_slice()) {
+            Ok(()) => Ok(()),
+            Err(_) => Err(Stopped::quietly(alloc, RunFault::Memory)),
+        }
+    }
+}
+
+/// Reads the script of the file of this name, and puts it behind a job.
+fn push_file<'a, F: Opens>(
+    alloc: Global,
+    files: &F,
+    explain: bool,
+    name: &'a str,
+    job: &mut Joined<'a>,
+) -> Result<(), Stopped>
+    ensures read { OnOk result (IsReadBehind job.old job.new name.now
+        (F.content files.now name.now)) }
+    ensures fault { IfErr result (λ stopped. IsInputFault stopped.fault) }
+    ensures noted { IfErr result (λ stopped.
+        IsFileNoted explain name.now stopped.fault stopped.notes.items) }
+{
+    match files.open(name) {
+        Ok(mut file) => job.read_behind(alloc, name, &mut file),
+        Err(error) => Err(unopened(alloc, explain, name, error)),
     }
 }
 
@@ -154,10 +220,7 @@ fn push_files<'a, F: Opens>(
 {
     let names = options.scripts.as_slice();
     for name in names {
-        let script = read_file(alloc, files, options.mode.explain, name.as_str())?;
-        let Ok(()) = job.push(name.as_bytes(), script.as_slice()) else {
-            return Err(Stopped::quietly(alloc, RunFault::Memory));
-        };
+        push_file(alloc, files, options.mode.explain, name.as_str(), job)?;
     }
     Ok(())
 }

@@ -2,9 +2,10 @@
 
 ghost use Rattle.std.specs.Prelude.{◌≡◌, ◌≤◌, ◌++◌, ◌==◌, ◌-◌, IfOk, OnOk, false, length, slice_index, true};
 ghost use Rattle.std.specs.List.{position_or_len};
-ghost use Rattle.crush_input.specs.Joined.{begins_section_in, folder_length, is_line_blank, joined, line_end, operator_line, operator_of, part_data, part_of};
+ghost use Rattle.crush_input.specs.Joined.{begins_section_in, folder_length, is_line_blank, joined, line_end, operator_line, operator_of, part_data, part_of, section_head};
 
 use crush_script::line_feeds;
+use crush_units::is_name;
 use std::alloc::AllocError;
 
 /// Where the script of a file stands in a job.
@@ -102,6 +103,19 @@ fn operator_of(name: &[u8]) -> &[u8]
     operator
 }
 
+/// Puts the line that begins the section of an operator. Bytes that are no name are left out of it, and
+/// a line without one is refused.
+fn push_section_head(operator: &[u8], bytes: &mut Vec<u8>) -> Result<(), AllocError>
+    ensures { OnOk result (bytes.new.items ≡ bytes.old.items ++ section_head operator.now) }
+{
+    if !is_name(operator) {
+        return bytes.extend_from_slice(b"%operator\n");
+    }
+    bytes.extend_from_slice(b"%operator ")?;
+    bytes.extend_from_slice(operator)?;
+    bytes.extend_from_slice(b"\n")
+}
+
 /// Puts the line that names the operator of a script, unless the script does.
 fn push_operator_line(name: &[u8], script: &[u8], bytes: &mut Vec<u8>) -> Result<(), AllocError>
     ensures { OnOk result (bytes.new.items
@@ -110,9 +124,7 @@ fn push_operator_line(name: &[u8], script: &[u8], bytes: &mut Vec<u8>) -> Result
     if begins_section(script) {
         return Ok(());
     }
-    bytes.extend_from_slice(b"%operator ")?;
-    bytes.extend_from_slice(operator_of(name))?;
-    bytes.extend_from_slice(b"\n")
+    push_section_head(operator_of(name), bytes)
 }
 
 /// Puts the script of a file of this name behind a job: on a line of its own, and below the line

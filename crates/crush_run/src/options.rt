@@ -28,9 +28,10 @@ use std::thread::Threads;
 ///
 /// Behind a job that doesn't end in a line feed comes one, and before a script whose first line with
 /// a word begins no section the line `%operator NAME`, NAME being the last part of the file's name
-/// up to its first `.`. All else is as if the job had been one file; but where reasons are asked for,
-/// and there is a script in a file of its own, a fault's line is told as that of its own file, behind
-/// the file's name.
+/// up to its first `.`; where that is no name of an operator the line is `%operator` alone, which is
+/// [`BadLine`](crush_script::JobFault::BadLine). All files together are read up to the limit of one job.
+/// All else is as if the job had been one file; but where reasons are asked for, and there is a script
+/// in a file of its own, a fault's line is told as that of its own file, behind the file's name.
 pub fn run_options<H, F, R, W>(
     rt: &H,
     files: &F,

@@ -1,7 +1,7 @@
-use Rattle.std.proofs.Common.{◌++◌, inr, refl, sym, ◌∙◌, subst}
+use Rattle.std.proofs.Common.{ℕ, List, ◌++◌, inr, refl, sym, ◌∙◌, subst}
 use Rattle.std.proofs.lemmas.Result.{err_from_is_err_and}
 use Rattle.std.specs.Prelude.{IfSome}
-use Rattle.crush_input.specs.Input.{IsJoined}
+use Rattle.crush_input.specs.Input.{IsJoined, IsReadBehind}
 use Rattle.crush_input.specs.Joined.{parts_of, with_scripts}
 use Rattle.crush_input.specs.Options.{IsScript}
 use Rattle.crush_input.proofs.Joins.{next_part, next_script, no_part, no_script, one_script_more}
@@ -15,12 +15,13 @@ pub loop-name-preserved : goal.loop-name-preserved
 loop-name-preserved g c = λ known parts before.
     let so_far = c.loop-name.invariant known parts before in
     let name = c.name-item.result in
-    let content = g.F.Opens.content c.args.files.now in (
+    let content = g.F.Opens.content c.args.files.now in
+    let behind = subst (λ (n : List ℕ). IsReadBehind c.loop-name.job c.push_file.new.job n (content n)) c.as_str.ensures.value c.in_ok-push_file.ensures.read in (
       _,
       _,
       so_far.2 ∙ next_script content so_far.0 c.as_slice-names.result.now c.loop-name.name-index name c.loop-name-test.true c.name-item.is,
       so_far.3 ∙ next_part content so_far.0 c.as_slice-names.result.now c.loop-name.name-index name so_far.1 c.loop-name-test.true c.name-item.is,
-      one_script_more content so_far.0 _ _ _ _ name.bytes.items _ _ so_far.1 c.as_str.ensures.value c.as_bytes.ensures.value c.as_slice.ensures.value so_far.4 c.in_ok-script.ensures.bytes c.in-Ok.ensures.bytes c.in-Ok.ensures.parts,
+      one_script_more so_far.0 (content name.bytes.items) _ _ name.bytes.items so_far.1 so_far.4 behind,
     )
 
 -- behind the last script all of them were read
@@ -38,9 +39,9 @@ returns g c = record {
 }
 
 -- a file that wasn't read is a script's
-pub returns-in_err-script-clause-noted : goal.returns-in_err-script-clause-noted
-returns-in_err-script-clause-noted g c =
+pub returns-in_err-push_file-clause-noted : goal.returns-in_err-push_file-clause-noted
+returns-in_err-push_file-clause-noted g c =
     let p = err_from_is_err_and c.from_residual.result c.from_residual.ensures.1 in
     let script : IsScript c.as_slice-names.result.now c.as_str.result.now = record { place = c.loop-name.name-index; there = c.loop-name-test.true; script = c.name-item.result; is = c.name-item.is; bytes = sym c.as_str.ensures.value } in
     let named = subst (λ ns. IsScript ns c.as_str.result.now) c.as_slice-names.ensures.value script in
-    rw (p.1, p.2) (part_noted c.args.options.now _ _ _ (inr named) c.in_err-script.ensures.noted)
+    rw (p.1, p.2) (part_noted c.args.options.now _ _ _ (inr named) c.in_err-push_file.ensures.noted)

@@ -1,19 +1,18 @@
 use Rattle.std.proofs.Common.{arith, rules, length, take, ◌+◌, ◌≤◌}
 use Rattle.std.proofs.lemmas.Result.{err_from_is_err_and}
-use Rattle.crush_input.specs.declared.input.TheConstants.{MOST_BYTES}
-use Rattle.crush_input.proofs.Consuming.{Consumes-piece, Consumes-no_more, prefix_of_all, all_of_it, few_kept, few_then}
-use Rattle.crush_input.proofs.input.read_bytes.Goals as goal
+use Rattle.crush_input.proofs.Consuming.{Consumes-piece, Consumes-no_more, prefix_of_all, all_of_it, most_kept, most_then}
+use Rattle.crush_input.proofs.input.read_most.Goals as goal
 
 pub returns-in-Ok-eq0-clause-bytes : goal.returns-in-Ok-eq0-clause-bytes
 returns-in-Ok-eq0-clause-bytes g c =
     let b = c.in-Ok-eq0.ensures.bytes in
-    all_of_it (g.R.Read.remaining c.args.reader.now) (g.R.Read.remaining c.read.new.self) c.loop.bytes.items MOST_BYTES
+    all_of_it (g.R.Read.remaining c.args.reader.now) (g.R.Read.remaining c.read.new.self) c.loop.bytes.items c.args.most
     (Consumes-no_more _ _ _ _ c.read.new.buf _ c.loop.invariant.taken b.0 c.in-Ok-eq0.field-0-test)
     (b.1 c.in-Ok-eq0.field-0-test (search rules)) (omega (arith, c.loop.invariant.few))
 
-pub returns-then-len-eq-MOST_BYTES-clause-bytes : goal.returns-then-len-eq-MOST_BYTES-clause-bytes
-returns-then-len-eq-MOST_BYTES-clause-bytes g c =
-    prefix_of_all (g.R.Read.remaining c.args.reader.now) (g.R.Read.remaining c.read.new.self) c.extend_from_slice.new.self.items MOST_BYTES
+pub returns-then-len-most-clause-bytes : goal.returns-then-len-most-clause-bytes
+returns-then-len-most-clause-bytes g c =
+    prefix_of_all (g.R.Read.remaining c.args.reader.now) (g.R.Read.remaining c.read.new.self) c.extend_from_slice.new.self.items c.args.most
     (Consumes-piece _ _ _ _ _ _ c.loop.invariant.taken c.in-Ok.ensures.bytes.0 c.in_ok-extend_from_slice-in-Ok.ensures.items) (omega arith)
 
 pub loop-preserved : goal.loop-preserved
@@ -28,19 +27,19 @@ pub returns-in-Err-clause-bytes : goal.returns-in-Err-clause-bytes
 returns-in-Err-clause-bytes g c = tt
 
 pub returns-in-Err-clause-taken : goal.returns-in-Err-clause-taken
-returns-in-Err-clause-taken g c = few_kept _ _ _ c.loop.bytes.items c.loop.invariant.taken c.in-Err.ensures.bytes (omega (arith, c.loop.invariant.few))
+returns-in-Err-clause-taken g c = most_kept _ _ _ _ c.loop.bytes.items c.loop.invariant.taken c.in-Err.ensures.bytes (omega (arith, c.loop.invariant.few))
 
 pub returns-in-Ok-eq0-clause-consumed : goal.returns-in-Ok-eq0-clause-consumed
 returns-in-Ok-eq0-clause-consumed g c =
     Consumes-no_more _ _ _ _ c.read.new.buf _ c.loop.invariant.taken c.in-Ok-eq0.ensures.bytes.0 c.in-Ok-eq0.field-0-test
 
-pub returns-then-len-eq-MOST_BYTES-clause-consumed : goal.returns-then-len-eq-MOST_BYTES-clause-consumed
-returns-then-len-eq-MOST_BYTES-clause-consumed g c =
+pub returns-then-len-most-clause-consumed : goal.returns-then-len-most-clause-consumed
+returns-then-len-most-clause-consumed g c =
     Consumes-piece _ _ _ _ _ _ c.loop.invariant.taken c.in-Ok.ensures.bytes.0 c.in_ok-extend_from_slice-in-Ok.ensures.items
 
 -- a piece for which there is no room was taken too
 pub returns-in_err-extend_from_slice-in-Ok-clause-taken : goal.returns-in_err-extend_from_slice-in-Ok-clause-taken
 returns-in_err-extend_from_slice-in-Ok-clause-taken g c =
     let p = err_from_is_err_and c.from_residual.result c.from_residual.ensures.1 in
-    let few : length c.loop.bytes.items + length (take c.in-Ok.count c.read.new.buf) ≤ MOST_BYTES = search rules in
-    rw p.1 (few_then _ _ _ c.loop.bytes.items _ c.loop.invariant.taken c.in-Ok.ensures.bytes.0 few)
+    let few : length c.loop.bytes.items + length (take c.in-Ok.count c.read.new.buf) ≤ c.args.most = search rules in
+    rw p.1 (most_then _ _ _ _ c.loop.bytes.items _ c.loop.invariant.taken c.in-Ok.ensures.bytes.0 few)
