@@ -29,10 +29,10 @@ const STRICTLY: Mode = Mode {
 const TWO_REFUSED: &[u8] = b"%operator a\nrm default\nreweight osd.0 1\nrm x\n";
 
 const REASONS: &[u8] =
-    b"# 1 a rm default = refused NotEmpty 39\n  the bucket holds items: move or remove them first\n# 3 a rm x = refused NoSuchItem 2\n  the map has no item of this name\n";
+    b"# 1 a rm default = refused NotEmpty 39\n  default holds items: move or remove them first\n# 3 a rm x = refused NoSuchItem 2\n  x isn't there\n";
 
 const STRICT_REASONS: &[u8] =
-    b"crushedit: refused 2\n# 1 a rm default = refused NotEmpty 39\n  the bucket holds items: move or remove them first\n# 3 a rm x = refused NoSuchItem 2\n  the map has no item of this name\n";
+    b"crushedit: refused 2\n# 1 a rm default = refused NotEmpty 39\n  default holds items: move or remove them first\n# 3 a rm x = refused NoSuchItem 2\n  x isn't there\n";
 
 #[test]
 fn refused_commands_are_told_with_reasons(rt: HostRuntime) {
