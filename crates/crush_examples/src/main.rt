@@ -5,7 +5,7 @@
 
 use crush_options::{Mode, options};
 use crush_report::report;
-use crush_run::{Asked, Ending, NoGate, Plan, RunFault, SystemFiles, run_job, run_options};
+use crush_run::{Asked, Ending, NoGate, Request, RunFault, SystemFiles, run_job, run_options};
 use std::random::RandomSource;
 use std::sync::Wait;
 use std::thread::Threads;
@@ -46,7 +46,7 @@ fn run_record(
     workers: &(impl AllocGlobal + RandomSource + Threads + Wait + Sync),
     job: &[u8],
 ) -> Ending {
-    let plan = Plan {
+    let request = Request {
         mode: Mode {
             in_turn: true,
             history: true,
@@ -56,7 +56,7 @@ fn run_record(
         asked: Asked::Map,
     };
     let (mut reader, mut output) = (job, rt.stdout());
-    run_job(workers, &NoGate, &plan, &mut reader, &mut output)
+    run_job(workers, &NoGate, &request, &mut reader, &mut output)
 }
 
 /// Runs each line, which has the words of a command line behind the program's name.
