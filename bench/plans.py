@@ -10,11 +10,13 @@ there are without it, or as many and fewer other ids. A second run has to print 
 commands as Ceph's own, and with `--strict` what stays has to end it. Of every other pair buckets are told by names
 (`--by-name`).
 
-The status is 1 where a plan is wrong, or where of pairs made by a script more than 4 in 100 leave a difference on the
-way there; how often that was, and which differences, is told. The seed may be any word; without one it is drawn.
+The status is 1 where a plan is wrong, or where of pairs made by a script more than 4 in 100, rounded up, leave a
+difference on the way there; how often that was, and which differences, is told. The seed may be any word; without one
+it is drawn.
 """
 
 import collections
+import math
 import os
 import random
 import re
@@ -126,7 +128,7 @@ def main(program, pairs=1000, seed=None):
     print(f"of {counts['scripted']} pairs made by scripts {counts['staying']} leave a difference there")
     for kind, count in kinds.most_common():
         print(f"{count} times: {kind}")
-    return wrong or counts["staying"] * 100 > counts["scripted"] * MOST_STAYING
+    return wrong or counts["staying"] > math.ceil(counts["scripted"] * MOST_STAYING / 100)
 
 
 if __name__ == "__main__":

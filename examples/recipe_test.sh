@@ -115,7 +115,7 @@ replicas=
 try "what is so already" 0 "Nothing is to be set" "reweight osd.2 0.5\n"
 never "a command is shown where nothing is to be set" setcrushmap
 [ ! -e "$work/folder" ] || { echo "FAILED: a folder of nothing blocks the next try"; failed=1; }
-try "a refused job tells why" 1 "^  the item is a bucket: " "reweight h1 1.0\n"
+try "a refused job tells why" 1 "^  h1 is a bucket: " "reweight h1 1.0\n"
 [ ! -e "$work/folder" ] || { echo "FAILED: a refused job's folder blocks the next try"; failed=1; }
 try "a faulty line tells what is wanted" 1 "^  the first word of a line is to be a command" "fly h1\n"
 never "the line is told by the job's number" "line [0-9][0-9]"
