@@ -8,7 +8,10 @@ the files that an addition touches: each has to be there, and each file of src/,
 variants of an enum of ADDED, or all words of a row of NAMED, has to stand in its section. RULES.md has a row for each variant of the enums of
 ROWS, and for each limit, and a sentence for each, which is the one of SENTENCES. Each public function is named by a page, but for those of INSIDE; and
 each that may answer one of several faults, or fails and is lent what it changes, has a clause that says which and what
-is left, by the names that PROVED.md tells, or is told there to have none. The index of examples/ names each job. In the drawing of crates/README.md each crate has
+is left, by the names that PROVED.md tells, or is told there to have none. A clause that a page tells of
+calls is one of each. What is trusted has each crate that isn't of this repository, and what is unsafe is told. RULES.md
+has the values of the limits and the sentences of runs, MODEL.md the number of worked lines, FORMATS.md a line for each
+word of the help. The index of examples/ names each job and each folder. In the drawing of crates/README.md each crate has
 a place, and code calls downward. The version of the command line stands in VERSIONS, the
 manual page is that of the help (docs/manual.py), and `--version` and PROVED.md name the toolchain, where `rt` is
 there to tell its line. Prints what is missing, and ends with status 1 where anything is.
@@ -185,11 +188,104 @@ def link_faults(page):
 
 
 def example_faults():
-    """Which jobs the index of the examples doesn't name."""
+    """Which jobs and folders the index of the examples doesn't name."""
     named = set(quoted((TOP / "examples/README.md").read_text()))
     for job in sorted([*(TOP / "examples").glob("*.job"), *(TOP / "examples/worked").glob("*.job")]):
         if not {job.name, job.stem} & named:
             yield f"{job.name} isn't named"
+    for folder in sorted(path.name for path in (TOP / "examples").iterdir() if path.is_dir()):
+        if f"{folder}/" not in named and not folder.startswith("__"):
+            yield f"{folder}/ isn't named"
+
+
+def number_faults():
+    """Which numbers of the pages aren't those of the crates: of limits and of worked lines."""
+    text = (TOP / "crates/crush_units/src/limits.rt").read_text()
+    limits = {name: int(value) for name, value in re.findall(r"(?m)^pub const (\w+): \w+ = (\d+);", text)}
+    for line in re.findall(r"(?m)^- .*$", sections_of("RULES.md")["Limits"]):
+        numbers = {int(number.replace(",", "")) for number in re.findall(r"(?<![\d.,])\d[\d,]*(?![\d.,]*\d)", line)}
+        for name in quoted(line):
+            if name in limits and limits[name] not in numbers and not ("one more" in line and limits[name] - 1 in numbers):
+                yield f"RULES.md: {name} is {limits[name]}"
+    worked = "".join(path.read_text() for path in (TOP / "crates/crush_edits/proofs/Worked").glob("*.antt"))
+    count = len(re.findall(r"(?m)^\w+ : ", worked))
+    if f"`crates/crush_edits/proofs/Worked` has {count} such lines" not in (TOP / "docs/MODEL.md").read_text():
+        yield f"MODEL.md: there are {count} worked lines"
+
+
+def run_sentence_faults():
+    """Which sentences of runs RULES.md hasn't, or has another of."""
+    report = (TOP / "crates/crush_report/specs/Report.antt").read_text()
+    said = {sentence for sentence in re.findall(r'codes "  (.*?)\\n"', report)}
+    told = {row[1] for _, rows in tables(sections_of("RULES.md")["Sentences of runs"]) for row in rows}
+    for sentence in sorted(said ^ told):
+        yield f"Sentences of runs: {'no row' if sentence in said else 'no run'} has {sentence}"
+
+
+def named_sentence_faults():
+    """Which sentences with a name RULES.md hasn't, or has another of."""
+    specs = (TOP / "crates/crush_reasons/specs/Named.antt").read_text()
+    said = dict(re.findall(r'(?m)^said_of refusal\.(\w+) = Some \(codes "(.*)"\)$', specs))
+    rows = [row for _, rows in tables(sections_of("RULES.md")["Refusals that tell a name"]) for row in rows]
+    told = {quoted(row[0])[0]: row[1].removeprefix("NAME") for row in rows}
+    for name in sorted(said | told):
+        if said.get(name) != told.get(name):
+            yield f"Refusals that tell a name has another sentence of {name} than crush_reasons/specs/Named.antt"
+
+
+def trust_faults():
+    """Which crates of the toolchain PROVED.md doesn't name as trusted, or that nothing stands on, and what is unsafe untold."""
+    lines = [line.split(":") for line in (TOP / "crates.txt").read_text().splitlines() if line and not line.startswith("#")]
+    ours = {line[0] for line in lines}
+    others = {name for line in lines for name in line[1].split()} - ours
+    named = set(quoted(sections_of("PROVED.md")["What is trusted"]))
+    for name in sorted(others ^ named):
+        yield f"What is trusted {'does not name' if name in others else 'names'} {name}"
+    tested = quoted(sections_of("PROVED.md")["What is only tested"])
+    for path in crate_files():
+        if path.suffix == ".rt" and (found := re.findall(r"(?m)^[^/\n]*\bunsafe fn (\w+)", path.read_text())):
+            crate = path.relative_to(TOP / "crates").parts[0]
+            for name in {crate, *found} - set(tested):
+                yield f"What is only tested doesn't name {name}, which is unsafe, or has what is"
+
+
+def clause_faults():
+    """Which clauses the pages tell, in brackets behind calls, that these don't have."""
+    records, clauses = fields_of_records(), {}
+    for _, name, text in contracts():
+        there = set(re.findall(r"\bensures (\w+) \{", text))
+        there.update(*(records.get(record, ()) for record in re.findall(r"\bensures (?:\w+ )?\{ (\w+)", text)))
+        for called in {name, name.split("::")[-1]}:
+            clauses.setdefault(called, set()).update(there)
+    told = re.compile(r"((?:`[\w:]+`, )*`[\w:]+`)(?:, clauses? |: )((?:`\w+`(?:, | and )?)+)(?::|$)")
+    for page in sorted((TOP / "docs").glob("*.md")):
+        for inside in re.findall(r"\(([^()]+)\)", page.read_text()):
+            for part in inside.split("; "):
+                found = told.match(part)
+                for call in quoted(found[1]) if found else []:
+                    for clause in quoted(found[2]):
+                        if call in clauses and clause not in clauses[call]:
+                            yield f"{page.name}: {call} has no clause {clause}"
+
+
+def word_faults():
+    """Which words of the command line FORMATS.md doesn't tell of, or tells of that aren't there."""
+    source = (TOP / COMMAND_LINE).read_text()
+    there = {*re.findall(r'\b(?:flag|option)\(alloc, "([a-z-]+)"', source), *re.findall(r'\.long\("([a-z-]+)"\)', source)}
+    told = {name for line in re.findall(r"(?m)^- .*$", sections_of("FORMATS.md")["The command line"])
+            for name in re.findall(r"^- .*?(?=: |$)", line) for name in re.findall(r"`--([a-z-]+)", name)}
+    for name in sorted((there | {"help", "version"}) ^ told):
+        yield f"FORMATS.md: {'no line for' if name in there else 'there is no'} --{name}"
+
+
+def name_faults():
+    """Which names of refusals, faults and types no crate has, of pages that name words of jobs beside them."""
+    words = known_words()
+    for page in PAGES:
+        text = re.sub(r"```.*?```", "", page.read_text(), flags=re.S)
+        if page.name in WORDS_OF_TEXTS:
+            names = re.findall(r"\b(?:[A-Z][a-z]*){2,}\b", " ".join(re.findall(r"`([^`\n]+)`", text)))
+            yield from (f"{page.name}: nothing is named {name}" for name in names if re.search(r"[a-z]", name) and name not in words)
 
 
 def version_faults():
@@ -350,6 +446,9 @@ def main():
     faults += [f"ADDING.md: {fault}" for fault in adding_faults()]
     faults += [f"PROVED.md: {fault}" for fault in call_faults()]
     faults += [f"examples/README.md: {fault}" for fault in example_faults()]
+    faults += [f"RULES.md: {fault}" for fault in [*run_sentence_faults(), *named_sentence_faults()]]
+    faults += [f"PROVED.md: {fault}" for fault in trust_faults()]
+    faults += [*number_faults(), *clause_faults(), *word_faults(), *name_faults()]
     faults += [*version_faults(), *made_faults(), *listing_faults()]
     for fault in faults:
         print(fault)
