@@ -5,10 +5,12 @@
 
 Of README.md and docs/OPERATING.md each block of a console is run in a folder of its own, in which map.txt is the map of
 examples/maps/class-3.job: the lines behind `$ `, and what stands below each is what it has to print. A line of two
-dots, perhaps with words behind it, stands for any lines. Blocks that call `make` aren't run. Then it is looked whether
-README's script makes its map and tells of it in one order of operators, `make try` shows what changes, and the archive
-has the pages that an operator reads. Prints a line for each block and each of these, and ends with status 1 where one
-prints something else, or isn't so.
+dots, perhaps with words behind it, stands for any lines. Blocks that call `make` aren't run. The outputs of
+docs/FORMATS.md come of the commands of SHOWN, and README's table of statuses has the line of each command of ENDS in the
+row of its status. Then it is looked whether README's script makes its map and tells of it in one order of operators,
+maps that `crushtool` printed differ at most by the order of their buckets when they are printed here, `make try` shows
+what changes, and the archive has the pages that an operator reads. Prints a line for each block and each of these, and
+ends with status 1 where one prints something else, or isn't so.
 """
 import os
 import pathlib
@@ -20,7 +22,44 @@ import tempfile
 
 TOP = pathlib.Path(__file__).resolve().parent.parent
 PAGES = ["README.md", "docs/OPERATING.md"]
-MAP = (TOP / "examples/maps/class-3.job").read_text().partition("%")[0]
+MAPS = TOP / "examples/maps"
+MAP = (MAPS / "class-3.job").read_text().partition("%")[0]
+# What FORMATS.md shows: the heading, and the commands whose output stands below it, in blocks in this order. In map.txt
+# is the map of examples/example.txt, in old.txt one that `crushtool` 16 printed.
+SHOWN = {
+    "The tree": ["crushedit --tree --no-history map.txt"],
+    "What has changed": [
+        "sed 's/take default/take h2/' map.txt > before.txt; (cat map.txt; echo '%operator a'; echo rename-bucket h1 node1;"
+        " echo move osd.0 host=h2; echo add osd.3 1 host=h3 rack=r1) | crushedit --no-history --since before.txt"
+    ],
+    "A plan": [
+        "sed 's/total_tries 50/total_tries 51/; s/^device 0 osd.0/& class ssd/; s/id -2/id -9/' map.txt > wanted.txt;"
+        " crushedit --to wanted.txt map.txt"
+    ],
+    "History lines": [
+        "(sed 's/^device 2 .*/&\\ndevice 9 osd.9/' map.txt; echo '%operator alice'; echo reweight osd.0 0.5; echo reweight osd.9 1;"
+        " echo begin; echo add-bucket h9 host; echo move h9 root=default; echo commit; echo '%operator bob'; echo begin;"
+        " echo rm h9; echo rm default; echo commit; echo begin at 1; echo set-device-class ssd osd.0; echo commit)"
+        " | crushedit --in-turn | grep '^# [0-9]'"
+    ],
+    "Reasons": ["sed 's/host h2/hots h2/' map.txt | crushedit --explain", "crushedit --explain old.txt > new.txt"],
+}
+# How runs end, with the status and the line on standard error that README's table has. Of status 4, which takes a system
+# that refuses memory or threads, bench/refused_memory.py looks at the lines.
+ENDS = [
+    (0, "crushedit old.txt"),
+    (1, "(cat map.txt; echo '%operator a'; echo fly osd.1) | crushedit"),
+    (1, "echo nothing | crushedit"),
+    (1, "crushedit /dev/zero"),
+    *((1, f"{given} | crushedit --{word} /dev/stdin map.txt") for word in ("since", "to") for given in ("echo nothing", "cat /dev/zero")),
+    (2, "crushedit --fly"),
+    (3, "crushedit missing"),
+    (3, "crushedit map.txt > /dev/full"),
+    *((3, f"crushedit --{word} missing map.txt") for word in ("since", "to")),
+    (5, "(cat map.txt; echo '%operator a'; echo rm default) | crushedit --strict"),
+    (5, "sed 's/total_tries 50/total_tries 51/' map.txt | crushedit --strict --to map.txt"),
+]
+UNTRIED = {"4"}
 
 
 def steps_of(block):
@@ -34,6 +73,78 @@ def steps_of(block):
 def is_shown(printed, shown):
     parts = re.split(r"(?m)^ *\.\.(?: .*)?\n", shown)
     return re.fullmatch(r"(?s:.*)".join(re.escape(part) for part in parts), printed) is not None
+
+
+def run_in(here, command, environment, stdout=None):
+    """What a command of bash prints in this folder, as it ends."""
+    return subprocess.run(["bash", "-c", command], cwd=here, env=environment, text=True,
+                          stdout=stdout or subprocess.PIPE, stderr=subprocess.PIPE if stdout else subprocess.STDOUT)
+
+
+def example_folder(folder, name):
+    here = pathlib.Path(folder, name)
+    here.mkdir()
+    (here / "map.txt").write_text((TOP / "examples/example.txt").read_text())
+    (here / "old.txt").write_text((MAPS / "class-100-v16.job").read_text().partition("%")[0])
+    return here
+
+
+def shown_faults(folder, environment):
+    """Which outputs FORMATS.md shows that aren't printed."""
+    here, text = example_folder(folder, "shown"), (TOP / "docs/FORMATS.md").read_text()
+    for heading, commands in SHOWN.items():
+        section = re.search(rf"(?ms)^#+ {heading}\n(.*?)(?:^#+ |\Z)", re.sub(r"(?m)^# ", "\0# ", text))[1].replace("\0", "")
+        blocks = re.findall(r"(?ms)^```\n(.*?)^```$", section)
+        for command, shown in zip(commands, blocks, strict=True):
+            printed = run_in(here, command, environment).stdout
+            if not is_shown(printed, shown):
+                yield f"docs/FORMATS.md, {heading}: {command}\nprints\n{printed}and not\n{shown}"
+
+
+def has_line(cell, line):
+    """Whether a cell of README's table has this line: as it is, or without the word that asks for another map."""
+    forms = re.findall(r"`([^`]+)`", cell)
+    for word in ("since: ", "to: "):
+        line = line.replace(f"crushedit: {word}", "crushedit: ") if word in forms else line
+    names = {r"\bNAME\b": r"\\w+", r"\b[LPN]\b": r"\\d+"}
+    for form in forms:
+        pattern = re.escape(form)
+        for name, words in names.items():
+            pattern = re.sub(name, words, pattern)
+        if re.fullmatch(pattern + (".*" if form.endswith(": ") else ""), line):
+            return True
+    return False
+
+
+def status_faults(folder, environment):
+    """Which lines and statuses README's table doesn't tell, and which of its rows nothing here ends by."""
+    here, rows = example_folder(folder, "ends"), {}
+    for row in re.findall(r"(?m)^\| (\d) \|.*\| (.*) \|$", (TOP / "README.md").read_text()):
+        rows[row[0]] = row[1]
+    for status, command in ENDS:
+        ran = run_in(here, f"set -o pipefail; {command}", environment, stdout=subprocess.DEVNULL)
+        line = ran.stderr.partition("\n")[0]
+        if ran.returncode != status or not has_line(rows.get(str(status), ""), line):
+            yield f"README.md: {command}\nends with status {ran.returncode} and {line!r}, which its row doesn't tell"
+    for status in sorted(rows.keys() - UNTRIED - {str(status) for status, _ in ENDS}):
+        yield f"README.md: nothing is tried that ends with status {status}"
+
+
+def order_faults(folder, environment):
+    """Which maps that `crushtool` printed are printed here otherwise than in another order of their buckets."""
+    here, orders = example_folder(folder, "order"), 0
+    for job in sorted(MAPS.glob("*.job")):
+        text = job.read_text().partition("%")[0]
+        (here / "job.txt").write_text(text)
+        ran = subprocess.run(["crushedit", "--no-history", "job.txt"], cwd=here, env=environment, capture_output=True, text=True)
+        if ran.stderr or ran.stdout == text:
+            continue
+        parts = [re.split(r"(?m)(?<=^}\n)", it[it.index("# buckets\n") + 10 :]) for it in (text, ran.stdout)]
+        orders += 1
+        if sorted(parts[0]) != sorted(parts[1]):
+            yield f"README.md: {job.name} is printed otherwise than in another order of its buckets"
+    if orders == 0:
+        yield "README.md: no map is printed in another order of its buckets"
 
 
 def shown_in_turn(_program, _folder):
@@ -69,12 +180,15 @@ def main():
                 os.mkdir(here)
                 pathlib.Path(here, "map.txt").write_text(MAP)
                 for command, shown in steps_of(block):
-                    ran = subprocess.run(["bash", "-c", command], cwd=here, env=environment, text=True,
-                                         stdout=subprocess.PIPE, stderr=subprocess.STDOUT)
+                    ran = run_in(here, command, environment)
                     if not is_shown(ran.stdout, shown):
                         print(f"{page}, block {number}: {command}prints\n{ran.stdout}and not\n{shown}")
                         failed = True
                 print(f"{page}, block {number}: run")
+        for test in (shown_faults, status_faults, order_faults):
+            faults = list(test(folder, environment))
+            print("\n".join([*faults, f"{test.__name__}: {len(faults)}"]))
+            failed |= bool(faults)
         for test in (shown_in_turn, tried_is_short, archive_has_pages):
             is_so = test(program, os.path.join(folder, "archive"))
             print(f"{test.__name__}: {'so' if is_so else 'NOT so'}")
