@@ -45,10 +45,12 @@ install: $(PROGRAM)
 	install -m 755 $(PROGRAM) $(DESTDIR)$(PREFIX)/bin/crushedit
 	install -m 755 examples/recipe.sh $(DESTDIR)$(PREFIX)/bin/crushedit-recipe
 	install -m 644 docs/crushedit.1 docs/crushedit-recipe.1 $(DESTDIR)$(PREFIX)/share/man/man1
+	install -D -m 644 docs/crushedit.bash $(DESTDIR)$(PREFIX)/share/bash-completion/completions/crushedit
 
 uninstall:
 	rm -f $(addprefix $(DESTDIR)$(PREFIX)/bin/, crushedit crushedit-recipe)
 	rm -f $(addprefix $(DESTDIR)$(PREFIX)/share/man/man1/, crushedit.1 crushedit-recipe.1)
+	rm -f $(DESTDIR)$(PREFIX)/share/bash-completion/completions/crushedit
 
 dist: $(PROGRAM)
 	examples/dist.sh $(PROGRAM)

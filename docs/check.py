@@ -13,7 +13,7 @@ calls is one of each. What is trusted has each crate that isn't of this reposito
 has the values of the limits and the sentences of runs, MODEL.md the number of worked lines, FORMATS.md a line for each
 word of the help. The index of examples/ names each job and each folder. In the drawing of crates/README.md each crate has
 a place, and code calls downward. The version of the command line stands in VERSIONS, the
-manual page is that of the help (docs/manual.py), and `--version` and PROVED.md name the toolchain, where `rt` is
+manual page and the completion for bash are those of the help (docs/manual.py, docs/completion.py), and `--version` and PROVED.md name the toolchain, where `rt` is
 there to tell its line. Prints what is missing, and ends with status 1 where anything is.
 """
 import os
@@ -307,8 +307,8 @@ def version_faults():
 
 
 def made_faults():
-    """Whether the manual page is the one that docs/manual.py makes of the help, and each line of edits that of docs/tables.py."""
-    for script in ("manual.py", "tables.py"):
+    """Whether the manual page and the completion are those that are made of the help, and each line of edits that of docs/tables.py."""
+    for script in ("manual.py", "completion.py", "tables.py"):
         command = [sys.executable, "-B", str(TOP / "docs" / script), "--check"]
         told = subprocess.run(command, capture_output=True, text=True, check=False).stderr
         yield from told.splitlines()

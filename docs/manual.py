@@ -98,18 +98,28 @@ def block(text):
     return f".PP\n{prose(text)}"
 
 
+def words_of(source):
+    """The words of the help in its order, as `-s, --script SCRIPT`, each with what it does; all may stand once, but the last but two."""
+    texts = dict(re.findall(r'let (\w+) =\s+"([^"]+)";', source))
+    words = r'\b(?:flag|option)\(\s*alloc,\s*"([a-z-]+)",\s*(?:"([A-Z]+)",\s*)?(\w+),?\s*\)'
+    flags = [(f"--{name} {value}".rstrip(), texts[text]) for name, value, text in re.findall(words, source)]
+    script = re.search(r'Arg::new\(alloc, "([a-z]+)"\).*?\.value_name\("(\w+)"\).*?\.help\("([^"]+)"\)', source, re.S)
+    return [
+        *flags,
+        (f"-s, --{script.group(1)} {script.group(2)}", script.group(3)),
+        ("-h, --help", "Print help, and run nothing"),
+        ("-V, --version", "Print version, and run nothing"),
+    ]
+
+
 def page():
     source = SOURCE.read_text()
     version, about = constant(source, "VERSION"), constant(source, "ABOUT")
-    texts = dict(re.findall(r'let (\w+) = "([^"]+)";', source))
-    words = r'(?:flag|option)\(alloc, "([a-z-]+)",(?: "([A-Z]+)",)? (\w+)\)'
-    flags = [(f"--{name} {value}".rstrip(), texts[text]) for name, value, text in re.findall(words, source)]
     file = re.search(r'Arg::new\(alloc, "([A-Z]+)"\).*?\.help\("([^"]+)"\)', source, re.S)
-    script = re.search(r'Arg::new\(alloc, "([a-z]+)"\).*?\.value_name\("(\w+)"\).*?\.help\("([^"]+)"\)', source, re.S)
-    synopsis = "".join(f'.RB [ "{marked(word)}" ]\n' for word, _ in flags)
-    synopsis += f'.RB [ "{marked(f"-s {script.group(2)}")}" ].. \n'.replace(" \n", "\n")
-    options = [*flags, (f"-s, --{script.group(1)} {script.group(2)}", script.group(3))]
-    options += [("-h, --help", "Print help, and run nothing"), ("-V, --version", "Print version, and run nothing")]
+    options = words_of(source)
+    *flags, script = [word for word, _ in options[:-2]]
+    synopsis = "".join(f'.RB [ "{marked(word)}" ]\n' for word in flags)
+    synopsis += f'.RB [ "{marked(f"-s {script.split()[-1]}")}" ]..\n'
     first, *rest = constant(source, "MORE").strip("\n").split("\n\nCommands")
     return (
         f'.TH CRUSHEDIT 1 "" "crushedit {version.split()[0]}" "User Commands"\n'
@@ -128,4 +138,5 @@ def main():
     PAGE.write_text(page())
 
 
-main()
+if __name__ == "__main__":
+    main()

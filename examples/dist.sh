@@ -3,9 +3,9 @@
 #
 #     examples/dist.sh crates/crushedit/out/crushedit [FOLDER]
 #
-# FOLDER is out/ if nothing is said. In the archive are the program, the recipe, their manual pages, README and the
-# pages for operators, the recipe's test with its map, the licence, the line of `crushedit --version` and the checksums
-# of them all.
+# FOLDER is out/ if nothing is said. In the archive are the program, the recipe, their manual pages, the completion for
+# bash, README and the pages for operators, the recipe's test with its map, the licence, the line of
+# `crushedit --version` and the checksums of them all.
 set -eu
 
 [ $# -eq 1 ] || [ $# -eq 2 ] || { echo "usage: dist.sh CRUSHEDIT [FOLDER]" >&2; exit 2; }
@@ -20,11 +20,12 @@ name=crushedit-$version-linux-x86_64
 # lay ROOT: the files as they lie below /usr.
 lay() {
     rm -rf "$1"
-    mkdir -p "$1/bin" "$1/share/man/man1" "$1/share/doc/crushedit/docs"
+    mkdir -p "$1/bin" "$1/share/man/man1" "$1/share/bash-completion/completions" "$1/share/doc/crushedit/docs"
     cp "$program" "$1/bin/crushedit"
     cp "$top/examples/recipe.sh" "$1/bin/crushedit-recipe"
     chmod 755 "$1/bin/crushedit" "$1/bin/crushedit-recipe"
     cp "$top/docs/crushedit.1" "$top/docs/crushedit-recipe.1" "$1/share/man/man1"
+    cp "$top/docs/crushedit.bash" "$1/share/bash-completion/completions/crushedit"
     cp "$top/README.md" "$top/LICENSE" "$top/examples/recipe_test.sh" "$top/examples/example.txt" "$1/share/doc/crushedit"
     cp "$top/docs/OPERATING.md" "$top/docs/FORMATS.md" "$top/docs/RULES.md" "$1/share/doc/crushedit/docs"
     echo "$line" >"$1/share/doc/crushedit/VERSION"

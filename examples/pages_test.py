@@ -9,7 +9,7 @@ dots, perhaps with words behind it, stands for any lines. Blocks that call `make
 docs/FORMATS.md come of the commands of SHOWN, and README's table of statuses has the line of each command of ENDS in the
 row of its status. Then it is looked whether README's script makes its map and tells of it in one order of operators,
 maps that `crushtool` printed differ at most by the order of their buckets when they are printed here, `make try` shows
-what changes, and the archive has the pages that an operator reads. Prints a line for each block and each of these, and
+what changes, bash completes what is typed (completed.py), and the archive has the pages that an operator reads. Prints a line for each block and each of these, and
 ends with status 1 where one prints something else, or isn't so.
 """
 import os
@@ -19,6 +19,9 @@ import subprocess
 import sys
 import tarfile
 import tempfile
+
+sys.dont_write_bytecode = True
+from completed import completion_faults
 
 TOP = pathlib.Path(__file__).resolve().parent.parent
 PAGES = ["README.md", "docs/OPERATING.md"]
@@ -163,8 +166,8 @@ def tried_is_short(_program, _folder):
 def archive_has_pages(program, folder):
     ran = subprocess.run([TOP / "examples/dist.sh", program, folder], capture_output=True, text=True, check=True)
     names = tarfile.open(ran.stdout.split()[0]).getnames()
-    pages = ["README.md", *(f"docs/{name}.md" for name in ("OPERATING", "FORMATS", "RULES"))]
-    return all(any(name.endswith(f"/share/doc/crushedit/{page}") for name in names) for page in pages)
+    pages = [f"doc/crushedit/{page}.md" for page in ("README", "docs/OPERATING", "docs/FORMATS", "docs/RULES")]
+    return all(any(name.endswith(f"/share/{page}") for name in names) for page in [*pages, "bash-completion/completions/crushedit"])
 
 
 def main():
@@ -185,7 +188,7 @@ def main():
                         print(f"{page}, block {number}: {command}prints\n{ran.stdout}and not\n{shown}")
                         failed = True
                 print(f"{page}, block {number}: run")
-        for test in (shown_faults, status_faults, order_faults):
+        for test in (shown_faults, status_faults, order_faults, completion_faults):
             faults = list(test(folder, environment))
             print("\n".join([*faults, f"{test.__name__}: {len(faults)}"]))
             failed |= bool(faults)
