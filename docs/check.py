@@ -13,7 +13,7 @@ calls is one of each. What is trusted has each crate that isn't of this reposito
 has the values of the limits and the sentences of runs, MODEL.md the number of worked lines, FORMATS.md a line for each
 word of the help. The index of examples/ names each job and each folder. In the drawing of crates/README.md each crate has
 a place, and code calls downward. The version of the command line stands in VERSIONS, the
-manual page and the completion for bash are those of the help (docs/manual.py, docs/completion.py), and `--version` and PROVED.md name the toolchain, where `rt` is
+manual page and the completion for bash are those of the help (docs/manual.py, docs/completion.py), the signatures are those of the crates (docs/signatures.py), and `--version` and PROVED.md name the toolchain, where `rt` is
 there to tell its line. Prints what is missing, and ends with status 1 where anything is.
 """
 import os
@@ -25,7 +25,8 @@ import sys
 from fnmatch import fnmatch
 
 TOP = pathlib.Path(__file__).resolve().parent.parent
-PAGES = sorted((TOP / "docs").glob("*.md")) + [TOP / "README.md", TOP / "bench/README.md"]
+MADE = TOP / "docs/SIGNATURES.md"
+PAGES = sorted(set((TOP / "docs").glob("*.md")) - {MADE}) + [TOP / "README.md", TOP / "bench/README.md"]
 # A name alone, with the types or modules that it stands in, and perhaps with its brackets.
 NAME = re.compile(r"^[A-Za-z_][A-Za-z0-9_]*(?:(?:::|\.)[A-Za-z_][A-Za-z0-9_]*)*(?:\(\))?$")
 # A file or a folder of the repository.
@@ -307,8 +308,8 @@ def version_faults():
 
 
 def made_faults():
-    """Whether the manual page and the completion are those that are made of the help, and each line of edits that of docs/tables.py."""
-    for script in ("manual.py", "completion.py", "tables.py"):
+    """Whether the manual page and the completion are those that are made of the help, the signatures those of the crates, and each line of edits that of docs/tables.py."""
+    for script in ("manual.py", "completion.py", "signatures.py", "tables.py"):
         command = [sys.executable, "-B", str(TOP / "docs" / script), "--check"]
         told = subprocess.run(command, capture_output=True, text=True, check=False).stderr
         yield from told.splitlines()
@@ -440,7 +441,7 @@ def main():
                         faults.append(f"{page.name}: nothing is named {name}")
                         break
     faults += [f"crates/README.md: {fault}" for fault in room_faults()]
-    for page in [*PAGES, TOP / "examples/README.md", TOP / "crates/README.md"]:
+    for page in [*PAGES, MADE, TOP / "examples/README.md", TOP / "crates/README.md"]:
         faults += link_faults(page)
     faults += [f"RULES.md: {fault}" for fault in [*rule_faults(), *sentence_faults()]]
     faults += [f"ADDING.md: {fault}" for fault in adding_faults()]
