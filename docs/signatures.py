@@ -4,8 +4,8 @@
 It begins with the names of the list of docs/CALLING.md and with those that docs/doors.py offers, and goes on with each
 type that a signature, a field or a variant among them names. A type stands under the last crate that hands it on, with
 its public fields or variants, its public methods and the traits that it has; a function with its first sentence and the
-names of what it requires and ensures. A call that asks for a type of INSIDE, of which no caller has a value, is left out. With --check
-nothing is written, and the status is 1 where the page has other bytes.
+names of what it requires and ensures. A call that asks for a type of INSIDE, of which no caller has a value, is left
+out. With --check nothing is written, and the status is 1 where the page has other bytes.
 """
 import pathlib
 import re
