@@ -122,8 +122,8 @@ def has_line(cell, line):
 def status_faults(folder, environment):
     """Which lines and statuses README's table doesn't tell, and which of its rows nothing here ends by."""
     here, rows = example_folder(folder, "ends"), {}
-    for row in re.findall(r"(?m)^\| (\d) \|.*\| (.*) \|$", (TOP / "README.md").read_text()):
-        rows[row[0]] = row[1]
+    for status, cell in re.findall(r"(?m)^\| (\d) \|.*\| (.*) \|$", (TOP / "README.md").read_text()):
+        rows[status] = rows.get(status, "") + (rows[cell[-1]] if cell.startswith("as with ") else cell)
     for status, command in ENDS:
         ran = run_in(here, f"set -o pipefail; {command}", environment, stdout=subprocess.DEVNULL)
         line = ran.stderr.partition("\n")[0]
