@@ -10,8 +10,8 @@ ROWS, and for each limit, and a sentence for each, which is the one of SENTENCES
 each that may answer one of several faults, or fails and is lent what it changes, has a clause that says which and what
 is left, by the names that PROVED.md tells, or is told there to have none. A clause that a page tells of
 calls is one of each. What is trusted has each crate that isn't of this repository, and what is unsafe is told. RULES.md
-has the values of the limits and the sentences of runs, MODEL.md the number of worked lines, FORMATS.md a line for each
-word of the help. The index of examples/ names each job and each folder. In the drawing of crates/README.md each crate has
+has the values of the limits and the sentences of runs and with names, MODEL.md the number of worked lines, FORMATS.md a
+line for each word of the help, README.md a row for each status. The index of examples/ names each job and each folder. In the drawing of crates/README.md each crate has
 a place, and code calls downward. The version of the command line stands in VERSIONS, the
 manual page and the completion for bash are those of the help (docs/manual.py, docs/completion.py), the signatures are those of the crates (docs/signatures.py), and `--version` and PROVED.md name the toolchain, where `rt` is
 there to tell its line. Prints what is missing, and ends with status 1 where anything is.
@@ -69,6 +69,7 @@ INSIDE = {"crush_nodes", "crush_changes"}
 PROGRAMS = {"crush_examples", "crush_growths", "crush_one_edit", "crush_two_operators", "crushedit"}
 # What a function answers in the place of a Result, and the fault in it.
 ENDINGS = {"Ending": "RunFault"}
+NUMBERS = "no one two three four five six seven eight nine ten eleven twelve".split()
 # Pages that name words of jobs and of Ceph beside names of the code.
 WORDS_OF_TEXTS = {"FORMATS.md", "OPERATING.md", "DECISIONS.md", "README.md"}
 
@@ -212,6 +213,10 @@ def number_faults():
     count = len(re.findall(r"(?m)^\w+ : ", worked))
     if f"`crates/crush_edits/proofs/Worked` has {count} such lines" not in (TOP / "docs/MODEL.md").read_text():
         yield f"MODEL.md: there are {count} worked lines"
+    trials = len(re.findall(r"(?m)^python3 (?:-B )?bench/", (TOP / ".ci/run").read_text()))
+    for page, form in (("docs/WORKING.md", "{} scripts of [bench/]"), ("bench/README.md", "The gate runs {} of them.")):
+        if form.format(NUMBERS[trials]) not in (TOP / page).read_text():
+            yield f"{page}: the gate runs {trials} scripts of bench/"
 
 
 def run_sentence_faults():
@@ -280,6 +285,9 @@ def word_faults():
             for name in re.findall(r"^- .*?(?=: |$)", line) for name in re.findall(r"`--([a-z-]+)", name)}
     for name in sorted((there | {"help", "version"}) ^ told):
         yield f"FORMATS.md: {'no line for' if name in there else 'there is no'} --{name}"
+    helped = set(re.findall(r"(?m)^    (\d)    ", source[source.index("Exit status:") :]))
+    for status in sorted(helped ^ set(re.findall(r"(?m)^\| (\d) \|", (TOP / "README.md").read_text()))):
+        yield f"README.md: {'no row for' if status in helped else 'the help tells no'} status {status}"
 
 
 def name_faults():
