@@ -20,7 +20,7 @@ PAGE = TOP / "docs/SIGNATURES.md"
 HEAD = """\
 # Signatures
 
-What a caller of the library takes; [how](CALLING.md). `docs/signatures.py` makes this page of the sources, in which each call has its contract. Here stand the names of its clauses, `requires` alone where a condition has no name, and behind a type the traits that it has. Of type parameters `A` says in whose memory a map is, `N` is the name of an editor, and `O` what it keeps of its opening.
+What a caller of the library takes; [how](CALLING.md). `docs/signatures.py` makes this page of the sources, in which each call has its contract. Here stand the names of its clauses, `requires` alone where a condition has no name, and behind a type the traits that it has; [limits](RULES.md#limits) stand in `crush_units::limits`. Of type parameters `A` says in whose memory a map is, `N` is the name of an editor, and `O` what it keeps of its opening.
 """
 # Types of which no caller has a value, so that no call that asks for one is shown: a map comes of a reader or a builder.
 INSIDE = {"Hierarchy", "Guide"}
@@ -28,7 +28,7 @@ INSIDE = {"Hierarchy", "Guide"}
 UNTOLD = {"Drop", "Model"}
 WIDTH = 116
 FUNCTION = re.compile(r"(?m)^(?P<in>(?:    )?)pub (?P<kind>(?:const )?(?:unsafe )?)fn (?P<name>\w+)")
-TYPE = re.compile(r"(?m)^pub (?P<kind>struct|enum|trait) (?P<name>\w+)")
+TYPE = re.compile(r"(?m)^pub (?P<kind>struct|enum|trait|type) (?P<name>\w+)")
 
 
 def code_of(path):
@@ -188,6 +188,8 @@ class Library:
         path, found = self.types[crate, name]
         text = self.crates[crate].files[path]
         line = text[found.start() : re.compile(r"[{;]").search(text, found.end()).start()]
+        if found["kind"] == "type":
+            return " ".join(line.split())
         if "(" in line:
             line = text[found.start() : text.index(";", found.end())]
             return " ".join(line.split()) if re.search(r"\(\s*pub ", line) else " ".join(line.split("(")[0].split())
@@ -251,7 +253,10 @@ def closed(library):
             waiting += [it for it in library.named(crate, path, function.head) if it not in types]
         elif (crate, name) in library.types and (crate, name) not in types and name not in INSIDE:
             types.add((crate, name))
-            waiting += library.named(crate, library.types[crate, name][0], library.body_of(crate, name))
+            path, found = library.types[crate, name]
+            if found["kind"] == "type":
+                continue  # a caller hands it on, and looks at nothing of it
+            waiting += library.named(crate, path, library.body_of(crate, name))
             for paths, head, methods in library.methods(crate, name):
                 for path in paths:
                     waiting += library.named(crate, path, " ".join([head, *(it.head for it in methods)]))
