@@ -1,20 +1,23 @@
 #!/usr/bin/env python3
 """Looks whether what docs/ and README.md name is there.
 
-Each name in backticks has to stand in the crates: a function, a type, a definition, a clause, a file or
-an edit that must fail, or be a job of examples/; but of the pages of WORDS_OF_TEXTS, which name words of jobs and of Ceph beside them.
-Where the must-fail edits of each crate lie is told as docs/tables.py writes it. Each link leads to a file, and to a heading of it. ADDING.md lists
-the files that an addition touches: each has to be there, and each file of src/, specs/ and proofs/ that names all
-variants of an enum of ADDED, or all words of a row of NAMED, has to stand in its section. RULES.md has a row for each variant of the enums of
-ROWS, and for each limit, and a sentence for each, which is the one of SENTENCES. Each public function is named by a page, but for those of INSIDE; and
-each that may answer one of several faults, or fails and is lent what it changes, has a clause that says which and what
-is left, by the names that PROVED.md tells, or is told there to have none. A clause that a page tells of
-calls is one of each. What is trusted has each crate that isn't of this repository, and what is unsafe is told. RULES.md
-has the values of the limits and the sentences of runs and with names, MODEL.md the number of worked lines, FORMATS.md a
-line for each word of the help, README.md a row for each status. The index of examples/ names each job and each folder. In the drawing of crates/README.md each crate has
-a place, and code calls downward. The version of the command line stands in VERSIONS, the
-manual page and the completion for bash are those of the help (docs/manual.py, docs/completion.py), the signatures are those of the crates (docs/signatures.py), and `--version` and PROVED.md name the toolchain, where `rt` is
-there to tell its line. Prints what is missing, and ends with status 1 where anything is.
+Each name in backticks has to stand in the crates: a function, a type, a definition, a clause, a file or an edit that
+must fail, or be a job of examples/; but of the pages of WORDS_OF_TEXTS, which name words of jobs and of Ceph beside
+them. Where the must-fail edits of each crate lie is told as docs/tables.py writes it. Each link leads to a file, and
+to a heading of it. ADDING.md lists the files that an addition touches: each has to be there, and each file of src/,
+specs/ and proofs/ that names all variants of an enum of ADDED, or all words of a row of NAMED, has to stand in its
+section. RULES.md has a row for each variant of the enums of ROWS, and for each limit, and a sentence for each, which
+is the one of SENTENCES. Each public function is named by a page, but for those of INSIDE; and each that may answer
+one of several faults, or fails and is lent what it changes, has a clause that says which and what is left, by the
+names that PROVED.md tells, or is told there to have none. A clause that a page tells of calls is one of each. What is
+trusted has each crate that isn't of this repository, and what is unsafe is told. RULES.md has the values of the
+limits and the sentences of runs and with names, MODEL.md the number of worked lines, FORMATS.md a line for each word
+of the help, README.md a row for each status, and edits.md the refusals that the tests of an edit may tell. The index
+of examples/ names each job and each folder. In the drawing of crates/README.md each crate has a place, and code calls
+downward. The version of the command line stands in VERSIONS, the manual page and the completion for bash are those of
+the help (docs/manual.py, docs/completion.py), the signatures are those of the crates (docs/signatures.py), and
+`--version` and PROVED.md name the toolchain, where `rt` is there to tell its line. Prints what is missing, and ends
+with status 1 where anything is.
 """
 import os
 import pathlib
@@ -242,6 +245,30 @@ def named_sentence_faults():
                 yield f"Refusals that tell a name: nothing tells {part.strip()!r}, as of {name}"
 
 
+def met_faults():
+    """Which edits may meet other refusals than edits.md says, by the tests of their definitions."""
+    specs = "\n".join(path.read_text() for path in sorted((TOP / "crates/crush_edits/specs").glob("*.antt")))
+    bodies = dict(re.findall(r"(?m)^(\w+_tests?) [^:=\n]*=((?: .*|\n    .*)+)$", specs))
+    edits = re.findall(r"(?m)^tests s t \((\w+)[^)]*\) a = (\w+_tests)", specs)
+    numbers = {name: number for number, name in enumerate(variants(*ROWS["Refusals"]), 1)}
+
+    def met(name):
+        return {numbers[it] for it in re.findall(r"\((\w+),", bodies[name]) if it in numbers}.union(
+            *(met(it) for it in re.findall(r"\b\w+_tests?\b", bodies[name])))
+
+    told = {}
+    for _, rows in tables(sections_of("edits.md")["What an edit answers"]):
+        for row in rows:
+            spans = [span.split("-") for span in re.findall(r"\d+(?:-\d+)?", row[2].split(", of the first")[0])]
+            of_all = {number for span in spans for number in range(int(span[0]), int(span[-1]) + 1)}
+            first = {int(number) for number in re.findall(r"of the first (\d+)", row[2])}
+            for place, name in enumerate(quoted(re.sub(r"\]\([^)]*\)", "]", row[0]))):
+                told[name] = of_all if place else of_all | first
+    for name, definition in edits:
+        if told.get(name) != met(definition):
+            yield f"edits.md: {name} may meet the refusals {sorted(met(definition))}"
+
+
 def trust_faults():
     """Which crates of the toolchain PROVED.md doesn't name as trusted, or that nothing stands on, and what is unsafe untold."""
     lines = [line.split(":") for line in (TOP / "crates.txt").read_text().splitlines() if line and not line.startswith("#")]
@@ -460,7 +487,7 @@ def main():
     faults += [f"examples/README.md: {fault}" for fault in example_faults()]
     faults += [f"RULES.md: {fault}" for fault in [*run_sentence_faults(), *named_sentence_faults()]]
     faults += [f"PROVED.md: {fault}" for fault in trust_faults()]
-    faults += [*number_faults(), *clause_faults(), *word_faults(), *name_faults()]
+    faults += [*number_faults(), *met_faults(), *clause_faults(), *word_faults(), *name_faults()]
     faults += [*version_faults(), *made_faults(), *listing_faults()]
     for fault in faults:
         print(fault)
