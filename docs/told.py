@@ -4,7 +4,7 @@ RULES.md has a row for each variant of the enums of ROWS, and for each limit wit
 which is the one of SENTENCES; and the sentences of runs and those with names. MODEL.md tells how many worked lines
 there are, the pages of the gate how many trials it runs, edits.md which refusals the tests of an edit may tell. In
 PROVED.md what is trusted has each crate that isn't of this repository, and what is unsafe is told. A clause that a page
-tells of calls is one of each. FORMATS.md has a line for each word of the help, README.md a row for each status. Names of
+tells of calls is one of each; CALLING.md shows lines of a program, and tells which traits faults and values have. FORMATS.md has a line for each word of the help, README.md a row for each status. Names of
 refusals and faults stand in the crates, also on pages of WORDS_OF_TEXTS.
 """
 import re
@@ -152,6 +152,21 @@ def clause_faults():
                             yield f"{page.name}: {call} has no clause {clause}"
 
 
+def caller_faults():
+    """Whether the lines of CALLING.md are those of the program that it names, and which faults and values lack what it says they have."""
+    page, program = (TOP / "docs/CALLING.md").read_text(), (TOP / "crates/crush_one_edit/src/main.rt").read_text()
+    head, body = re.search(r"(?s)```rust\n(.*?)```", page)[1].split("    ensures ..\n")
+    for part in (head, body):
+        if part not in program:
+            yield "CALLING.md: crush_one_edit has other lines"
+    surface = (TOP / "docs/SIGNATURES.md").read_text()
+    for name, rest in re.findall(r"(?ms)^pub (?:enum|struct) (\w+)(.*?)(?=^(?:pub|impl|///|```))", surface):
+        traits = re.findall(r"\w+", rest.partition("// ")[2])
+        for trait, has in (("Error", "Fault" in name or name == "Refusal"), ("Display", name in {"Weight", "Name"} or re.search("[a-z]Id$", name))):
+            if has and trait not in traits and name not in {"ShadowId", "TypeId"}:
+                yield f"CALLING.md: {name} has no {trait}"
+
+
 def word_faults():
     """Which words of the command line FORMATS.md doesn't tell of, or tells of that aren't there."""
     source = (TOP / COMMAND_LINE).read_text()
@@ -179,5 +194,5 @@ def told_faults():
     """All of these, each with its page."""
     yield from (f"RULES.md: {fault}" for of in (rule_faults, sentence_faults, run_sentence_faults, named_sentence_faults) for fault in of())
     yield from (f"PROVED.md: {fault}" for fault in trust_faults())
-    for of in (number_faults, met_faults, clause_faults, word_faults, name_faults):
+    for of in (number_faults, met_faults, clause_faults, caller_faults, word_faults, name_faults):
         yield from of()
