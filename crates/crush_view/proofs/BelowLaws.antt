@@ -21,7 +21,7 @@ use Rattle.crush_view.proofs.WalkLaws.{steps_told}
 use Rattle.crush_view.specs.Tree.{StepData, steps_at, steps_of}
 
 -- what a table tells of items it tells of those of a bucket among them
-told_kids : (t : List Row) (p : Option ℕ) (n k : Items) (b : ℕ) → Told t p n → kids_in b n ≡ Some k → Told t (Some b) k
+pub told_kids : (t : List Row) (p : Option ℕ) (n k : Items) (b : ℕ) → Told t p n → kids_in b n ≡ Some k → Told t (Some b) k
 told_kids t p none k b told e = absurd cc
 told_kids t p (device d rest) k b told e = told_kids t p rest k b told.1 e
 told_kids t p (bucket h w m n rest) k b told e = ⊎_elim
@@ -44,7 +44,7 @@ no_more_by : (z : Bool) (k n rest : Items) (first second : Option Items) → (fi
 no_more_by true k n rest first second f g same = let is : n ≡ k = cc in let own : size_of n ≡ size_of k = ap size_of is in omega (arith, own)
 no_more_by false k n rest first second f g same = no_more_of k n rest first second f g same
 
-kids_no_more : (b : ℕ) (n k : Items) → kids_in b n ≡ Some k → size_of k ≤ size_of n
+pub kids_no_more : (b : ℕ) (n k : Items) → kids_in b n ≡ Some k → size_of k ≤ size_of n
 kids_no_more b none k e = absurd cc
 kids_no_more b (device d rest) k e = kids_no_more b rest k e
 kids_no_more b (bucket h w m n rest) k e = no_more_by (h.id == b) k n rest (kids_in b n) (kids_in b rest) (λ f. kids_no_more b n k f) (λ f. kids_no_more b rest k f) e
@@ -56,7 +56,7 @@ sizes-join (device d a) b = sizes-join a b
 sizes-join (bucket h w m k a) b = omega (arith, sizes-join a b)
 
 -- a bucket that isn't there holds nothing
-no_kids : (t u : List Row) (b : ℕ) → All (HasParent t) u → is_there t (Bucket b) ≡ false → map (λ (r : Row). r.id) (filter (λ (r : Row). is_parent b r.parent) u) ≡ []
+pub no_kids : (t u : List Row) (b : ℕ) → All (HasParent t) u → is_there t (Bucket b) ≡ false → map (λ (r : Row). r.id) (filter (λ (r : Row). is_parent b r.parent) u) ≡ []
 no_kids t [] b parents absent = refl
 no_kids t (r ∷ u) b parents absent =
     ap (λ z. map (λ (r : Row). r.id) (if z then r ∷ filter (λ (r : Row). is_parent b r.parent) u else filter (λ (r : Row). is_parent b r.parent) u)) (not_here r.parent (All-head (HasParent t) r u parents))
@@ -66,7 +66,7 @@ no_kids t (r ∷ u) b parents absent =
       not_here (Some p) there = ⊎_elim (λ q. absurd (let here : is_there t (Bucket b) ≡ true = subst (λ i. is_there t (Bucket i) ≡ true) q.1 there in cc)) (λ q. q.0) (eqb_tells p b)
 
 -- THE STEPS BELOW
-pub few_below : (f : ForestData) (b : ℕ) (k : Items) → IsSound f → Some k ≡ kids_in b (all_items f) → size_of k < 2 ^ 32
+pub few_below : (f : ForestData) (b : ℕ) (k : Items) → IsSound f → Some k ≡ kids_in b (all_items f) → size_of k < 2 ^ 31
 few_below f b k sound e = let most = sound.lawful.buckets in let le = kids_no_more b (all_items f) k (sym e) in omega (arith, most, bucket_count-forest f, le, sizes-join f.unplaced f.roots)
 
 pub steps_below : {A : _} (f : ForestData) (t : List Row) (b : ℕ) (ns : List (Node A)) → Stands f t → Some (items_of ns) ≡ kids_in b (all_items f) → map node_id ns ≡ kids t b

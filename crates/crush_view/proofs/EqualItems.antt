@@ -50,11 +50,11 @@ rows_tell_nothing s p t u lt lu same = nothing_of (λ i. item_line s p i (item_o
   each i = (λ k. item_line s p i (item-same i k) (item_of u i) (pointwise same_class_id (ids-same i k) (own_class_ids u i))) ∙ no_line s p i (item_of u i) (pointwise same_class_id (own_class_ids u i) (own_class_ids u i)) (pairs_itself same_class_id class_id_itself (own_class_ids u i))
 
 -- NO LINES: of lists side by side each is empty
-nil_left : {X : Type 0} (xs ys : List X) → xs ++ ys ≡ [] → xs ≡ []
+pub nil_left : {X : Type 0} (xs ys : List X) → xs ++ ys ≡ [] → xs ≡ []
 nil_left [] ys h = refl
 nil_left (x ∷ xs) ys h = absurd (let long : length (x ∷ (xs ++ ys)) ≡ 0 = ap length h in omega (arith, long))
 
-nil_right : {X : Type 0} (xs ys : List X) → xs ++ ys ≡ [] → ys ≡ []
+pub nil_right : {X : Type 0} (xs ys : List X) → xs ++ ys ≡ [] → ys ≡ []
 nil_right [] ys h = h
 nil_right (x ∷ xs) ys h = absurd (let long : length (x ∷ (xs ++ ys)) ≡ 0 = ap length h in omega (arith, long))
 

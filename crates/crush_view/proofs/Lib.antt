@@ -1,8 +1,13 @@
 pub mod BelowLaws
+pub mod ChangeExamples
+pub mod ChangeTextLaws
+pub mod ChangesItself
+pub mod EmptiedLaws
 pub mod EntryLaws
 pub mod EqualItems
 pub mod EqualRows
 pub mod Examples
+pub mod FoundLaws
 pub mod IdLaws
 pub mod KindPairs
 pub mod PairLaws
@@ -11,5 +16,8 @@ pub mod SameTree
 pub mod SeenLaws
 pub mod SinceExamples
 pub mod SinceItself
+pub mod StandsLaws
+pub mod StoodLaws
 pub mod TallyLaws
+pub mod ToldLaws
 pub mod WalkLaws

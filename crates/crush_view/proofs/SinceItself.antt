@@ -1,6 +1,6 @@
 -- A map since itself tells nothing.
 use Rattle.std.proofs.Common.{◌≡◌, ℕ, Bool, true, false, List, [], ◌∷◌, ◌++◌, ap, ◌∙◌, refl, arith, eq-eqb}
-use Rattle.std.specs.Prelude.{flat_map, Option, None, Some, ◌==◌, ◌&&◌, not, codes, bytes_eq}
+use Rattle.std.specs.Prelude.{flat_map, Option, None, Some, ◌==◌, ◌&&◌, not, if◌then◌else◌, codes, bytes_eq}
 use Rattle.std.specs.Cmp.Lexicographic.{pointwise}
 use Rattle.std.specs.List.{count_by, list_all}
 use Rattle.std.specs.Cmp.{signed_Decides}
@@ -14,12 +14,14 @@ use Rattle.crush_table.specs.Count.{one_if}
 use Rattle.crush_table.specs.Table.{Row, total}
 use Rattle.crush_table.proofs.Tested.{bytes_itself}
 use Rattle.crush_edits.specs.Setting.{TunableData, StepData, take, choose, set, emit, RuleData, SettingData, kind_name}
+use Rattle.crush_print.specs.RuleLines.{bucket_name}
+use Rattle.crush_view.specs.Emptied.{taken_weight, emptied_line, emptied_by, emptied_of, emptied_lines}
 use Rattle.crush_view.specs.Equal.{same_option, same_text}
 use Rattle.crush_view.specs.ItemData.{ItemData, item_of, own_class_ids}
 use Rattle.crush_view.specs.ItemWords.{place_word, type_word, class_or_none, alg_word}
 use Rattle.crush_view.specs.ItemParts.{same_algs, same_class_id, part, change, changes, line, item_line}
 use Rattle.crush_view.specs.Settings.{same_tunable, kind_numbers, agree_on, same_kinds, same_bool, same_step, same_rule, told_if_not, tunables_line, kinds_line, rules_line, setting_lines}
-use Rattle.crush_view.specs.Since.{told, same_class_ids, id_line, all_ids, item_lines, totals_line, since_text}
+use Rattle.crush_view.specs.Since.{told, same_class_ids, id_line, all_ids, item_lines, totals_line, last_lines, since_text}
 use Rattle.crush_view.specs.SinceLaws.{NothingSinceItself, nothing_counted}
 use Rattle.crush_view.specs.Tallies.{in_both, is_made, is_removed, is_renamed, is_moved, is_reweighed, is_reclassed, tally_of, counts_line}
 
@@ -64,9 +66,13 @@ pub nothing_of : {X Z : Type 0} (f : X → List Z) → ((x : X) → f x ≡ []) 
 nothing_of f each [] = refl
 nothing_of f each (x ∷ xs) = λ i. each x i ++ nothing_of f each xs i
 
+pub no_line_of : (s : SettingData) (t : List Row) (i : ItemId) → id_line (told s t) (told s t) i ≡ []
+unfolding id_line
+no_line_of s t i = no_line s s i (item_of t i) (same_class_ids t t i) (pairs_itself same_class_id class_id_itself (own_class_ids t i))
+
 no_items : (s : SettingData) (t : List Row) → item_lines (told s t) (told s t) ≡ []
-unfolding item_lines id_line
-no_items s t = nothing_of (λ i. item_line s s i (item_of t i) (item_of t i) (same_class_ids t t i)) (λ i. no_line s s i (item_of t i) (same_class_ids t t i) (pairs_itself same_class_id class_id_itself (own_class_ids t i))) (all_ids t t)
+unfolding item_lines
+no_items s t = nothing_of (id_line (told s t) (told s t)) (no_line_of s t) (all_ids t t)
 
 -- SETTINGS
 tunable_itself : (x : TunableData) → same_tunable x x ≡ true
@@ -122,6 +128,27 @@ no_counts t ids = λ k. record {
   reclassed = none_meets (λ i. is_reclassed (item_of t i) (item_of t i)) (λ i. not_other (λ a b. not (same_text a.view.class b.view.class)) (λ a. ap not (text_itself a.view.class)) (item_of t i)) ids k;
 }
 
+-- RULES that find nothing now found nothing before
+not_emptied : (w : ℕ) → ((w == 0) && not (w == 0)) ≡ false
+not_emptied w = at (w == 0) where
+  at : (b : Bool) → (b && not b) ≡ false
+  at true = refl
+  at false = refl
+
+no_step : (t : List Row) (rule : List ℕ) (x : StepData) → emptied_by t t rule x ≡ []
+no_step t rule (take b c) = ap (λ z. if z then emptied_line rule (bucket_name t b) c else []) (not_emptied (taken_weight t b c))
+no_step t rule (choose l f n k) = refl
+no_step t rule (set w v) = refl
+no_step t rule emit = refl
+
+no_rules : (s : SettingData) (t : List Row) → emptied_lines t t s ≡ []
+unfolding emptied_lines
+no_rules s t = nothing_of (emptied_of t t) (λ r. nothing_of (emptied_by t t r.name) (no_step t r.name) r.steps) s.rules
+
+pub last_since_itself : (s : SettingData) (t : List Row) → last_lines (told s t) (told s t) (tally_of t t (all_ids t t)) ≡ totals_line (total t) (total t) ++ counts_line nothing_counted
+unfolding last_lines
+last_since_itself s t = λ i. no_settings s i ++ no_rules s t i ++ totals_line (total t) (total t) ++ counts_line (no_counts t (all_ids t t) i)
+
 pub nothing_since_itself : NothingSinceItself
 unfolding since_text
-nothing_since_itself s t = λ i. no_items s t i ++ no_settings s i ++ totals_line (total t) (total t) ++ counts_line (no_counts t (all_ids t t) i)
+nothing_since_itself s t = λ i. no_items s t i ++ last_since_itself s t i

@@ -1,10 +1,16 @@
+pub mod ChangeItems
+pub mod ChangeText
+pub mod Changes
 pub mod Counted
+pub mod Emptied
 pub mod Entries
 pub mod Equal
 pub mod ItemData
 pub mod ItemParts
 pub mod ItemWords
 pub mod Listing
+pub mod SameItem
+pub mod SeenChange
 pub mod SeenItem
 pub mod SeenStep
 pub mod Settings

@@ -7,11 +7,13 @@ use Rattle.crush_units.specs.Weight.{weight_text}
 use Rattle.crush_table.specs.Table.{Row, bucket_ids, total}
 use Rattle.crush_edits.specs.Setting.{SettingData}
 use Rattle.crush_print.specs.MapText.{ascending, device_number}
+use Rattle.crush_view.specs.Emptied.{emptied_lines}
 use Rattle.crush_view.specs.Equal.{same_option}
 use Rattle.crush_view.specs.ItemData.{item_of, own_class_ids}
 use Rattle.crush_view.specs.ItemParts.{same_class_id, item_line}
 use Rattle.crush_view.specs.Settings.{setting_lines}
 use Rattle.crush_view.specs.Tallies.{tally_of, counts_line}
+use Rattle.crush_view.specs.declared.since.tally.Tally.{Tally}
 
 -- a map: its setting and its table
 pub record Told : Type 0 where
@@ -54,8 +56,11 @@ item_lines old new = flat_map (id_line old new) (all_ids old.table new.table)
 unfoldable pub totals_line : ℕ → ℕ → List ℕ
 totals_line before after = codes "total " ++ weight_text before ++ codes " to " ++ weight_text after ++ codes "\n"
 
--- SINCE TEXT: items, settings, totals and counts
+-- what stands behind the items: settings, rules that find nothing, totals and counts
+unfoldable pub last_lines : Told → Told → Tally → List ℕ
+last_lines old new counts =
+    setting_lines old.setting new.setting ++ emptied_lines old.table new.table new.setting ++ totals_line (total old.table) (total new.table) ++ counts_line counts
+
+-- SINCE TEXT: the items, and what stands behind them
 unfoldable pub since_text : Told → Told → List ℕ
-since_text old new =
-    item_lines old new ++ setting_lines old.setting new.setting ++ totals_line (total old.table) (total new.table)
-    ++ counts_line (tally_of old.table new.table (all_ids old.table new.table))
+since_text old new = item_lines old new ++ last_lines old new (tally_of old.table new.table (all_ids old.table new.table))

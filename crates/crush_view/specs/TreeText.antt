@@ -34,9 +34,9 @@ abbrev pub weight_word : StepData → List ℕ
 weight_word s = weight_text s.item.weight
 
 -- the greatest of a width and the lengths of the words
-abbrev pub widest : (StepData → List ℕ) → ℕ → List StepData → ℕ
+abbrev pub widest : {X : Type 0} → (X → List ℕ) → ℕ → List X → ℕ
 widest word least [] = least
-widest word least (s ∷ steps) = widest word (max least (length (word s))) steps
+widest word least (x ∷ xs) = widest word (max least (length (word x))) xs
 
 -- the widths of the first three columns
 abbrev pub widths_of : List StepData → Widths

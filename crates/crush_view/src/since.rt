@@ -7,26 +7,30 @@ ghost use Rattle.std.specs.Option.{option_map};
 ghost use Rattle.crush_table.specs.Stands.{Stands};
 ghost use Rattle.crush_table.specs.Table.{Row};
 ghost use Rattle.crush_view.specs.Listing.{Lists};
-ghost use Rattle.crush_view.specs.Since.{told, all_ids, item_lines, since_text, id_line};
+ghost use Rattle.crush_view.specs.Since.{told, all_ids, item_lines, last_lines, since_text, id_line};
 ghost use Rattle.crush_view.specs.SinceLaws.{NothingSinceItself, NoItemWhereRowsAreEqual};
 ghost use Rattle.crush_view.specs.Tallies.{HasRoom, tally_of, tally_with};
 ghost use Rattle.crush_view.specs.ItemParts.{item_line};
 ghost use Rattle.crush_view.specs.SeenItem.{seen_data};
 ghost use Rattle.crush_view.specs.Counted.{IsCounted};
 
-mod columns;
+pub(crate) mod columns;
+pub(crate) mod counting;
+mod emptied;
 mod ids;
-mod listing;
-mod parts;
-mod seen;
+pub(crate) mod listing;
+pub(crate) mod parts;
+pub(crate) mod seen;
 mod settings;
 mod tally;
+pub(crate) mod told;
 mod words;
 
 pub use columns::{same_algs, same_class, same_class_ids};
 use crush_bytes::{WriteFault, put};
 use crush_map::CrushMap;
 use crush_units::ItemId;
+use emptied::push_emptied;
 use ids::ids_of_both;
 use listing::{Listing, found_class_ids, found_seen, listing_of};
 pub use parts::push_part;
@@ -42,7 +46,8 @@ use words::{push_counts, push_totals};
 
 /// Writes what has changed from the old map to the new: a line for each item that differs, buckets
 /// by id from -1 downward and then devices upward; a line each where tunables, types and rules
-/// differ; the totals; and how many items differ in which way.
+/// differ, and for each rule that takes what weighed something and weighs nothing now; the totals;
+/// and how many items differ in which way.
 ///
 /// Items are told apart by their ids, as CRUSH does. The text is laid out in the given memory
 /// first. With [`WriteFault::OutOfMemory`] nothing is written, with [`WriteFault::Write`] a prefix of
@@ -92,9 +97,25 @@ fn push_since<A: Allocator, B: Allocator>(
     let before = listing_of(alloc, old)?;
     let after = listing_of(alloc, new)?;
     let counts = push_all_items(alloc, &before, &after, out)?;
+    push_last(old, new, &counts, out)
+}
+
+/// What stands behind the items: a line each where tunables, types and rules differ, the rules that
+/// find nothing, the totals and these counts.
+pub(crate) fn push_last<A: Allocator, B: Allocator>(
+    old: &CrushMap<A>,
+    new: &CrushMap<B>,
+    counts: &Tally,
+    out: &mut Vec<u8>,
+) -> Result<(), AllocError>
+    ensures { (t u : List Row) → Stands old.now.forest t → Stands new.now.forest u
+        → OnOk result (out.new.items ≡ out.old.items
+        ++ last_lines (told old.now.setting t) (told new.now.setting u) counts.now) }
+{
     push_settings(old.setting(), new.setting(), out)?;
+    push_emptied(old, new, out)?;
     push_totals(old.total(), new.total(), out)?;
-    push_counts(&counts, out)?;
+    push_counts(counts, out)?;
     Ok(())
 }
 

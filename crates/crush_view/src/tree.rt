@@ -134,7 +134,7 @@ fn push_line<A: Allocator>(
 }
 
 /// An id in its column.
-fn id_column(alloc: Global, width: usize, id: ItemId) -> Result<Vec<u8>, AllocError>
+pub(crate) fn id_column(alloc: Global, width: usize, id: ItemId) -> Result<Vec<u8>, AllocError>
     ensures { IfOk result (λ column. column.items ≡ at_right width (id_text id)) }
 {
     let mut word = Vec::new(alloc);
@@ -204,14 +204,14 @@ fn push_heading(alloc: Global, widths: &Widths, out: &mut Vec<u8>) -> Result<(),
 }
 
 /// A width, or the length of a word that is longer.
-fn wider(width: usize, word: &[u8]) -> usize
+pub(crate) fn wider(width: usize, word: &[u8]) -> usize
     ensures { result ≡ max width (length word.now) }
 {
     width.max(word.len())
 }
 
 /// A width, or the length of an id that is longer.
-fn wider_id(alloc: Global, width: usize, id: ItemId) -> Result<usize, AllocError>
+pub(crate) fn wider_id(alloc: Global, width: usize, id: ItemId) -> Result<usize, AllocError>
     ensures { IfOk result (λ wider. wider ≡ max width (length (id_text id))) }
 {
     let mut word = Vec::new(alloc);

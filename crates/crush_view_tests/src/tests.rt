@@ -3,6 +3,7 @@
 //! Expected values are written from the forms in docs/FORMATS.md. What owns a map lets it go by
 //! `drop`.
 
+mod change_trees;
 mod changes;
 mod trees;
 

@@ -59,7 +59,7 @@ pub(crate) fn push_line(
 }
 
 /// Parts without the mark before the first.
-fn after_mark(parts: &[u8]) -> &[u8]
+pub(crate) fn after_mark(parts: &[u8]) -> &[u8]
     requires { 2 ≤ length parts.now }
     ensures { result.now ≡ drop 2 parts.now }
 {
@@ -163,14 +163,18 @@ fn push_change(
 }
 
 /// That the class ids differ.
-fn push_class_ids(same: bool, parts: &mut Vec<u8>) -> Result<(), AllocError>
+pub(crate) fn push_class_ids(same: bool, parts: &mut Vec<u8>) -> Result<(), AllocError>
     ensures { OnOk result (parts.new.items ≡ parts.old.items ++ behind (class_ids_part same)) }
 {
     push_part(same, &[b"class ids".as_slice()], parts)
 }
 
 /// The name that an item had.
-fn push_name(before: &View<'_>, after: &View<'_>, parts: &mut Vec<u8>) -> Result<(), AllocError>
+pub(crate) fn push_name(
+    before: &View<'_>,
+    after: &View<'_>,
+    parts: &mut Vec<u8>,
+) -> Result<(), AllocError>
     ensures { OnOk result (parts.new.items ≡ parts.old.items
         ++ behind (name_part (view_data before.now) (view_data after.now))) }
 {
@@ -183,7 +187,7 @@ fn push_name(before: &View<'_>, after: &View<'_>, parts: &mut Vec<u8>) -> Result
 }
 
 /// The types.
-fn push_type(
+pub(crate) fn push_type(
     old: &Setting,
     new: &Setting,
     before: &View<'_>,
@@ -251,7 +255,11 @@ fn push_weight(
 }
 
 /// The classes.
-fn push_class(before: &View<'_>, after: &View<'_>, parts: &mut Vec<u8>) -> Result<(), AllocError>
+pub(crate) fn push_class(
+    before: &View<'_>,
+    after: &View<'_>,
+    parts: &mut Vec<u8>,
+) -> Result<(), AllocError>
     ensures { OnOk result (parts.new.items ≡ parts.old.items
         ++ behind (class_part (view_data before.now) (view_data after.now))) }
 {
@@ -265,7 +273,11 @@ fn push_class(before: &View<'_>, after: &View<'_>, parts: &mut Vec<u8>) -> Resul
 }
 
 /// The algorithms.
-fn push_alg(before: &View<'_>, after: &View<'_>, parts: &mut Vec<u8>) -> Result<(), AllocError>
+pub(crate) fn push_alg(
+    before: &View<'_>,
+    after: &View<'_>,
+    parts: &mut Vec<u8>,
+) -> Result<(), AllocError>
     ensures { OnOk result (parts.new.items ≡ parts.old.items
         ++ behind (alg_part (view_data before.now) (view_data after.now))) }
 {

@@ -7,7 +7,7 @@ use std::alloc::Global;
 use std::process::Abort;
 
 /// The example map after `create-or-move osd.0 5.0 host=h2`.
-const MOVED: &[u8] = b"\
+pub(super) const MOVED: &[u8] = b"\
     tunable chooseleaf_stable 1\n\
     device 0 osd.0\n\
     device 1 osd.1\n\
@@ -50,4 +50,37 @@ fn a_moved_device_moves_its_weight(rt: HostRuntime) {
         total 2.50000 to 2.50000\n\
         0 made, 0 removed, 0 renamed, 1 moved, 2 of other weight, 0 of other class\n";
     assert!(rt; is_since(&rt, EXAMPLE_MAP, MOVED, changes));
+}
+
+/// A map with a rule that takes a class, and two hosts.
+const RULE: &[u8] = b"\
+    device 0 osd.0 class hdd\n\
+    type 1 host\n\
+    type 11 root\n\
+    host h1 { id -2 alg straw2 hash 0 item osd.0 weight 1.0 }\n\
+    host h2 { id -3 alg straw2 hash 0 }\n\
+    root default { id -1 alg straw2 hash 0 item h1 weight 1.0 item h2 weight 0.0 }\n\
+    rule data { id 0 type replicated step take default class hdd step take h1 step take h2 step emit }\n";
+
+/// The same after `move osd.0 host=h2` and another class.
+const RULE_EMPTIED: &[u8] = b"\
+    device 0 osd.0 class ssd\n\
+    type 1 host\n\
+    type 11 root\n\
+    host h1 { id -2 alg straw2 hash 0 }\n\
+    host h2 { id -3 alg straw2 hash 0 item osd.0 weight 1.0 }\n\
+    root default { id -1 alg straw2 hash 0 item h1 weight 0.0 item h2 weight 1.0 }\n\
+    rule data { id 0 type replicated step take default class hdd step take h1 step take h2 step emit }\n";
+
+#[test]
+fn a_rule_that_finds_nothing_now_is_told(rt: HostRuntime) {
+    let changes = b"\
+        h1 (-2): weight 1.00000 to 0.00000\n\
+        h2 (-3): weight 0.00000 to 1.00000\n\
+        osd.0 (0): from h1 (-2) to h2 (-3); class hdd to ssd\n\
+        rule data takes nothing: default~hdd weighs 0.00000\n\
+        rule data takes nothing: h1 weighs 0.00000\n\
+        total 1.00000 to 1.00000\n\
+        0 made, 0 removed, 0 renamed, 1 moved, 2 of other weight, 1 of other class\n";
+    assert!(rt; is_since(&rt, RULE, RULE_EMPTIED, changes));
 }
