@@ -1,0 +1,10 @@
+pub mod Chains
+pub mod EntryLaws
+pub mod Finds
+pub mod IdLaws
+pub mod Kids
+pub mod Listed
+pub mod Numbers
+pub mod ReplyLaws
+pub mod Told
+pub mod Written

@@ -1,0 +1,10 @@
+use Rattle.std.proofs.Common.{◌≡◌, ◌++◌, List, take}
+use Rattle.std.specs.Prelude.{flat_map}
+use Rattle.crush_table.specs.Stands.{Stands}
+use Rattle.crush_table.specs.Table.{Row}
+use Rattle.crush_json.specs.MapDocument.{buckets_at}
+use Rattle.crush_json.specs.Tokens.{tokens_of_all}
+use Rattle.crush_json.proofs.buckets.push_each.Given as goal
+
+abbrev pub invariant-loop-id : goal.invariant-loop-id
+invariant-loop-id g l = (t : List Row) → Stands l.map.forest t → l.out ≡ l.fn.out ++ flat_map (λ b. tokens_of_all (buckets_at l.map.setting t b)) (take l.id-index l.ids)

@@ -1,0 +1,75 @@
+-- A map as a value: the keys and values of `crushtool --dump`, with the members of each object by name.
+use Rattle.std.specs.Prelude.{ℕ, ◌+◌, List, [], ◌∷◌, ◌++◌, codes, map, flat_map}
+use Rattle.std.specs.Option.{option_map_or}
+use Rattle.crush_units.specs.declared.id.ItemId.{ItemId}
+use Rattle.crush_units.specs.declared.id.ItemId.TheVariants.{Device, Bucket}
+use Rattle.crush_units.specs.Alg.{alg_text}
+use Rattle.crush_units.specs.Id.{item_number}
+use Rattle.crush_table.specs.Table.{Row, kids}
+use Rattle.crush_nodes.specs.Views.{ViewData, view_of}
+use Rattle.crush_edits.specs.Setting.{SettingData, TunableData}
+use Rattle.crush_print.specs.MapText.{device_numbers, kind_numbers, kind_text}
+use Rattle.serde_json.specs.Data.{Data, string, object, Members, member, no_members, put}
+use Rattle.crush_json.specs.Values.{natural, whole, list, text_if}
+use Rattle.crush_json.specs.Ids.{bucket_numbers}
+use Rattle.crush_json.specs.RuleDocument.{rule_documents}
+
+-- what is told of an item that is there
+abbrev pub of_view : List Row → ItemId → (ViewData → Data) → List Data
+of_view t i told = option_map_or (λ v. told v ∷ []) (view_of t i) []
+
+-- a device
+unfoldable pub device_document : ViewData → Data
+device_document v =
+    object (text_if (codes "class") v.class (member (codes "id") (whole (item_number v.id)) (member (codes "name") (string v.name) no_members)))
+
+-- the devices by ascending id
+unfoldable pub device_documents : List Row → List Data
+device_documents t = flat_map (λ d. of_view t (Device d) device_document) (device_numbers t)
+
+-- a type
+unfoldable pub kind_document : ℕ → List ℕ → Data
+kind_document n name = object (member (codes "name") (string name) (member (codes "type_id") (natural n) no_members))
+
+-- the types by ascending number
+unfoldable pub kind_documents : SettingData → List Data
+kind_documents s = map (λ n. kind_document n (kind_text s n)) (kind_numbers s)
+
+-- an item of a bucket, at its place from 0 on: a bucket weighs its sum
+unfoldable pub item_document : ℕ → ViewData → Data
+item_document place v =
+    object (member (codes "id") (whole (item_number v.id)) (member (codes "pos") (natural place) (member (codes "weight") (natural v.weight) no_members)))
+
+-- the items of a bucket, the first of which has this place
+unfoldable pub item_documents : List Row → ℕ → List ItemId → List Data
+item_documents t place [] = []
+item_documents t place (i ∷ is) = of_view t i (item_document place) ++ item_documents t (place + 1) is
+
+-- a bucket with the name of its type and its items
+unfoldable pub bucket_document : List ℕ → List Data → ViewData → Data
+bucket_document kind items v =
+    object (member (codes "alg") (string (option_map_or alg_text v.alg [])) (member (codes "hash") (string (codes "rjenkins1")) (member (codes "id") (whole (item_number v.id))
+    (member (codes "items") (list items) (member (codes "name") (string v.name) (member (codes "type_id") (natural v.kind) (member (codes "type_name") (string kind)
+    (member (codes "weight") (natural v.weight) no_members))))))))
+
+-- the bucket of an id
+abbrev pub buckets_at : SettingData → List Row → ℕ → List Data
+buckets_at s t b = of_view t (Bucket b) (λ v. bucket_document (kind_text s v.kind) (item_documents t 0 (kids t b)) v)
+
+-- the buckets from -1 downward
+unfoldable pub bucket_documents : SettingData → List Row → List Data
+bucket_documents s t = flat_map (buckets_at s t) (bucket_numbers t)
+
+-- the members of an object and behind them, each at its name, the tunables
+unfoldable pub with_tunables : Members → List TunableData → Members
+with_tunables ms [] = ms
+with_tunables ms (k ∷ ks) = with_tunables (put k.name (natural k.value) ms) ks
+
+unfoldable pub tunables_document : SettingData → Data
+tunables_document s = object (with_tunables no_members s.tunables)
+
+-- MAP DOCUMENT: a map with this setting and this table
+unfoldable pub map_document : SettingData → List Row → Data
+map_document s t =
+    object (member (codes "buckets") (list (bucket_documents s t)) (member (codes "devices") (list (device_documents t)) (member (codes "rules") (list (rule_documents s t))
+    (member (codes "tunables") (tunables_document s) (member (codes "types") (list (kind_documents s)) no_members)))))

@@ -1,0 +1,25 @@
+-- Values of JSON, as documents are made of them.
+use Rattle.std.specs.Prelude.{ℕ, ℤ, List, Option, Some, None}
+use Rattle.serde_json.specs.Data.{Data, number, unsigned, string, array, Members, member}
+use Rattle.serde_json.specs.Find.{of_integer}
+use Rattle.serde_json.specs.View.{items_of}
+
+-- a number that isn't below 0, and any whole number
+abbrev pub natural : ℕ → Data
+natural n = number (unsigned n)
+
+abbrev pub whole : ℤ → Data
+whole z = number (of_integer z)
+
+-- an array of values
+abbrev pub list : List Data → Data
+list ds = array (items_of ds)
+
+-- members with a text or a number before them, where there is one
+abbrev pub text_if : List ℕ → Option (List ℕ) → Members → Members
+text_if key None ms = ms
+text_if key (Some text) ms = member key (string text) ms
+
+abbrev pub whole_if : List ℕ → Option ℤ → Members → Members
+whole_if key None ms = ms
+whole_if key (Some z) ms = member key (whole z) ms

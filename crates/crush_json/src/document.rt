@@ -1,0 +1,146 @@
+//! A text of JSON that grows token by token.
+
+ghost use Rattle.std.specs.Prelude.{◌≡◌, ◌++◌, ◌∷◌, [], IfOk, OnOk};
+ghost use Rattle.std.specs.Option.{option_map};
+ghost use Rattle.json.specs.Print.{print};
+ghost use Rattle.json.specs.Token.{begin_object, end_object, begin_array, end_array, key};
+ghost use Rattle.serde_json.specs.Data.{string};
+ghost use Rattle.crush_units.specs.Id.{item_number};
+ghost use Rattle.crush_json.specs.Tokens.{member_tokens, text_tokens_if, whole_tokens_if};
+ghost use Rattle.crush_json.specs.Values.{natural, whole};
+
+use crush_units::ItemId;
+use json::Writer;
+use std::alloc::{AllocError, Global};
+use std::marker::Model;
+
+/// A text of JSON that grows token by token: the writer places commas and colons, and its caller
+/// closes what it opened. Contracts see the tokens.
+#[derive(Drop)]
+pub(crate) struct Document {
+    writer: Writer<Global>,
+}
+
+impl Model for Document {
+    ghost use Rattle.std.specs.Prelude.{List, ◌≡◌, []};
+    ghost use Rattle.json.specs.Token.{Token, tokens_code};
+
+    ghost Value = { List Token };
+
+    ghost coded = { tokens_code };
+
+    ghost view = { λ document. document.writer.tokens };
+
+    ghost invariant = { λ document. document.writer.before ≡ [] };
+}
+
+impl Document {
+    /// A text without a token, with memory for so many bytes. An `Err` says that memory ran out.
+    pub(crate) fn new(alloc: Global, capacity: usize) -> Result<Document, AllocError>
+        ensures { IfOk result (λ document. document ≡ []) }
+    {
+        Ok(Document {
+            writer: Writer::new(Vec::with_capacity(alloc, capacity)?),
+        })
+    }
+
+    /// The bytes of the text.
+    pub(crate) fn finish(self) -> Vec<u8>
+        ensures { result.items ≡ print self }
+    {
+        self.writer.into_inner()
+    }
+
+    /// Opens an object.
+    pub(crate) fn begin_object(&mut self) -> Result<(), AllocError>
+        ensures { OnOk result (self.new ≡ self.old ++ begin_object ∷ []) }
+    {
+        self.writer.begin_object()
+    }
+
+    /// Closes an object.
+    pub(crate) fn end_object(&mut self) -> Result<(), AllocError>
+        ensures { OnOk result (self.new ≡ self.old ++ end_object ∷ []) }
+    {
+        self.writer.end_object()
+    }
+
+    /// Opens an array.
+    pub(crate) fn begin_array(&mut self) -> Result<(), AllocError>
+        ensures { OnOk result (self.new ≡ self.old ++ begin_array ∷ []) }
+    {
+        self.writer.begin_array()
+    }
+
+    /// Closes an array.
+    pub(crate) fn end_array(&mut self) -> Result<(), AllocError>
+        ensures { OnOk result (self.new ≡ self.old ++ end_array ∷ []) }
+    {
+        self.writer.end_array()
+    }
+
+    /// The name of a member, whose value follows.
+    pub(crate) fn key(&mut self, name: &str) -> Result<(), AllocError>
+        ensures { OnOk result (self.new ≡ self.old ++ key name.now ∷ []) }
+    {
+        self.writer.key(name)
+    }
+
+    /// A member that is a text.
+    pub(crate) fn text(&mut self, name: &str, text: &str) -> Result<(), AllocError>
+        ensures { OnOk result (self.new
+            ≡ self.old ++ member_tokens name.now (string text.now)) }
+    {
+        self.writer.key(name)?;
+        self.writer.string(text)
+    }
+
+    /// A member that is a text, where there is one.
+    pub(crate) fn text_if(&mut self, name: &str, text: Option<&str>) -> Result<(), AllocError>
+        ensures { OnOk result (self.new
+            ≡ self.old ++ text_tokens_if name.now (option_map (λ text. text.now) text.entry)) }
+    {
+        match text {
+            Some(text) => self.text(name, text),
+            None => Ok(()),
+        }
+    }
+
+    /// A member that is a number from 0 upward.
+    pub(crate) fn natural(&mut self, name: &str, number: u64) -> Result<(), AllocError>
+        ensures { OnOk result (self.new ≡ self.old ++ member_tokens name.now (natural number)) }
+    {
+        self.writer.key(name)?;
+        self.writer.u64(number)
+    }
+
+    /// A member that is a whole number.
+    pub(crate) fn whole(&mut self, name: &str, number: i32) -> Result<(), AllocError>
+        ensures { OnOk result (self.new ≡ self.old ++ member_tokens name.now (whole number)) }
+    {
+        self.writer.key(name)?;
+        if number < 0 {
+            self.writer.i64(number as i64)
+        } else {
+            self.writer.u64(number as u64)
+        }
+    }
+
+    /// A member that is the id of an item.
+    pub(crate) fn id(&mut self, name: &str, id: ItemId) -> Result<(), AllocError>
+        ensures { OnOk result (self.new
+            ≡ self.old ++ member_tokens name.now (whole (item_number id))) }
+    {
+        self.whole(name, id.number())
+    }
+
+    /// A member that is a whole number, where there is one.
+    pub(crate) fn whole_if(&mut self, name: &str, number: Option<i32>) -> Result<(), AllocError>
+        ensures { OnOk result (self.new ≡ self.old ++ whole_tokens_if name.now number) }
+    {
+        match number {
+            Some(number) => self.whole(name, number),
+            None => Ok(()),
+        }
+    }
+}

@@ -1,0 +1,214 @@
+//! A history as a value.
+
+ghost use Rattle.std.specs.Prelude.{◌≡◌, ◌++◌, ◌<◌, [], Some, codes, OnOk, length, slice_index_or};
+ghost use Rattle.std.specs.Option.{option_map};
+ghost use Rattle.serde_json.specs.Data.{member, object, string};
+ghost use Rattle.crush_table.specs.Count.{one_if};
+ghost use Rattle.crush_edits.specs.Refusal.{refusal_error, refusal_name};
+ghost use Rattle.crush_calls.specs.HistoryText.{names_of};
+ghost use Rattle.crush_calls.specs.Script.{scripts_data};
+ghost use Rattle.crush_json.specs.HistoryDocument.{RepliesAreOfLines, answered_document, entry_document, entry_documents, made_document, refused_members, reply_text, stale_document};
+ghost use Rattle.crush_json.specs.Seen.{IsHistory, history_data};
+ghost use Rattle.crush_json.specs.Tokens.{last_tokens, member_tokens, tokens_of, tokens_of_all};
+ghost use Rattle.crush_json.specs.Values.{natural};
+
+use crate::calls::call_text;
+use crate::document::Document;
+use crate::replies::reply_text;
+use crush_calls::{Entry, Reply, Script};
+use crush_edits::{Done, Refusal};
+use std::alloc::{AllocError, Global};
+
+/// The calls that were made of a map, with what they were answered.
+#[derive(Clone, Copy)]
+pub struct History<'a> {
+    /// The scripts of the operators, whose names the entries are told by.
+    pub scripts: &'a [Script],
+    /// The entries, each of one of the scripts.
+    pub entries: &'a [Entry],
+}
+
+/// A reply is told by the words that the line of its entry has. There is nothing to run: the
+/// contract is the law.
+pub fn replies_are_of_lines()
+    ensures { RepliesAreOfLines }
+{}
+
+/// What an entry tells, but for what its reply counts.
+#[derive(Clone, Copy)]
+struct Told<'a> {
+    /// Its number, from 1.
+    number: u32,
+    /// The name of its operator.
+    operator: &'a str,
+    /// Its call.
+    call: &'a str,
+    /// Its reply.
+    reply: &'a str,
+}
+
+/// A history: an object for each entry.
+pub(crate) fn push_history(
+    alloc: Global,
+    history: History<'_>,
+    out: &mut Document,
+) -> Result<(), AllocError>
+    requires { IsHistory history }
+    ensures { OnOk result (out.new ≡ out.old ++ tokens_of (history_data history.entry)) }
+{
+    out.begin_array()?;
+    push_entries(alloc, history, out)?;
+    out.end_array()
+}
+
+/// The entries, in their order, which count from 1.
+fn push_entries(alloc: Global, history: History<'_>, out: &mut Document) -> Result<(), AllocError>
+    requires { IsHistory history }
+    ensures { OnOk result (out.new ≡ out.old ++ tokens_of_all (entry_documents
+        (names_of (scripts_data history.entry.scripts.now)) 1 history.entry.entries.now)) }
+{
+    let entries = history.entries;
+    for (place, entry) in entries.iter().enumerate() {
+        let operator = operator_name(history.scripts, entry.operator);
+        push_entry(alloc, place as u32 + 1, operator, entry, out)?;
+    }
+    Ok(())
+}
+
+/// The name of an operator, by its number.
+fn operator_name(scripts: &[Script], operator: usize) -> &str
+    requires { operator < length scripts.now }
+    ensures { result.now ≡ slice_index_or (names_of (scripts_data scripts.now)) operator [] }
+{
+    let script = &scripts[operator];
+    script.name.as_str()
+}
+
+/// An entry.
+fn push_entry(
+    alloc: Global,
+    number: u32,
+    operator: &str,
+    entry: &Entry,
+    out: &mut Document,
+) -> Result<(), AllocError>
+    ensures { OnOk result (out.new ≡ out.old
+        ++ tokens_of (entry_document number operator.now entry.now)) }
+{
+    let call = call_text(alloc, &entry.call)?;
+    let reply = reply_text(alloc, entry.reply)?;
+    let told = Told {
+        number,
+        operator,
+        call: call.as_str(),
+        reply: reply.as_str(),
+    };
+    push_told(&told, entry.reply, out)
+}
+
+/// An entry with this reply.
+#[tactic(auto, unfolding(crate::specs::HistoryDocument::answered_document))]
+fn push_told(told: &Told<'_>, reply: Reply, out: &mut Document) -> Result<(), AllocError>
+    ensures { told.now.reply.now ≡ reply_text reply → OnOk result (out.new ≡ out.old
+        ++ tokens_of (answered_document told.now.number told.now.operator.now told.now.call.now
+        reply)) }
+{
+    match reply {
+        Reply::Done(done) => push_done(told, done, out),
+        Reply::Dones(done) => push_made(told, done.changed, done.made, out),
+        Reply::Refused(refusal) => push_refused(told, refusal, out),
+        Reply::BatchRefused(index, refusal) => push_refused_at(told, index, refusal, out),
+        Reply::Stale(changes) => push_stale(told, changes, out),
+    }
+}
+
+/// An entry of an edit that was made.
+fn push_done(told: &Told<'_>, done: Done, out: &mut Document) -> Result<(), AllocError>
+    ensures { OnOk result (out.new ≡ out.old ++ tokens_of (made_document told.now.number
+        told.now.operator.now told.now.call.now (one_if done.changed) done.made
+        told.now.reply.now)) }
+{
+    if done.changed {
+        push_made(told, 1, done.made as u32, out)
+    } else {
+        push_made(told, 0, done.made as u32, out)
+    }
+}
+
+/// An entry of what was made.
+fn push_made(told: &Told<'_>, changed: u32, made: u32, out: &mut Document) -> Result<(), AllocError>
+    ensures { OnOk result (out.new ≡ out.old ++ tokens_of (made_document told.now.number
+        told.now.operator.now told.now.call.now changed made told.now.reply.now)) }
+{
+    out.begin_object()?;
+    out.text("call", told.call)?;
+    out.natural("changed", changed as u64)?;
+    out.natural("made", made as u64)?;
+    push_last(told, None, out)?;
+    out.end_object()
+}
+
+/// An entry of an edit that was refused.
+fn push_refused(told: &Told<'_>, refusal: Refusal, out: &mut Document) -> Result<(), AllocError>
+    ensures { OnOk result (out.new ≡ out.old ++ tokens_of (object (refused_members
+        told.now.number told.now.operator.now told.now.call.now refusal told.now.reply.now))) }
+{
+    out.begin_object()?;
+    push_refusal(told, refusal, out)?;
+    out.end_object()
+}
+
+/// An entry of a batch of which the edit at this index was refused.
+fn push_refused_at(
+    told: &Told<'_>,
+    index: u32,
+    refusal: Refusal,
+    out: &mut Document,
+) -> Result<(), AllocError>
+    ensures { OnOk result (out.new ≡ out.old ++ tokens_of (object (member (codes "at")
+        (natural index) (refused_members told.now.number told.now.operator.now
+        told.now.call.now refusal told.now.reply.now)))) }
+{
+    out.begin_object()?;
+    out.natural("at", index as u64)?;
+    push_refusal(told, refusal, out)?;
+    out.end_object()
+}
+
+/// The members of an entry that tell a refusal.
+fn push_refusal(told: &Told<'_>, refusal: Refusal, out: &mut Document) -> Result<(), AllocError>
+    ensures { OnOk result (out.new ≡ out.old
+        ++ (member_tokens (codes "call") (string told.now.call.now)
+        ++ member_tokens (codes "errno") (natural (refusal_error refusal))
+        ++ last_tokens told.now.number told.now.operator.now (Some (refusal_name refusal))
+        told.now.reply.now)) }
+{
+    out.text("call", told.call)?;
+    out.natural("errno", refusal.error() as u64)?;
+    push_last(told, Some(refusal.name()), out)
+}
+
+/// An entry of a guarded batch that came too late: the history had so many changes.
+fn push_stale(told: &Told<'_>, changes: u32, out: &mut Document) -> Result<(), AllocError>
+    ensures { OnOk result (out.new ≡ out.old ++ tokens_of (stale_document told.now.number
+        told.now.operator.now told.now.call.now changes told.now.reply.now)) }
+{
+    out.begin_object()?;
+    out.text("call", told.call)?;
+    out.natural("changes", changes as u64)?;
+    out.natural("errno", 11)?;
+    push_last(told, Some("Stale"), out)?;
+    out.end_object()
+}
+
+/// The last members of an entry.
+fn push_last(told: &Told<'_>, refusal: Option<&str>, out: &mut Document) -> Result<(), AllocError>
+    ensures { OnOk result (out.new ≡ out.old ++ last_tokens told.now.number
+        told.now.operator.now (option_map (λ name. name.now) refusal.entry)
+        told.now.reply.now) }
+{
+    out.natural("number", told.number as u64)?;
+    out.text("operator", told.operator)?;
+    out.text_if("refusal", refusal)?;
+    out.text("reply", told.reply)
+}

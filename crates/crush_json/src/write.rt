@@ -1,0 +1,121 @@
+//! Documents, written.
+
+ghost use Rattle.std.specs.Prelude.{◌≡◌, ◌++◌, List, Err, codes, IfOk, IfSome, OnOk};
+ghost use Rattle.json.specs.Print.{print};
+ghost use Rattle.std.specs.Io.KnownBytes.{Keeps};
+ghost use Rattle.std.specs.Option.{option_map};
+ghost use Rattle.crush_bytes.specs.Writes.{Writes};
+ghost use Rattle.crush_table.specs.Stands.{Stands};
+ghost use Rattle.crush_table.specs.Table.{Row};
+ghost use Rattle.crush_json.specs.Document.{document, document_text};
+ghost use Rattle.crush_json.specs.MapDocument.{map_document};
+ghost use Rattle.crush_json.specs.Seen.{IsHistory, history_data};
+ghost use Rattle.crush_json.specs.Tokens.{history_tokens_if, tokens_of};
+
+use crate::document::Document;
+use crate::history::{History, push_history};
+use crate::map::push_map;
+use crush_bytes::{WriteFault, put};
+use crush_map::CrushMap;
+use std::alloc::{AllocError, Allocator, Global};
+use std::io::Write;
+
+/// How many bytes tell of a device, and of a bucket, as a rule of thumb.
+const USUAL_DEVICE: usize = 84;
+
+const USUAL_BUCKET: usize = 192;
+
+/// Writes `{"history":H,"map":M}` and a line feed, or without a history `{"map":M}`: the map as
+/// `crushtool --dump` tells it, and an object for each entry of the history.
+///
+/// A rule that takes a class of a bucket's devices has the id that the bucket has for the class as
+/// its `item`, and no `item` where the bucket has none. Weights are in units, of which 65536 are
+/// 1.0.
+///
+/// The text is laid out in the given memory first. With [`WriteFault::OutOfMemory`] nothing is
+/// written, with [`WriteFault::Write`] a prefix of the text.
+pub fn write_map_document<A: Allocator, W: Write>(
+    alloc: Global,
+    map: &CrushMap<A>,
+    history: Option<History<'_>>,
+    out: &mut W,
+) -> Result<(), WriteFault>
+    requires { IfSome history IsHistory }
+    ensures writes { (t : List Row) → Stands map.now.forest t
+        → Writes result (W.contents out.old) (W.contents out.new) (document_text
+        (document (option_map history_data history.entry) (map_document map.now.setting t))) }
+    ensures none { result ≡ Err WriteFault.OutOfMemory
+        → Keeps (W.contents out.old) (W.contents out.new) }
+{
+    let Ok(text) = map_text(alloc, map, history) else {
+        return Err(WriteFault::OutOfMemory);
+    };
+    put(out, text.as_slice())
+}
+
+/// The whole text of a map and its history, for which memory is asked once, unless it is longer
+/// than usual.
+fn map_text<A: Allocator>(
+    alloc: Global,
+    map: &CrushMap<A>,
+    history: Option<History<'_>>,
+) -> Result<Vec<u8>, AllocError>
+    requires { IfSome history IsHistory }
+    ensures { IfOk result (λ text. (t : List Row) → Stands map.now.forest t → text.items
+        ≡ document_text (document (option_map history_data history.entry)
+        (map_document map.now.setting t))) }
+{
+    let counts = map.counts();
+    let usual = counts.devices as usize * USUAL_DEVICE + counts.buckets as usize * USUAL_BUCKET;
+    let mut document = Document::new(alloc, usual)?;
+    push_document(alloc, map, history, &mut document)?;
+    line_of(document)
+}
+
+/// The text of a document, and a line feed.
+fn line_of(document: Document) -> Result<Vec<u8>, AllocError>
+    ensures { IfOk result (λ text. text.items ≡ print document ++ codes "\n") }
+{
+    let mut text = document.finish();
+    text.push(b'\n')?;
+    Ok(text)
+}
+
+/// A map and its history.
+#[tactic(auto, unfolding(crate::specs::Document::document))]
+fn push_document<A: Allocator>(
+    alloc: Global,
+    map: &CrushMap<A>,
+    history: Option<History<'_>>,
+    out: &mut Document,
+) -> Result<(), AllocError>
+    requires { IfSome history IsHistory }
+    ensures { (t : List Row) → Stands map.now.forest t → OnOk result (out.new ≡ out.old
+        ++ tokens_of (document (option_map history_data history.entry)
+        (map_document map.now.setting t))) }
+{
+    out.begin_object()?;
+    push_history_if(alloc, history, out)?;
+    out.key("map")?;
+    push_map(alloc, map, out)?;
+    out.end_object()
+}
+
+/// The member that tells the history, where there is one.
+fn push_history_if(
+    alloc: Global,
+    history: Option<History<'_>>,
+    out: &mut Document,
+) -> Result<(), AllocError>
+    requires { IfSome history IsHistory }
+    ensures { OnOk result (out.new ≡ out.old
+        ++ history_tokens_if (option_map history_data history.entry)) }
+{
+    match history {
+        Some(history) => {
+            out.key("history")?;
+            push_history(alloc, history, out)
+        }
+        None => Ok(()),
+    }
+}
