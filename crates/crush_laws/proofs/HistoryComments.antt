@@ -28,11 +28,11 @@ use Rattle.crush_calls.specs.HistoryText.{pair_text, pairs_text, one_name, two_n
 use Rattle.crush_laws.specs.Written.{IsNamed, IsNamedCall, HistoryLinesAreComments, WhatIsWrittenIsReadBack}
 
 -- no byte ends the line
-abbrev IsInLine : List ℕ → Type 0
+abbrev pub IsInLine : List ℕ → Type 0
 IsInLine part = list_all (λ b. not (b == 10)) part ≡ true
 
 -- two parts, one behind the other
-both_in_line : (a b : List ℕ) → IsInLine a → IsInLine b → IsInLine (a ++ b)
+pub both_in_line : (a b : List ℕ) → IsInLine a → IsInLine b → IsInLine (a ++ b)
 both_in_line a b ha hb = list_all-append (λ x. not (x == 10)) a b ∙ rw (ha, hb) refl
 
 three_in_line : (a b c : List ℕ) → IsInLine a → IsInLine b → IsInLine c → IsInLine (a ++ b ++ c)
@@ -41,7 +41,7 @@ three_in_line a b c ha hb hc = both_in_line (a ++ b) c (both_in_line a b ha hb) 
 five_in_line : (a b c d e : List ℕ) → IsInLine a → IsInLine b → IsInLine c → IsInLine d → IsInLine e → IsInLine (a ++ b ++ c ++ d ++ e)
 five_in_line a b c d e ha hb hc hd he = three_in_line (a ++ b ++ c) d e (three_in_line a b c ha hb hc) hd he
 
-name_in_line : (n : List ℕ) → IsName n → IsInLine n
+pub name_in_line : (n : List ℕ) → IsName n → IsInLine n
 name_in_line n is = in_line n is.allowed
 
 -- NUMBERS: a digit is greater than a line feed
@@ -63,7 +63,7 @@ digits_in_line (suc k) n more h = by_test (n / 10 == 0) refl (both_in_line (digi
     by_test true e last others = rw e last
     by_test false e last others = rw e others
 
-number_in_line : (n : ℕ) → IsInLine (decimal n)
+pub number_in_line : (n : ℕ) → IsInLine (decimal n)
 unfolding digits
 number_in_line n = digits_in_line 64 n [] refl
 
@@ -106,7 +106,7 @@ weighed_in_line word n w h is = two_in_line word n (weight_text w) h (name_in_li
 names_in_line : (word a b : List ℕ) → IsInLine word → IsName a → IsName b → IsInLine (two_names word a b)
 names_in_line word a b h first second = two_in_line word a b h (name_in_line a first) (name_in_line b second)
 
-edit_in_line : (e : Edit) → IsNamed e → IsInLine (edit_text e)
+pub edit_in_line : (e : Edit) → IsNamed e → IsInLine (edit_text e)
 edit_in_line (Insert d n w l) is = both_in_line (weighed (codes "add") n w) (pairs_text l) (weighed_in_line (codes "add") n w refl is.0) (location_in_line l is.1)
 edit_in_line (CreateOrMove d n w l) is = both_in_line (weighed (codes "create-or-move") n w) (pairs_text l) (weighed_in_line (codes "create-or-move") n w refl is.0) (location_in_line l is.1)
 edit_in_line (Update d n w l) is = both_in_line (weighed (codes "set") n w) (pairs_text l) (weighed_in_line (codes "set") n w refl is.0) (location_in_line l is.1)

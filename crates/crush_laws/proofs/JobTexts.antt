@@ -64,7 +64,7 @@ call_form (One e) is = edit_form e is
 call_form (Batch es) is = All-weaker IsSaid table.IsEdit edit_form es is.0
 call_form (Guarded seen es) is = All-weaker IsSaid table.IsEdit edit_form es is.0
 
-edit_named : (e : Edit) → IsSaid e → IsNamed e
+pub edit_named : (e : Edit) → IsSaid e → IsNamed e
 edit_named (Insert d n w l) is = (is.name, is.at)
 edit_named (CreateOrMove d n w l) is = (is.name, is.at)
 edit_named (Update d n w l) is = (is.name, is.at)

@@ -24,6 +24,7 @@ pub mod Keeps
 pub mod Lawful
 pub mod LawfulTexts
 pub mod OneOfBoth
+pub mod Planned
 pub mod PrintedAgain
 pub mod Read
 pub mod ReadBack

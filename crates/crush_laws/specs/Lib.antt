@@ -4,6 +4,7 @@ pub mod Example
 pub mod Final
 pub mod MapOrFlaw
 pub mod Meaning
+pub mod Planned
 pub mod ReadingBack
 pub mod Spells
 pub mod Written

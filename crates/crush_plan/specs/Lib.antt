@@ -1,3 +1,4 @@
+pub mod Alike
 pub mod Aside
 pub mod Draft
 pub mod Leads

@@ -20,7 +20,7 @@ abbrev pub plan_data : Plan → PlanData
 plan_data p = record { edits = p.edits.items; rest = p.rest.items; aside = p.aside }
 
 -- what a plan tells stays from this map to the wanted one
-pub record Stay (old new : Told) (plan : PlanData) : Type 0 where
+pub record TellsRest (old new : Told) (plan : PlanData) : Type 0 where
   pub rest : plan.rest ≡ stays old new
   pub aside : CountsAside old.table new.table plan.aside
 
@@ -28,7 +28,7 @@ pub record Stay (old new : Told) (plan : PlanData) : Type 0 where
 pub record GoesTo (old new : Told) (plan : PlanData) : Type 0 where
   pub table : List Row
   pub leads : Leads old.setting old.table plan.edits table
-  pub stays : Stay (told old.setting table) new plan
+  pub tells : TellsRest (told old.setting table) new plan
 
 -- how many lines a text has
 abbrev pub line_count : List ℕ → ℕ
@@ -42,7 +42,7 @@ IsBetter a b = (line_count a.rest < line_count b.rest) ⊎ ((line_count a.rest �
 pub record IsBetterThanNone (old new : Told) (plan : PlanData) : Type 0 where
   pub other : PlanData
   pub none : other.edits ≡ []
-  pub stay : Stay old new other
+  pub tells : TellsRest old new other
   pub better : IsBetter plan other
 
 -- PLAN: the edits lead to a table, what is told stays from there, and either there are none, or with them it is better than without

@@ -1,5 +1,5 @@
 -- What differs between a map and the one that is wanted, told by names: docs/plan.md has the same in words.
-use Rattle.std.specs.Prelude.{ℕ, ◌+◌, nat_lt, Bool, true, not, ◌||◌, List, [], ◌∷◌, ◌++◌, Option, None, Some, flat_map, codes, bytes_eq, unwrap_or}
+use Rattle.std.specs.Prelude.{ℕ, ◌+◌, nat_lt, Bool, true, not, ◌||◌, List, [], ◌∷◌, ◌++◌, Option, None, Some, is_some, if◌then◌else◌, flat_map, codes, bytes_eq, unwrap_or}
 use Rattle.crush_units.specs.declared.id.ItemId.{ItemId}
 use Rattle.crush_units.specs.declared.id.ItemId.TheVariants.{Device, Bucket}
 use Rattle.crush_units.specs.Weight.{weight_text}
@@ -79,10 +79,12 @@ abbrev pub wanted_parts : SettingData → SettingData → Option ItemData → It
 wanted_parts s p None y = lacking p y
 wanted_parts s p (Some x) y = differing s p x y
 
--- of an item of the map, by what is wanted of its name
+-- of an item of the map, by whether its name is wanted
+abbrev pub told_unwanted : Bool → List (List ℕ)
+told_unwanted is_wanted = if is_wanted then [] else codes "not wanted" ∷ []
+
 abbrev pub unwanted_parts : Option ItemData → List (List ℕ)
-unwanted_parts None = codes "not wanted" ∷ []
-unwanted_parts (Some y) = []
+unwanted_parts o = told_unwanted (is_some o)
 
 -- LINES: a name with its parts, joined by `; `, if there are any
 abbrev pub stay_line : List ℕ → List (List ℕ) → List ℕ

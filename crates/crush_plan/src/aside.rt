@@ -6,11 +6,14 @@ ghost use Rattle.crush_table.specs.Count.{one_if};
 ghost use Rattle.crush_table.specs.Stands.{Stands};
 ghost use Rattle.crush_table.specs.Table.{Row};
 ghost use Rattle.crush_view.specs.SeenStep.{step_data};
-ghost use Rattle.crush_plan.specs.Aside.{CountsAside, aside_line, aside_text, other_class_ids, other_id};
+ghost use Rattle.crush_view.specs.SeenItem.{seen_data};
+ghost use Rattle.crush_plan.specs.Aside.{CountsAside, aside_line, aside_text, has_other_class_ids, has_other_id, other_class_ids, other_id};
+ghost use Rattle.crush_plan.specs.Named.{counterpart};
 
 use crate::named::counterpart;
 use crush_bytes::put_all;
 use crush_map::CrushMap;
+use crush_tree::Node;
 use crush_view::{Seen, Step, class_ids_of, same_class_ids, step_seen, walk};
 use itoa::Buffer;
 use std::alloc::{AllocError, Allocator, Global};
@@ -83,7 +86,8 @@ fn count_class_ids<A: Allocator, B: Allocator>(
     count
 }
 
-/// Whether the map has an item of this one's name with another id.
+/// Whether the map has an item of this one's name with another id. Two devices are one by their ids,
+/// so that no device has.
 fn has_other_id<A: Allocator, B: Allocator>(
     map: &CrushMap<A>,
     wanted: &CrushMap<B>,
@@ -92,14 +96,24 @@ fn has_other_id<A: Allocator, B: Allocator>(
     ensures { (t u : List Row) → Stands map.now.forest t → Stands wanted.now.forest u
         → result ≡ other_id t u (step_data step.now) }
 {
-    let there = step_seen(wanted, step);
-    match counterpart(map, &there) {
+    match step.node {
+        Node::Device(_) => false,
+        Node::Bucket(_) => has_another_id(map, &step_seen(wanted, step)),
+    }
+}
+
+/// Whether the map has an item of this one's name with another id.
+fn has_another_id<A: Allocator>(map: &CrushMap<A>, there: &Seen<'_>) -> bool
+    ensures { (t : List Row) → Stands map.now.forest t
+        → result ≡ has_other_id (counterpart t (seen_data there.now)) (seen_data there.now) }
+{
+    match counterpart(map, there) {
         Some(here) => !here.view.id.is_same(there.view.id),
         None => false,
     }
 }
 
-/// Whether the map has an item of this one's name with other class ids.
+/// Whether the map has an item of this one's name with other class ids, which no device has.
 fn has_other_class_ids<A: Allocator, B: Allocator>(
     map: &CrushMap<A>,
     wanted: &CrushMap<B>,
@@ -108,8 +122,23 @@ fn has_other_class_ids<A: Allocator, B: Allocator>(
     ensures { (t u : List Row) → Stands map.now.forest t → Stands wanted.now.forest u
         → result ≡ other_class_ids t u (step_data step.now) }
 {
-    let there = step_seen(wanted, step);
-    match counterpart(map, &there) {
+    match step.node {
+        Node::Device(_) => false,
+        Node::Bucket(_) => has_another_class_id(map, wanted, &step_seen(wanted, step)),
+    }
+}
+
+/// Whether the map has an item of this one's name with other class ids.
+fn has_another_class_id<A: Allocator, B: Allocator>(
+    map: &CrushMap<A>,
+    wanted: &CrushMap<B>,
+    there: &Seen<'_>,
+) -> bool
+    ensures { (t u : List Row) → Stands map.now.forest t → Stands wanted.now.forest u
+        → result ≡ has_other_class_ids t u (counterpart t (seen_data there.now))
+        (seen_data there.now) }
+{
+    match counterpart(map, there) {
         Some(here) => !same_class_ids(
             class_ids_of(map, here.view.id),
             class_ids_of(wanted, there.view.id),

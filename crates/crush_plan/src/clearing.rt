@@ -3,7 +3,8 @@
 ghost use Rattle.std.specs.Prelude.{OnOk};
 ghost use Rattle.crush_plan.specs.Draft.{GoesOn};
 
-use crate::compare::{Ids, loses_bucket, loses_device};
+use crate::changing::Here;
+use crate::compare::{loses_bucket, loses_device};
 use crate::draft::Draft;
 use crush_map::CrushMap;
 use crush_units::{BucketId, DeviceId, ItemId};
@@ -14,12 +15,12 @@ use std::alloc::{AllocError, Allocator};
 pub(crate) fn clear<A: Allocator + Clone, B: Allocator>(
     draft: &mut Draft<A>,
     wanted: &CrushMap<B>,
-    ids: &Ids,
+    here: &Here,
 ) -> Result<(), AllocError>
     ensures { OnOk result (GoesOn draft.old draft.new) }
 {
-    clear_devices(draft, wanted, ids.devices.as_slice())?;
-    clear_buckets(draft, wanted, ids.buckets.as_slice())
+    clear_devices(draft, wanted, here.lost.as_slice())?;
+    clear_buckets(draft, wanted, here.buckets.as_slice())
 }
 
 /// Removes the devices that the wanted map lacks.

@@ -4,13 +4,6 @@ use crush_map::CrushMap;
 use crush_units::{BucketId, DeviceId, ItemId, TypeId};
 use std::alloc::Allocator;
 
-/// The items of a map, in the order of its tree: a bucket stands before what is below it.
-#[derive(Drop)]
-pub(crate) struct Ids {
-    pub buckets: Vec<BucketId>,
-    pub devices: Vec<DeviceId>,
-}
-
 /// Whether both texts are there, and the same.
 fn are_one(here: Option<&str>, there: Option<&str>) -> bool {
     match (here, there) {

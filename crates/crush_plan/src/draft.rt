@@ -121,11 +121,11 @@ impl<A: Allocator + Clone> Draft<A> {
     pub(crate) fn relocate(&mut self, id: ItemId, bucket: BucketId) -> Result<(), AllocError>
         ensures { OnOk result (GoesOn self.old self.new) }
     {
+        let Some(name) = self.name_of(id)? else {
+            return Ok(());
+        };
         let at = self.place(bucket)?;
-        match self.name_of(id)? {
-            Some(name) => self.give(Edit::Move { name, at }),
-            None => Ok(()),
-        }
+        self.give(Edit::Move { name, at })
     }
 
     /// Gives the device this weight.

@@ -7,10 +7,12 @@
 
 mod aside;
 mod buckets;
+mod changing;
 mod clearing;
 mod compare;
 mod devices;
 mod draft;
+mod law;
 mod moves;
 mod named;
 mod names;
@@ -22,6 +24,7 @@ mod weights;
 
 pub use aside::Counts;
 pub use compare::Identity;
+pub use law::nothing_stays_where_maps_are_alike;
 pub use plan::{Plan, find_plan};
 pub use staying::stays;
 pub use text::{PlanWords, plan_text};

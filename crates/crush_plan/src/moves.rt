@@ -3,7 +3,8 @@
 ghost use Rattle.std.specs.Prelude.{OnOk};
 ghost use Rattle.crush_plan.specs.Draft.{GoesOn};
 
-use crate::compare::{Ids, counterpart, destination};
+use crate::changing::{Placed, There};
+use crate::compare::{counterpart, destination};
 use crate::draft::Draft;
 use crush_map::CrushMap;
 use crush_units::{BucketId, DeviceId, ItemId};
@@ -14,12 +15,12 @@ use std::alloc::{AllocError, Allocator};
 pub(crate) fn move_all<A: Allocator + Clone, B: Allocator>(
     draft: &mut Draft<A>,
     wanted: &CrushMap<B>,
-    ids: &Ids,
+    there: &There,
 ) -> Result<(), AllocError>
     ensures { OnOk result (GoesOn draft.old draft.new) }
 {
-    move_buckets(draft, wanted, ids.buckets.as_slice())?;
-    move_devices(draft, wanted, ids.devices.as_slice())
+    move_buckets(draft, wanted, there.buckets.as_slice())?;
+    move_devices(draft, wanted, there.placed.as_slice())
 }
 
 /// Puts the buckets.
@@ -60,29 +61,49 @@ fn move_bucket<A: Allocator + Clone, B: Allocator>(
 fn move_devices<A: Allocator + Clone, B: Allocator>(
     draft: &mut Draft<A>,
     wanted: &CrushMap<B>,
-    devices: &[DeviceId],
+    devices: &[Placed],
 ) -> Result<(), AllocError>
     ensures { OnOk result (GoesOn draft.old draft.new) }
 {
     for device in devices {
-        move_device(draft, wanted, *device)?;
+        move_device(draft, wanted, device)?;
     }
     Ok(())
 }
 
-/// Puts the device.
+/// Puts the device, where it is to stand in a bucket.
 fn move_device<A: Allocator + Clone, B: Allocator>(
     draft: &mut Draft<A>,
     wanted: &CrushMap<B>,
-    device: DeviceId,
+    device: &Placed,
 ) -> Result<(), AllocError>
     ensures { OnOk result (GoesOn draft.old draft.new) }
 {
-    let Some(place) = destination(&draft.map, wanted, ItemId::Device(device)) else {
-        return Ok(());
-    };
+    match place_of(&draft.map, wanted, device) {
+        Some(place) => put_device(draft, device.id, place),
+        None => Ok(()),
+    }
+}
+
+/// Puts the device below the bucket, unless it stands there.
+fn put_device<A: Allocator + Clone>(
+    draft: &mut Draft<A>,
+    device: DeviceId,
+    place: BucketId,
+) -> Result<(), AllocError>
+    ensures { OnOk result (GoesOn draft.old draft.new) }
+{
     if draft.map.parent(ItemId::Device(device)) == Some(place) {
         return Ok(());
     }
     draft.relocate(ItemId::Device(device), place)
+}
+
+/// The bucket of the map that is to hold the device.
+fn place_of<A: Allocator, B: Allocator>(
+    map: &CrushMap<A>,
+    wanted: &CrushMap<B>,
+    device: &Placed,
+) -> Option<BucketId> {
+    counterpart(map, wanted, device.parent?)
 }

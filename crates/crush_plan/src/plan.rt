@@ -5,12 +5,13 @@ ghost use Rattle.crush_table.specs.Stands.{Stands};
 ghost use Rattle.crush_table.specs.Table.{Row};
 ghost use Rattle.crush_view.specs.Since.{told};
 ghost use Rattle.crush_plan.specs.Draft.{GoesOn, IsDraftOf};
-ghost use Rattle.crush_plan.specs.Plan.{GoesTo, IsBetter, IsPlan, Stay, line_count, plan_data};
+ghost use Rattle.crush_plan.specs.Plan.{GoesTo, IsBetter, IsPlan, TellsRest, line_count, plan_data};
 
 use crate::aside::{Counts, count_aside};
 use crate::buckets::make_buckets;
+use crate::changing::{Here, There, items_here, items_there};
 use crate::clearing::clear;
-use crate::compare::{Identity, Ids};
+use crate::compare::Identity;
 use crate::devices::set_devices;
 use crate::draft::Draft;
 use crate::moves::move_all;
@@ -19,9 +20,7 @@ use crate::staying::stays;
 use crate::swaps::swap_all;
 use crate::weights::{Which, set_weights};
 use crush_map::{CrushMap, Edit};
-use crush_tree::Node;
-use crush_units::{BucketId, DeviceId, ItemId};
-use crush_view::walk;
+use crush_units::BucketId;
 use std::alloc::{AllocError, Allocator, Global};
 
 /// The edits that lead from one map towards another, and what differs then.
@@ -47,8 +46,11 @@ pub fn find_plan<A: Allocator + Clone, B: Allocator>(
         → Stands map.now.forest t → Stands wanted.now.forest u
         → IsPlan (told map.now.setting t) (told wanted.now.setting u) (plan_data plan)) }
 {
-    let before = without_edits(alloc, map, wanted)?;
     let after = with_edits(alloc, identity, map, wanted)?;
+    if after.has_no_edits() {
+        return Ok(after);
+    }
+    let before = without_edits(alloc, map, wanted)?;
     if is_better(&after, &before) {
         return Ok(after);
     }
@@ -62,9 +64,9 @@ fn without_edits<A: Allocator, B: Allocator>(
     wanted: &CrushMap<B>,
 ) -> Result<Plan, AllocError>
     ensures none { IfOk result (λ plan. plan.edits.items ≡ []) }
-    ensures stays { IfOk result (λ plan. (t u : List Row)
+    ensures tells { IfOk result (λ plan. (t u : List Row)
         → Stands map.now.forest t → Stands wanted.now.forest u
-        → Stay (told map.now.setting t) (told wanted.now.setting u) (plan_data plan)) }
+        → TellsRest (told map.now.setting t) (told wanted.now.setting u) (plan_data plan)) }
 {
     let rest = stays(alloc, map, wanted)?;
     let aside = count_aside(alloc, map, wanted)?;
@@ -103,6 +105,13 @@ fn is_better(after: &Plan, before: &Plan) -> bool
 }
 
 impl Plan {
+    /// Whether there are no edits.
+    fn has_no_edits(&self) -> bool
+        ensures { result ≡ true → self.now.edits.items ≡ [] }
+    {
+        self.edits.is_empty()
+    }
+
     /// How many differences stay.
     pub fn count_differences(&self) -> usize
         ensures { result ≡ line_count self.now.rest.items }
@@ -124,30 +133,6 @@ pub(crate) fn count_lines(text: &[u8]) -> usize
     count
 }
 
-/// The items of a map.
-fn ids_of<A: Allocator>(alloc: Global, map: &CrushMap<A>) -> Result<Ids, AllocError> {
-    let mut buckets = Vec::new(alloc);
-    let mut devices = Vec::new(alloc);
-    let steps = walk(alloc, map)?;
-    for step in &steps {
-        push_id(step.node, &mut buckets, &mut devices)?;
-    }
-    Ok(Ids { buckets, devices })
-}
-
-/// Pushes the id of a node.
-fn push_id<A: Allocator>(
-    node: &Node<A>,
-    buckets: &mut Vec<BucketId>,
-    devices: &mut Vec<DeviceId>,
-) -> Result<(), AllocError> {
-    match node.id() {
-        ItemId::Bucket(bucket) => buckets.push(bucket)?,
-        ItemId::Device(device) => devices.push(device)?,
-    }
-    Ok(())
-}
-
 /// The map with all edits made that are found, and these edits.
 fn drafted<A: Allocator + Clone, B: Allocator>(
     alloc: Global,
@@ -157,8 +142,8 @@ fn drafted<A: Allocator + Clone, B: Allocator>(
 ) -> Result<Draft<A>, AllocError>
     ensures { IfOk result (IsDraftOf map) }
 {
-    let here = ids_of(alloc, &map)?;
-    let there = ids_of(alloc, wanted)?;
+    let here = items_here(alloc, &map, wanted)?;
+    let there = items_there(alloc, &map, wanted)?;
     let mut draft = Draft {
         alloc,
         identity,
@@ -176,19 +161,19 @@ fn drafted<A: Allocator + Clone, B: Allocator>(
 fn go<A: Allocator + Clone, B: Allocator>(
     draft: &mut Draft<A>,
     wanted: &CrushMap<B>,
-    here: &Ids,
-    there: &Ids,
+    here: &Here,
+    there: &There,
 ) -> Result<(), AllocError>
     ensures { OnOk result (GoesOn draft.old draft.new) }
 {
     clear(draft, wanted, here)?;
-    set_weights(draft, wanted, here.devices.as_slice(), Which::Less)?;
+    set_weights(draft, wanted, here.reweighed.as_slice(), Which::Less)?;
     give_names(draft, wanted, here.buckets.as_slice())?;
     make_buckets(draft, wanted, there.buckets.as_slice())?;
     move_all(draft, wanted, there)?;
     clear(draft, wanted, here)?;
-    set_weights(draft, wanted, here.devices.as_slice(), Which::Other)?;
-    set_devices(draft, wanted, there.devices.as_slice())
+    set_weights(draft, wanted, here.reweighed.as_slice(), Which::Other)?;
+    set_devices(draft, wanted, there.set.as_slice())
 }
 
 /// Swaps and renames buckets, where they are told apart by ids; where it is by names, each has its own.

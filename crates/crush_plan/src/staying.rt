@@ -8,18 +8,17 @@ ghost use Rattle.crush_view.specs.ItemParts.{behind};
 ghost use Rattle.crush_view.specs.SeenItem.{seen_data};
 ghost use Rattle.crush_view.specs.SeenStep.{step_data};
 ghost use Rattle.crush_view.specs.Since.{told};
-ghost use Rattle.crush_plan.specs.Named.{counterpart};
-ghost use Rattle.crush_plan.specs.Stays.{differing, lacking, named_setting_lines, stay_line, stay_text_line, stays, step_item, unwanted_line, unwanted_lines, unwanted_parts, wanted_line, wanted_lines, wanted_parts};
+ghost use Rattle.crush_plan.specs.Stays.{differing, lacking, named_setting_lines, stay_line, stay_text_line, stays, step_item, told_unwanted, unwanted_line, unwanted_lines, wanted_line, wanted_lines, wanted_parts};
 
 mod columns;
 mod rules;
 
-use crate::named::counterpart;
+use crate::named::{counterpart_next, has_counterpart, seen_next};
 pub(crate) use columns::are_near;
 use columns::{push_alg, push_class, push_lacking, push_place, push_type, push_weight};
 use crush_bytes::put_all;
 use crush_map::{CrushMap, Setting};
-use crush_view::{Seen, Step, push_kinds, push_tunables, step_seen, walk};
+use crush_view::{Seen, Step, push_kinds, push_tunables, walk};
 use rules::push_rules;
 use std::alloc::{AllocError, Allocator, Global};
 
@@ -60,12 +59,13 @@ fn push_wanted_lines<A: Allocator, B: Allocator>(
     push_each_wanted(alloc, map, wanted, steps.as_slice(), lines)
 }
 
-/// The lines of these items of the wanted map.
-fn push_each_wanted<A: Allocator, B: Allocator>(
+/// The lines of these items of the wanted map, each looked up by its name.
+#[tactic(auto, unfolding(crate::specs::Stays::wanted_line))]
+fn push_each_wanted<'b, A: Allocator, B: Allocator>(
     alloc: Global,
     map: &CrushMap<A>,
-    wanted: &CrushMap<B>,
-    steps: &[Step<'_, B>],
+    wanted: &'b CrushMap<B>,
+    steps: &[Step<'b, B>],
     lines: &mut Vec<u8>,
 ) -> Result<(), AllocError>
     ensures { (t u : List Row) → Stands map.now.forest t → Stands wanted.now.forest u
@@ -73,37 +73,33 @@ fn push_each_wanted<A: Allocator, B: Allocator>(
         ++ flat_map (λ s. wanted_line (told map.now.setting t) (told wanted.now.setting u)
         (step_item u (step_data s))) steps.now) }
 {
+    let mut last_here = None;
+    let mut last_there = None;
     for step in steps {
-        push_wanted(alloc, map, wanted, step, lines)?;
+        let there = seen_next(wanted, &last_there, step);
+        let here = counterpart_next(map, &last_here, &there);
+        push_wanted(alloc, map.setting(), wanted.setting(), &here, &there, lines)?;
+        last_here = here;
+        last_there = Some(there);
     }
     Ok(())
 }
 
-/// The line of an item of the wanted map, looked up by its name.
-#[tactic(auto, unfolding(crate::specs::Stays::wanted_line))]
-fn push_wanted<A: Allocator, B: Allocator>(
+/// The line of a wanted item, by what the map has of its name.
+fn push_wanted(
     alloc: Global,
-    map: &CrushMap<A>,
-    wanted: &CrushMap<B>,
-    step: &Step<'_, B>,
+    map: &Setting,
+    wanted: &Setting,
+    here: &Option<Seen<'_>>,
+    there: &Seen<'_>,
     lines: &mut Vec<u8>,
 ) -> Result<(), AllocError>
-    ensures { (t u : List Row) → Stands map.now.forest t → Stands wanted.now.forest u
-        → OnOk result (lines.new.items ≡ lines.old.items
-        ++ wanted_line (told map.now.setting t) (told wanted.now.setting u)
-        (step_item u (step_data step.now))) }
+    ensures { OnOk result (lines.new.items ≡ lines.old.items
+        ++ stay_line (seen_data there.now).view.name (wanted_parts map.now wanted.now
+        (option_map seen_data here.now) (seen_data there.now))) }
 {
-    let there = step_seen(wanted, step);
-    let here = counterpart(map, &there);
     let mut parts = Vec::new(alloc);
-    push_wanted_parts(
-        alloc,
-        map.setting(),
-        wanted.setting(),
-        &here,
-        &there,
-        &mut parts,
-    )?;
+    push_wanted_parts(alloc, map, wanted, here, there, &mut parts)?;
     push_line(there.view.name.as_bytes(), parts.as_slice(), lines)
 }
 
@@ -171,66 +167,59 @@ fn push_unwanted_lines<A: Allocator, B: Allocator>(
         ++ unwanted_lines (told map.now.setting t) (told wanted.now.setting u)) }
 {
     let steps = walk(alloc, map)?;
-    push_each_unwanted(map, wanted, steps.as_slice(), lines)
+    push_each_unwanted(wanted, steps.as_slice(), lines)
 }
 
 /// The lines of these items of the map.
 fn push_each_unwanted<A: Allocator, B: Allocator>(
-    map: &CrushMap<A>,
     wanted: &CrushMap<B>,
     steps: &[Step<'_, A>],
     lines: &mut Vec<u8>,
 ) -> Result<(), AllocError>
-    ensures { (t u : List Row) → Stands map.now.forest t → Stands wanted.now.forest u
+    ensures { (t u : List Row) → Stands wanted.now.forest u
         → OnOk result (lines.new.items ≡ lines.old.items
         ++ flat_map (λ s. unwanted_line (told wanted.now.setting u) (step_item t (step_data s)))
         steps.now) }
 {
     for step in steps {
-        push_unwanted(map, wanted, step, lines)?;
+        push_unwanted(wanted, step, lines)?;
     }
     Ok(())
 }
 
 /// The line of an item of the map that isn't wanted.
-#[tactic(auto, unfolding(crate::specs::Stays::unwanted_line))]
 fn push_unwanted<A: Allocator, B: Allocator>(
-    map: &CrushMap<A>,
     wanted: &CrushMap<B>,
     step: &Step<'_, A>,
     lines: &mut Vec<u8>,
 ) -> Result<(), AllocError>
-    ensures { (t u : List Row) → Stands map.now.forest t → Stands wanted.now.forest u
+    ensures { (t u : List Row) → Stands wanted.now.forest u
         → OnOk result (lines.new.items ≡ lines.old.items
         ++ unwanted_line (told wanted.now.setting u) (step_item t (step_data step.now))) }
 {
-    let here = step_seen(map, step);
-    let there = counterpart(wanted, &here);
-    push_unwanted_line(here.view.name.as_bytes(), &there, lines)
+    let here = step.view();
+    let is_wanted = has_counterpart(wanted, &here);
+    push_unwanted_line(here.name.as_bytes(), is_wanted, lines)
 }
 
-/// That an item isn't wanted, unless the wanted map has it.
-fn push_unwanted_line(
-    name: &[u8],
-    there: &Option<Seen<'_>>,
-    lines: &mut Vec<u8>,
-) -> Result<(), AllocError>
+/// That an item isn't wanted, unless it is.
+fn push_unwanted_line(name: &[u8], is_wanted: bool, lines: &mut Vec<u8>) -> Result<(), AllocError>
     ensures { OnOk result (lines.new.items ≡ lines.old.items
-        ++ stay_line name.now (unwanted_parts (option_map seen_data there.now))) }
+        ++ stay_line name.now (told_unwanted is_wanted)) }
 {
-    match there {
-        Some(_) => Ok(()),
-        None => put_all(
-            lines,
-            &[
-                name,
-                b": ".as_slice(),
-                b"not wanted".as_slice(),
-                b"\n".as_slice(),
-            ],
-        )
-        .map_err(|_| AllocError),
+    if is_wanted {
+        return Ok(());
     }
+    put_all(
+        lines,
+        &[
+            name,
+            b": ".as_slice(),
+            b"not wanted".as_slice(),
+            b"\n".as_slice(),
+        ],
+    )
+    .map_err(|_| AllocError)
 }
 
 /// A line each where tunables, types and rules differ.

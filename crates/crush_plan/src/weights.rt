@@ -33,7 +33,8 @@ impl Which {
 }
 
 /// Sets weights of devices that are placed in both maps: all below a bucket at once, where they are
-/// to have one weight and two or more have another, and then one by one.
+/// to have one weight and two or more have another, and then one by one. The devices are those whose
+/// weight may be another.
 pub(crate) fn set_weights<A: Allocator + Clone, B: Allocator>(
     draft: &mut Draft<A>,
     wanted: &CrushMap<B>,
@@ -42,6 +43,9 @@ pub(crate) fn set_weights<A: Allocator + Clone, B: Allocator>(
 ) -> Result<(), AllocError>
     ensures { OnOk result (GoesOn draft.old draft.new) }
 {
+    if devices.is_empty() {
+        return Ok(());
+    }
     let found = subtrees(draft.alloc, &draft.map, wanted, which)?;
     set_below(draft, found.as_slice())?;
     set_one_by_one(draft, wanted, devices, which)

@@ -1,8 +1,11 @@
-use Rattle.std.proofs.Common.{◌≡◌, List, refl, sym, subst, inl, inr}
+use Rattle.std.proofs.Common.{List, refl, sym, subst, inl, inr}
 use Rattle.crush_edits.specs.declared.edit.Edit.{Edit}
 use Rattle.crush_plan.specs.Leads.{Leads}
 use Rattle.crush_plan.specs.Plan.{plan_data}
 use Rattle.crush_plan.proofs.plan.find_plan.Goals as goal
+
+pub returns-then-has_no_edits : goal.returns-then-has_no_edits
+returns-then-has_no_edits g c = λ t u a b. record { goes = c.in_ok-after.ensures t u a b; better = inl (c.has_no_edits.ensures c.if-has_no_edits.true) }
 
 pub returns-then-is_better : goal.returns-then-is_better
 returns-then-is_better g c = λ t u a b. record {
@@ -10,7 +13,7 @@ returns-then-is_better g c = λ t u a b. record {
   better = inr (record {
     other = plan_data c.in_ok-before.before;
     none = c.in_ok-before.ensures.none;
-    stay = c.in_ok-before.ensures.stays t u a b;
+    tells = c.in_ok-before.ensures.tells t u a b;
     better = c.is_better.ensures c.if-is_better.true;
   });
 }
@@ -20,7 +23,7 @@ returns g c = λ t u a b. record {
   goes = record {
     table = t;
     leads = subst (λ (es : List Edit). Leads c.args.map.now.setting t es t) (sym c.in_ok-before.ensures.none) refl;
-    stays = c.in_ok-before.ensures.stays t u a b;
+    tells = c.in_ok-before.ensures.tells t u a b;
   };
   better = inl c.in_ok-before.ensures.none;
 }

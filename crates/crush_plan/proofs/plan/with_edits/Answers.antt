@@ -13,7 +13,7 @@ returns g c = λ t u a b.
     record {
       table = at.0;
       leads = subst (λ (s : SettingData). Leads s t c.in_ok-draft.draft.edits.items at.0) copied at.1;
-      stays = record {
+      tells = record {
         rest = c.in_ok-rest.ensures at.0 u at.2 b ∙ ap (λ (s : SettingData). stays (told s at.0) new) (c.in_ok-draft.ensures.setting ∙ copied);
         aside = c.in_ok-aside.ensures at.0 u at.2 b;
       };

@@ -9,5 +9,5 @@ use Rattle.crush_plan.proofs.staying.push_each_unwanted.Given as goal
 
 abbrev pub invariant-loop-step : goal.invariant-loop-step
 invariant-loop-step g l =
-    (t u : List Row) → Stands l.map.forest t → Stands l.wanted.forest u
+    (t u : List Row) → Stands l.wanted.forest u
     → l.lines.items ≡ l.fn.lines.items ++ flat_map (λ s. unwanted_line (told l.wanted.setting u) (step_item t (step_data s))) (take l.step-index l.steps)

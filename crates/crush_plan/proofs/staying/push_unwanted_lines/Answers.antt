@@ -15,4 +15,4 @@ returns g c = λ t u a b.
     on_ok_weaker c.push_each_unwanted.result
     (λ is. is ∙ ap (λ xs. c.args.lines.now.items ++ flat_map (λ s. f (step_data s)) xs) c.as_slice.ensures.value
     ∙ ap (λ (l : List ℕ). c.args.lines.now.items ++ l) (sym (flat_map-map f step_data c.in_ok-steps.steps.items) ∙ ap (flat_map f) (c.in_ok-steps.ensures t a)))
-    (c.push_each_unwanted.ensures t u a b)
+    (c.push_each_unwanted.ensures t u b)
