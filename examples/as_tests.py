@@ -7,7 +7,8 @@ there for each mode that it is run in, and a part of the crate's `stdout`. A job
 with --in-turn, since without it there may be several outputs; others are run without. A job of at_once/ has
 them all, a NAME.OPERATOR.out for each operator whose script may be the first: there the job is run in turn
 with that operator's section before the others (NAME.OPERATOR.job). A job of asked/ is run with each line of
-NAME.words before its name, beside the files NAME.txt there. Of an example of this folder or of
+NAME.words before its name, beside the files NAME.txt there, and NAME.status has the status where a run that is done
+ends with another than 0. Of an example of this folder or of
 maps/ that is no refused one, what is written is run again and gives the same map (NAME.again.job), and the
 job's map alone is printed as it is, or, where there is a NAME.map, as that (NAME.alone.job). What a run is
 summed up as is counted here from the history. Each row of a table of refused/ is a job that is refused; these
@@ -33,7 +34,8 @@ SEPARATOR = "\x1e"
 # What stands between the parts of a job of crush_growths.
 PART_SEPARATOR = "\x1f"
 # What standard error is told first of a run that was not done, where the status is another than 1.
-STATUSES = {"crushedit: refused ": 5, "crushedit: differs ": 5, "crushedit: read fault": 3, "crushedit: to: read fault": 3}
+STATUSES = {"crushedit: refused ": 5, "crushedit: made ": 5, "crushedit: differs ": 5, "crushedit: read fault": 3,
+            "crushedit: to: read fault": 3}
 # How many jobs of chance there are, and of which seed.
 CHANCE, SEED = 200, 1
 # The words before a job's name, for each run of a job that has more than one.
@@ -73,10 +75,11 @@ def summary(out, err):
     return f"adjusted {adjusted.group(1) if adjusted else 0} calls {len(history)} changes {changed}"
 
 
-def printed(line, out, err):
-    """What the program prints of a run. Of a job or a strict run that is refused nothing is written."""
+def printed(line, out, err, done=0):
+    """What the program prints of a run, which ends with this status if it is done. Of a job or a strict run that is
+    refused nothing is written."""
     status = next((status for told, status in STATUSES.items() if err.startswith(told)), 1)
-    ending = f"< {summary(out, err)}\n{err}< status 0\n" if out else f"< not done\n{err}< status {status}\n"
+    ending = f"< {summary(out, err)}\n{err}< status {done}\n" if out else f"< not done\n{err}< status {status}\n"
     return f"> {line}\n{map_of(out) if '--no-history' in line else out}{ending}"
 
 
@@ -95,8 +98,9 @@ def runs(job):
 def asked(job):
     """The runs of a job of asked/, one for each line of words, which all come to one output or are all refused."""
     text, out, err = read(job), read(job.with_suffix(".out")), read(job.with_suffix(".err"))
+    done = int(read(job.with_suffix(".status")) or 0)
     for words in read(job.with_suffix(".words")).splitlines():
-        yield f"{words} ", job.name, text, out, err
+        yield f"{words} ", job.name, text, out, err, done
 
 
 def orders(job):
@@ -144,10 +148,10 @@ def wanted():
     files, lines, stdout = {}, [], []
     each_run = [run for job in jobs for run in runs(job)] + [run for job in at_once for run in orders(job)]
     each_run += [run for job in asked_for for run in asked(job)]
-    for words, name, text, out, err in each_run:
+    for words, name, text, *told in each_run:
         files[CRATE / "data" / name] = text
         lines.append(f"{words}{name}\n")
-        stdout.append(printed(f"{words}{name}", out, err))
+        stdout.append(printed(f"{words}{name}", *told))
     records = [(text, "", err) for table in sorted((HERE / "refused").glob("*.txt")) for text, err in refused(table)]
     records += [(text, out, "") for text, out in numbered(CHANCE, SEED)]
     assert not any(SEPARATOR in text for text, _, _ in records), "a job has the byte that separates jobs"

@@ -61,6 +61,8 @@ ENDS = [
     *((3, f"crushedit --{word} missing map.txt") for word in ("since", "to")),
     (5, "(cat map.txt; echo '%operator a'; echo rm default) | crushedit --strict"),
     (5, "sed 's/total_tries 50/total_tries 51/' map.txt | crushedit --strict --to map.txt"),
+    (5, "(cat map.txt; echo '%operator a'; echo move osd.0 host=h9) | crushedit --no-make"),
+    (6, "(cat old.txt; echo '%operator a'; echo reweight osd.0 2) | crushedit --exit-code"),
 ]
 UNTRIED = {"4"}
 

@@ -51,6 +51,8 @@ fn run_record(
             in_turn: true,
             history: true,
             strict: false,
+            no_make: false,
+            exit_code: false,
             explain: false,
         },
         asked: Asked::Map,

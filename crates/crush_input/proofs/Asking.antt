@@ -48,6 +48,7 @@ map_noted_of_all explain why name all bytes run.Write notes input h told = told
 map_noted_of_all explain why name all bytes run.Memory notes input h told = told
 map_noted_of_all explain why name all bytes run.Thread notes input h told = told
 map_noted_of_all explain why name all bytes (run.Refused n) notes input h told = told
+map_noted_of_all explain why name all bytes (run.Made n) notes input h told = told
 map_noted_of_all explain why name all bytes (run.Differs n) notes input h told = told
 map_noted_of_all explain why name all bytes (run.Other w f) notes input h told = other_of_all explain name all bytes f notes input h.1 told
 
@@ -73,6 +74,7 @@ map_fault_of_all why all bytes run.Write input h = absurd h
 map_fault_of_all why all bytes run.Memory input h = tt
 map_fault_of_all why all bytes run.Thread input h = absurd h
 map_fault_of_all why all bytes (run.Refused n) input h = absurd h
+map_fault_of_all why all bytes (run.Made n) input h = absurd h
 map_fault_of_all why all bytes (run.Differs n) input h = absurd h
 map_fault_of_all why all bytes (run.Other w s) input h = (h.0, other_fault_of_all all bytes s input h.1)
 
@@ -89,6 +91,7 @@ other_map why run.Write all h other = absurd h
 other_map why run.Memory all h other = tt
 other_map why run.Thread all h other = absurd h
 other_map why (run.Refused n) all h other = absurd h
+other_map why (run.Made n) all h other = absurd h
 other_map why (run.Differs n) all h other = absurd h
 other_map why (run.Other w s) all h other = absurd h
 
@@ -99,6 +102,7 @@ other_noted explain name all run.Write notes h other told = absurd h
 other_noted explain name all run.Memory notes h other told = told
 other_noted explain name all run.Thread notes h other told = absurd h
 other_noted explain name all (run.Refused n) notes h other told = absurd h
+other_noted explain name all (run.Made n) notes h other told = absurd h
 other_noted explain name all (run.Differs n) notes h other told = absurd h
 other_noted explain name all (run.Other w s) notes h other told = absurd h
 
@@ -110,6 +114,7 @@ part_as_asked content options input run.Write notes h told = absurd h
 part_as_asked content options input run.Memory notes h told = told
 part_as_asked content options input run.Thread notes h told = absurd h
 part_as_asked content options input (run.Refused n) notes h told = absurd h
+part_as_asked content options input (run.Made n) notes h told = absurd h
 part_as_asked content options input (run.Differs n) notes h told = absurd h
 part_as_asked content options input (run.Other w s) notes h told = absurd h
 
@@ -121,5 +126,6 @@ no_job_as_asked content options input all run.Write notes h told = absurd h
 no_job_as_asked content options input all run.Memory notes h told = told
 no_job_as_asked content options input all run.Thread notes h told = absurd h
 no_job_as_asked content options input all (run.Refused n) notes h told = absurd h
+no_job_as_asked content options input all (run.Made n) notes h told = absurd h
 no_job_as_asked content options input all (run.Differs n) notes h told = absurd h
 no_job_as_asked content options input all (run.Other w s) notes h told = absurd h

@@ -1,6 +1,7 @@
 pub mod Asking
 pub mod Consuming
 pub mod Joins
+pub mod MadeLines
 pub mod Noted
 pub mod Outcomes
 pub mod Parts

@@ -76,6 +76,7 @@ no_job_of_all run.Write all bytes input h = absurd h
 no_job_of_all run.Memory all bytes input h = tt
 no_job_of_all run.Thread all bytes input h = absurd h
 no_job_of_all (run.Refused n) all bytes input h = absurd h
+no_job_of_all (run.Made n) all bytes input h = absurd h
 no_job_of_all (run.Differs n) all bytes input h = absurd h
 no_job_of_all (run.Other w s) all bytes input h = absurd h
 
@@ -86,5 +87,6 @@ read_fault_of_input run.Write all h = absurd h
 read_fault_of_input run.Memory all h = tt
 read_fault_of_input run.Thread all h = absurd h
 read_fault_of_input (run.Refused n) all h = absurd h
+read_fault_of_input (run.Made n) all h = absurd h
 read_fault_of_input (run.Differs n) all h = absurd h
 read_fault_of_input (run.Other w s) all h = absurd h

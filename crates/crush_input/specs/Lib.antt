@@ -1,6 +1,7 @@
 pub mod Faults
 pub mod Input
 pub mod Joined
+pub mod Made
 pub mod Options
 pub mod Notes
 pub mod Origins

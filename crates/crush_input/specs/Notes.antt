@@ -1,5 +1,7 @@
 -- What is told below the one line of standard error.
-use Rattle.std.specs.Prelude.{◌≡◌, ◌⊎◌, ℕ, ◌<◌, Bool, true, false, List, [], ◌++◌, Option, Result, Ok, Err, IfSome, codes, if◌then◌else◌}
+use Rattle.std.specs.Prelude.{◌≡◌, ℕ, ◌<◌, Bool, true, false, List, [], ◌++◌, Option, None, Some, Result, Ok, Err, IfSome, codes, if◌then◌else◌}
+use Rattle.crush_edits.specs.Setting.{SettingData}
+use Rattle.crush_map.specs.MapData.{MapData, MapStands}
 use Rattle.crush_calls.specs.History.{EntryData}
 use Rattle.crush_calls.specs.Refused.{refusals, refused_text}
 use Rattle.crush_reasons.specs.Explained.{explained_text}
@@ -16,12 +18,19 @@ use Rattle.crush_input.specs.declared.fault.RunFault.{RunFault}
 use Rattle.crush_input.specs.declared.fault.RunFault.TheVariants as run
 use Rattle.crush_input.specs.declared.fault.OtherFault.{OtherFault}
 use Rattle.crush_input.specs.declared.fault.OtherFault.TheVariants as unread
+use Rattle.crush_input.specs.Made.{made_text, makings}
 use Rattle.crush_input.specs.Origins.{whole_of}
 
--- OF CALLS THAT WERE REFUSED: with reasons where those are asked for, without in another strict run, and else nothing
-abbrev pub refused_notes : Mode → List (List ℕ) → List EntryData → List ℕ
-refused_notes mode names h =
-    if mode.explain then explained_text names 1 h else (if mode.strict then refused_text names 1 h else [])
+-- a map that is kept has this setting, and stands for this table
+abbrev pub IsKept : Option MapData → SettingData → List Row → Type 0
+IsKept None s t = ⊥
+IsKept (Some m) s t = MapStands m s t
+
+-- OF CALLS THAT WERE REFUSED: with reasons where those are asked for, by the setting and the table before the first of all calls,
+-- without in another strict run, and else nothing
+abbrev pub refused_notes : Mode → SettingData → List Row → List (List ℕ) → List EntryData → List ℕ
+refused_notes mode s t names h =
+    if mode.explain then explained_text s t names 1 h else (if mode.strict then refused_text names 1 h else [])
 
 -- OF WRITTEN WEIGHTS: where reasons are asked for, a line for each bucket item of a job's text whose weight isn't the sum in the
 -- job's table
@@ -29,23 +38,23 @@ abbrev pub weight_notes : Bool → List ℕ → List Row → List ℕ
 weight_notes explain bytes t = if explain then written_text t (map_part bytes) else []
 
 -- of both, the weights behind the calls
-abbrev pub history_notes : Mode → List ℕ → List (List ℕ) → List EntryData → List ℕ
-history_notes mode weights names h = refused_notes mode names h ++ weights
+abbrev pub history_notes : Mode → List ℕ → SettingData → List Row → List (List ℕ) → List EntryData → List ℕ
+history_notes mode weights s t names h = refused_notes mode s t names h ++ weights
 
 -- OF A FAULT OF BYTES: where reasons are asked for, its place in the file that its line comes from, and what was wanted there
 abbrev pub place_notes : Bool → (ℕ → OriginData) → List ℕ → JobFault → List ℕ
 place_notes explain origin bytes fault = if explain then fault_text (origin (fault_line bytes fault)) bytes fault else []
 
--- OF A FILE THAT CAN'T BE OPENED: its name, and the reason that the system gives
-abbrev pub unopened_text : List ℕ → List ℕ → List ℕ
-unopened_text name reason = codes "  " ++ name ++ codes ": " ++ reason ++ codes "\n"
+-- OF A FILE THAT CAN'T BE OPENED OR READ: its name, and the reason that the system gives
+abbrev pub unread_text : List ℕ → List ℕ → List ℕ
+unread_text name reason = codes "  " ++ name ++ codes ": " ++ reason ++ codes "\n"
 
-abbrev pub IsUnopened : List ℕ → List ℕ → Type 0
-IsUnopened name notes = (reason : List ℕ) × (notes ≡ unopened_text name reason)
+abbrev pub IsUnread : List ℕ → List ℕ → Type 0
+IsUnread name notes = (reason : List ℕ) × (notes ≡ unread_text name reason)
 
--- NOTES OF A FILE of this name that wasn't read: that, where reasons are asked for and it can't be opened, and else nothing
+-- NOTES OF A FILE of this name that wasn't read: that, where reasons are asked for, and else nothing
 abbrev pub IsFileNoted : Bool → List ℕ → RunFault → List ℕ → Type 0
-IsFileNoted explain name run.Read notes = (explain ≡ false → notes ≡ []) × ((notes ≡ []) ⊎ IsUnopened name notes)
+IsFileNoted explain name run.Read notes = (explain ≡ false → notes ≡ []) × (explain ≡ true → IsUnread name notes)
 IsFileNoted explain name fault notes = notes ≡ []
 
 -- of a flaw of another map its place, with the name of its file
@@ -63,14 +72,15 @@ abbrev pub IsMapNoted : Bool → List ℕ → Option (List ℕ) → RunFault →
 IsMapNoted explain name all (run.Other which fault) notes = IsOtherNoted explain name all fault notes
 IsMapNoted explain name all fault notes = notes ≡ []
 
--- NOTES OF A HISTORY: those of its calls that were refused, and of the weights that were written; behind them the lines of what
--- stays behind a plan, where that ends the run
-abbrev pub HistoryNoted : {X : Type 0} → Mode → List ℕ → List (List ℕ) → List EntryData → List ℕ → Result X RunFault → List ℕ → Type 0
-HistoryNoted mode weights names h rest (Ok x) notes = notes ≡ history_notes mode weights names h
-HistoryNoted mode weights names h rest (Err run.Write) notes = notes ≡ history_notes mode weights names h
-HistoryNoted mode weights names h rest (Err (run.Refused n)) notes = notes ≡ history_notes mode weights names h
-HistoryNoted mode weights names h rest (Err (run.Differs n)) notes = notes ≡ history_notes mode weights names h ++ rest
-HistoryNoted mode weights names h rest (Err fault) notes = Unit {0}
+-- NOTES OF A HISTORY: those of its calls that were refused, and of the weights that were written; before them the lines of calls
+-- that made buckets unasked, or behind them those of what stays behind a plan, where that ends the run
+abbrev pub HistoryNoted : {X : Type 0} → Mode → List ℕ → SettingData → List Row → List (List ℕ) → List EntryData → List ℕ → Result X RunFault → List ℕ → Type 0
+HistoryNoted mode weights s t names h rest (Ok x) notes = notes ≡ history_notes mode weights s t names h
+HistoryNoted mode weights s t names h rest (Err run.Write) notes = notes ≡ history_notes mode weights s t names h
+HistoryNoted mode weights s t names h rest (Err (run.Refused n)) notes = notes ≡ history_notes mode weights s t names h
+HistoryNoted mode weights s t names h rest (Err (run.Made n)) notes = notes ≡ made_text names 1 h ++ history_notes mode weights s t names h
+HistoryNoted mode weights s t names h rest (Err (run.Differs n)) notes = notes ≡ history_notes mode weights s t names h ++ rest
+HistoryNoted mode weights s t names h rest (Err fault) notes = Unit {0}
 
 -- NOTES WITHOUT A HISTORY: of a fault of bytes, where they are known, its place; of any other fault nothing, and nothing but
 -- refused calls where no reasons are asked for
@@ -78,6 +88,7 @@ abbrev pub IsFaultNoted : Bool → (ℕ → OriginData) → Option (List ℕ) �
 IsFaultNoted explain origin all (run.Job fault) notes = (explain ≡ false → notes ≡ []) × IfSome all (λ bytes. notes ≡ place_notes explain origin bytes fault)
 IsFaultNoted explain origin all run.Write notes = explain ≡ false → notes ≡ []
 IsFaultNoted explain origin all (run.Refused n) notes = Unit {0}
+IsFaultNoted explain origin all (run.Made n) notes = Unit {0}
 IsFaultNoted explain origin all (run.Differs n) notes = Unit {0}
 IsFaultNoted explain origin all fault notes = notes ≡ []
 
@@ -85,11 +96,21 @@ abbrev pub IsNoted : {X : Type 0} → Bool → (ℕ → OriginData) → Option (
 IsNoted explain origin all (Ok x) notes = explain ≡ false → notes ≡ []
 IsNoted explain origin all (Err fault) notes = IsFaultNoted explain origin all fault notes
 
--- STRICT: a strict run that comes to its output, or to what stays behind a plan, has no refused entry, and one that ends by refusals
--- tells how many there are
+-- STRICT: a strict run that comes to its output, to buckets that were made or to what stays behind a plan, has no refused entry, and
+-- one that ends by refusals tells how many there are
 abbrev pub IsStrict : {X : Type 0} → Bool → List EntryData → Result X RunFault → Type 0
 IsStrict strict h (Ok x) = strict ≡ true → refusals h ≡ 0
 IsStrict strict h (Err run.Write) = strict ≡ true → refusals h ≡ 0
 IsStrict strict h (Err (run.Refused n)) = (strict ≡ true) × (n ≡ refusals h) × (0 < n)
+IsStrict strict h (Err (run.Made n)) = strict ≡ true → refusals h ≡ 0
 IsStrict strict h (Err (run.Differs n)) = (strict ≡ true) × (refusals h ≡ 0)
 IsStrict strict h (Err fault) = Unit {0}
+
+-- NO MAKE: a run that is to make no buckets, and comes to its output or to what stays behind a plan, has no entry that made more than
+-- its call asks for, and one that ends by such entries tells how many there are
+abbrev pub IsNoMake : {X : Type 0} → Bool → List EntryData → Result X RunFault → Type 0
+IsNoMake no_make h (Ok x) = no_make ≡ true → makings h ≡ 0
+IsNoMake no_make h (Err run.Write) = no_make ≡ true → makings h ≡ 0
+IsNoMake no_make h (Err (run.Made n)) = (no_make ≡ true) × (n ≡ makings h) × (0 < n)
+IsNoMake no_make h (Err (run.Differs n)) = no_make ≡ true → makings h ≡ 0
+IsNoMake no_make h (Err fault) = Unit {0}

@@ -21,7 +21,7 @@ use Rattle.crush_input.specs.declared.fault.OtherMap.{OtherMap}
 use Rattle.crush_input.specs.declared.fault.OtherMap.TheVariants as beside
 use Rattle.crush_input.specs.declared.summary.Summary.{Summary}
 use Rattle.crush_input.specs.Input.{job_bytes}
-use Rattle.crush_input.specs.Notes.{IsMapNoted, IsNoted, IsUnopened}
+use Rattle.crush_input.specs.Notes.{IsMapNoted, IsNoted, IsUnread}
 use Rattle.crush_input.specs.Origins.{job_origin}
 
 -- the map is one whose text the bytes are, no more than a job may have
@@ -45,6 +45,8 @@ IsAskedOf content printed.Tree what = what ≡ asked.Tree
 IsAskedOf content printed.AsCeph what = what ≡ asked.AsCeph
 IsAskedOf content (printed.Since name) (asked.Since m) = IfSome (content name.bytes.items) (IsTextOf m)
 IsAskedOf content (printed.Since name) what = ⊥
+IsAskedOf content (printed.Changes name) (asked.Changes m) = IfSome (content name.bytes.items) (IsTextOf m)
+IsAskedOf content (printed.Changes name) what = ⊥
 IsAskedOf content (printed.To words) (asked.To wanted) = IsWantedOf content words wanted
 IsAskedOf content (printed.To words) what = ⊥
 
@@ -63,12 +65,14 @@ IsMapFault why all fault = ⊥
 -- and while what the words ask for is made: that alone, and only where they ask for one
 abbrev pub IsAskedFault : (List ℕ → Option (List ℕ)) → Printed → RunFault → Type 0
 IsAskedFault content (printed.Since name) fault = IsMapFault beside.Since (content name.bytes.items) fault
+IsAskedFault content (printed.Changes name) fault = IsMapFault beside.Since (content name.bytes.items) fault
 IsAskedFault content (printed.To words) fault = IsMapFault beside.To (content words.map.bytes.items) fault
 IsAskedFault content what fault = ⊥
 
 -- what is noted of a fault of what the words ask for
 abbrev pub IsAskedNoted : (List ℕ → Option (List ℕ)) → Bool → Printed → RunFault → List ℕ → Type 0
 IsAskedNoted content explain (printed.Since name) fault notes = IsMapNoted explain name.bytes.items (content name.bytes.items) fault notes
+IsAskedNoted content explain (printed.Changes name) fault notes = IsMapNoted explain name.bytes.items (content name.bytes.items) fault notes
 IsAskedNoted content explain (printed.To words) fault notes = IsMapNoted explain words.map.bytes.items (content words.map.bytes.items) fault notes
 IsAskedNoted content explain what fault notes = ⊥
 
@@ -85,15 +89,15 @@ abbrev pub IsFile : {Z : Type 0} → Option (String Z) → List ℕ → Type 0
 IsFile None name = ⊥
 IsFile (Some file) name = file.bytes.items ≡ name
 
--- a file that the options name for a job can't be opened
-pub record IsPartUnopened (options : Options) (notes : List ℕ) : Type 0 where
+-- a file that the options name for a job can't be opened or read
+pub record IsPartUnread (options : Options) (notes : List ℕ) : Type 0 where
   pub name : List ℕ
   pub named : IsFile options.file name ⊎ IsScript options.scripts.items name
-  pub unopened : IsUnopened name notes
+  pub unread : IsUnread name notes
 
--- NOTES OF A JOB that wasn't read: where reasons are asked for and a file of it can't be opened that, and else nothing
+-- NOTES OF A JOB that wasn't read: where reasons are asked for and a file of it wasn't that, and else nothing
 abbrev pub IsReadNoted : Options → List ℕ → Type 0
-IsReadNoted options notes = (options.mode.explain ≡ false → notes ≡ []) × ((notes ≡ []) ⊎ IsPartUnopened options notes)
+IsReadNoted options notes = (options.mode.explain ≡ false → notes ≡ []) × ((notes ≡ []) ⊎ IsPartUnread options notes)
 
 -- and of a job whose reading met any fault
 abbrev pub IsPartNoted : Options → RunFault → List ℕ → Type 0

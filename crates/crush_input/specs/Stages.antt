@@ -1,5 +1,5 @@
 -- The stages up to a job: what comes of them, and which faults may come at which.
-use Rattle.std.specs.Prelude.{◌≡◌, ℕ, List, Bool, Option}
+use Rattle.std.specs.Prelude.{◌≡◌, ℕ, List, Bool, true, Option}
 use Rattle.crush_script.specs.Job.{JobData, JobStands}
 use Rattle.crush_input.specs.declared.fault.RunFault.{RunFault}
 use Rattle.crush_input.specs.declared.fault.RunFault.TheVariants as run
@@ -28,6 +28,11 @@ IsReadFault all fault = IsNoJob all fault
 abbrev pub IsStrictFault : RunFault → Type 0
 IsStrictFault (run.Refused n) = Unit {0}
 IsStrictFault fault = ⊥
+
+-- what the check of a run that is to make no buckets may answer
+abbrev pub IsMadeFault : Bool → RunFault → Type 0
+IsMadeFault no_make (run.Made n) = no_make ≡ true
+IsMadeFault no_make fault = ⊥
 
 -- what was read of a job: it stands for the job, and the lines of its written weights are these of its bytes
 pub record IsWeighed (explain : Bool) (bytes : List ℕ) (job : JobData) (read : Weighed) : Type 0 where

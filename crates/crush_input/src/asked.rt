@@ -33,6 +33,8 @@ pub enum Asked {
     Tree,
     /// What has changed in it since this map.
     Since(CrushMap<Global>),
+    /// The same as a tree.
+    Changes(CrushMap<Global>),
     /// The commands that changed it, as Ceph's own.
     AsCeph,
     /// The commands that lead from it to this map.
@@ -91,6 +93,12 @@ pub fn asked_of<H: AllocGlobal + RandomSource, F: Opens>(
         Printed::Since(name) => {
             match read_other(rt, files, explain, OtherMap::Since, name.as_str()) {
                 Ok(map) => Ok(Asked::Since(map)),
+                Err(stopped) => Err(stopped),
+            }
+        }
+        Printed::Changes(name) => {
+            match read_other(rt, files, explain, OtherMap::Since, name.as_str()) {
+                Ok(map) => Ok(Asked::Changes(map)),
                 Err(stopped) => Err(stopped),
             }
         }

@@ -52,6 +52,10 @@ pub enum RunFault {
     /// In a strict run so many calls were refused. Nothing was written.
     #[error("refused {0}")]
     Refused(u32),
+    /// In a run that is to make no buckets so many calls made some for which no `add-bucket` asks.
+    /// Nothing was written.
+    #[error("made {0}")]
+    Made(usize),
     /// A job was read, and then the map that is read for this was not. Nothing was written.
     #[error("another map: {1}")]
     Other(OtherMap, OtherFault),

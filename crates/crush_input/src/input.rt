@@ -11,12 +11,12 @@ ghost use Rattle.crush_input.specs.Stages.{IsInputFault};
 use crate::fault::RunFault;
 use crate::files::Opens;
 use crate::joined::{Part, push_script};
-use crate::notes::unopened;
+use crate::notes::unread;
 use crate::stopped::Stopped;
 use crush_options::Options;
 use crush_units::limits::LONGEST_JOB;
 use std::alloc::{AllocError, Global};
-use std::io::Read;
+use std::io::{self, Read};
 
 /// The most bytes that are asked of a reader: one more than a job may have, so that a longer one
 /// shows.
@@ -38,13 +38,47 @@ pub fn read_bytes<R: Read>(alloc: Global, reader: &mut R) -> Result<Vec<u8>, Run
     ensures bytes { IfOk result (λ bytes. IfSome (R.remaining reader.old)
         (λ all. bytes.items ≡ take MOST_BYTES all)) }
 {
-    read_most(alloc, MOST_BYTES, reader)
+    match read_most(alloc, MOST_BYTES, reader) {
+        Ok(bytes) => Ok(bytes),
+        Err(unread) => Err(unread.fault()),
+    }
+}
+
+/// Why the bytes of a reader weren't read.
+#[derive(Drop)]
+enum ReadFailure {
+    /// A read answered this error.
+    Error(io::Error),
+    /// There was no memory for them.
+    Memory,
+}
+
+impl ReadFailure {
+    /// The fault of the run.
+    fn fault(self) -> RunFault
+        ensures { IsInputFault result }
+    {
+        match self {
+            ReadFailure::Error(_) => RunFault::Read,
+            ReadFailure::Memory => RunFault::Memory,
+        }
+    }
+}
+
+impl From<AllocError> for ReadFailure {
+    ghost use Rattle.crush_input.specs.declared.input.ReadFailure.TheVariants.{Memory};
+    ghost use Rattle.std.specs.Prelude.{◌≡◌};
+
+    ghost from_gives = { λ _ unread. unread ≡ Memory };
+
+    fn from(_error: AllocError) -> ReadFailure {
+        ReadFailure::Memory
+    }
 }
 
 /// Reads as that does, to the end or so many bytes, by at most as many reads.
-fn read_most<R: Read>(alloc: Global, most: usize, reader: &mut R) -> Result<Vec<u8>, RunFault>
+fn read_most<R: Read>(alloc: Global, most: usize, reader: &mut R) -> Result<Vec<u8>, ReadFailure>
     ensures few { IfOk result (λ bytes. length bytes.items ≤ most) }
-    ensures fault { IfErr result IsInputFault }
     ensures consumed { IfOk result (λ bytes.
         Consumes (R.remaining reader.old) (R.remaining reader.new) bytes.items) }
     ensures taken { IfErr result (λ _.
@@ -63,7 +97,7 @@ fn read_most<R: Read>(alloc: Global, most: usize, reader: &mut R) -> Result<Vec<
         match reader.read(room) {
             Ok(0) => return Ok(bytes),
             Ok(count) => bytes.extend_from_slice(&room[..count])?,
-            Err(_) => return Err(RunFault::Read),
+            Err(error) => return Err(ReadFailure::Error(error)),
         }
         if bytes.len() == most {
             return Ok(bytes);
@@ -72,7 +106,7 @@ fn read_most<R: Read>(alloc: Global, most: usize, reader: &mut R) -> Result<Vec<
     Ok(bytes)
 }
 
-/// Reads to the end or so many bytes. Nothing is noted of what fails.
+/// Reads standard input, to the end or so many bytes. Nothing is noted of what fails.
 fn read_quietly<R: Read>(alloc: Global, most: usize, reader: &mut R) -> Result<Vec<u8>, Stopped>
     ensures few { IfOk result (λ bytes. length bytes.items ≤ most) }
     ensures bytes { IfOk result (λ bytes. IfSome (R.remaining reader.old)
@@ -83,7 +117,31 @@ fn read_quietly<R: Read>(alloc: Global, most: usize, reader: &mut R) -> Result<V
 {
     match read_most(alloc, most, reader) {
         Ok(bytes) => Ok(bytes),
-        Err(fault) => Err(Stopped::quietly(alloc, fault)),
+        Err(unread) => Err(Stopped::quietly(alloc, unread.fault())),
+    }
+}
+
+/// Reads so many bytes of an open file of this name. Where that fails its name and the system's reason
+/// are noted, where reasons are asked for.
+fn read_named<R: Read>(
+    alloc: Global,
+    explain: bool,
+    name: &str,
+    most: usize,
+    file: &mut R,
+) -> Result<Vec<u8>, Stopped>
+    ensures few { IfOk result (λ bytes. length bytes.items ≤ most) }
+    ensures bytes { IfOk result (λ bytes. IfSome (R.remaining file.old)
+        (λ all. bytes.items ≡ take most all)) }
+    ensures fault { IfErr result (λ stopped. IsInputFault stopped.fault) }
+    ensures noted { IfErr result (λ stopped.
+        IsFileNoted explain name.now stopped.fault stopped.notes.items) }
+    ensures taken { TakesMost most (R.remaining file.old) (R.remaining file.new) }
+{
+    match read_most(alloc, most, file) {
+        Ok(bytes) => Ok(bytes),
+        Err(ReadFailure::Error(error)) => Err(unread(alloc, explain, name, error)),
+        Err(ReadFailure::Memory) => Err(Stopped::quietly(alloc, RunFault::Memory)),
     }
 }
 
@@ -102,8 +160,8 @@ pub(crate) fn read_file<F: Opens>(
         IsFileNoted explain name.now stopped.fault stopped.notes.items) }
 {
     match files.open(name) {
-        Ok(mut file) => read_quietly(alloc, MOST_BYTES, &mut file),
-        Err(error) => Err(unopened(alloc, explain, name, error)),
+        Ok(mut file) => read_named(alloc, explain, name, MOST_BYTES, &mut file),
+        Err(error) => Err(unread(alloc, explain, name, error)),
     }
 }
 
@@ -164,6 +222,7 @@ impl<'a> Joined<'a> {
     fn read_behind<R: Read>(
         &mut self,
         alloc: Global,
+        explain: bool,
         name: &'a str,
         file: &mut R,
     ) -> Result<(), Stopped>
@@ -172,9 +231,10 @@ impl<'a> Joined<'a> {
         ensures taken { TakesMost (left_behind self.old.bytes.items) (R.remaining file.old)
             (R.remaining file.new) }
         ensures fault { IfErr result (λ stopped. IsInputFault stopped.fault) }
-        ensures quiet { IfErr result (λ stopped. stopped.notes.items ≡ []) }
+        ensures noted { IfErr result (λ stopped.
+            IsFileNoted explain name.now stopped.fault stopped.notes.items) }
     {
-        let script = read_quietly(alloc, self.left(), file)?;
+        let script = read_named(alloc, explain, name, self.left(), file)?;
         match self.push(name.as_bytes(), script.as_slice()) {
             Ok(()) => Ok(()),
             Err(_) => Err(Stopped::quietly(alloc, RunFault::Memory)),
@@ -197,8 +257,8 @@ fn push_file<'a, F: Opens>(
         IsFileNoted explain name.now stopped.fault stopped.notes.items) }
 {
     match files.open(name) {
-        Ok(mut file) => job.read_behind(alloc, name, &mut file),
-        Err(error) => Err(unopened(alloc, explain, name, error)),
+        Ok(mut file) => job.read_behind(alloc, explain, name, &mut file),
+        Err(error) => Err(unread(alloc, explain, name, error)),
     }
 }
 

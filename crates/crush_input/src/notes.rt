@@ -1,14 +1,16 @@
-//! What is told below the one line: of a fault of the bytes, of a file that can't be opened, of the
+//! What is told below the one line: of a fault of the bytes, of a file that can't be read, of the
 //! calls that were refused, and of written weights.
 
-ghost use Rattle.std.specs.Prelude.{◌≡◌, ◌≤◌, List, [], IfErr, IfOk, false, length, true};
+ghost use Rattle.std.specs.Prelude.{◌≡◌, ◌≤◌, List, [], IfErr, IfOk, false, is_some, length, true};
 ghost use Rattle.crush_table.specs.Stands.{Stands};
 ghost use Rattle.crush_table.specs.Table.{Row};
+ghost use Rattle.crush_edits.specs.Setting.{SettingData};
 ghost use Rattle.crush_calls.specs.Entries.{AreOf};
 ghost use Rattle.crush_calls.specs.HistoryText.{names_of};
 ghost use Rattle.crush_calls.specs.Script.{scripts_data};
 ghost use Rattle.crush_script.specs.Job.{IsJobFault};
-ghost use Rattle.crush_input.specs.Notes.{IsFaultNoted, IsFileNoted, IsUnopened, history_notes, place_notes, refused_notes, weight_notes, IsStrict};
+ghost use Rattle.crush_input.specs.Notes.{IsFaultNoted, IsFileNoted, IsKept, IsUnread, history_notes, place_notes, refused_notes, weight_notes, IsStrict};
+ghost use Rattle.crush_reasons.specs.Explained.{explained_text};
 ghost use Rattle.crush_input.specs.Origins.{origin_of};
 ghost use Rattle.crush_input.specs.Stages.{IsInputFault, IsNoJob, IsStrictFault};
 ghost use Rattle.crush_units.specs.declared.limits.TheConstants.{LONGEST_JOB, MOST_ENTRIES};
@@ -41,44 +43,72 @@ pub fn check_strict(strict: bool, entries: &[Entry]) -> Result<(), RunFault>
     Err(RunFault::Refused(count))
 }
 
+/// The calls of a run with their replies, and the map before them, where it is kept.
+#[derive(Clone, Copy)]
+pub struct History<'a> {
+    /// The map as it was read. Reasons are told by it.
+    pub opening: &'a Option<CrushMap<Global>>,
+    /// The scripts of the operators.
+    pub scripts: &'a [Script],
+    /// The calls in the order in which they were made.
+    pub entries: &'a [Entry],
+}
+
 /// The lines of the calls that were refused, and behind them those of written weights.
 pub fn history_notes(
     alloc: Global,
     mode: Mode,
-    scripts: &[Script],
-    entries: &[Entry],
+    history: History<'_>,
     weights: &[u8],
 ) -> Result<Vec<u8>, AllocError>
-    requires few { length entries.now ≤ MOST_ENTRIES }
-    requires operators { AreOf (length scripts.now) entries.now }
-    ensures { IfOk result (λ lines. lines.items
-        ≡ history_notes mode weights.now (names_of (scripts_data scripts.now)) entries.now) }
+    requires few { length history.entries.now ≤ MOST_ENTRIES }
+    requires operators { AreOf (length history.scripts.now) history.entries.now }
+    requires kept { mode.explain ≡ true → is_some history.opening.now ≡ true }
+    ensures { IfOk result (λ lines. (s : SettingData) (t : List Row)
+        → (mode.explain ≡ true → IsKept history.entry.opening.now s t) → lines.items
+        ≡ history_notes mode weights.now s t (names_of (scripts_data history.entry.scripts.now))
+        history.entry.entries.now) }
 {
-    let mut lines = refused_notes(alloc, mode, scripts, entries)?;
+    let mut lines = refused_notes(alloc, mode, history)?;
     lines.extend_from_slice(weights)?;
     Ok(lines)
 }
 
 /// The lines of the calls that were refused: with reasons where those are asked for, and without in
 /// another strict run.
-fn refused_notes(
-    alloc: Global,
-    mode: Mode,
-    scripts: &[Script],
-    entries: &[Entry],
-) -> Result<Vec<u8>, AllocError>
-    requires few { length entries.now ≤ MOST_ENTRIES }
-    requires operators { AreOf (length scripts.now) entries.now }
-    ensures { IfOk result (λ lines. lines.items
-        ≡ refused_notes mode (names_of (scripts_data scripts.now)) entries.now) }
+fn refused_notes(alloc: Global, mode: Mode, history: History<'_>) -> Result<Vec<u8>, AllocError>
+    requires few { length history.entries.now ≤ MOST_ENTRIES }
+    requires operators { AreOf (length history.scripts.now) history.entries.now }
+    requires kept { mode.explain ≡ true → is_some history.opening.now ≡ true }
+    ensures { IfOk result (λ lines. (s : SettingData) (t : List Row)
+        → (mode.explain ≡ true → IsKept history.entry.opening.now s t) → lines.items
+        ≡ refused_notes mode s t (names_of (scripts_data history.entry.scripts.now))
+        history.entry.entries.now) }
 {
     if mode.explain {
-        return explained_text(alloc, scripts, entries);
+        return reasons_of(alloc, history);
     }
     if mode.strict {
-        return refused_text(alloc, scripts, entries);
+        return refused_text(alloc, history.scripts, history.entries);
     }
     Ok(Vec::new(alloc))
+}
+
+/// The lines of the calls that were refused, each with its reason, by a copy of the map before them.
+fn reasons_of(alloc: Global, history: History<'_>) -> Result<Vec<u8>, AllocError>
+    requires few { length history.entries.now ≤ MOST_ENTRIES }
+    requires operators { AreOf (length history.scripts.now) history.entries.now }
+    requires kept { is_some history.opening.now ≡ true }
+    ensures { IfOk result (λ lines. (s : SettingData) (t : List Row)
+        → IsKept history.entry.opening.now s t → lines.items
+        ≡ explained_text s t (names_of (scripts_data history.entry.scripts.now)) 1
+        history.entry.entries.now) }
+{
+    let Some(opening) = history.opening else {
+        unreachable!()
+    };
+    let opening = opening.try_copy()?;
+    explained_text(alloc, opening, history.scripts, history.entries)
 }
 
 /// The lines of the weights that are written in a job's text and aren't the sums in its map, where
@@ -115,9 +145,9 @@ pub(crate) fn weighed(
     Ok(Weighed { job, weights })
 }
 
-/// The line of a file that can't be opened: its name, and the reason that the system gives.
-fn unopened_text(alloc: Global, name: &str, error: &io::Error) -> Result<Vec<u8>, AllocError>
-    ensures { IfOk result (λ text. IsUnopened name.now text.items) }
+/// The line of a file that can't be opened or read: its name, and the reason that the system gives.
+fn unread_text(alloc: Global, name: &str, error: &io::Error) -> Result<Vec<u8>, AllocError>
+    ensures { IfOk result (λ text. IsUnread name.now text.items) }
 {
     let reason = format!(in alloc; "{error}")?;
     let mut text = Vec::new(alloc);
@@ -130,27 +160,27 @@ fn unopened_text(alloc: Global, name: &str, error: &io::Error) -> Result<Vec<u8>
 }
 
 /// That line, where reasons are asked for.
-fn unopened_notes(
+fn unread_notes(
     alloc: Global,
     explain: bool,
     name: &str,
     error: &io::Error,
 ) -> Result<Vec<u8>, AllocError>
     ensures plain { IfOk result (λ text. explain ≡ false → text.items ≡ []) }
-    ensures told { IfOk result (λ text. explain ≡ true → IsUnopened name.now text.items) }
+    ensures told { IfOk result (λ text. explain ≡ true → IsUnread name.now text.items) }
 {
     if explain {
-        return unopened_text(alloc, name, error);
+        return unread_text(alloc, name, error);
     }
     Ok(Vec::new(alloc))
 }
 
-/// Why a file of this name that can't be opened wasn't read.
-pub(crate) fn unopened(alloc: Global, explain: bool, name: &str, error: io::Error) -> Stopped
+/// Why a file of this name wasn't read, whose opening or reading answered this error.
+pub(crate) fn unread(alloc: Global, explain: bool, name: &str, error: io::Error) -> Stopped
     ensures fault { IsInputFault result.fault }
     ensures noted { IsFileNoted explain name.now result.fault result.notes.items }
 {
-    match unopened_notes(alloc, explain, name, &error) {
+    match unread_notes(alloc, explain, name, &error) {
         Ok(notes) => Stopped {
             fault: RunFault::Read,
             notes,

@@ -9,4 +9,7 @@ pub struct Summary {
     pub calls: u32,
     /// How many of them changed the map.
     pub changes: u32,
+    /// Where the status is to tell it, whether there is something to tell: that the map is another than
+    /// was read, what has changed since another map, or a command or a difference of a plan.
+    pub differs: bool,
 }

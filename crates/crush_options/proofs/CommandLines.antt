@@ -61,7 +61,7 @@ scripts_in_order : (fault_of program (codes "-s" ∷ codes "a" ∷ codes "j.txt"
 unfolding clap_on_literals
 scripts_in_order = (refl, refl)
 
--- two words that are too many together are each right for the library: the program judges that itself
+-- words that go together or are too many together are each right for the library: the program judges that itself
 two_printed : (fault_of program (codes "--tree" ∷ codes "--since" ∷ codes "m" ∷ []) ≡ []) × (one_of (codes "tree") (matches_of program (codes "--tree" ∷ codes "--since" ∷ codes "m" ∷ [])) ≡ Some (codes "true"))
 unfolding clap_on_literals
 two_printed = (refl, refl)

@@ -32,7 +32,7 @@ named = record (new_app (codes "crushedit")) { top = record (new_app (codes "cru
 
 -- it with the words that say how a job is run, and then with those that say what is printed
 abbrev pub with_modes : App
-with_modes = with_rule (with_rule (with_rule named (flag (codes "in-turn"))) (flag (codes "no-history"))) (flag (codes "strict"))
+with_modes = with_rule (with_rule (with_rule (with_rule named (flag (codes "in-turn"))) (flag (codes "no-history"))) (flag (codes "strict"))) (flag (codes "no-make"))
 
 abbrev pub with_printed : App
 with_printed = with_rule (with_rule (with_rule with_modes (flag (codes "tree"))) (option (codes "since"))) (flag (codes "as-ceph"))
@@ -41,10 +41,10 @@ with_printed = with_rule (with_rule (with_rule with_modes (flag (codes "tree")))
 abbrev pub with_wanted : App
 with_wanted = with_rule (with_rule with_printed (option (codes "to"))) (flag (codes "by-name"))
 
--- THE COMMAND LINE: `[--in-turn] [--no-history] [--strict] [--tree] [--since MAP] [--as-ceph] [--to MAP] [--by-name] [--explain]
--- [-s SCRIPT].. [FILE]`
+-- THE COMMAND LINE: `[--in-turn] [--no-history] [--strict] [--no-make] [--tree] [--since MAP] [--as-ceph] [--to MAP] [--by-name]
+-- [--exit-code] [--explain] [-s SCRIPT].. [FILE]`
 abbrev pub program : App
-program = with_rule (with_rule (with_rule with_wanted (flag (codes "explain"))) scripts) file
+program = with_rule (with_rule (with_rule (with_rule with_wanted (flag (codes "exit-code"))) (flag (codes "explain"))) scripts) file
 
 -- the texts of names
 abbrev pub names_text : {Z : Type 0} → List (String Z) → List Text
@@ -63,6 +63,8 @@ pub record AreRead (rows : List Row) (options : Options) : Type 0 where
   pub in_turn : IsFlag (one_of (codes "in-turn") rows) options.mode.in_turn
   pub history : IsFlag (one_of (codes "no-history") rows) (not options.mode.history)
   pub strict : IsFlag (one_of (codes "strict") rows) options.mode.strict
+  pub no_make : IsFlag (one_of (codes "no-make") rows) options.mode.no_make
+  pub exit_code : IsFlag (one_of (codes "exit-code") rows) options.mode.exit_code
   pub explain : IsFlag (one_of (codes "explain") rows) options.mode.explain
   pub printed : IsPrinted rows options.printed
   pub scripts : names_text options.scripts.items ≡ all_named (codes "script") rows

@@ -4,7 +4,7 @@ use Rattle.clap.specs.Words.{Row, Text, first_of, one_of}
 use Rattle.crush_options.specs.declared.asked.OptionsFault.{OptionsFault}
 use Rattle.crush_options.specs.declared.asked.OptionsFault.TheVariants.{Help, Refused, Memory}
 use Rattle.crush_options.specs.declared.asked.Printed.{Printed}
-use Rattle.crush_options.specs.declared.asked.Printed.TheVariants.{Map, Tree, Since, AsCeph, To}
+use Rattle.crush_options.specs.declared.asked.Printed.TheVariants.{Map, Tree, Since, Changes, AsCeph, To}
 use Rattle.crush_options.specs.declared.command_line.Said.{Said}
 
 -- a flag is set where the words have it, and else not, also where nothing tells of it
@@ -36,6 +36,7 @@ abbrev pub said_by : Printed → SaidData
 said_by Map = record { tree = false; since = None; as_ceph = false; to = None; by_name = false }
 said_by Tree = record { tree = true; since = None; as_ceph = false; to = None; by_name = false }
 said_by (Since name) = record { tree = false; since = Some name.bytes.items; as_ceph = false; to = None; by_name = false }
+said_by (Changes name) = record { tree = true; since = Some name.bytes.items; as_ceph = false; to = None; by_name = false }
 said_by AsCeph = record { tree = false; since = None; as_ceph = true; to = None; by_name = false }
 said_by (To wanted) = record { tree = false; since = None; as_ceph = wanted.as_ceph; to = Some wanted.map.bytes.items; by_name = wanted.by_name }
 
@@ -43,12 +44,12 @@ said_by (To wanted) = record { tree = false; since = None; as_ceph = wanted.as_c
 abbrev pub IsPrinted : List Row → Printed → Type 0
 IsPrinted rows printed = AreSaid rows (said_by printed)
 
--- how many things the words ask for, of which `--to` and `--as-ceph` together are one
+-- how many things the words ask for, of which `--tree` and `--since` together are one, and `--to` and `--as-ceph`
 abbrev pub one_where : Bool → ℕ
 one_where there = if there then 1 else 0
 
 abbrev pub count_said : SaidData → ℕ
-count_said said = one_where said.tree + one_where (is_some said.since) + one_where (said.as_ceph || is_some said.to)
+count_said said = one_where (said.tree || is_some said.since) + one_where (said.as_ceph || is_some said.to)
 
 -- words that don't go together: for two things, or `--by-name` without `--to`
 abbrev pub AreApart : SaidData → Type 0

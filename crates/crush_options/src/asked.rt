@@ -13,6 +13,10 @@ pub struct Mode {
     pub history: bool,
     /// Whether a run in which anything is refused writes nothing.
     pub strict: bool,
+    /// Whether a run in which a command makes a bucket that no `add-bucket` asks for writes nothing.
+    pub no_make: bool,
+    /// Whether the status tells where there is something to tell of the map.
+    pub exit_code: bool,
     /// Whether standard error tells where and why, below its one line.
     pub explain: bool,
 }
@@ -37,6 +41,8 @@ pub enum Printed {
     Tree,
     /// What has changed in it since the map that the file of this name has.
     Since(String),
+    /// The same as a tree.
+    Changes(String),
     /// The commands that changed it, as Ceph's own.
     AsCeph,
     /// The commands that lead from it to a wanted map.

@@ -17,8 +17,8 @@ const ABOUT: &str = "Edits the hierarchy of a CRUSH map by the scripts of its op
 /// The version, and the toolchain that it is proved with, as `rt version` tells it.
 const VERSION: &str = "0.1.0 (rattle-kit-13f logic dac8208d650f15bf)";
 
-/// What the help tells beside the flags. `docs/manual.py` makes the manual page of it, so no line
-/// is longer than 80 columns.
+/// What the help tells beside the flags. `docs/manual.py` makes the manual page of it. No line of the
+/// help is longer than 80 columns, which leaves 55 for what is told of a flag.
 const MORE: &str = "\
 A job is the text of a CRUSH map, in the form of `crushtool --decompile`, and
 behind it the scripts of up to 16 operators, each a line `%operator NAME` and
@@ -56,8 +56,8 @@ Commands, those of `ceph osd crush`:
 
 N is the device's id, and WEIGHT is in Ceph's decimals, 0 to 32767.99998. A PAIR
 is TYPE=BUCKET, and up to 16 of them are a location: from the lowest type
-upward, the first bucket that is in the map receives; those below it are made,
-those above it are not looked at.
+upward, the first bucket that is in the map receives, and those below it are
+made. Of those above it form and type alone are looked at.
 
 Output:
 Standard output gets the map after the scripts, and behind it, as comments, a
@@ -74,30 +74,39 @@ and an error number of Linux; the next one is tried all the same.
 In the place of the map `--tree` prints its tree, `--since MAP` what has changed
 since the map of a file, `--as-ceph` the commands that changed it, as lines for
 a shell, and `--to MAP` the commands that lead from it to the map of a file, and
-what differs then, which no command changes; at most one of the four, but `--to`
-with `--as-ceph`. Where MAP is another cluster's, whose buckets have other ids,
-`--by-name` takes them for those of their names.
+what differs then, which no command changes; at most one of the four, but
+`--tree` with `--since`, a tree of what has changed, and `--to` with
+`--as-ceph`. `--since` compares by ids, so that the maps of two clusters tell
+nothing that is of use; `--to` does so first, and with `--by-name` it takes
+buckets for those of their names alone.
 
 Standard error gets `crushedit: adjusted N` where N buckets were written with
 another weight than the sum of their devices, and got the sum. With `--strict`
 it gets `crushedit: refused N` where N commands or batches were refused, and
 their lines, or `crushedit: differs N` where N differences to the map of `--to`
-stay, and their lines. With `--explain` it tells more below: where a fault of
-the input stands and what was wanted there, and of each refused command or batch
-its line and what was wanted.
+stay, and their lines. With `--no-make` it gets `crushedit: made N` where N
+commands or batches made more buckets than their `add-bucket`s, as a location
+does in which a name is mistyped, and their lines. With `--explain` it tells
+more below: where a fault of the input stands and what was wanted there, and of
+each refused command or batch its line and what was wanted.
+
+With `--exit-code` the status is 6 in place of 0 where a command changed the map
+that was read, with `--since` where an item or a setting is told, and with
+`--to` where a command or a difference is.
 
 Exit status:
     0    the run was done, also where commands were refused, without --strict
-    1    the input is no job, and nothing was written
+    1    the input is no job, or MAP no map; nothing was written
     2    the command line is refused
-    3    FILE can't be opened, or reading or writing failed
+    3    a file can't be opened, or reading or writing failed
     4    out of memory, or no thread could be started; nothing was written
-    5    with --strict: a call was refused, or differences stay; nothing written
+    5    --strict or --no-make ended the run; nothing was written
+    6    with --exit-code: there is something to tell
 ";
 
 /// What is told where words ask for two things to be printed.
 const TWO_PRINTED: &str =
-    "error: at most one of --tree, --since, --as-ceph and --to, but --to with --as-ceph\n";
+    "error: at most one of --tree, --since, --as-ceph and --to, but --tree with --since and --to with --as-ceph\n";
 
 /// What is told where buckets are to be told by their names, and no map is wanted.
 const NAMES_ALONE: &str = "error: --by-name goes with --to\n";
@@ -141,7 +150,7 @@ fn scripts<'a>(alloc: Global) -> Arg<'a>
         .long("script")
         .action(ArgAction::Append)
         .value_name("SCRIPT")
-        .help("Put the script of this file behind the job, up to 16 times")
+        .help("Put this file's script behind the job, up to 16 times")
 }
 
 /// The file that a job is read from.
@@ -160,7 +169,8 @@ fn with_modes<'a>(alloc: Global) -> Result<Command<'a>, AllocError>
 {
     let in_turn = "Run the scripts one after the other, in the job's order";
     let no_history = "Write no line for each command behind the map";
-    let strict = "Write nothing where a command is refused, and end with status 5";
+    let strict = "Write nothing where a command is refused: status 5";
+    let no_make = "Write nothing where a location makes a bucket: status 5";
     Command::new(alloc, "crushedit")
         .no_binary_name(true)
         .version(VERSION)
@@ -168,7 +178,8 @@ fn with_modes<'a>(alloc: Global) -> Result<Command<'a>, AllocError>
         .after_help(MORE)
         .arg(flag(alloc, "in-turn", in_turn))?
         .arg(flag(alloc, "no-history", no_history))?
-        .arg(flag(alloc, "strict", strict))
+        .arg(flag(alloc, "strict", strict))?
+        .arg(flag(alloc, "no-make", no_make))
 }
 
 /// The command with the words that say what is printed in the place of the map, too.
@@ -189,7 +200,7 @@ fn with_wanted<'a>(alloc: Global) -> Result<Command<'a>, AllocError>
     ensures { IfOk result (λ command. app_of command ≡ with_wanted) }
 {
     let to = "Print the commands that lead to the map of this file";
-    let by_name = "With --to: tell buckets by their names, not by their ids";
+    let by_name = "With --to: tell buckets by their names alone";
     with_printed(alloc)?
         .arg(option(alloc, "to", "MAP", to))?
         .arg(flag(alloc, "by-name", by_name))
@@ -199,8 +210,10 @@ fn with_wanted<'a>(alloc: Global) -> Result<Command<'a>, AllocError>
 fn command<'a>(alloc: Global) -> Result<Command<'a>, AllocError>
     ensures { IfOk result (λ command. app_of command ≡ program) }
 {
-    let explain = "Tell where and why, below the one line on standard error";
+    let exit_code = "End with status 6 where there is something to tell";
+    let explain = "Tell where and why below the line on standard error";
     with_wanted(alloc)?
+        .arg(flag(alloc, "exit-code", exit_code))?
         .arg(flag(alloc, "explain", explain))?
         .arg(scripts(alloc))?
         .arg(file(alloc))
@@ -258,8 +271,8 @@ fn printed_without_to(alloc: Global, said: Said<'_>) -> Result<Printed, OptionsF
         None if said.tree => Ok(Printed::Tree),
         None if said.as_ceph => Ok(Printed::AsCeph),
         None => Ok(Printed::Map),
-        Some(_) if said.tree => Err(refused(alloc, TWO_PRINTED)),
         Some(_) if said.as_ceph => Err(refused(alloc, TWO_PRINTED)),
+        Some(name) if said.tree => Ok(Printed::Changes(String::from_str(alloc, name)?)),
         Some(name) => Ok(Printed::Since(String::from_str(alloc, name)?)),
     }
 }
@@ -343,6 +356,8 @@ fn options_of(alloc: Global, matches: &ArgMatches<'_>) -> Result<Options, Option
         in_turn: is_set(matches, "in-turn"),
         history: !is_set(matches, "no-history"),
         strict: is_set(matches, "strict"),
+        no_make: is_set(matches, "no-make"),
+        exit_code: is_set(matches, "exit-code"),
         explain: is_set(matches, "explain"),
     };
     let printed = printed_of(alloc, matches)?;
@@ -371,9 +386,9 @@ fn fault_of(alloc: Global, error: &Error) -> OptionsFault
 }
 
 /// Reads the words of a command line behind the program's name: `[--in-turn] [--no-history]
-/// [--strict] [--tree | --since MAP | --as-ceph | --to MAP [--as-ceph] [--by-name]] [--explain]
-/// [-s SCRIPT].. [FILE]`, in any order, with up to 16 scripts. Each word is one of these or refused:
-/// none is ignored.
+/// [--strict] [--no-make] [--tree | [--tree] --since MAP | --as-ceph | --to MAP [--as-ceph] [--by-name]]
+/// [--exit-code] [--explain] [-s SCRIPT].. [FILE]`, in any order, with up to 16 scripts. Each word is
+/// one of these or refused: none is ignored.
 pub fn options<S: AsStr>(alloc: Global, words: &[S]) -> Result<Options, OptionsFault>
     ensures asked { IfOk result (IsAsked (map S.text words.now)) }
     ensures fault { IfErr result (IsFaultIn (map S.text words.now)) }

@@ -1,19 +1,32 @@
--- What is told of worked histories and texts.
-use Rattle.std.proofs.Common.{◌≡◌, true, false, [], ◌∷◌, ◌++◌, refl}
+-- What is told of worked edits, histories and texts.
+use Rattle.std.proofs.Common.{◌≡◌, ℕ, Bool, true, false, List, [], ◌∷◌, ◌++◌, refl}
 use Rattle.std.specs.Fmt.{digits}
-use Rattle.std.specs.Prelude.{codes}
-use Rattle.crush_edits.specs.declared.edit.Edit.TheVariants.{Move, Reweight, Remove, SetClass, Swap}
-use Rattle.crush_edits.specs.declared.refusal.Refusal.TheVariants.{NotEmpty, NoSuchItem}
+use Rattle.std.specs.Prelude.{None, codes}
+use Rattle.crush_table.specs.Table.{Row}
+use Rattle.crush_edits.specs.declared.edit.Edit.TheVariants.{Insert, Move, Reweight, Remove, SetClass, Swap, Update}
+use Rattle.crush_edits.specs.declared.location.Pair.{Pair}
+use Rattle.crush_edits.specs.declared.refusal.Refusal.TheVariants.{AlreadyPlaced, BadLocation, InUse, Loop, NotEmpty, NoSuchItem, WrongType}
+use Rattle.crush_edits.specs.Setting.{SettingData, take, emit}
 use Rattle.crush_bytes.specs.Words.{split, up_to_long, words_in}
+use Rattle.crush_calls.specs.declared.call.Call.{Call}
 use Rattle.crush_calls.specs.declared.call.Call.TheVariants.{One, Batch, Guarded}
+use Rattle.crush_calls.specs.declared.call.Reply.{Reply}
 use Rattle.crush_calls.specs.declared.call.Reply.TheVariants.{Done, Dones, Refused, BatchRefused, Stale}
+use Rattle.crush_calls.specs.History.{EntryData}
 use Rattle.crush_calls.specs.HistoryText.{line_head, line_end}
+use Rattle.crush_print.specs.MapText.{root_numbers}
+use Rattle.crush_view.specs.Tree.{step_at, steps_at, tree_rows, unplaced_numbers}
+use Rattle.crush_view.proofs.Examples.{example, setting}
 use Rattle.crush_script.specs.declared.fault.JobFault.TheVariants as job
 use Rattle.crush_text.specs.declared.fault.TextFaultKind.TheVariants.{Ended, UnknownType}
-use Rattle.crush_reasons.specs.Ceph.{ceph_heading, ceph_line, ceph_text}
+use Rattle.crush_reasons.specs.Ceph.{ceph_heading, ceph_line, ceph_text, edits_for_ceph}
 use Rattle.crush_reasons.specs.Explained.{explained_text, reason_line}
 use Rattle.crush_reasons.specs.Fault.{fault_line, fault_text}
 use Rattle.crush_reasons.specs.Forms.{form_of}
+use Rattle.crush_reasons.specs.Named.{edit_reason}
+use Rattle.crush_reasons.specs.Near.{is_near}
+use Rattle.crush_reasons.specs.Replay.{table_after_edits}
+use Rattle.crush_reasons.specs.Way.{items_said}
 use Rattle.crush_reasons.specs.Place.{column_line, from_line, number_line}
 use Rattle.crush_reasons.specs.Flaws.{begins_at, open_text}
 use Rattle.crush_reasons.specs.Misfit.{misfit_text, with_point}
@@ -22,16 +35,40 @@ use Rattle.crush_reasons.specs.Wanted.{further, opened}
 use Rattle.crush_script.specs.Lines.{words_between_blanks}
 use Rattle.crush_reasons.specs.Sentences.{job_sentence}
 
+-- the plain example map with a rule that takes its root
+abbrev ruled : SettingData
+ruled = record setting { rules = (record { name = codes "fast"; id = 0; kind = codes "replicated"; min_size = None; max_size = None; steps = take 1 None ∷ emit ∷ [] }) ∷ [] }
+
+-- a pair of a location
+abbrev pair : List ℕ → List ℕ → Pair
+pair kind name = record { kind = kind; name = name }
+
+-- an entry of the first operator
+abbrev entry : Call → Reply → EntryData
+entry call reply = record { operator = 0; call = call; reply = reply }
+
+abbrev changed : Bool → ℕ → Reply
+changed is made = Done (record { changed = is; made = made })
+
 -- of four commands two changed the map
-two_commands : ceph_text (
-    (record { operator = 0; call = One (Reweight (codes "osd.0") 131072); reply = Done (record { changed = true; made = 0 }) })
-    ∷ (record { operator = 0; call = One (Reweight (codes "osd.0") 131072); reply = Done (record { changed = false; made = 0 }) })
-    ∷ (record { operator = 0; call = One (Remove (codes "x")); reply = Refused NoSuchItem })
-    ∷ (record { operator = 0; call = One (Move (codes "h2") ((record { kind = codes "rack"; name = codes "r1" }) ∷ (record { kind = codes "root"; name = codes "default" }) ∷ [])); reply = Done (record { changed = true; made = 1 }) })
+two_commands : (s : SettingData) (t : List Row) → ceph_text s t (
+    entry (One (Reweight (codes "osd.0") 131072)) (changed true 0)
+    ∷ entry (One (Reweight (codes "osd.0") 131072)) (changed false 0)
+    ∷ entry (One (Remove (codes "x"))) (Refused NoSuchItem)
+    ∷ entry (One (Move (codes "h2") (pair (codes "rack") (codes "r1") ∷ pair (codes "root") (codes "default") ∷ []))) (changed true 1)
     ∷ [])
     ≡ codes "# 2 commands\nceph osd crush reweight osd.0 2.00000\nceph osd crush move h2 rack=r1 root=default\n"
-unfolding ceph_text ceph_heading digits
-two_commands = refl
+unfolding ceph_text ceph_heading edits_for_ceph digits
+two_commands s t = refl
+
+-- a device that no bucket holds is added, and then it is set
+set_twice : ceph_text setting example (
+    entry (One (Update 3 (codes "osd.3") 65536 (pair (codes "host") (codes "h1") ∷ []))) (changed true 0)
+    ∷ entry (One (Update 3 (codes "osd.3") 131072 (pair (codes "host") (codes "h2") ∷ []))) (changed true 0)
+    ∷ [])
+    ≡ codes "# 2 commands\nceph osd crush add osd.3 1.00000 host=h1\nceph osd crush set osd.3 2.00000 host=h2\n"
+unfolding ceph_text ceph_heading edits_for_ceph digits
+set_twice = refl
 
 -- a class, and a swap
 class_line : ceph_line (SetClass (codes "osd.0") (codes "ssd")) ≡ codes "ceph osd crush set-device-class ssd osd.0\n"
@@ -41,24 +78,61 @@ swap_line : ceph_line (Swap (codes "h1") (codes "h2")) ≡ codes "ceph osd crush
 swap_line = refl
 
 -- a batch that changed the map has all its edits, one that was refused none
-batches : ceph_text (
-    (record { operator = 0; call = Batch (Reweight (codes "osd.0") 131072 ∷ Remove (codes "osd.1") ∷ []); reply = Dones (record { edits = 2; changed = 1; made = 0 }) })
-    ∷ (record { operator = 1; call = Batch (Remove (codes "osd.2") ∷ Remove (codes "default") ∷ []); reply = BatchRefused 1 NotEmpty })
+batches : (s : SettingData) (t : List Row) → ceph_text s t (
+    entry (Batch (Reweight (codes "osd.0") 131072 ∷ Remove (codes "osd.1") ∷ [])) (Dones (record { edits = 2; changed = 1; made = 0 }))
+    ∷ entry (Batch (Remove (codes "osd.2") ∷ Remove (codes "default") ∷ [])) (BatchRefused 1 NotEmpty)
     ∷ [])
     ≡ codes "# 2 commands\nceph osd crush reweight osd.0 2.00000\nceph osd crush rm osd.1\n"
-unfolding ceph_text ceph_heading digits
-batches = refl
+unfolding ceph_text ceph_heading edits_for_ceph digits
+batches s t = refl
 
--- refused lines with their reasons
-explained : explained_text (codes "a" ∷ []) 1 (
-    (record { operator = 0; call = One (Remove (codes "default")); reply = Refused NotEmpty })
-    ∷ (record { operator = 0; call = One (Reweight (codes "osd.0") 131072); reply = Done (record { changed = true; made = 0 }) })
-    ∷ (record { operator = 0; call = Guarded 0 (Remove (codes "x") ∷ []); reply = Stale 1 })
-    ∷ (record { operator = 0; call = Batch (Remove (codes "osd.0") ∷ Remove (codes "default") ∷ []); reply = BatchRefused 1 NotEmpty })
+-- refused lines with their reasons, each by the table before it
+explained : explained_text setting example (codes "a" ∷ []) 1 (
+    entry (One (Remove (codes "default"))) (Refused NotEmpty)
+    ∷ entry (One (Remove (codes "osd.0"))) (changed true 0)
+    ∷ entry (Guarded 0 (Remove (codes "x") ∷ [])) (Stale 1)
+    ∷ entry (One (Remove (codes "h1"))) (Refused NotEmpty)
+    ∷ entry (Batch (Remove (codes "osd.1") ∷ Remove (codes "h1") ∷ Remove (codes "default") ∷ [])) (BatchRefused 2 NotEmpty)
     ∷ [])
-    ≡ codes "# 1 a rm default = refused NotEmpty 39\n  default holds items: move or remove them first\n# 3 a begin at 0 ; rm x ; commit = refused Stale 11 changes 1\n  the map has changed since: look at it again, and name the number of changes that is told\n# 4 a begin ; rm osd.0 ; rm default ; commit = refused at 1 NotEmpty 39\n  rm default: default holds items: move or remove them first\n"
-unfolding explained_text line_head line_end digits
+    ≡ codes "# 1 a rm default = refused NotEmpty 39\n  default holds 2 items: move or remove them first\n# 3 a begin at 0 ; rm x ; commit = refused Stale 11 changes 1\n  the map has changed since: look at it again, and name the number of changes that is told\n# 4 a rm h1 = refused NotEmpty 39\n  h1 holds 1 item: move or remove it first\n# 5 a begin ; rm osd.1 ; rm h1 ; rm default ; commit = refused at 2 NotEmpty 39\n  rm default: default holds 1 item: move or remove it first\n"
+unfolding explained_text line_head line_end items_said table_after_edits digits
 explained = refl
+
+-- names with a letter more, less and other, and in another case
+nearly : (is_near (codes "stor1") (codes "stor01") ≡ true) × (is_near (codes "osd.22") (codes "osd.2") ≡ true) × (is_near (codes "h9") (codes "h1") ≡ true) × (is_near (codes "DEFAULT") (codes "default") ≡ true)
+nearly = (refl, refl, refl, refl)
+
+far : (is_near (codes "h9") (codes "h12") ≡ false) × (is_near (codes "ab") (codes "ba") ≡ false) × (is_near (codes "a") (codes "abc") ≡ false)
+far = (refl, refl, refl)
+
+-- the first in the order of the tree
+two_near : edit_reason setting example (Remove (codes "h9")) NoSuchItem ≡ codes "h9 isn't there: is it h1?"
+unfolding tree_rows step_at steps_at root_numbers unplaced_numbers
+two_near = refl
+
+none_near : edit_reason setting example (Remove (codes "rack1")) NoSuchItem ≡ codes "rack1 isn't there"
+unfolding tree_rows step_at steps_at root_numbers unplaced_numbers
+none_near = refl
+
+-- what is in the way
+taken : edit_reason ruled example (Remove (codes "default")) InUse ≡ codes "the rule fast takes default"
+taken = refl
+
+placed : edit_reason setting example (Insert 0 (codes "osd.0") 65536 (pair (codes "host") (codes "h2") ∷ [])) AlreadyPlaced ≡ codes "osd.0 stands in h1: set and create-or-move put it into another"
+placed = refl
+
+below : edit_reason setting example (Move (codes "default") (pair (codes "host") (codes "h1") ∷ [])) Loop ≡ codes "h1 stands below default: a bucket cannot come below itself"
+below = refl
+
+itself : edit_reason setting example (Move (codes "h1") (pair (codes "host") (codes "h1") ∷ [])) Loop ≡ codes "h1 cannot come into itself"
+itself = refl
+
+other_type : edit_reason setting example (Move (codes "h1") (pair (codes "rack") (codes "default") ∷ [])) WrongType ≡ codes "default is of type root, not rack"
+other_type = refl
+
+twice : edit_reason setting example (Move (codes "h1") (pair (codes "host") (codes "h2") ∷ pair (codes "host") (codes "h3") ∷ [])) BadLocation
+    ≡ codes "host: a location names each type and each bucket once, and not the type of devices"
+twice = refl
 
 -- a type that isn't declared, behind a tab in a second line
 unknown_type : fault_text (record { name = []; before = 0 }) (codes "type 0 osd\n\thots h2 {\n}\n") (job.Text (record { kind = UnknownType; place = 12 }))

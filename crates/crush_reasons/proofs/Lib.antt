@@ -1,7 +1,10 @@
 pub mod Explaining
+pub mod Replays
+pub mod LawReplay
 pub mod CephLines
 pub mod Lines
 pub mod Misfits
 pub mod Examples
 pub mod Naming
+pub mod Nearing
 pub mod Scanning

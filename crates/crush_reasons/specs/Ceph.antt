@@ -1,25 +1,15 @@
 -- The commands that changed a map, as Ceph's own.
-use Rattle.std.specs.Prelude.{ℕ, List, [], ◌∷◌, ◌++◌, codes, decimal, flat_map, if◌then◌else◌, length}
-use Rattle.crush_calls.specs.declared.call.Call.{Call}
-use Rattle.crush_calls.specs.declared.call.Call.TheVariants.{One, Batch, Guarded}
-use Rattle.crush_calls.specs.History.{EntryData, is_change}
+use Rattle.std.specs.Prelude.{◌≡◌, ℕ, List, [], ◌∷◌, ◌++◌, Bool, false, not, codes, decimal, flat_map, if◌then◌else◌, length}
+use Rattle.crush_units.specs.declared.id.ItemId.TheVariants.{Device}
+use Rattle.crush_table.specs.Stands.{Stands}
+use Rattle.crush_table.specs.Table.{Row, is_placed}
+use Rattle.crush_map.specs.MapData.{MapData}
+use Rattle.crush_calls.specs.History.{EntryData}
 use Rattle.crush_calls.specs.HistoryText.{edit_text}
 use Rattle.crush_edits.specs.declared.edit.Edit.{Edit}
 use Rattle.crush_edits.specs.declared.edit.Edit.TheVariants.{Insert, CreateOrMove, Update, Move, Swap, Reweight, ReweightSubtree, Remove, AddBucket, Rename, SetClass, RemoveClass}
-
--- the edits of a call, in order
-abbrev pub edits_of : Call → List Edit
-edits_of (One e) = e ∷ []
-edits_of (Batch es) = es
-edits_of (Guarded seen es) = es
-
--- the edits of an entry that changed the map, all of a batch, and of another entry none
-abbrev pub changing_edits : EntryData → List Edit
-changing_edits e = if is_change e.reply then edits_of e.call else []
-
--- those of a history, in its order
-abbrev pub ceph_edits : List EntryData → List Edit
-ceph_edits h = flat_map changing_edits h
+use Rattle.crush_edits.specs.Setting.{SettingData}
+use Rattle.crush_reasons.specs.Replay.{history_edits, table_after_edit, table_after_edits}
 
 -- the word that Ceph asks for before it swaps buckets that stand apart
 abbrev pub assent : Edit → List ℕ
@@ -44,6 +34,36 @@ ceph_line e = codes "ceph osd crush " ++ edit_text e ++ (assent e ++ codes "\n")
 unfoldable pub ceph_heading : ℕ → List ℕ
 ceph_heading count = codes "# " ++ decimal count ++ codes " commands\n"
 
--- CEPH TEXT: the number of the edits, and a line for each
-unfoldable pub ceph_text : List EntryData → List ℕ
-ceph_text h = ceph_heading (length (ceph_edits h)) ++ flat_map ceph_line (ceph_edits h)
+-- a `set` of a device that no bucket holds: Ceph's refuses one that its map doesn't hold, and its `add` takes it
+abbrev pub sets_unplaced : List Row → Edit → Bool
+sets_unplaced t (Update device name weight at) = not (is_placed t (Device device))
+sets_unplaced t e = false
+
+-- a `set` as an `add`
+abbrev pub added : Edit → Edit
+added (Update device name weight at) = Insert device name weight at
+added e = e
+
+-- FOR CEPH: an edit as Ceph is asked for it, of the table before it
+abbrev pub edit_for_ceph : List Row → Edit → Edit
+edit_for_ceph t e = if sets_unplaced t e then added e else e
+
+-- each of several, of the table that the ones before it made
+unfoldable pub edits_for_ceph : SettingData → List Row → List Edit → List Edit
+edits_for_ceph s t [] = []
+edits_for_ceph s t (e ∷ es) = edit_for_ceph t e ∷ edits_for_ceph s (table_after_edit s t e) es
+
+-- and their lines
+abbrev pub ceph_lines : SettingData → List Row → List Edit → List ℕ
+ceph_lines s t es = flat_map ceph_line (edits_for_ceph s t es)
+
+-- CEPH TEXT: of a history before which the map had this setting and this table the number of the edits that changed it, and a line
+-- for each
+unfoldable pub ceph_text : SettingData → List Row → List EntryData → List ℕ
+ceph_text s t h = ceph_heading (length (history_edits h)) ++ ceph_lines s t (history_edits h)
+
+-- TOLD: these edits were made on a map, which then stands for the table after them, and their lines were put behind a text
+pub record AreTold (old new : MapData) (before behind : List ℕ) (es : List Edit) : Type 0 where
+  pub setting : new.setting ≡ old.setting
+  pub stands : (t : List Row) → Stands old.forest t → Stands new.forest (table_after_edits old.setting t es)
+  pub lines : (t : List Row) → Stands old.forest t → behind ≡ before ++ ceph_lines old.setting t es

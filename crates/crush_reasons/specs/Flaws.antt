@@ -4,8 +4,8 @@ use Rattle.std.specs.List.{list_all}
 use Rattle.crush_bytes.specs.Words.{Word, is_blank, words}
 use Rattle.crush_text.specs.declared.fault.TextFaultKind.{TextFaultKind}
 use Rattle.crush_text.specs.declared.fault.TextFaultKind.TheVariants as text
-use Rattle.crush_reasons.specs.declared.wanted.First.{First}
-use Rattle.crush_reasons.specs.declared.wanted.First.TheVariants as first
+use Rattle.crush_reasons.specs.declared.wanted.InLine.{InLine}
+use Rattle.crush_reasons.specs.declared.wanted.InLine.TheVariants as line
 use Rattle.crush_reasons.specs.declared.wanted.Going.{Going}
 use Rattle.crush_reasons.specs.declared.wanted.InBucket.{InBucket}
 use Rattle.crush_reasons.specs.declared.wanted.InBucket.TheVariants as bucket
@@ -54,15 +54,15 @@ is_open (want.Rule at) = true
 is_open (want.Step at) = true
 
 -- WHICH WORDS are wanted
-abbrev pub line_wanted : First → List ℕ
-line_wanted first.TunableName = codes "a name"
-line_wanted first.TunableNumber = codes "a number"
-line_wanted first.TypeNumber = codes "a number"
-line_wanted first.TypeName = codes "a name that begins no statement"
-line_wanted first.DeviceId = codes "a number"
-line_wanted first.DeviceName = codes "a name"
-line_wanted first.DeviceEnd = codes "class, tunable, device, type, rule or a type's name"
-line_wanted first.DeviceClass = codes "a class"
+abbrev pub line_wanted : InLine → List ℕ
+line_wanted line.TunableName = codes "a name"
+line_wanted line.TunableNumber = codes "a number"
+line_wanted line.TypeNumber = codes "a number"
+line_wanted line.TypeName = codes "a name that begins no statement"
+line_wanted line.DeviceId = codes "a number"
+line_wanted line.DeviceName = codes "a name"
+line_wanted line.DeviceEnd = codes "class, tunable, device, type, rule or a type's name"
+line_wanted line.DeviceClass = codes "a class"
 
 abbrev pub bucket_wanted : InBucket → List ℕ
 bucket_wanted bucket.Name = codes "a name"
@@ -114,9 +114,9 @@ wanted_text (want.Rule at) = rule_wanted at
 wanted_text (want.Step at) = step_wanted at
 
 -- IN WHICH RANGE a number is wanted
-abbrev pub line_range : First → List ℕ
-line_range first.TunableNumber = codes "0 to 4294967295"
-line_range first.TypeNumber = codes "0 to 65535"
+abbrev pub line_range : InLine → List ℕ
+line_range line.TunableNumber = codes "0 to 4294967295"
+line_range line.TypeNumber = codes "0 to 65535"
 line_range at = codes "0 to 2147483647"
 
 abbrev pub bucket_range : InBucket → List ℕ

@@ -1,5 +1,9 @@
 pub mod Sentences
+pub mod Near
+pub mod Way
 pub mod Named
+pub mod Replay
+pub mod LawReplay
 pub mod Explained
 pub mod Ceph
 pub mod Shown

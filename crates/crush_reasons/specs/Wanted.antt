@@ -3,8 +3,8 @@ use Rattle.std.specs.Prelude.{ℕ, Bool, true, false, ◌||◌, not, List, [], �
 use Rattle.std.specs.List.{starts_with}
 use Rattle.crush_bytes.specs.Words.{Word, words}
 use Rattle.crush_reasons.specs.declared.wanted.Going.{Going}
-use Rattle.crush_reasons.specs.declared.wanted.First.{First}
-use Rattle.crush_reasons.specs.declared.wanted.First.TheVariants as first
+use Rattle.crush_reasons.specs.declared.wanted.InLine.{InLine}
+use Rattle.crush_reasons.specs.declared.wanted.InLine.TheVariants as line
 use Rattle.crush_reasons.specs.declared.wanted.InBucket.{InBucket}
 use Rattle.crush_reasons.specs.declared.wanted.InBucket.TheVariants as bucket
 use Rattle.crush_reasons.specs.declared.wanted.InRule.{InRule}
@@ -17,22 +17,22 @@ use Rattle.crush_reasons.specs.declared.wanted.Wanted.TheVariants as want
 -- behind the first word of a statement
 unfoldable pub opened : List ℕ → Wanted
 opened w =
-    if bytes_eq w (codes "tunable") then want.Line first.TunableName
-    else if bytes_eq w (codes "type") then want.Line first.TypeNumber
-    else if bytes_eq w (codes "device") then want.Line first.DeviceId
+    if bytes_eq w (codes "tunable") then want.Line line.TunableName
+    else if bytes_eq w (codes "type") then want.Line line.TypeNumber
+    else if bytes_eq w (codes "device") then want.Line line.DeviceId
     else if bytes_eq w (codes "rule") then want.Rule rule.Name
     else want.Bucket bucket.Name
 
 -- behind a word of a tunable, a type or a device
-abbrev pub in_line : First → List ℕ → Wanted
-in_line first.TunableName w = want.Line first.TunableNumber
-in_line first.TunableNumber w = want.Early
-in_line first.TypeNumber w = want.Line first.TypeName
-in_line first.TypeName w = want.Early
-in_line first.DeviceId w = want.Line first.DeviceName
-in_line first.DeviceName w = want.Line first.DeviceEnd
-in_line first.DeviceEnd w = if bytes_eq w (codes "class") then want.Line first.DeviceClass else opened w
-in_line first.DeviceClass w = want.Early
+abbrev pub in_line : InLine → List ℕ → Wanted
+in_line line.TunableName w = want.Line line.TunableNumber
+in_line line.TunableNumber w = want.Early
+in_line line.TypeNumber w = want.Line line.TypeName
+in_line line.TypeName w = want.Early
+in_line line.DeviceId w = want.Line line.DeviceName
+in_line line.DeviceName w = want.Line line.DeviceEnd
+in_line line.DeviceEnd w = if bytes_eq w (codes "class") then want.Line line.DeviceClass else opened w
+in_line line.DeviceClass w = want.Early
 
 -- behind a word that ends a bucket, or begins an item of it
 abbrev pub item_or_end : List ℕ → Wanted
@@ -107,8 +107,8 @@ behind (want.Rule k) w = in_rule k w
 behind (want.Step k) w = in_step k w
 
 -- whether a word that is right begins a statement
-abbrev pub begins_line : First → List ℕ → Bool
-begins_line first.DeviceEnd w = not (bytes_eq w (codes "class"))
+abbrev pub begins_line : InLine → List ℕ → Bool
+begins_line line.DeviceEnd w = not (bytes_eq w (codes "class"))
 begins_line at w = false
 
 abbrev pub begins : Wanted → List ℕ → Bool

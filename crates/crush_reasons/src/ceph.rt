@@ -1,43 +1,34 @@
 //! The commands that changed a map, as Ceph's own.
 
-ghost use Rattle.std.specs.Prelude.{◌≡◌, ◌≤◌, ◌<◌, ◌^◌, ◌*◌, ◌++◌, IfOk, OnOk, codes, flat_map, length};
+ghost use Rattle.std.specs.Prelude.{◌≡◌, ◌∷◌, [], ◌≤◌, ◌<◌, ◌^◌, ◌++◌, List, IfOk, OnOk, codes, length};
 ghost use Rattle.crush_units.specs.declared.limits.TheConstants.{MOST_EDITS};
+ghost use Rattle.crush_table.specs.Stands.{Stands};
+ghost use Rattle.crush_table.specs.Table.{Row};
 ghost use Rattle.crush_calls.specs.HistoryText.{edit_text};
-ghost use Rattle.crush_reasons.specs.Ceph.{assent, ceph_edits, ceph_heading, ceph_line, ceph_text, changing_edits, edits_of};
+ghost use Rattle.crush_reasons.specs.Ceph.{AreTold, added, assent, ceph_heading, ceph_line, ceph_text, edit_for_ceph, sets_unplaced};
+ghost use Rattle.crush_reasons.specs.Replay.{changing_edits, history_edits};
 
+use crate::replay::{changing_edits, make_edit};
 use crate::words::push_all;
-use crush_calls::{Call, Entry, is_change, write_edit};
+use crush_calls::{Entry, write_edit};
 use crush_edits::Edit;
+use crush_map::CrushMap;
+use crush_units::ItemId;
 use itoa::Buffer;
 use std::alloc::{AllocError, Global};
-
-/// How many edits a call has.
-fn count_edits(call: &Call) -> u64
-    ensures value { result ≡ length (edits_of call.now) }
-    ensures few { result ≤ MOST_EDITS }
-{
-    match call {
-        Call::One(_) => 1,
-        Call::Batch(edits) => edits.as_slice().len() as u64,
-        Call::Guarded { edits, .. } => edits.as_slice().len() as u64,
-    }
-}
 
 /// How many edits of an entry are told: all of a call that changed the map.
 fn count_changing(entry: &Entry) -> u64
     ensures value { result ≡ length (changing_edits entry.now) }
     ensures few { result ≤ MOST_EDITS }
 {
-    if !is_change(entry.reply) {
-        return 0;
-    }
-    count_edits(&entry.call)
+    changing_edits(entry).len() as u64
 }
 
 /// How many edits of a history are told.
 fn count_told(entries: &[Entry]) -> u64
     requires { length entries.now < 2 ^ 32 }
-    ensures { result ≡ length (ceph_edits entries.now) }
+    ensures { result ≡ length (history_edits entries.now) }
 {
     let mut count: u64 = 0;
     for entry in entries {
@@ -81,37 +72,109 @@ pub fn push_ceph_line(edit: &Edit, text: &mut Vec<u8>) -> Result<(), AllocError>
     push_end(edit, text)
 }
 
-/// The lines of edits.
-fn push_lines(edits: &[Edit], text: &mut Vec<u8>) -> Result<(), AllocError>
-    ensures { OnOk result (text.new.items ≡ text.old.items ++ flat_map ceph_line edits.now) }
+/// Whether the edit is a `set` of a device that no bucket of the map holds.
+fn sets_unplaced(map: &CrushMap<Global>, edit: &Edit) -> bool
+    ensures { (t : List Row) → Stands map.now.forest t → result ≡ sets_unplaced t edit.now }
+{
+    match edit {
+        Edit::Update { device, .. } => map.parent(ItemId::Device(*device)).is_none(),
+        _ => false,
+    }
+}
+
+/// A `set` as an `add`.
+fn added(edit: Edit) -> Edit
+    ensures { result ≡ added edit }
+{
+    match edit {
+        Edit::Update {
+            device,
+            name,
+            weight,
+            at,
+        } => Edit::Insert {
+            device,
+            name,
+            weight,
+            at,
+        },
+        edit => edit,
+    }
+}
+
+/// The line of an edit, as Ceph is asked for it where its map is this one.
+fn push_told(
+    alloc: Global,
+    map: &CrushMap<Global>,
+    edit: &Edit,
+    text: &mut Vec<u8>,
+) -> Result<(), AllocError>
+    ensures { OnOk result ((t : List Row) → Stands map.now.forest t
+        → text.new.items ≡ text.old.items ++ ceph_line (edit_for_ceph t edit.now)) }
+{
+    if sets_unplaced(map, edit) {
+        let edit = added(edit.try_copy(alloc)?);
+        return push_ceph_line(&edit, text);
+    }
+    push_ceph_line(edit, text)
+}
+
+/// The line of an edit, which is then made on the map that was before it.
+fn push_edit_of(
+    alloc: Global,
+    map: &mut CrushMap<Global>,
+    edit: &Edit,
+    text: &mut Vec<u8>,
+) -> Result<(), AllocError>
+    ensures { OnOk result
+        (AreTold map.old map.new text.old.items text.new.items (edit.now ∷ [])) }
+{
+    push_told(alloc, map, edit, text)?;
+    make_edit(map, edit)
+}
+
+/// The lines of edits, each of the map that the ones before it made.
+fn push_edits(
+    alloc: Global,
+    map: &mut CrushMap<Global>,
+    edits: &[Edit],
+    text: &mut Vec<u8>,
+) -> Result<(), AllocError>
+    ensures { OnOk result (AreTold map.old map.new text.old.items text.new.items edits.now) }
 {
     for edit in edits {
-        push_ceph_line(edit, text)?;
+        push_edit_of(alloc, map, edit, text)?;
     }
     Ok(())
 }
 
-/// The lines of a call's edits.
-fn push_call(call: &Call, text: &mut Vec<u8>) -> Result<(), AllocError>
-    ensures { OnOk result (text.new.items
-        ≡ text.old.items ++ flat_map ceph_line (edits_of call.now)) }
+/// The lines of an entry that changed the map.
+fn push_entry(
+    alloc: Global,
+    map: &mut CrushMap<Global>,
+    entry: &Entry,
+    text: &mut Vec<u8>,
+) -> Result<(), AllocError>
+    ensures { OnOk result
+        (AreTold map.old map.new text.old.items text.new.items (changing_edits entry.now)) }
 {
-    match call {
-        Call::One(edit) => push_ceph_line(edit, text),
-        Call::Batch(edits) => push_lines(edits.as_slice(), text),
-        Call::Guarded { edits, .. } => push_lines(edits.as_slice(), text),
-    }
+    push_edits(alloc, map, changing_edits(entry), text)
 }
 
-/// The lines of an entry that changed the map.
-fn push_changing(entry: &Entry, text: &mut Vec<u8>) -> Result<(), AllocError>
-    ensures { OnOk result (text.new.items
-        ≡ text.old.items ++ flat_map ceph_line (changing_edits entry.now)) }
+/// The lines of a history.
+fn push_entries(
+    alloc: Global,
+    map: &mut CrushMap<Global>,
+    entries: &[Entry],
+    text: &mut Vec<u8>,
+) -> Result<(), AllocError>
+    ensures { OnOk result
+        (AreTold map.old map.new text.old.items text.new.items (history_edits entries.now)) }
 {
-    if !is_change(entry.reply) {
-        return Ok(());
+    for entry in entries {
+        push_entry(alloc, map, entry, text)?;
     }
-    push_call(&entry.call, text)
+    Ok(())
 }
 
 /// How many commands there are: `# N commands`. An `Err` says that memory ran out.
@@ -127,17 +190,25 @@ pub fn push_ceph_heading(count: u64, text: &mut Vec<u8>) -> Result<(), AllocErro
 /// The commands that changed the map, as lines for a shell: first `# N commands`, then for each
 /// `ceph osd crush ` and the command as a history line has it, in the order of the history.
 ///
-/// A batch that changed the map shows as all of its edits, one that was refused or changed nothing
-/// as none. A swap ends in ` --yes-i-really-mean-it`, which Ceph asks for where the buckets stand
-/// apart. An `Err` says that memory ran out.
-pub fn ceph_text(alloc: Global, entries: &[Entry]) -> Result<Vec<u8>, AllocError>
+/// A `set` of a device that no bucket held before it is told as `add`: Ceph's `set` refuses a device
+/// that its map doesn't hold, and its `add` gives one that is held a second place. A batch that
+/// changed the map shows as all of its edits, one that was refused or changed nothing as none. A
+/// swap ends in ` --yes-i-really-mean-it`, which Ceph asks for where the buckets stand apart.
+///
+/// The commands are made once more, on the map as it was before the first of them, which is used up.
+/// There are fewer than 2^32 entries. An `Err` says that memory ran out.
+pub fn ceph_text(
+    alloc: Global,
+    opening: CrushMap<Global>,
+    entries: &[Entry],
+) -> Result<Vec<u8>, AllocError>
     requires { length entries.now < 2 ^ 32 }
-    ensures { IfOk result (λ text. text.items ≡ ceph_text entries.now) }
+    ensures { IfOk result (λ text. (t : List Row) → Stands opening.forest t
+        → text.items ≡ ceph_text opening.setting t entries.now) }
 {
+    let mut map = opening;
     let mut text = Vec::new(alloc);
     push_ceph_heading(count_told(entries), &mut text)?;
-    for entry in entries {
-        push_changing(entry, &mut text)?;
-    }
+    push_entries(alloc, &mut map, entries, &mut text)?;
     Ok(text)
 }

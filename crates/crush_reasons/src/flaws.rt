@@ -9,7 +9,7 @@ ghost use Rattle.crush_reasons.specs.Place.{origin_data};
 use crate::forms::form_of;
 use crate::place::{Origin, behind_feed, last_line};
 use crate::sentences::text_sentence;
-use crate::wanted::{First, Going, InBucket, InRule, InStep, Wanted, going_at};
+use crate::wanted::{Going, InBucket, InLine, InRule, InStep, Wanted, going_at};
 use crate::words::{from_place, next_placed, push_all, push_bytes, up_to};
 use crush_bytes::Reader;
 use crush_text::{TextFault, TextFaultKind};
@@ -96,18 +96,18 @@ fn is_open(wanted: Wanted) -> bool
 }
 
 /// Which words are wanted in a tunable, a type or a device.
-fn line_wanted(at: First) -> &'static str
+fn line_wanted(at: InLine) -> &'static str
     ensures { result.now ≡ line_wanted at }
 {
     match at {
-        First::TunableName => "a name",
-        First::TunableNumber => "a number",
-        First::TypeNumber => "a number",
-        First::TypeName => "a name that begins no statement",
-        First::DeviceId => "a number",
-        First::DeviceName => "a name",
-        First::DeviceEnd => "class, tunable, device, type, rule or a type's name",
-        First::DeviceClass => "a class",
+        InLine::TunableName => "a name",
+        InLine::TunableNumber => "a number",
+        InLine::TypeNumber => "a number",
+        InLine::TypeName => "a name that begins no statement",
+        InLine::DeviceId => "a number",
+        InLine::DeviceName => "a name",
+        InLine::DeviceEnd => "class, tunable, device, type, rule or a type's name",
+        InLine::DeviceClass => "a class",
     }
 }
 
@@ -191,8 +191,8 @@ fn range_text(wanted: Wanted) -> &'static str
     ensures { result.now ≡ range_text wanted }
 {
     match wanted {
-        Wanted::Line(First::TunableNumber) => "0 to 4294967295",
-        Wanted::Line(First::TypeNumber) => "0 to 65535",
+        Wanted::Line(InLine::TunableNumber) => "0 to 4294967295",
+        Wanted::Line(InLine::TypeNumber) => "0 to 65535",
         Wanted::Line(_) => "0 to 2147483647",
         Wanted::Bucket(InBucket::Hash) => "0",
         Wanted::Bucket(_) => "-1 to -2147483648",

@@ -10,7 +10,7 @@ use crush_bytes::Reader;
 
 /// A word of a tunable, a type or a device.
 #[derive(Clone, Copy)]
-pub(crate) enum First {
+pub(crate) enum InLine {
     TunableName,
     TunableNumber,
     TypeNumber,
@@ -77,7 +77,7 @@ pub(crate) enum InStep {
 pub(crate) enum Wanted {
     Early,
     Late,
-    Line(First),
+    Line(InLine),
     Bucket(InBucket),
     Rule(InRule),
     Step(InStep),
@@ -89,11 +89,11 @@ fn opened(word: &[u8]) -> Wanted
     ensures { result ≡ opened word.now }
 {
     if word == b"tunable".as_slice() {
-        Wanted::Line(First::TunableName)
+        Wanted::Line(InLine::TunableName)
     } else if word == b"type".as_slice() {
-        Wanted::Line(First::TypeNumber)
+        Wanted::Line(InLine::TypeNumber)
     } else if word == b"device".as_slice() {
-        Wanted::Line(First::DeviceId)
+        Wanted::Line(InLine::DeviceId)
     } else if word == b"rule".as_slice() {
         Wanted::Rule(InRule::Name)
     } else {
@@ -102,24 +102,24 @@ fn opened(word: &[u8]) -> Wanted
 }
 
 /// Behind a word of a tunable, a type or a device.
-fn in_line(at: First, word: &[u8]) -> Wanted
+fn in_line(at: InLine, word: &[u8]) -> Wanted
     ensures { result ≡ in_line at word.now }
 {
     match at {
-        First::TunableName => Wanted::Line(First::TunableNumber),
-        First::TunableNumber => Wanted::Early,
-        First::TypeNumber => Wanted::Line(First::TypeName),
-        First::TypeName => Wanted::Early,
-        First::DeviceId => Wanted::Line(First::DeviceName),
-        First::DeviceName => Wanted::Line(First::DeviceEnd),
-        First::DeviceEnd => {
+        InLine::TunableName => Wanted::Line(InLine::TunableNumber),
+        InLine::TunableNumber => Wanted::Early,
+        InLine::TypeNumber => Wanted::Line(InLine::TypeName),
+        InLine::TypeName => Wanted::Early,
+        InLine::DeviceId => Wanted::Line(InLine::DeviceName),
+        InLine::DeviceName => Wanted::Line(InLine::DeviceEnd),
+        InLine::DeviceEnd => {
             if word == b"class".as_slice() {
-                Wanted::Line(First::DeviceClass)
+                Wanted::Line(InLine::DeviceClass)
             } else {
                 opened(word)
             }
         }
-        First::DeviceClass => Wanted::Early,
+        InLine::DeviceClass => Wanted::Early,
     }
 }
 
@@ -295,11 +295,11 @@ impl Wanted {
 }
 
 /// Whether a word that is right behind a tunable, a type or a device begins a statement.
-fn begins_line(at: First, word: &[u8]) -> bool
+fn begins_line(at: InLine, word: &[u8]) -> bool
     ensures { result ≡ begins_line at word.now }
 {
     match at {
-        First::DeviceEnd => word != b"class".as_slice(),
+        InLine::DeviceEnd => word != b"class".as_slice(),
         _ => false,
     }
 }

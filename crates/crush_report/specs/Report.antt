@@ -45,6 +45,10 @@ job_fault OutOfMemory = out_of_memory
 abbrev pub refused_line : ℕ → List ℕ
 refused_line count = codes "crushedit: refused " ++ decimal count ++ codes "\n"
 
+-- how many calls made buckets unasked in a run that was to make none
+abbrev pub made_line : ℕ → List ℕ
+made_line count = codes "crushedit: made " ++ decimal count ++ codes "\n"
+
 -- how many differences stay behind the plan of a strict run
 abbrev pub differs_line : ℕ → List ℕ
 differs_line count = codes "crushedit: differs " ++ decimal count ++ codes "\n"
@@ -72,6 +76,7 @@ run_fault run.Write = codes "crushedit: write fault\n"
 run_fault run.Memory = out_of_memory
 run_fault run.Thread = codes "crushedit: no thread\n"
 run_fault (run.Refused count) = refused_line count
+run_fault (run.Made count) = made_line count
 run_fault (run.Differs count) = differs_line count
 run_fault (run.Other which f) = other_fault which f
 
@@ -104,6 +109,7 @@ fault_reason run.Write = codes "  standard output took less than the whole: what
 fault_reason run.Memory = memory_reason
 fault_reason run.Thread = codes "  the system started no thread for an operator: --in-turn wants none\n"
 fault_reason (run.Refused count) = []
+fault_reason (run.Made count) = []
 fault_reason (run.Differs count) = []
 fault_reason (run.Other which f) = other_reason which f
 
@@ -131,11 +137,13 @@ fault_status run.Write = 3
 fault_status run.Memory = 4
 fault_status run.Thread = 4
 fault_status (run.Refused count) = 5
+fault_status (run.Made count) = 5
 fault_status (run.Differs count) = 5
 fault_status (run.Other which f) = other_status f
 
--- 0 where the run was done, 1 for what is no job or no map, 3 where reading or writing failed, 4 out of memory or without a thread, 5 where
--- calls of a strict run were refused, or differences stay behind its plan
+-- STATUS: 0 where the run was done, and 6 where there is something to tell that the status is to tell; 1 for what is no job or no map, 3
+-- where reading or writing failed, 4 out of memory or without a thread, 5 where calls of a strict run were refused, or differences stay
+-- behind its plan, or where buckets were made that were not to be
 abbrev pub status : Result Summary RunFault → ℕ
-status (Ok s) = 0
+status (Ok s) = if s.differs then 6 else 0
 status (Err f) = fault_status f

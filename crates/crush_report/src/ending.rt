@@ -3,7 +3,7 @@
 ghost use Rattle.std.specs.Prelude.{◌≡◌, ◌++◌, [], codes, if◌then◌else◌};
 ghost use Rattle.crush_bytes.specs.Writes.{Writes, AppendsPrefix};
 ghost use Rattle.crush_report.specs.OptionsReport.{IsHelpWhole, IsOptionsStatus, options_error, options_output};
-ghost use Rattle.crush_report.specs.Report.{adjusted_line, fault_reason, line_fault, text_fault, job_fault, outcome_reason, run_fault, refused_line, report_line, report_lines, report_text, status};
+ghost use Rattle.crush_report.specs.Report.{adjusted_line, fault_reason, line_fault, text_fault, job_fault, made_line, outcome_reason, run_fault, refused_line, report_line, report_lines, report_text, status};
 ghost use Rattle.crush_report.specs.Report.{differs_line, long_reason, map_word, other_fault, other_reason, other_status, other_text_fault, unread_reason};
 
 use crush_bytes::{WriteFault, put, put_all};
@@ -152,6 +152,7 @@ fn write_run_fault<E: Write>(fault: RunFault, err: &mut E) -> Result<(), WriteFa
         RunFault::Memory => put(err, OUT_OF_MEMORY),
         RunFault::Thread => put(err, b"crushedit: no thread\n"),
         RunFault::Refused(count) => write_refused(count, err),
+        RunFault::Made(count) => write_made(count, err),
         RunFault::Differs(count) => write_differs(count, err),
         RunFault::Other(which, fault) => write_other_fault(which, fault, err),
     }
@@ -167,6 +168,19 @@ fn write_refused<E: Write>(count: u32, err: &mut E) -> Result<(), WriteFault>
     put_all(
         err,
         &[b"crushedit: refused ".as_slice(), count, b"\n".as_slice()],
+    )
+}
+
+/// Writes how many calls made buckets unasked in a run that was to make none.
+fn write_made<E: Write>(count: usize, err: &mut E) -> Result<(), WriteFault>
+    ensures { Writes result (E.contents err.old) (E.contents err.new)
+        (made_line count) }
+{
+    let mut buffer = Buffer::new();
+    let count = buffer.format(count).as_bytes();
+    put_all(
+        err,
+        &[b"crushedit: made ".as_slice(), count, b"\n".as_slice()],
     )
 }
 
@@ -270,7 +284,7 @@ fn fault_reason(fault: RunFault) -> &'static [u8]
         RunFault::Memory => MEMORY_REASON,
         RunFault::Thread =>
             b"  the system started no thread for an operator: --in-turn wants none\n",
-        RunFault::Refused(_) | RunFault::Differs(_) => b"",
+        RunFault::Refused(_) | RunFault::Made(_) | RunFault::Differs(_) => b"",
         RunFault::Other(which, fault) => other_reason(which, fault),
     }
 }
@@ -346,9 +360,10 @@ fn status_of(outcome: &Result<Summary, RunFault>) -> u8
     ensures { result ≡ status outcome.now }
 {
     match outcome {
+        Ok(summary) if summary.differs => 6,
         Ok(_) => 0,
         Err(RunFault::Memory | RunFault::Thread) => 4,
-        Err(RunFault::Refused(_) | RunFault::Differs(_)) => 5,
+        Err(RunFault::Refused(_) | RunFault::Made(_) | RunFault::Differs(_)) => 5,
         Err(RunFault::Job(fault)) if fault.lacks_memory() => 4,
         Err(RunFault::Job(_)) => 1,
         Err(RunFault::Other(_, fault)) => other_status(*fault),
@@ -371,12 +386,14 @@ pub struct Told {
 /// | Status | When | Line |
 /// |---|---|---|
 /// | 0 | the run was done | `crushedit: adjusted N` where N written weights of bucket items were replaced, else none |
+/// | 6 | the same, and there is something to tell, where the status is to tell it | the same |
 /// | 1 | the input is no job | `crushedit: line L: NAME`, `crushedit: byte P: NAME` or `crushedit: TooLong` |
 /// | 1 | the map of `--since` or `--to` is none | the same behind `crushedit: since: ` or `crushedit: to: ` |
 /// | 3 | reading or writing failed | `crushedit: read fault`, `crushedit: since: read fault`, `crushedit: to: read fault`, `crushedit: write fault` |
 /// | 4 | a growth was refused, whatever the fault that says so | `crushedit: out of memory` |
 /// | 4 | a worker couldn't be started | `crushedit: no thread` |
 /// | 5 | calls of a strict run were refused | `crushedit: refused N`, and their lines in the notes |
+/// | 5 | calls made buckets unasked in a run that was to make none | `crushedit: made N`, and their lines in the notes |
 /// | 5 | differences stay behind the plan of a strict run | `crushedit: differs N`, and their lines in the notes |
 ///
 /// Where writing fails, the answer says so: a prefix of all that stands there, never the whole, and the

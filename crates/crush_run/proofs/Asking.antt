@@ -28,6 +28,7 @@ early_of_map why all run.Write h = absurd h
 early_of_map why all run.Memory h = tt
 early_of_map why all run.Thread h = absurd h
 early_of_map why all (run.Refused n) h = absurd h
+early_of_map why all (run.Made n) h = absurd h
 early_of_map why all (run.Differs n) h = absurd h
 early_of_map why all (run.Other w s) h = tt
 
@@ -35,6 +36,7 @@ pub early_of_asked : (content : List ℕ → Option (List ℕ)) (what : Printed)
 early_of_asked content printed.Map f h = absurd h
 early_of_asked content printed.Tree f h = absurd h
 early_of_asked content (printed.Since name) f h = early_of_map beside.Since (content name.bytes.items) f h
+early_of_asked content (printed.Changes name) f h = early_of_map beside.Since (content name.bytes.items) f h
 early_of_asked content printed.AsCeph f h = absurd h
 early_of_asked content (printed.To words) f h = early_of_map beside.To (content words.map.bytes.items) f h
 
@@ -46,6 +48,7 @@ ended_before content options bytes job run.Write old new notes early = absurd ea
 ended_before content options bytes job run.Memory old new notes early = tt
 ended_before content options bytes job run.Thread old new notes early = tt
 ended_before content options bytes job (run.Refused n) old new notes early = absurd early
+ended_before content options bytes job (run.Made n) old new notes early = absurd early
 ended_before content options bytes job (run.Differs n) old new notes early = absurd early
 ended_before content options bytes job (run.Other w s) old new notes early = tt
 
@@ -63,6 +66,7 @@ ended content options what bytes job (Err run.Write) old new notes is ends = rec
 ended content options what bytes job (Err run.Memory) old new notes is ends = tt
 ended content options what bytes job (Err run.Thread) old new notes is ends = tt
 ended content options what bytes job (Err (run.Refused n)) old new notes is ends = record { what = what; asked = is; ends = ends }
+ended content options what bytes job (Err (run.Made n)) old new notes is ends = record { what = what; asked = is; ends = ends }
 ended content options what bytes job (Err (run.Differs n)) old new notes is ends = record { what = what; asked = is; ends = ends }
 ended content options what bytes job (Err (run.Other w s)) old new notes is ends = tt
 
@@ -79,6 +83,7 @@ options_fault_of_read content options all run.Write h = absurd h
 options_fault_of_read content options all run.Memory h = tt
 options_fault_of_read content options all run.Thread h = absurd h
 options_fault_of_read content options all (run.Refused n) h = absurd h
+options_fault_of_read content options all (run.Made n) h = absurd h
 options_fault_of_read content options all (run.Differs n) h = absurd h
 options_fault_of_read content options all (run.Other w s) h = absurd h
 
@@ -89,6 +94,7 @@ fault_of_map content options why all own run.Write has asked h = absurd h
 fault_of_map content options why all own run.Memory has asked h = tt
 fault_of_map content options why all own run.Thread has asked h = absurd h
 fault_of_map content options why all own (run.Refused n) has asked h = absurd h
+fault_of_map content options why all own (run.Made n) has asked h = absurd h
 fault_of_map content options why all own (run.Differs n) has asked h = absurd h
 fault_of_map content options why all own (run.Other w s) has asked h = (has, asked)
 
@@ -97,6 +103,7 @@ asked_is_map : (content : List ℕ → Option (List ℕ)) (what : Printed) (f : 
 asked_is_map content printed.Map f h = absurd h
 asked_is_map content printed.Tree f h = absurd h
 asked_is_map content (printed.Since name) f h = (beside.Since, content name.bytes.items, h)
+asked_is_map content (printed.Changes name) f h = (beside.Since, content name.bytes.items, h)
 asked_is_map content printed.AsCeph f h = absurd h
 asked_is_map content (printed.To words) f h = (beside.To, content words.map.bytes.items, h)
 
@@ -114,6 +121,7 @@ options_fault_of_outcome content options all (Err run.Write) has h = has
 options_fault_of_outcome content options all (Err run.Memory) has h = tt
 options_fault_of_outcome content options all (Err run.Thread) has h = (h, has)
 options_fault_of_outcome content options all (Err (run.Refused n)) has h = (h, has)
+options_fault_of_outcome content options all (Err (run.Made n)) has h = (h, has)
 options_fault_of_outcome content options all (Err (run.Differs n)) has h = (h, has)
 options_fault_of_outcome content options all (Err (run.Other w s)) has h = absurd h
 
@@ -132,6 +140,7 @@ ending_as_asked content options input (Err run.Write) notes h told = told
 ending_as_asked content options input (Err run.Memory) notes h told = told
 ending_as_asked content options input (Err run.Thread) notes h told = told
 ending_as_asked content options input (Err (run.Refused n)) notes h told = told
+ending_as_asked content options input (Err (run.Made n)) notes h told = told
 ending_as_asked content options input (Err (run.Differs n)) notes h told = told
 ending_as_asked content options input (Err (run.Other w s)) notes h told = absurd h
 
@@ -144,6 +153,7 @@ noted_of_map content options why input own name run.Write notes may told asked =
 noted_of_map content options why input own name run.Memory notes may told asked = told
 noted_of_map content options why input own name run.Thread notes may told asked = absurd may
 noted_of_map content options why input own name (run.Refused n) notes may told asked = absurd may
+noted_of_map content options why input own name (run.Made n) notes may told asked = absurd may
 noted_of_map content options why input own name (run.Differs n) notes may told asked = absurd may
 noted_of_map content options why input own name (run.Other w s) notes may told asked = asked
 
@@ -152,6 +162,7 @@ asked_is_noted : (content : List ℕ → Option (List ℕ)) (explain : Bool) (wh
 asked_is_noted content explain printed.Map f notes h told = absurd h
 asked_is_noted content explain printed.Tree f notes h told = absurd h
 asked_is_noted content explain (printed.Since name) f notes h told = (beside.Since, content name.bytes.items, name.bytes.items, h, told)
+asked_is_noted content explain (printed.Changes name) f notes h told = (beside.Since, content name.bytes.items, name.bytes.items, h, told)
 asked_is_noted content explain printed.AsCeph f notes h told = absurd h
 asked_is_noted content explain (printed.To words) f notes h told = (beside.To, content words.map.bytes.items, words.map.bytes.items, h, told)
 

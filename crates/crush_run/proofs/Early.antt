@@ -1,10 +1,12 @@
 -- Faults that come before there is a history, and what is noted of them.
 use Rattle.std.proofs.Common.{◌≡◌, ℕ, Bool, List, [], Option, Result, Err}
+use Rattle.crush_table.specs.Table.{Row}
+use Rattle.crush_edits.specs.Setting.{SettingData}
 use Rattle.crush_calls.specs.History.{EntryData}
 use Rattle.crush_options.specs.declared.asked.Mode.{Mode}
 use Rattle.crush_input.specs.declared.fault.RunFault.{RunFault}
 use Rattle.crush_input.specs.declared.fault.RunFault.TheVariants as run
-use Rattle.crush_input.specs.Notes.{HistoryNoted, IsFaultNoted, IsNoted, IsStrict}
+use Rattle.crush_input.specs.Notes.{HistoryNoted, IsFaultNoted, IsNoMake, IsNoted, IsStrict}
 use Rattle.crush_reasons.specs.Place.{OriginData}
 use Rattle.crush_run.specs.Planned.{IsWhole}
 use Rattle.crush_run.specs.Stages.{IsEarlyFault, IsScriptsFault}
@@ -18,11 +20,27 @@ strict_of_early X strict h run.Write early = absurd early
 strict_of_early X strict h run.Memory early = tt
 strict_of_early X strict h run.Thread early = tt
 strict_of_early X strict h (run.Refused n) early = absurd early
+strict_of_early X strict h (run.Made n) early = absurd early
 strict_of_early X strict h (run.Differs n) early = absurd early
 strict_of_early X strict h (run.Other w s) early = tt
 
 pub early_strict : {X : Type 0} (strict : Bool) (h : List EntryData) (r : Result X RunFault) (f : RunFault) → r ≡ Err f → IsEarlyFault f → IsStrict strict h r
 early_strict {X = X} strict h r f is early = rw is (strict_of_early X strict h f early)
+
+-- nor is one of buckets that were made
+make_of_early : (X : Type 0) (no_make : Bool) (h : List EntryData) (f : RunFault) → IsEarlyFault f → IsNoMake {X = X} no_make h (Err f)
+make_of_early X no_make h (run.Job j) early = tt
+make_of_early X no_make h run.Read early = tt
+make_of_early X no_make h run.Write early = absurd early
+make_of_early X no_make h run.Memory early = tt
+make_of_early X no_make h run.Thread early = tt
+make_of_early X no_make h (run.Refused n) early = absurd early
+make_of_early X no_make h (run.Made n) early = absurd early
+make_of_early X no_make h (run.Differs n) early = absurd early
+make_of_early X no_make h (run.Other w s) early = tt
+
+pub early_make : {X : Type 0} (no_make : Bool) (h : List EntryData) (r : Result X RunFault) (f : RunFault) → r ≡ Err f → IsEarlyFault f → IsNoMake no_make h r
+early_make {X = X} no_make h r f is early = rw is (make_of_early X no_make h f early)
 
 -- nor is one of what stays behind a plan
 whole_of_early : (X : Type 0) (strict : Bool) (rest : List ℕ) (f : RunFault) → IsEarlyFault f → IsWhole {X = X} strict rest (Err f)
@@ -32,6 +50,7 @@ whole_of_early X strict rest run.Write early = absurd early
 whole_of_early X strict rest run.Memory early = tt
 whole_of_early X strict rest run.Thread early = tt
 whole_of_early X strict rest (run.Refused n) early = absurd early
+whole_of_early X strict rest (run.Made n) early = absurd early
 whole_of_early X strict rest (run.Differs n) early = absurd early
 whole_of_early X strict rest (run.Other w s) early = tt
 
@@ -39,18 +58,19 @@ pub early_whole : {X : Type 0} (strict : Bool) (rest : List ℕ) (r : Result X R
 early_whole {X = X} strict rest r f is early = rw is (whole_of_early X strict rest f early)
 
 -- nor is anything of a history noted
-told_of_early : (X : Type 0) (mode : Mode) (weights : List ℕ) (names : List (List ℕ)) (h : List EntryData) (rest : List ℕ) (f : RunFault) (notes : List ℕ) → IsEarlyFault f → HistoryNoted {X = X} mode weights names h rest (Err f) notes
-told_of_early X mode weights names h rest (run.Job j) notes early = tt
-told_of_early X mode weights names h rest run.Read notes early = tt
-told_of_early X mode weights names h rest run.Write notes early = absurd early
-told_of_early X mode weights names h rest run.Memory notes early = tt
-told_of_early X mode weights names h rest run.Thread notes early = tt
-told_of_early X mode weights names h rest (run.Refused n) notes early = absurd early
-told_of_early X mode weights names h rest (run.Differs n) notes early = absurd early
-told_of_early X mode weights names h rest (run.Other w s) notes early = tt
+told_of_early : (X : Type 0) (mode : Mode) (weights : List ℕ) (s : SettingData) (t : List Row) (names : List (List ℕ)) (h : List EntryData) (rest : List ℕ) (f : RunFault) (notes : List ℕ) → IsEarlyFault f → HistoryNoted {X = X} mode weights s t names h rest (Err f) notes
+told_of_early X mode weights s t names h rest (run.Job j) notes early = tt
+told_of_early X mode weights s t names h rest run.Read notes early = tt
+told_of_early X mode weights s t names h rest run.Write notes early = absurd early
+told_of_early X mode weights s t names h rest run.Memory notes early = tt
+told_of_early X mode weights s t names h rest run.Thread notes early = tt
+told_of_early X mode weights s t names h rest (run.Refused n) notes early = absurd early
+told_of_early X mode weights s t names h rest (run.Made n) notes early = absurd early
+told_of_early X mode weights s t names h rest (run.Differs n) notes early = absurd early
+told_of_early X mode weights s t names h rest (run.Other w o) notes early = tt
 
-pub early_told : {X : Type 0} (mode : Mode) (weights : List ℕ) (names : List (List ℕ)) (h : List EntryData) (rest : List ℕ) (r : Result X RunFault) (f : RunFault) (notes : List ℕ) → r ≡ Err f → IsEarlyFault f → HistoryNoted mode weights names h rest r notes
-early_told {X = X} mode weights names h rest r f notes is early = rw is (told_of_early X mode weights names h rest f notes early)
+pub early_told : {X : Type 0} (mode : Mode) (weights : List ℕ) (s : SettingData) (t : List Row) (names : List (List ℕ)) (h : List EntryData) (rest : List ℕ) (r : Result X RunFault) (f : RunFault) (notes : List ℕ) → r ≡ Err f → IsEarlyFault f → HistoryNoted mode weights s t names h rest r notes
+early_told {X = X} mode weights s t names h rest r f notes is early = rw is (told_of_early X mode weights s t names h rest f notes early)
 
 -- of a reader's fault, and of the scripts', nothing is noted
 noted_of_input : (explain : Bool) (origin : ℕ → OriginData) (all : Option (List ℕ)) (f : RunFault) (notes : List ℕ) → IsInputFault f → notes ≡ [] → IsFaultNoted explain origin all f notes
@@ -60,6 +80,7 @@ noted_of_input explain origin all run.Write notes h none = absurd h
 noted_of_input explain origin all run.Memory notes h none = none
 noted_of_input explain origin all run.Thread notes h none = absurd h
 noted_of_input explain origin all (run.Refused n) notes h none = absurd h
+noted_of_input explain origin all (run.Made n) notes h none = absurd h
 noted_of_input explain origin all (run.Differs n) notes h none = absurd h
 noted_of_input explain origin all (run.Other w s) notes h none = absurd h
 
@@ -73,6 +94,7 @@ noted_of_scripts explain in_turn origin all run.Write notes h none = absurd h
 noted_of_scripts explain in_turn origin all run.Memory notes h none = none
 noted_of_scripts explain in_turn origin all run.Thread notes h none = none
 noted_of_scripts explain in_turn origin all (run.Refused n) notes h none = absurd h
+noted_of_scripts explain in_turn origin all (run.Made n) notes h none = absurd h
 noted_of_scripts explain in_turn origin all (run.Differs n) notes h none = absurd h
 noted_of_scripts explain in_turn origin all (run.Other w s) notes h none = absurd h
 
@@ -87,6 +109,7 @@ early_of_input run.Write h = absurd h
 early_of_input run.Memory h = tt
 early_of_input run.Thread h = absurd h
 early_of_input (run.Refused n) h = absurd h
+early_of_input (run.Made n) h = absurd h
 early_of_input (run.Differs n) h = absurd h
 early_of_input (run.Other w s) h = absurd h
 
@@ -97,6 +120,7 @@ early_of_scripts in_turn run.Write h = absurd h
 early_of_scripts in_turn run.Memory h = tt
 early_of_scripts in_turn run.Thread h = tt
 early_of_scripts in_turn (run.Refused n) h = absurd h
+early_of_scripts in_turn (run.Made n) h = absurd h
 early_of_scripts in_turn (run.Differs n) h = absurd h
 early_of_scripts in_turn (run.Other w s) h = absurd h
 
@@ -107,6 +131,7 @@ early_of_no_job all run.Write h = absurd h
 early_of_no_job all run.Memory h = tt
 early_of_no_job all run.Thread h = absurd h
 early_of_no_job all (run.Refused n) h = absurd h
+early_of_no_job all (run.Made n) h = absurd h
 early_of_no_job all (run.Differs n) h = absurd h
 early_of_no_job all (run.Other w s) h = absurd h
 
@@ -117,5 +142,6 @@ early_of_read all run.Write h = absurd h
 early_of_read all run.Memory h = tt
 early_of_read all run.Thread h = absurd h
 early_of_read all (run.Refused n) h = absurd h
+early_of_read all (run.Made n) h = absurd h
 early_of_read all (run.Differs n) h = absurd h
 early_of_read all (run.Other w s) h = absurd h

@@ -28,7 +28,7 @@ without old new = record {
 without_is_plan : (old new : Told) → IsPlan old new (without old new)
 unfolding without
 without_is_plan old new = record {
-  goes = record { table = old.table; leads = refl; stays = record { rest = refl; aside = record { ids = refl; class_ids = refl } } };
+  goes = record { table = old.table; leads = refl; tells = record { rest = refl; aside = record { ids = refl; class_ids = refl } } };
   better = inl refl;
 }
 
@@ -37,6 +37,7 @@ pub some_plan : Asked → SettingData → List Row → PlanData
 some_plan asked.Map s t = record { edits = []; rest = []; aside = record { ids = 0; class_ids = 0 } }
 some_plan asked.Tree s t = record { edits = []; rest = []; aside = record { ids = 0; class_ids = 0 } }
 some_plan (asked.Since m) s t = record { edits = []; rest = []; aside = record { ids = 0; class_ids = 0 } }
+some_plan (asked.Changes m) s t = record { edits = []; rest = []; aside = record { ids = 0; class_ids = 0 } }
 some_plan asked.AsCeph s t = record { edits = []; rest = []; aside = record { ids = 0; class_ids = 0 } }
 some_plan (asked.To w) s t = without (told s t) (told w.map.setting (rows_of w.map.forest))
 
@@ -45,6 +46,7 @@ unfolding some_plan
 some_plan_is asked.Map s t = refl
 some_plan_is asked.Tree s t = refl
 some_plan_is (asked.Since m) s t = refl
+some_plan_is (asked.Changes m) s t = refl
 some_plan_is asked.AsCeph s t = refl
 some_plan_is (asked.To w) s t = without_is_plan (told s t) (told w.map.setting (rows_of w.map.forest))
 

@@ -1,7 +1,9 @@
 -- Runs of a job: in turn, at once, and where nothing came of one.
-use Rattle.std.proofs.Common.{◌≡◌, ℕ, zero, suc, ◌<◌, ◌≤◌, ◌==◌, Bool, true, false, List, [], ◌∷◌, ◌++◌, Option, Result, Err, length, nat_lt, refl, sym, ap, subst, ◌∙◌, arith, rules, tests}
+use Rattle.std.proofs.Common.{◌≡◌, ℕ, zero, suc, ◌<◌, ◌≤◌, ◌==◌, Bool, true, false, ◌&&◌, List, [], ◌∷◌, ◌++◌, Option, None, Some, Result, Ok, Err, length, nat_lt, refl, sym, ap, subst, ◌∙◌, arith, rules, tests}
 use Rattle.std.proofs.lemmas.List.{length-append, length-map}
 use Rattle.std.proofs.lemmas.List.Elements.{All-nil, All-cons}
+use Rattle.std.proofs.lemmas.Result.{IfOk-weaker}
+use Rattle.std.specs.Prelude.{IfOk, IfSome, is_some}
 use Rattle.crush_bytes.specs.Writes.{Writes}
 use Rattle.crush_table.specs.Forest.{rows_of}
 use Rattle.crush_table.specs.Stands.{Stands}
@@ -18,6 +20,7 @@ use Rattle.crush_calls.specs.HistoryText.{names_of}
 use Rattle.crush_print.proofs.SameText.{map_text_is_some}
 use Rattle.crush_reasons.specs.Ceph.{ceph_heading, ceph_text}
 use Rattle.crush_view.specs.Since.{told}
+use Rattle.crush_view.proofs.ChangeTextLaws.{changes_text_is_some}
 use Rattle.crush_view.proofs.PartLaws.{since_text_is_some}
 use Rattle.crush_view.proofs.WalkLaws.{tree_text_is_some}
 use Rattle.crush_calls.proofs.Histories.{turns_are_history}
@@ -29,12 +32,18 @@ use Rattle.crush_input.specs.declared.summary.Summary.{Summary}
 use Rattle.crush_script.specs.Job.{JobData}
 use Rattle.crush_plan.specs.Plan.{PlanData}
 use Rattle.crush_run.specs.Planned.{IsPlanned, plan_words}
-use Rattle.crush_run.specs.Run.{Ends, IsRunOf, lines_asked, main_text, output_of}
-use Rattle.crush_input.specs.Notes.{weight_notes}
-use Rattle.crush_run.specs.Stages.{EndsLeft, HaveRun, IsEarlyFault, RunsScripts}
-use Rattle.crush_run.proofs.Early.{early_strict, early_told, early_whole}
+use Rattle.crush_run.specs.Run.{Ends, IsRunOf, differs_of, lines_asked, main_text, output_of, summed}
+use Rattle.crush_input.specs.Notes.{HistoryNoted, weight_notes}
+use Rattle.crush_run.specs.Stages.{EndsLeft, HaveRun, IsEarlyFault, IsOpening, RunsScripts, needs_opening}
+use Rattle.crush_run.proofs.Early.{early_make, early_strict, early_told, early_whole}
 use Rattle.crush_run.proofs.Plans.{plan_text_is_some, some_plan, some_plan_is}
 use Rattle.crush_run.proofs.Told.{nothing_written}
+
+-- a copy of a map stands for what the map stands for
+pub copy_stands : {E : Type 0} (m : MapData) (r : Result MapData E) → IfOk r (λ copy. copy.setting ≡ m.setting) → IfOk r (λ copy. (t : List Row) → Stands m.forest t → Stands copy.forest t)
+    → IfOk r (λ copy. (s : SettingData) (t : List Row) → MapStands m s t → MapStands copy s t)
+copy_stands m (Ok copy) same stands = λ s t is. record { setting = same ∙ is.setting; forest = stands t is.forest }
+copy_stands m (Err e) same stands = tt
 
 -- the turns of the scripts are a run, in turn and at once
 pub turns_run : (in_turn : Bool) (job : JobData) → IsRunOf in_turn job (turns job.setting job.table job.scripts)
@@ -106,22 +115,23 @@ pub entries_of_scripts : (scripts : List Script) (h : List EntryData) → ((k : 
 entries_of_scripts scripts h calls = entries_below (length scripts) h (λ k past. calls k ∙ no_calls (scripts_data scripts) k (omega (arith, past, length-map scripts script_data)))
 
 -- the commands of a history have a heading
-pub ceph_text_is_some : (h : List EntryData) → 0 < length (ceph_text h)
+pub ceph_text_is_some : (s : SettingData) (t : List Row) (h : List EntryData) → 0 < length (ceph_text s t h)
 unfolding ceph_text ceph_heading
-ceph_text_is_some h = omega arith
+ceph_text_is_some s t h = omega arith
 
 -- whatever is asked for, its text isn't empty
-pub main_text_is_some : (asked : Asked) (plan : PlanData) (s : SettingData) (t : List Row) (h : List EntryData) → 0 < length (main_text asked plan s t h)
-main_text_is_some asked.Map plan s t h = map_text_is_some s t
-main_text_is_some asked.Tree plan s t h = tree_text_is_some s t
-main_text_is_some (asked.Since m) plan s t h = since_text_is_some (told m.setting (rows_of m.forest)) (told s t)
-main_text_is_some asked.AsCeph plan s t h = ceph_text_is_some h
-main_text_is_some (asked.To w) plan s t h = plan_text_is_some (plan_words w.as_ceph) plan
+pub main_text_is_some : (asked : Asked) (plan : PlanData) (s : SettingData) (o t : List Row) (h : List EntryData) → 0 < length (main_text asked plan s o t h)
+main_text_is_some asked.Map plan s o t h = map_text_is_some s t
+main_text_is_some asked.Tree plan s o t h = tree_text_is_some s t
+main_text_is_some (asked.Since m) plan s o t h = since_text_is_some (told m.setting (rows_of m.forest)) (told s t)
+main_text_is_some (asked.Changes m) plan s o t h = changes_text_is_some (told m.setting (rows_of m.forest)) (told s t)
+main_text_is_some asked.AsCeph plan s o t h = ceph_text_is_some s o h
+main_text_is_some (asked.To w) plan s o t h = plan_text_is_some (plan_words w.as_ceph) plan
 
 -- so no output is empty
 output_is_some : (asked : Asked) (plan : PlanData) (history : Bool) (job : JobData) (h : List EntryData) → 0 < length (output_of asked plan history job h)
 output_is_some asked plan history job h =
-    let some = main_text_is_some asked plan job.setting (table_after job.setting job.table h) h in
+    let some = main_text_is_some asked plan job.setting job.table (table_after job.setting job.table h) h in
     simp length-append (omega (arith, some))
 
 -- where nothing was written of a job, nothing is a prefix of what its turns would have had written
@@ -138,29 +148,39 @@ ended_early mode asked job weights r f old notes is early =
       writes = nothing_written r f old (output_of asked plan mode.history job h) (output_is_some asked plan mode.history job h) is;
       summary = rw is tt;
       strict = early_strict mode.strict h r f is early;
+      no_make = early_make mode.no_make h r f is early;
       whole = early_whole mode.strict plan.rest r f is early;
-      noted = early_told mode weights (names_of job.scripts) h plan.rest r f notes is early;
+      noted = early_told mode weights job.setting job.table (names_of job.scripts) h plan.rest r f notes is early;
     }
 
 -- a run that left a map and a history ends with it
-pub left_ends : (mode : Mode) (what : Asked) (plan : PlanData) (job : JobData) (adjusted : ℕ) (m : MapData) (lines weights : List ℕ) (names : List (List ℕ)) (h es : List EntryData) (r : Result Summary RunFault) (old new : Option (List ℕ)) (notes : List ℕ)
-    → EndsLeft mode what plan adjusted m lines names es r old new notes → ((t : List Row) → Stands m.forest t → IsPlanned what m.setting t plan) → HaveRun mode.in_turn job m h → names ≡ names_of job.scripts → es ≡ h → adjusted ≡ job.adjusted → lines ≡ weights → Ends mode what job weights r old new notes
-left_ends mode what plan job adjusted m lines weights names h es r old new notes left planned ran same entries replaced written =
-    let own = subst (λ (e : List EntryData). EndsLeft mode what plan adjusted m lines names e r old new notes) entries left in
-    let named = subst (λ (n : List (List ℕ)). EndsLeft mode what plan adjusted m lines n h r old new notes) same own in
-    let summed = subst (λ (a : ℕ). EndsLeft mode what plan a m lines (names_of job.scripts) h r old new notes) replaced named in
-    let ends = subst (λ (w : List ℕ). EndsLeft mode what plan job.adjusted m w (names_of job.scripts) h r old new notes) written summed in
+pub left_ends : (mode : Mode) (what : Asked) (plan : PlanData) (job : JobData) (adjusted : ℕ) (kept : Option MapData) (m : MapData) (lines weights : List ℕ) (names : List (List ℕ)) (h es : List EntryData) (r : Result Summary RunFault) (old new : Option (List ℕ)) (notes : List ℕ)
+    → EndsLeft mode what plan adjusted kept m lines names es r old new notes → ((t : List Row) → Stands m.forest t → IsPlanned what m.setting t plan) → IsOpening mode what kept job.setting job.table → HaveRun mode.in_turn job m h → names ≡ names_of job.scripts → es ≡ h → adjusted ≡ job.adjusted → lines ≡ weights → Ends mode what job weights r old new notes
+left_ends mode what plan job adjusted kept m lines weights names h es r old new notes left planned opening ran same entries replaced written =
+    let own = subst (λ (e : List EntryData). EndsLeft mode what plan adjusted kept m lines names e r old new notes) entries left in
+    let named = subst (λ (n : List (List ℕ)). EndsLeft mode what plan adjusted kept m lines n h r old new notes) same own in
+    let counted = subst (λ (a : ℕ). EndsLeft mode what plan a kept m lines (names_of job.scripts) h r old new notes) replaced named in
+    let ends = subst (λ (w : List ℕ). EndsLeft mode what plan job.adjusted kept m w (names_of job.scripts) h r old new notes) written counted in
+    let before = subst (λ (s : SettingData). IsOpening mode what kept s job.table) (sym ran.stands.setting) opening in
     record {
       history = h;
       run = ran.run;
       plan = plan;
       planned = subst (λ (s : SettingData). IsPlanned what s (table_after job.setting job.table h) plan) ran.stands.setting (planned _ ran.stands.forest);
-      writes = subst (λ (s : SettingData). Writes r old new (main_text what plan s (table_after job.setting job.table h) h ++ lines_asked mode.history (names_of job.scripts) h)) ran.stands.setting (ends.writes _ ran.stands.forest);
-      summary = ends.summary;
+      writes = subst (λ (s : SettingData). Writes r old new (main_text what plan s job.table (table_after job.setting job.table h) h ++ lines_asked mode.history (names_of job.scripts) h)) ran.stands.setting (ends.writes _ _ before ran.stands.forest);
+      summary = subst
+          (λ (s : SettingData). IfOk r (λ (x : Summary). x ≡ summed job.adjusted (mode.exit_code && differs_of what plan s (table_after job.setting job.table h) h) h))
+          ran.stands.setting (IfOk-weaker r _ _ (λ x is. is _ ran.stands.forest) ends.summary);
       strict = ends.strict;
+      no_make = ends.no_make;
       whole = ends.whole;
-      noted = ends.told;
+      noted = subst (λ (s : SettingData). HistoryNoted mode weights s job.table (names_of job.scripts) h plan.rest r notes) ran.stands.setting (ends.told _ before);
     }
+
+-- a map of which a copy is kept where it is needed
+pub kept_opening : (mode : Mode) (what : Asked) (kept : Option MapData) (s : SettingData) (t : List Row) → (needs_opening mode what ≡ true → is_some kept ≡ true) → IfSome kept (λ (m : MapData). MapStands m s t) → IsOpening mode what kept s t
+kept_opening mode what None s t is stands needs = let none = is needs in absurd cc
+kept_opening mode what (Some m) s t is stands needs = stands
 
 -- what is noted of weights in bytes is noted of them in the same bytes
 pub weighed_of_all : (mode : Mode) (what : Asked) (job : JobData) (bytes xs : List ℕ) (r : Result Summary RunFault) (old new : Option (List ℕ)) (notes : List ℕ) → bytes ≡ xs

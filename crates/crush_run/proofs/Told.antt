@@ -23,6 +23,7 @@ run_fault_of_all mode (Err run.Write) all bytes input h = has_job all bytes inpu
 run_fault_of_all mode (Err run.Memory) all bytes input h = tt
 run_fault_of_all mode (Err run.Thread) all bytes input h = (h.0, has_job all bytes input h.1)
 run_fault_of_all mode (Err (run.Refused n)) all bytes input h = (h.0, has_job all bytes input h.1)
+run_fault_of_all mode (Err (run.Made n)) all bytes input h = (h.0, has_job all bytes input h.1)
 run_fault_of_all mode (Err (run.Differs n)) all bytes input h = (h.0, has_job all bytes input h.1)
 run_fault_of_all mode (Err (run.Other w s)) all bytes input h = absurd h
 
@@ -40,6 +41,7 @@ run_fault_of_job mode (Err run.Write) all has h = has
 run_fault_of_job mode (Err run.Memory) all has h = tt
 run_fault_of_job mode (Err run.Thread) all has h = (h, has)
 run_fault_of_job mode (Err (run.Refused n)) all has h = (h, has)
+run_fault_of_job mode (Err (run.Made n)) all has h = (h, has)
 run_fault_of_job mode (Err (run.Differs n)) all has h = (h, has)
 run_fault_of_job mode (Err (run.Other w s)) all has h = absurd h
 
@@ -51,11 +53,12 @@ outcome_fault_of_scripts mode run.Write h = absurd h
 outcome_fault_of_scripts mode run.Memory h = h
 outcome_fault_of_scripts mode run.Thread h = h
 outcome_fault_of_scripts mode (run.Refused n) h = absurd h
+outcome_fault_of_scripts mode (run.Made n) h = absurd h
 outcome_fault_of_scripts mode (run.Differs n) h = absurd h
 outcome_fault_of_scripts mode (run.Other w s) h = h
 
 -- and so is one of what is written
-pub outcome_fault_of_writing : (mode : Mode) (r : Result Summary RunFault) → IfErr r (IsWritingFault mode.strict) → IfErr r (IsOutcomeFault mode)
+pub outcome_fault_of_writing : (mode : Mode) (r : Result Summary RunFault) → IfErr r (IsWritingFault mode) → IfErr r (IsOutcomeFault mode)
 outcome_fault_of_writing mode (Ok s) h = tt
 outcome_fault_of_writing mode (Err (run.Job f)) h = h
 outcome_fault_of_writing mode (Err run.Read) h = h
@@ -63,6 +66,7 @@ outcome_fault_of_writing mode (Err run.Write) h = h
 outcome_fault_of_writing mode (Err run.Memory) h = h
 outcome_fault_of_writing mode (Err run.Thread) h = absurd h
 outcome_fault_of_writing mode (Err (run.Refused n)) h = h
+outcome_fault_of_writing mode (Err (run.Made n)) h = h
 outcome_fault_of_writing mode (Err (run.Differs n)) h = h
 outcome_fault_of_writing mode (Err (run.Other w s)) h = h
 
@@ -78,6 +82,7 @@ run_fault_of_input mode run.Write all h = absurd h
 run_fault_of_input mode run.Memory all h = tt
 run_fault_of_input mode run.Thread all h = absurd h
 run_fault_of_input mode (run.Refused n) all h = absurd h
+run_fault_of_input mode (run.Made n) all h = absurd h
 run_fault_of_input mode (run.Differs n) all h = absurd h
 run_fault_of_input mode (run.Other w s) all h = absurd h
 
@@ -89,5 +94,6 @@ run_fault_of_no_job mode run.Write all h = absurd h
 run_fault_of_no_job mode run.Memory all h = tt
 run_fault_of_no_job mode run.Thread all h = absurd h
 run_fault_of_no_job mode (run.Refused n) all h = absurd h
+run_fault_of_no_job mode (run.Made n) all h = absurd h
 run_fault_of_no_job mode (run.Differs n) all h = absurd h
 run_fault_of_no_job mode (run.Other w s) all h = absurd h

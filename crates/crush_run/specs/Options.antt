@@ -21,11 +21,12 @@ pub record EndsAsked (content : List ℕ → Option (List ℕ)) (options : Optio
   pub asked : IsAskedOf content options.printed what
   pub ends : Ends options.mode what job (weight_notes options.mode.explain bytes job.table) result old new notes
 
--- ENDS AS ASKED: said of a run that was done, that failed to write, or that was strict and met refusals or differences; any other
--- came to no output
+-- ENDS AS ASKED: said of a run that was done, that failed to write, that was strict and met refusals or differences, or that was to
+-- make no buckets and did; any other came to no output
 abbrev pub EndsAsAsked : (List ℕ → Option (List ℕ)) → Options → List ℕ → JobData → Result Summary RunFault → Option (List ℕ) → Option (List ℕ) → List ℕ → Type 0
 EndsAsAsked content options bytes job (Ok s) old new notes = EndsAsked content options bytes job (Ok s) old new notes
 EndsAsAsked content options bytes job (Err run.Write) old new notes = EndsAsked content options bytes job (Err run.Write) old new notes
 EndsAsAsked content options bytes job (Err (run.Refused n)) old new notes = EndsAsked content options bytes job (Err (run.Refused n)) old new notes
+EndsAsAsked content options bytes job (Err (run.Made n)) old new notes = EndsAsked content options bytes job (Err (run.Made n)) old new notes
 EndsAsAsked content options bytes job (Err (run.Differs n)) old new notes = EndsAsked content options bytes job (Err (run.Differs n)) old new notes
 EndsAsAsked content options bytes job (Err fault) old new notes = Unit {0}

@@ -1,9 +1,10 @@
 -- The stages of a run of a job: what comes of each, and which faults may come at which.
-use Rattle.std.specs.Prelude.{◌≡◌, ◌≢◌, ℕ, List, [], ◌++◌, Bool, false, true, Option, Result, IfOk, IfErr}
+use Rattle.std.specs.Prelude.{◌≡◌, ◌≢◌, ℕ, List, [], ◌++◌, Bool, false, true, ◌&&◌, Option, Result, Ok, Err, IfOk, IfErr}
 use Rattle.std.specs.Io.KnownBytes.{Keeps}
 use Rattle.crush_bytes.specs.Writes.{Writes}
 use Rattle.crush_table.specs.Stands.{Stands}
 use Rattle.crush_table.specs.Table.{Row}
+use Rattle.crush_edits.specs.Setting.{SettingData}
 use Rattle.crush_map.specs.MapData.{MapData, MapStands}
 use Rattle.crush_calls.specs.History.{EntryData, table_after}
 use Rattle.crush_calls.specs.Script.{ScriptData}
@@ -13,11 +14,14 @@ use Rattle.crush_options.specs.declared.asked.Mode.{Mode}
 use Rattle.crush_input.specs.declared.fault.RunFault.{RunFault}
 use Rattle.crush_input.specs.declared.fault.RunFault.TheVariants as run
 use Rattle.crush_input.specs.declared.asked.Asked.{Asked}
+use Rattle.crush_input.specs.declared.asked.Asked.TheVariants as asked
 use Rattle.crush_input.specs.declared.summary.Summary.{Summary}
 use Rattle.crush_reasons.specs.Place.{OriginData}
-use Rattle.crush_input.specs.Notes.{HistoryNoted, IsNoted, IsStrict}
+use Rattle.crush_input.specs.Made.{made_text}
+use Rattle.crush_input.specs.Notes.{HistoryNoted, IsKept, IsNoMake, IsNoted, IsStrict, history_notes}
+use Rattle.crush_run.specs.declared.outcome.Noted.{Noted}
 use Rattle.crush_run.specs.Planned.{IsWhole}
-use Rattle.crush_run.specs.Run.{IsRunOf, lines_asked, main_text, summed}
+use Rattle.crush_run.specs.Run.{IsRunOf, differs_of, lines_asked, main_text, summed}
 
 -- what may fail while operators are at work at once
 abbrev pub IsAtOnceFault : RunFault → Type 0
@@ -37,6 +41,7 @@ IsOutcomeFault mode run.Write = Unit {0}
 IsOutcomeFault mode run.Memory = Unit {0}
 IsOutcomeFault mode run.Thread = mode.in_turn ≡ false
 IsOutcomeFault mode (run.Refused n) = mode.strict ≡ true
+IsOutcomeFault mode (run.Made n) = mode.no_make ≡ true
 IsOutcomeFault mode (run.Differs n) = mode.strict ≡ true
 IsOutcomeFault mode fault = ⊥
 
@@ -44,16 +49,18 @@ IsOutcomeFault mode fault = ⊥
 abbrev pub IsEarlyFault : RunFault → Type 0
 IsEarlyFault run.Write = ⊥
 IsEarlyFault (run.Refused n) = ⊥
+IsEarlyFault (run.Made n) = ⊥
 IsEarlyFault (run.Differs n) = ⊥
 IsEarlyFault fault = Unit {0}
 
 -- what may fail once there is a history
-abbrev pub IsWritingFault : Bool → RunFault → Type 0
-IsWritingFault strict run.Write = Unit {0}
-IsWritingFault strict run.Memory = Unit {0}
-IsWritingFault strict (run.Refused n) = strict ≡ true
-IsWritingFault strict (run.Differs n) = strict ≡ true
-IsWritingFault strict fault = ⊥
+abbrev pub IsWritingFault : Mode → RunFault → Type 0
+IsWritingFault mode run.Write = Unit {0}
+IsWritingFault mode run.Memory = Unit {0}
+IsWritingFault mode (run.Refused n) = mode.strict ≡ true
+IsWritingFault mode (run.Made n) = mode.no_make ≡ true
+IsWritingFault mode (run.Differs n) = mode.strict ≡ true
+IsWritingFault mode fault = ⊥
 
 -- what scripts leave of a map, whatever job they and the map stand for: a run of the job, and the map after its history
 pub record HaveRun (in_turn : Bool) (job : JobData) (after : MapData) (h : List EntryData) : Type 0 where
@@ -63,22 +70,44 @@ pub record HaveRun (in_turn : Bool) (job : JobData) (after : MapData) (h : List 
 abbrev pub RunsScripts : Bool → MapData → List ScriptData → MapData → List EntryData → Type 0
 RunsScripts in_turn map scripts after h = (job : JobData) → MapStands map job.setting job.table → scripts ≡ job.scripts → HaveRun in_turn job after h
 
--- of a run that ended by a fault these notes are told: those of its history, or these with what stays
-abbrev pub told_by : RunFault → List ℕ → List ℕ → List ℕ
-told_by run.Write notes whole = notes
-told_by (run.Refused n) notes whole = notes
-told_by (run.Differs n) notes whole = whole
-told_by fault notes whole = []
+-- whether a run needs the map as it was read, beside that after its history: for reasons, and for the commands that changed it
+abbrev pub needs_opening : Mode → Asked → Bool
+needs_opening mode asked.AsCeph = true
+needs_opening mode what = mode.explain
+
+-- OPENING: where a run needs that map, it is kept, and has this setting and stands for this table
+abbrev pub IsOpening : Mode → Asked → Option MapData → SettingData → List Row → Type 0
+IsOpening mode what kept s t = needs_opening mode what ≡ true → IsKept kept s t
+
+-- what may be told of a run, of which this setting and this table were before the first call: of its history; where it is to make no
+-- buckets, before that the calls that made some unasked; where it is strict, behind it what stays behind a plan
+pub record AreNoted (mode : Mode) (weights : List ℕ) (s : SettingData) (t : List Row) (names : List (List ℕ)) (h : List EntryData) (rest : List ℕ) (noted : Noted) : Type 0 where
+  pub calls : noted.calls.items ≡ history_notes mode weights s t names h
+  pub made : mode.no_make ≡ true → noted.made.items ≡ made_text names 1 h ++ history_notes mode weights s t names h
+  pub whole : mode.strict ≡ true → noted.whole.items ≡ history_notes mode weights s t names h ++ rest
+
+-- and which of it is told, by how the run ends
+abbrev pub told_by : RunFault → Noted → List ℕ
+told_by run.Write noted = noted.calls.items
+told_by (run.Refused n) noted = noted.calls.items
+told_by (run.Made n) noted = noted.made.items
+told_by (run.Differs n) noted = noted.whole.items
+told_by fault noted = []
+
+abbrev pub told_of : Result Summary RunFault → Noted → List ℕ
+told_of (Ok s) noted = noted.calls.items
+told_of (Err fault) noted = told_by fault noted
 
 -- how a run ends that left a map, a history and a plan: what is asked for is written, or a prefix of it, the summary is of the
--- history, its refused entries, or what stays behind the plan, end it where it is strict, and are noted, with these lines of written
--- weights
-pub record EndsLeft (mode : Mode) (what : Asked) (plan : PlanData) (adjusted : ℕ) (m : MapData) (weights : List ℕ) (names : List (List ℕ)) (h : List EntryData) (result : Result Summary RunFault) (old new : Option (List ℕ)) (notes : List ℕ) : Type 0 where
-  pub writes : (t : List Row) → Stands m.forest t → Writes result old new (main_text what plan m.setting t h ++ lines_asked mode.history names h)
-  pub summary : IfOk result (λ (s : Summary). s ≡ summed adjusted h)
+-- history, its refused entries, or what stays behind the plan, end it where it is strict, and buckets made unasked where it is to make
+-- none, and are noted, with these lines of written weights
+pub record EndsLeft (mode : Mode) (what : Asked) (plan : PlanData) (adjusted : ℕ) (kept : Option MapData) (m : MapData) (weights : List ℕ) (names : List (List ℕ)) (h : List EntryData) (result : Result Summary RunFault) (old new : Option (List ℕ)) (notes : List ℕ) : Type 0 where
+  pub writes : (o t : List Row) → IsOpening mode what kept m.setting o → Stands m.forest t → Writes result old new (main_text what plan m.setting o t h ++ lines_asked mode.history names h)
+  pub summary : IfOk result (λ (s : Summary). (t : List Row) → Stands m.forest t → s ≡ summed adjusted (mode.exit_code && differs_of what plan m.setting t h) h)
   pub nothing : IfErr result (λ fault. fault ≢ run.Write → Keeps old new)
-  pub fault : IfErr result (IsWritingFault mode.strict)
+  pub fault : IfErr result (IsWritingFault mode)
   pub strict : IsStrict mode.strict h result
+  pub no_make : IsNoMake mode.no_make h result
   pub whole : IsWhole mode.strict plan.rest result
-  pub told : HistoryNoted mode weights names h plan.rest result notes
+  pub told : (o : List Row) → IsOpening mode what kept m.setting o → HistoryNoted mode weights m.setting o names h plan.rest result notes
   pub noted : (origin : ℕ → OriginData) (all : Option (List ℕ)) → IsNoted mode.explain origin all result notes

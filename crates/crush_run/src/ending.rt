@@ -11,7 +11,7 @@ pub struct Ending {
     /// What the run did, or why it was not done.
     pub outcome: Result<Summary, RunFault>,
     /// What is told below the one line on standard error. Where reasons are asked for, of a fault of
-    /// the bytes its place and what was wanted there, of a file that can't be opened its name and the
+    /// the bytes its place and what was wanted there, of a file that can't be read its name and the
     /// system's reason, and of a run its calls that were refused, each with what was wanted, and the
     /// written weights of buckets that aren't their sums; in a strict run without reasons the lines of
     /// what was refused; else nothing.

@@ -11,6 +11,7 @@ mod ending;
 mod gate;
 mod in_turn;
 mod options;
+mod outcome;
 mod planned;
 mod run;
 mod worker;

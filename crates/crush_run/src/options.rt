@@ -19,8 +19,8 @@ use std::thread::Threads;
 
 /// Runs the job of the file that the options name, or else of standard input, with the scripts of
 /// the files that they name behind it, as [`run_job`](crate::run_job) runs it. A file that can't be
-/// opened is one that can't be read, and is told as [`RunFault::Read`]; where reasons are asked for,
-/// the notes are its name and the system's reason.
+/// opened or read is told as [`RunFault::Read`]; where reasons are asked for, the notes are its name and
+/// the system's reason.
 ///
 /// A map since which changes are asked for, or to which commands, is read once the job is, and told of
 /// as [`RunFault::Other`]; its file may have as many bytes as a job. Of a flaw of its text the notes
@@ -66,7 +66,7 @@ where
     ensures nothing { IfErr result.outcome (λ fault. fault ≢ RunFault.Write
         → Keeps (W.contents output.old) (W.contents output.new)) }
 
-    // A fault of bytes is noted with its place in its own file, a file that can't be opened with a
+    // A fault of bytes is noted with its place in its own file, a file that can't be read with a
     // reason, and without reasons refused calls alone are.
     ensures noted { IsNotedAsAsked (F.content files.now) options.now (R.remaining input.old)
         result.outcome result.notes.items }

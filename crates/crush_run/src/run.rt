@@ -1,223 +1,38 @@
 //! A job, from the bytes read to the bytes written.
 
-ghost use Rattle.std.specs.Prelude.{◌≡◌, ◌≢◌, ◌≤◌, ◌++◌, ℕ, List, [], Option, Err, Some, IfOk, IfErr, IfSome, false, if◌then◌else◌, length};
+ghost use Rattle.std.specs.Prelude.{◌≡◌, ◌≢◌, ◌≤◌, ℕ, List, [], Option, Some, IfOk, IfErr, IfSome, false, is_some, length, true};
 ghost use Rattle.std.specs.Io.KnownBytes.{Keeps};
-ghost use Rattle.crush_table.specs.Stands.{Stands};
 ghost use Rattle.crush_table.specs.Table.{Row};
-ghost use Rattle.crush_bytes.specs.Writes.{Writes};
+ghost use Rattle.crush_edits.specs.Setting.{SettingData};
+ghost use Rattle.crush_map.specs.MapData.{MapStands};
 ghost use Rattle.crush_calls.specs.Entries.{AreOf};
 ghost use Rattle.crush_calls.specs.HistoryText.{names_of};
 ghost use Rattle.crush_script.specs.Job.{HasJob, IsJob, JobData, JobStands};
 ghost use Rattle.crush_calls.specs.Script.{scripts_data};
 ghost use Rattle.crush_reasons.specs.Place.{OriginData};
 ghost use Rattle.crush_input.specs.Input.{TakesFew};
-ghost use Rattle.crush_input.specs.Notes.{IsNoted, IsStrict, weight_notes};
+ghost use Rattle.crush_input.specs.Notes.{IsNoted, weight_notes};
 ghost use Rattle.crush_input.specs.Origins.{no_origin};
-ghost use Rattle.crush_run.specs.Run.{Ends, IsRunFault, lines_asked, main_text, summed};
-ghost use Rattle.crush_reasons.specs.Ceph.{ceph_text};
-ghost use Rattle.crush_plan.specs.Plan.{plan_data};
-ghost use Rattle.crush_run.specs.Planned.{IsWhole};
-ghost use Rattle.crush_run.specs.Stages.{EndsLeft, IsOutcomeFault, IsScriptsFault, IsWritingFault, RunsScripts, told_by};
+ghost use Rattle.crush_run.specs.Run.{Ends, IsRunFault};
+ghost use Rattle.crush_run.specs.Stages.{IsOutcomeFault, IsScriptsFault, RunsScripts, needs_opening};
 ghost use Rattle.crush_units.specs.declared.limits.TheConstants.{MOST_ENTRIES, MOST_OPERATORS};
 
 use crate::at_once::run_at_once;
 use crate::ending::Ending;
 use crate::gate::Gate;
 use crate::in_turn::run_in_turn;
-use crate::planned::{check_whole, plan_asked, whole_notes, write_plan};
-use crush_bytes::{WriteFault, put};
-use crush_calls::{Entry, Script, count_changes, history_text};
+use crate::outcome::{Left, end_run};
+use crate::planned::plan_asked;
+use crush_calls::Script;
 use crush_editor::{Closed, Unkept};
-use crush_input::{
-    Asked, Origins, Request, RunFault, Summary, Weighed, check_strict, history_notes, job_of,
-    read_bytes,
-};
+use crush_input::{Asked, Origins, Request, RunFault, Weighed, job_of, read_bytes};
 use crush_map::CrushMap;
-use crush_plan::Plan;
-use crush_print::write_map;
-use crush_reasons::ceph_text;
 use crush_script::Job;
-use crush_view::{write_since, write_tree};
 use std::alloc::{AllocError, Global};
 use std::io::{Read, Write};
 use std::random::RandomSource;
 use std::sync::Wait;
 use std::thread::Threads;
-
-/// The lines of the history, where they are asked for.
-fn lines_asked(
-    alloc: Global,
-    history: bool,
-    scripts: &[Script],
-    entries: &[Entry],
-) -> Result<Vec<u8>, AllocError>
-    requires few { length entries.now ≤ MOST_ENTRIES }
-    requires operators { AreOf (length scripts.now) entries.now }
-    ensures { IfOk result (λ lines. lines.items
-        ≡ lines_asked history (names_of (scripts_data scripts.now)) entries.now) }
-{
-    if history {
-        return history_text(alloc, scripts, entries);
-    }
-    Ok(Vec::new(alloc))
-}
-
-/// Writes the commands that changed the map, as Ceph's own.
-fn write_ceph<W: Write>(alloc: Global, entries: &[Entry], writer: &mut W) -> Result<(), WriteFault>
-    requires { length entries.now ≤ MOST_ENTRIES }
-    ensures writes { Writes result (W.contents writer.old) (W.contents writer.new)
-        (ceph_text entries.now) }
-    ensures none { result ≡ Err WriteFault.OutOfMemory
-        → Keeps (W.contents writer.old) (W.contents writer.new) }
-{
-    let Ok(text) = ceph_text(alloc, entries) else {
-        return Err(WriteFault::OutOfMemory);
-    };
-    put(writer, text.as_slice())
-}
-
-/// Writes what is asked for of the map.
-fn write_asked<W: Write>(
-    alloc: Global,
-    asked: &Asked,
-    plan: &Plan,
-    map: &CrushMap<Global>,
-    entries: &[Entry],
-    writer: &mut W,
-) -> Result<(), WriteFault>
-    requires { length entries.now ≤ MOST_ENTRIES }
-    ensures writes { (t : List Row) → Stands map.now.forest t
-        → Writes result (W.contents writer.old) (W.contents writer.new)
-        (main_text asked.now (plan_data plan.now) map.now.setting t entries.now) }
-    ensures none { result ≡ Err WriteFault.OutOfMemory
-        → Keeps (W.contents writer.old) (W.contents writer.new) }
-{
-    match asked {
-        Asked::Map => write_map(alloc, map, writer),
-        Asked::Tree => write_tree(alloc, map, writer),
-        Asked::Since(old) => {
-            old.forest().recall_invariant();
-            write_since(alloc, old, map, writer)
-        }
-        Asked::AsCeph => write_ceph(alloc, entries, writer),
-        Asked::To(wanted) => write_plan(alloc, wanted.as_ceph, plan, writer),
-    }
-}
-
-/// What scripts left of a job.
-#[derive(Drop)]
-struct Left<'a> {
-    /// How many written weights of its text were replaced.
-    adjusted: u32,
-    /// The map after the history.
-    map: &'a CrushMap<Global>,
-    /// The plan from it, where one is asked for.
-    plan: &'a Plan,
-    scripts: &'a [Script],
-    /// The history.
-    entries: &'a [Entry],
-    /// What is noted of the weights that were written in its text.
-    weights: &'a [u8],
-}
-
-/// Writes what is asked for of the map, and behind it the history where it is asked for, unless the
-/// run is strict and calls were refused, or something stays behind its plan. Both are laid out before
-/// anything is written.
-fn write_outcome<W: Write>(
-    alloc: Global,
-    request: &Request,
-    left: &Left<'_>,
-    writer: &mut W,
-) -> Result<(), RunFault>
-    requires few { length left.now.entries.now ≤ MOST_ENTRIES }
-    requires operators { AreOf (length left.now.scripts.now) left.now.entries.now }
-    ensures writes { (t : List Row) → Stands left.now.map.now.forest t
-        → Writes result (W.contents writer.old) (W.contents writer.new)
-        (main_text request.now.asked (plan_data left.now.plan.now) left.now.map.now.setting t
-        left.now.entries.now
-        ++ lines_asked request.now.mode.history (names_of (scripts_data left.now.scripts.now)) left.now.entries.now) }
-    ensures nothing { IfErr result (λ fault. fault ≢ RunFault.Write
-        → Keeps (W.contents writer.old) (W.contents writer.new)) }
-    ensures fault { IfErr result (IsWritingFault request.now.mode.strict) }
-    ensures strict { IsStrict request.now.mode.strict left.now.entries.now result }
-    ensures whole { IsWhole request.now.mode.strict left.now.plan.now.rest.items result }
-{
-    check_strict(request.mode.strict, left.entries)?;
-    check_whole(request.mode.strict, left.plan)?;
-    let lines = lines_asked(alloc, request.mode.history, left.scripts, left.entries)?;
-    write_asked(
-        alloc,
-        &request.asked,
-        left.plan,
-        left.map,
-        left.entries,
-        writer,
-    )?;
-    put(writer, lines.as_slice())?;
-    Ok(())
-}
-
-/// What a run did of which this is left.
-fn summary_of(left: &Left<'_>) -> Summary
-    requires { length left.now.entries.now ≤ MOST_ENTRIES }
-    ensures { result ≡ summed left.now.adjusted left.now.entries.now }
-{
-    Summary {
-        adjusted: left.adjusted,
-        calls: left.entries.len() as u32,
-        changes: count_changes(left.entries),
-    }
-}
-
-/// The end of a run by a fault. Where there is a history, what was refused is told, and where what
-/// stays behind a plan ends the run, that too.
-fn end_by(alloc: Global, fault: RunFault, notes: Vec<u8>, whole: Vec<u8>) -> Ending
-    ensures outcome { result.outcome ≡ Err fault }
-    ensures notes { result.notes.items ≡ told_by fault notes.items whole.items }
-{
-    match fault {
-        RunFault::Write | RunFault::Refused(_) => Ending {
-            outcome: Err(fault),
-            notes,
-        },
-        RunFault::Differs(_) => Ending {
-            outcome: Err(fault),
-            notes: whole,
-        },
-        _ => Ending::quietly(alloc, fault),
-    }
-}
-
-/// Writes what is asked for, and tells of the calls that were refused, of written weights and of what
-/// stays, where that is asked for.
-fn end_run<W: Write>(alloc: Global, request: &Request, left: &Left<'_>, writer: &mut W) -> Ending
-    requires few { length left.now.entries.now ≤ MOST_ENTRIES }
-    requires operators { AreOf (length left.now.scripts.now) left.now.entries.now }
-    requires plain { request.now.mode.explain ≡ false → left.now.weights.now ≡ [] }
-    ensures { EndsLeft request.now.mode request.now.asked (plan_data left.now.plan.now)
-        left.now.adjusted left.now.map.now left.now.weights.now (names_of (scripts_data left.now.scripts.now)) left.now.entries.now result.outcome
-        (W.contents writer.old) (W.contents writer.new) result.notes.items }
-{
-    let Ok(notes) = history_notes(
-        alloc,
-        request.mode,
-        left.scripts,
-        left.entries,
-        left.weights,
-    ) else {
-        return Ending::quietly(alloc, RunFault::Memory);
-    };
-    let Ok(whole) = whole_notes(alloc, request.mode.strict, notes.as_slice(), left.plan) else {
-        return Ending::quietly(alloc, RunFault::Memory);
-    };
-    match write_outcome(alloc, request, left, writer) {
-        Ok(()) => Ending {
-            outcome: Ok(summary_of(left)),
-            notes,
-        },
-        Err(fault) => end_by(alloc, fault, notes, whole),
-    }
-}
 
 /// The scripts without their calls, which a run moves into its history: their names are left to be
 /// written of.
@@ -235,6 +50,30 @@ fn headings(alloc: Global, scripts: &[Script]) -> Result<Vec<Script>, AllocError
         })?;
     }
     Ok(left)
+}
+
+/// A copy of a map, which stands for the same.
+fn copy_of(map: &CrushMap<Global>) -> Result<CrushMap<Global>, AllocError>
+    ensures { IfOk result (λ copy. (s : SettingData) (t : List Row) → MapStands map.now s t
+        → MapStands copy s t) }
+{
+    map.try_copy()
+}
+
+/// A copy of the map as it was read, where the run needs it beside that after its history.
+fn opening_asked(
+    request: &Request,
+    map: &CrushMap<Global>,
+) -> Result<Option<CrushMap<Global>>, AllocError>
+    ensures kept { IfOk result (λ opening. needs_opening request.now.mode request.now.asked ≡ true
+        → is_some opening ≡ true) }
+    ensures stands { IfOk result (λ opening. IfSome opening (λ copy. (s : SettingData)
+        (t : List Row) → MapStands map.now s t → MapStands copy s t)) }
+{
+    if request.mode.explain || matches!(request.asked, Asked::AsCeph) {
+        return Ok(Some(copy_of(map)?));
+    }
+    Ok(None)
 }
 
 /// Runs the scripts, at once where that is asked for and there are any.
@@ -288,6 +127,9 @@ pub(crate) fn run_read<H: AllocGlobal + Threads + Wait + Sync, G: Gate + Sync, W
     let Ok(named) = headings(alloc, scripts.as_slice()) else {
         return Ending::quietly(alloc, RunFault::Memory);
     };
+    let Ok(opening) = opening_asked(request, &map) else {
+        return Ending::quietly(alloc, RunFault::Memory);
+    };
     let closed = match run_scripts(rt, gate, request.mode.in_turn, map, scripts) {
         Ok(closed) => closed,
         Err(fault) => return Ending::quietly(alloc, fault),
@@ -303,6 +145,7 @@ pub(crate) fn run_read<H: AllocGlobal + Threads + Wait + Sync, G: Gate + Sync, W
     let entries = history.as_slice();
     let left = Left {
         adjusted,
+        opening: &opening,
         map: &map,
         plan: &plan,
         scripts: named.as_slice(),
@@ -344,7 +187,9 @@ where
 /// after each call.
 ///
 /// A strict run in which calls were refused ends with [`RunFault::Refused`], and their lines are
-/// its notes: all calls were made and judged, and nothing is written. One in which differences to a
+/// its notes: all calls were made and judged, and nothing is written. A run that is to make no buckets,
+/// and in which a call made more than its `add-bucket`s ask for, ends with [`RunFault::Made`], and
+/// notes the lines of such calls. A strict run in which differences to a
 /// wanted map stay behind its plan ends with [`RunFault::Differs`], and notes the lines of these. Where the mode asks for
 /// reasons, the notes say of each call that was refused, in whatever run, what was wanted, behind
 /// these which written weights of buckets aren't their sums, and of a fault of the bytes where it

@@ -34,6 +34,8 @@ const MODE: Mode = Mode {
     in_turn: true,
     history: true,
     strict: false,
+    no_make: false,
+    exit_code: false,
     explain: false,
 };
 
@@ -42,6 +44,8 @@ const AT_ONCE: Mode = Mode {
     in_turn: false,
     history: true,
     strict: false,
+    no_make: false,
+    exit_code: false,
     explain: false,
 };
 
@@ -115,6 +119,7 @@ fn summary(adjusted: u32, calls: u32, changes: u32) -> Summary {
         adjusted,
         calls,
         changes,
+        differs: false,
     }
 }
 

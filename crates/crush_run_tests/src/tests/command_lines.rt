@@ -99,6 +99,55 @@ fn further_words_are_read(rt: HostRuntime) {
     );
 }
 
+/// Whether the words ask for a run that makes no buckets, and for a status that tells of the map.
+fn ask_for_statuses(rt: &impl AllocGlobal, words: &[&str], no_make: bool, exit_code: bool) -> bool {
+    let read = options(rt.alloc(), words);
+    let asked = match &read {
+        Ok(options) => options.mode.no_make == no_make && options.mode.exit_code == exit_code,
+        Err(_) => false,
+    };
+    drop(read);
+    asked
+}
+
+#[test]
+fn words_of_statuses_are_read(rt: HostRuntime) {
+    assert!(rt;
+        ask_for_statuses(&rt, &["--no-make", "--strict"], true, false)
+            && ask_for_statuses(&rt, &["--tree", "--exit-code", "j"], false, true)
+            && ask_for_statuses(&rt, &["--exit-code", "--no-make"], true, true)
+            && ask_for_statuses(&rt, &["--strict", "--", "--no-make"], false, false)
+    );
+}
+
+/// Whether the words ask for a tree of the changes since the map of this file.
+fn ask_for_changes(rt: &impl AllocGlobal, words: &[&str], map: &str) -> bool {
+    let read = options(rt.alloc(), words);
+    let asked = match &read {
+        Ok(options) => asks_for_changes(options, map),
+        Err(_) => false,
+    };
+    drop(read);
+    asked
+}
+
+/// Whether a tree of the changes since the map of this file is asked for.
+fn asks_for_changes(options: &Options, map: &str) -> bool {
+    match &options.printed {
+        Printed::Changes(name) => name.as_str() == map,
+        _ => false,
+    }
+}
+
+#[test]
+fn words_of_a_tree_of_changes_are_read(rt: HostRuntime) {
+    assert!(rt;
+        ask_for_changes(&rt, &["--tree", "--since", "m.txt", "j"], "m.txt")
+            && ask_for_changes(&rt, &["--since=m", "--strict", "--tree"], "m")
+            && !ask_for_changes(&rt, &["--since=m"], "m")
+    );
+}
+
 /// Whether the words ask for commands to the map of this file.
 fn ask_to(rt: &impl AllocGlobal, words: &[&str], map: &str, as_ceph: bool, by_name: bool) -> bool {
     let read = options(rt.alloc(), words);
@@ -156,7 +205,10 @@ const OTHER_WORDS: &[&[&str]] = &[
     &["-x"],
     &["--in-turn=yes"],
     &["--in-turn", "--in-turn"],
-    &["--tree", "--since", "m"],
+    &["--no-make=yes"],
+    &["--exit-code", "--exit-code"],
+    &["--tree", "--since", "m", "--as-ceph"],
+    &["--tree", "--since=m", "--to=n"],
     &["--as-ceph", "--tree"],
     &["--since=m", "--as-ceph"],
     &["--to=m", "--tree"],
@@ -181,11 +233,13 @@ const HELP: &[&str] = &[
     "--in-turn ",
     "--no-history ",
     "--strict ",
+    "--no-make ",
     "--tree ",
     "--since <MAP> ",
     "--as-ceph ",
     "--to <MAP> ",
     "--by-name ",
+    "--exit-code ",
     "--explain ",
     "-s, --script <SCRIPT> ",
     "\n    %operator alice\n    add osd.12 1.8 host=node3 rack=r2 root=default\n    reweight osd.2 1.0\n",
@@ -201,11 +255,12 @@ const HELP: &[&str] = &[
     "\n    rename-bucket NAME NAME ",
     "\n    begin, commit ",
     "\n    0    the run was done",
-    "\n    1    the input is no job",
+    "\n    1    the input is no job, or MAP no map",
     "\n    2    the command line is refused",
-    "\n    3    FILE can't be opened, or reading or writing failed",
+    "\n    3    a file can't be opened, or reading or writing failed",
     "\n    4    out of memory",
-    "\n    5    with --strict",
+    "\n    5    --strict or --no-make ended the run",
+    "\n    6    with --exit-code",
 ];
 
 /// What is told where the words ask for no run.
@@ -226,12 +281,24 @@ fn has_all(text: &str, parts: &[&str]) -> bool {
     true
 }
 
+/// Whether no line of the text is longer than 80 columns.
+fn has_short_lines(text: &str) -> bool {
+    for line in text.lines() {
+        if line.len() > 80 {
+            return false;
+        }
+    }
+    true
+}
+
 #[test]
 fn help_and_the_version_are_told(rt: HostRuntime) {
     let help = told(&rt, &["--help"]);
     let version = told(&rt, &["--version"]);
     assert!(rt;
-        has_all(help.as_str(), HELP) && version.as_str().starts_with("crushedit 0.1.0 (rattle-kit-")
+        has_all(help.as_str(), HELP)
+            && has_short_lines(help.as_str())
+            && version.as_str().starts_with("crushedit 0.1.0 (rattle-kit-")
     );
     drop(version);
     drop(help);

@@ -14,6 +14,8 @@ const EXPLAIN: Mode = Mode {
     in_turn: true,
     history: false,
     strict: false,
+    no_make: false,
+    exit_code: false,
     explain: true,
 };
 
@@ -22,6 +24,8 @@ const STRICTLY: Mode = Mode {
     in_turn: true,
     history: false,
     strict: true,
+    no_make: false,
+    exit_code: false,
     explain: true,
 };
 
@@ -29,10 +33,10 @@ const STRICTLY: Mode = Mode {
 const TWO_REFUSED: &[u8] = b"%operator a\nrm default\nreweight osd.0 1\nrm x\n";
 
 const REASONS: &[u8] =
-    b"# 1 a rm default = refused NotEmpty 39\n  default holds items: move or remove them first\n# 3 a rm x = refused NoSuchItem 2\n  x isn't there\n";
+    b"# 1 a rm default = refused NotEmpty 39\n  default holds 2 items: move or remove them first\n# 3 a rm x = refused NoSuchItem 2\n  x isn't there\n";
 
 const STRICT_REASONS: &[u8] =
-    b"crushedit: refused 2\n# 1 a rm default = refused NotEmpty 39\n  default holds items: move or remove them first\n# 3 a rm x = refused NoSuchItem 2\n  x isn't there\n";
+    b"crushedit: refused 2\n# 1 a rm default = refused NotEmpty 39\n  default holds 2 items: move or remove them first\n# 3 a rm x = refused NoSuchItem 2\n  x isn't there\n";
 
 #[test]
 fn refused_commands_are_told_with_reasons(rt: HostRuntime) {

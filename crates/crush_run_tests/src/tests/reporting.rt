@@ -4,7 +4,7 @@ use crate::tests::is_told;
 use crush_bytes::WriteFault;
 use crush_options::OptionsFault;
 use crush_report::{report, tell};
-use crush_run::RunFault;
+use crush_run::{RunFault, Summary};
 use crush_script::JobFault;
 use std::alloc::AllocError;
 use std::io::{self, ErrorKind, Write};
@@ -35,6 +35,26 @@ fn reports_what_no_run_here_comes_to(rt: HostRuntime) {
 #[test]
 fn tells_of_a_thread_that_was_not_started(rt: HostRuntime) {
     assert!(rt; is_told(&rt, &Err(RunFault::Thread), b"crushedit: no thread\n", 4));
+}
+
+/// What a run comes to in which there is something to tell, and so many weights were replaced.
+fn differing(adjusted: u32) -> Summary {
+    Summary {
+        adjusted,
+        calls: 2,
+        changes: 1,
+        differs: true,
+    }
+}
+
+#[test]
+fn tells_of_made_buckets_and_where_there_is_something_to_tell(rt: HostRuntime) {
+    let made = Err(RunFault::Made(3));
+    assert!(rt;
+        is_told(&rt, &made, b"crushedit: made 3\n", 5)
+            && is_told(&rt, &Ok(differing(0)), b"", 6)
+            && is_told(&rt, &Ok(differing(7)), b"crushedit: adjusted 7\n", 6)
+    );
 }
 
 /// Answers an error to each write.

@@ -19,6 +19,19 @@ fn a_moved_device_is_told_since_the_map(rt: HostRuntime) {
     assert!(rt; ends_so(&rt, &words, files, Ok(summary(0, 1, 1)), MOVED));
 }
 
+/// The same as a tree.
+const MOVED_TREE: &[u8] =
+    b"ID  CLASS  WAS      WEIGHT   TYPE NAME\n-1         2.50000  2.50000  root default\n-2         2.00000  1.00000      host h1\n 0         1.00000        -          osd.0\n-3         0.50000  1.50000      host h2\n 0               -  1.00000          osd.0 (from h1)\ntotal 2.50000 to 2.50000\n0 made, 0 removed, 0 renamed, 1 moved, 2 of other weight, 0 of other class\n";
+
+#[test]
+fn a_moved_device_has_two_rows_in_a_tree(rt: HostRuntime) {
+    let script = b"%operator a\ncreate-or-move osd.0 5.0 host=h2\n";
+    let job = joined(&rt, PLAIN, script);
+    let files: &[(&str, &[u8])] = &[("m", PLAIN), ("j", job.as_slice())];
+    let words = ["--since", "m", "--tree", "--no-history", "j"];
+    assert!(rt; ends_so(&rt, &words, files, Ok(summary(0, 1, 1)), MOVED_TREE));
+}
+
 /// A text with a flaw at byte 12.
 const FLAWED: &[u8] = b"# a comment\nhots h2 {\n";
 

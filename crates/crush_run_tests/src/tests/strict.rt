@@ -13,6 +13,8 @@ const STRICT: Mode = Mode {
     in_turn: true,
     history: true,
     strict: true,
+    no_make: false,
+    exit_code: false,
     explain: false,
 };
 
@@ -84,6 +86,8 @@ fn a_strict_run_tells_all_that_is_refused(rt: HostRuntime) {
         in_turn: false,
         history: false,
         strict: true,
+        no_make: false,
+        exit_code: false,
         explain: false,
     };
     let end = refused_two(TWO_LINES);
@@ -105,6 +109,60 @@ fn refused_batches_are_refused_entries(rt: HostRuntime) {
     let job = joined(&rt, PLAIN, BATCHES);
     let end = refused_two(BATCH_LINES);
     assert!(rt; ends_so(&rt, STRICT, Asked::Map, job.as_slice(), &end));
+}
+
+/// A run that makes no buckets, of which the status tells where there is something to tell.
+const MAKING_NONE: Mode = Mode {
+    in_turn: true,
+    history: true,
+    strict: false,
+    no_make: true,
+    exit_code: true,
+    explain: false,
+};
+
+/// A rack that is asked for, a host that isn't, and a device that isn't there.
+const MISTYPED: &[u8] = b"%operator a\nadd-bucket r1 rack\nmove osd.0 host=h11 rack=r1\nrm x\n";
+
+const MADE_LINES: &[u8] =
+    b"crushedit: made 1\n# 2 a move osd.0 host=h11 rack=r1 = done changed 1 made 1\n";
+
+#[test]
+fn a_run_that_makes_no_buckets_tells_those_that_are_made(rt: HostRuntime) {
+    let job = joined(&rt, PLAIN, MISTYPED);
+    let end = End {
+        outcome: Err(RunFault::Made(1)),
+        output: b"",
+        told: MADE_LINES,
+        status: 5,
+    };
+    assert!(rt;
+        ends_so(&rt, MAKING_NONE, Asked::Map, job.as_slice(), &end)
+            && ends_so(&rt, MAKING_NONE, Asked::AsCeph, job.as_slice(), &end)
+    );
+}
+
+#[test]
+fn the_status_tells_of_a_map_that_is_another(rt: HostRuntime) {
+    let job = joined(&rt, PLAIN, b"%operator a\nreweight osd.2 1.0\n");
+    let lines = b"# 1 a reweight osd.2 1.00000 = done changed 1 made 0\n";
+    let output = joined(&rt, super::REWEIGHED, lines);
+    let outcome = Summary {
+        adjusted: 0,
+        calls: 1,
+        changes: 1,
+        differs: true,
+    };
+    let end = End {
+        outcome: Ok(outcome),
+        output: output.as_slice(),
+        told: b"",
+        status: 6,
+    };
+    assert!(rt;
+        ends_so(&rt, MAKING_NONE, Asked::Map, job.as_slice(), &end)
+            && ends_so(&rt, MAKING_NONE, Asked::Map, PLAIN, &unchanged(0, PLAIN))
+    );
 }
 
 /// The tree of the plain example map.

@@ -1,11 +1,7 @@
-use Rattle.crush_input.proofs.Outcomes.{err_as, when_ok}
-use Rattle.crush_input.proofs.Reading.{quiet_file}
+use Rattle.crush_input.proofs.Outcomes.{when_ok}
 use Rattle.crush_input.proofs.Told.{known_of_take, known_through}
 use Rattle.crush_input.proofs.input.read_file.Goals as goal
 
 -- what the open file gives is what is known of the file
 pub returns-in-Ok-clause-bytes : goal.returns-in-Ok-clause-bytes
-returns-in-Ok-clause-bytes g c = when_ok _ _ c.read_quietly.result (λ read taken. known_through _ _ read.items c.in-Ok.ensures (known_of_take _ read.items taken)) c.read_quietly.ensures.bytes
-
-pub returns-in-Ok-clause-noted : goal.returns-in-Ok-clause-noted
-returns-in-Ok-clause-noted g c = err_as _ _ c.read_quietly.result (λ s none. quiet_file c.args.explain c.args.name.now s.fault _ none) c.read_quietly.ensures.quiet
+returns-in-Ok-clause-bytes g c = when_ok _ _ c.read_named.result (λ read taken. known_through _ _ read.items c.in-Ok.ensures (known_of_take _ read.items taken)) c.read_named.ensures.bytes

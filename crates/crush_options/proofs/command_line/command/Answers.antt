@@ -6,6 +6,7 @@ use Rattle.crush_options.proofs.command_line.command.Goals as goal
 
 pub returns : goal.returns
 returns c =
-    let one : app_of c.in_ok-arg.field-0 ≡ with_rule with_wanted (flag (codes "explain")) = c.in_ok-arg.ensures.shape c.flag.ensures.own ∙ ap₂ with_rule c.in_ok-with_wanted.ensures c.flag.ensures.rule in
-    let two : app_of c.in_ok-arg-2.field-0 ≡ with_rule (with_rule with_wanted (flag (codes "explain"))) (scripts) = c.in_ok-arg-2.ensures.shape c.scripts.ensures.own ∙ ap₂ with_rule one c.scripts.ensures.rule in
-    IfOk-weaker c.arg-3.result _ _ (λ m h. h.shape c.file.ensures.own ∙ ap₂ with_rule two c.file.ensures.rule) c.arg-3.ensures
+    let one : app_of c.in_ok-arg.field-0 ≡ with_rule with_wanted (flag (codes "exit-code")) = c.in_ok-arg.ensures.shape c.flag.ensures.own ∙ ap₂ with_rule c.in_ok-with_wanted.ensures c.flag.ensures.rule in
+    let two : app_of c.in_ok-arg-2.field-0 ≡ with_rule (with_rule with_wanted (flag (codes "exit-code"))) (flag (codes "explain")) = c.in_ok-arg-2.ensures.shape c.flag-2.ensures.own ∙ ap₂ with_rule one c.flag-2.ensures.rule in
+    let three : app_of c.in_ok-arg-3.field-0 ≡ with_rule (with_rule (with_rule with_wanted (flag (codes "exit-code"))) (flag (codes "explain"))) (scripts) = c.in_ok-arg-3.ensures.shape c.scripts.ensures.own ∙ ap₂ with_rule two c.scripts.ensures.rule in
+    IfOk-weaker c.arg-4.result _ _ (λ m h. h.shape c.file.ensures.own ∙ ap₂ with_rule three c.file.ensures.rule) c.arg-4.ensures

@@ -1,6 +1,6 @@
 use Rattle.std.proofs.Common.{ap, arith, length, refl, ◌∙◌}
 use Rattle.std.proofs.lemmas.List.{take_all}
-use Rattle.crush_reasons.specs.Ceph.{ceph_edits}
+use Rattle.crush_reasons.specs.Replay.{history_edits}
 use Rattle.crush_reasons.proofs.CephLines.{count-take}
 use Rattle.crush_reasons.proofs.ceph.count_told.Goals as goal
 
@@ -13,4 +13,4 @@ loop-entry-preserved c =
     record { few = omega (arith, c.loop-entry.invariant.few, c.count_changing-count.ensures.few); count = omega (arith, more, c.loop-entry.invariant.count, c.count_changing-count.ensures.value) }
 
 pub returns : goal.returns
-returns c = c.loop-entry.invariant.count ∙ ap (λ xs. length (ceph_edits xs)) (take_all c.loop-entry.entry-index c.args.entries.now (omega arith))
+returns c = c.loop-entry.invariant.count ∙ ap (λ xs. length (history_edits xs)) (take_all c.loop-entry.entry-index c.args.entries.now (omega arith))

@@ -1,23 +1,10 @@
-use Rattle.std.proofs.Common.{◌+◌, ◌++◌, List, ℕ, ap, sym, ◌∙◌}
-use Rattle.std.proofs.lemmas.List.{take_all}
+use Rattle.std.proofs.Common.{◌++◌, List, ℕ, ap, ◌∙◌}
 use Rattle.crush_calls.specs.HistoryText.{names_of}
 use Rattle.crush_calls.specs.Script.{scripts_data}
-use Rattle.crush_reasons.specs.Explained.{explained_line, explained_text}
-use Rattle.crush_reasons.proofs.Explaining.{explained-take, none_explained}
+use Rattle.crush_reasons.specs.Explained.{explained_text}
 use Rattle.crush_reasons.proofs.explained.explained_text.Goals as goal
 
-pub loop-place-init : goal.loop-place-init
-loop-place-init c = c.new-text.ensures.items ∙ none_explained (names_of (scripts_data c.args.scripts.now))
-
-pub loop-place-preserved : goal.loop-place-preserved
-loop-place-preserved c =
-    let names : List (List ℕ) = names_of (scripts_data c.args.scripts.now) in
-    let e = c.index-entries-place.result in
-    let line = ap (λ (name : List ℕ). explained_line (c.loop-place.place + 1) name e) c.operator_name-name.ensures in
-    c.in_ok-push_explained.ensures ∙ (λ i. c.loop-place.invariant i ++ line i)
-    ∙ sym (explained-take names c.args.entries.now c.loop-place.place e c.loop-place-test.true c.index-entries-place.is)
-
 pub returns : goal.returns
-returns c =
-    let all = take_all c.loop-place.place c.args.entries.now c.loop-place-test.false in
-    c.loop-place.invariant ∙ ap (λ xs. explained_text (names_of (scripts_data c.args.scripts.now)) 1 xs) all
+returns c = λ t st.
+    c.in_ok-push_entries.ensures.lines t st
+    ∙ ap (λ (l : List ℕ). l ++ explained_text c.args.opening.setting t (names_of (scripts_data c.args.scripts.now)) 1 c.args.entries.now) c.new-text.ensures.items

@@ -1,0 +1,30 @@
+use Rattle.std.proofs.Common.{◌≡◌, get_or, true, false, ap, refl, sym, ◌∙◌, arith}
+use Rattle.std.specs.List.{count_by}
+use Rattle.std.proofs.lemmas.List.{take_all}
+use Rattle.std.proofs.lemmas.List.Sums.{count_by_more_no, count_by_more_yes}
+use Rattle.crush_input.specs.Made.{asks_bucket}
+use Rattle.crush_input.proofs.made.count_asked.Goals as goal
+use Rattle.crush_input.proofs.made.count_asked.Goals.{then-asks_bucket, else-asks_bucket}
+
+pub loop-edit-init : goal.loop-edit-init
+loop-edit-init c = record { few = omega arith; count = refl }
+
+-- one edit more may be one more that asks for a bucket
+pub loop-edit-preserved : goal.loop-edit-preserved
+loop-edit-preserved c =
+    let xs = c.args.edits.now in
+    let i = c.loop-edit.edit-index in
+    let e = c.edit-item.result in
+    let here : asks_bucket (get_or xs i e) ≡ asks_bucket e = ap asks_bucket (sym c.edit-item.is) in
+    let so_far = c.loop-edit.invariant.count in
+    elim c.if-asks_bucket.branch [
+      | then-asks_bucket w ↦
+          let more = count_by_more_yes asks_bucket xs i e c.loop-edit-test.true (here ∙ sym c.asks_bucket.ensures ∙ w.if-asks_bucket.true) in
+          record { few = omega (arith, w.count-is, c.loop-edit.invariant.few); count = omega (arith, w.count-is, more, so_far) }
+      | else-asks_bucket w ↦
+          let more = count_by_more_no asks_bucket xs i e c.loop-edit-test.true (here ∙ sym c.asks_bucket.ensures ∙ w.if-asks_bucket.false) in
+          record { few = omega (arith, w.count-is, c.loop-edit.invariant.few); count = omega (arith, w.count-is, more, so_far) }
+    ]
+
+pub returns : goal.returns
+returns c = c.loop-edit.invariant.count ∙ ap (count_by asks_bucket) (take_all c.loop-edit.edit-index c.args.edits.now (omega arith))

@@ -1,0 +1,151 @@
+//! The calls that made a bucket for which no `add-bucket` asks: a location named one that wasn't there.
+
+ghost use Rattle.std.specs.Prelude.{◌≡◌, ◌<◌, ◌≤◌, ◌^◌, ◌++◌, IfErr, IfOk, OnOk, length, true};
+ghost use Rattle.std.specs.List.{count_by};
+ghost use Rattle.crush_calls.specs.Entries.{AreOf};
+ghost use Rattle.crush_calls.specs.HistoryText.{names_of};
+ghost use Rattle.crush_calls.specs.Script.{scripts_data};
+ghost use Rattle.crush_input.specs.Made.{asks_bucket, buckets_asked, buckets_made, made_line, made_text, makes_more, makings};
+ghost use Rattle.crush_input.specs.Notes.{IsNoMake};
+ghost use Rattle.crush_input.specs.Stages.{IsMadeFault};
+ghost use Rattle.crush_units.specs.declared.limits.TheConstants.{MOST_ENTRIES};
+
+use crate::fault::RunFault;
+use crush_calls::{Call, Entry, Reply, Script, operator_name, write_entry};
+use crush_edits::Edit;
+use std::alloc::{AllocError, Global};
+
+/// Whether an edit asks for a bucket.
+fn asks_bucket(edit: &Edit) -> bool
+    ensures { result ≡ asks_bucket edit.now }
+{
+    matches!(edit, Edit::AddBucket { .. })
+}
+
+/// For how many buckets the edits of a batch ask.
+fn count_asked(edits: &[Edit]) -> usize
+    ensures { result ≡ count_by asks_bucket edits.now }
+{
+    let mut count = 0;
+    for edit in edits {
+        if asks_bucket(edit) {
+            count += 1;
+        }
+    }
+    count
+}
+
+/// For how many buckets a call asks.
+fn buckets_asked(call: &Call) -> usize
+    ensures { result ≡ buckets_asked call.now }
+{
+    match call {
+        Call::One(edit) => asks_bucket(edit) as usize,
+        Call::Batch(edits) => count_asked(edits.as_slice()),
+        Call::Guarded { seen: _, edits } => count_asked(edits.as_slice()),
+    }
+}
+
+/// How many buckets were made, by the reply.
+fn buckets_made(reply: Reply) -> usize
+    ensures { result ≡ buckets_made reply }
+{
+    match reply {
+        Reply::Done(done) => done.made as usize,
+        Reply::Dones(dones) => dones.made as usize,
+        Reply::Refused(_) => 0,
+        Reply::BatchRefused(_, _) => 0,
+        Reply::Stale(_) => 0,
+    }
+}
+
+/// Whether an entry made more buckets than its call asks for.
+fn makes_more(entry: &Entry) -> bool
+    ensures { result ≡ makes_more entry.now }
+{
+    buckets_made(entry.reply) > buckets_asked(&entry.call)
+}
+
+/// How many entries made more buckets than their calls ask for.
+fn count_making(entries: &[Entry]) -> usize
+    ensures { result ≡ makings entries.now }
+{
+    let mut count = 0;
+    for entry in entries {
+        if makes_more(entry) {
+            count += 1;
+        }
+    }
+    count
+}
+
+/// Ends a run that is to make no buckets by those that calls made unasked: [`RunFault::Made`] with how
+/// many calls did.
+pub fn check_made(no_make: bool, entries: &[Entry]) -> Result<(), RunFault>
+    ensures made { IsNoMake no_make entries.now result }
+    ensures fault { IfErr result (IsMadeFault no_make) }
+{
+    if !no_make {
+        return Ok(());
+    }
+    let count = count_making(entries);
+    if count == 0 {
+        return Ok(());
+    }
+    Err(RunFault::Made(count))
+}
+
+/// The line of an entry, where it made more buckets than its call asks for.
+fn push_made(
+    number: u32,
+    operator: &[u8],
+    entry: &Entry,
+    text: &mut Vec<u8>,
+) -> Result<(), AllocError>
+    ensures { OnOk result (text.new.items ≡ text.old.items
+        ++ made_line number operator.now entry.now) }
+{
+    if !makes_more(entry) {
+        return Ok(());
+    }
+    write_entry(number, operator, &entry.call, entry.reply, text).map_err(|_| AllocError)
+}
+
+/// Puts the lines of the entries that made more buckets than their calls ask for, each as the history
+/// has it, with its number there.
+fn made_text(alloc: Global, scripts: &[Script], entries: &[Entry]) -> Result<Vec<u8>, AllocError>
+    requires few { length entries.now ≤ MOST_ENTRIES }
+    requires operators { AreOf (length scripts.now) entries.now }
+    ensures { IfOk result (λ text. text.items
+        ≡ made_text (names_of (scripts_data scripts.now)) 1 entries.now) }
+{
+    let mut text = Vec::new(alloc);
+    for (place, entry) in entries.iter().enumerate() {
+        let number = place as u32 + 1;
+        let name = operator_name(scripts, entry.operator);
+        push_made(number, name, entry, &mut text)?;
+    }
+    Ok(text)
+}
+
+/// Before the notes of a run that is to make no buckets the lines of the calls that made some unasked,
+/// which are told where they end it; of any other run nothing.
+pub fn made_notes(
+    alloc: Global,
+    no_make: bool,
+    scripts: &[Script],
+    entries: &[Entry],
+    notes: &[u8],
+) -> Result<Vec<u8>, AllocError>
+    requires few { length entries.now ≤ MOST_ENTRIES }
+    requires operators { AreOf (length scripts.now) entries.now }
+    ensures { IfOk result (λ lines. no_make ≡ true → lines.items
+        ≡ made_text (names_of (scripts_data scripts.now)) 1 entries.now ++ notes.now) }
+{
+    if !no_make {
+        return Ok(Vec::new(alloc));
+    }
+    let mut lines = made_text(alloc, scripts, entries)?;
+    lines.extend_from_slice(notes)?;
+    Ok(lines)
+}

@@ -1,0 +1,13 @@
+-- A refused edit leaves the table, and the map is as before.
+use Rattle.std.proofs.Common.{ap, sym, subst, Err}
+use Rattle.crush_table.specs.Stands.{Stands}
+use Rattle.crush_edits.specs.Answer.{Answer}
+use Rattle.crush_map.specs.MapData.{MapData}
+use Rattle.crush_calls.specs.History.{edit_outcome}
+use Rattle.crush_reasons.proofs.replay.make_edit.Goals as goal
+
+pub returns-in-Err-Refused-clause-stands : goal.returns-in-Err-Refused-clause-stands
+returns-in-Err-Refused-clause-stands c t st =
+    let arm = c.in-Err-Refused in
+    let is = arm.ensures.refused arm.field-0-0 (ap Err arm.field-0-is) t st in
+    subst (λ (a : Answer). Stands c.apply.new.self.forest (edit_outcome t a).table) (sym is) (subst (λ (m : MapData). Stands m.forest t) (sym arm.ensures.unchanged) st)

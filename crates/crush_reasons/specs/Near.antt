@@ -1,0 +1,36 @@
+-- Names that are nearly one another.
+use Rattle.std.specs.Prelude.{ℕ, ◌+◌, ◌==◌, ◌||◌, List, [], ◌∷◌, Option, Bool, false, bytes_eq, drop, find, if◌then◌else◌}
+use Rattle.std.specs.Option.{option_map}
+use Rattle.std.specs.Str.{str_eq_ignore_ascii_case}
+use Rattle.crush_table.specs.Table.{Row}
+use Rattle.crush_view.specs.Tree.{StepData, tree_rows}
+
+-- whether two names begin with the same letter
+abbrev pub same_heads : List ℕ → List ℕ → Bool
+same_heads [] b = false
+same_heads (x ∷ a) [] = false
+same_heads (x ∷ a) (y ∷ b) = x == y
+
+-- how many letters they have in common before the first that is another
+abbrev pub shared : List ℕ → List ℕ → ℕ
+shared [] b = 0
+shared (x ∷ a) [] = 0
+shared (x ∷ a) (y ∷ b) = if x == y then 1 + shared a b else 0
+
+-- ONE LETTER is another there, or the first or the second has one more: behind it they are the same
+abbrev pub is_one_off : List ℕ → List ℕ → Bool
+is_one_off a b =
+    bytes_eq (drop (shared a b + 1) a) (drop (shared a b + 1) b)
+    || (bytes_eq (drop (shared a b + 1) a) (drop (shared a b) b) || bytes_eq (drop (shared a b) a) (drop (shared a b + 1) b))
+
+-- NEAR: that, or they differ by the case of letters
+abbrev pub is_near : List ℕ → List ℕ → Bool
+is_near a b = is_one_off a b || str_eq_ignore_ascii_case a b
+
+-- the first of several items whose name is near, and that name
+abbrev pub first_near : List ℕ → List StepData → Option (List ℕ)
+first_near n steps = option_map (λ (s : StepData). s.item.name) (find (λ (s : StepData). is_near n s.item.name) steps)
+
+-- of a table, in the order of its tree
+abbrev pub near_name : List Row → List ℕ → Option (List ℕ)
+near_name t n = first_near n (tree_rows t)

@@ -1,0 +1,101 @@
+-- What a map says of an item that is in an edit's way.
+use Rattle.std.specs.Prelude.{ℕ, ◌==◌, List, [], ◌++◌, Option, None, Some, Bool, bytes_eq, codes, decimal, find, if◌then◌else◌, length, option_and_then, unwrap_or}
+use Rattle.std.specs.List.{list_any}
+use Rattle.std.specs.Option.{option_map, option_map_or}
+use Rattle.crush_units.specs.declared.id.ItemId.TheVariants.{Bucket}
+use Rattle.crush_table.specs.Table.{Row, class_of, id_named, kids, kind_of, member, name_of, parent_of}
+use Rattle.crush_edits.specs.declared.edit.Edit.{Edit}
+use Rattle.crush_edits.specs.declared.edit.Edit.TheVariants.{Insert, CreateOrMove, Update, Move}
+use Rattle.crush_edits.specs.declared.location.Pair.{Pair}
+use Rattle.crush_edits.specs.Setting.{RuleData, SettingData, StepData, bucket_taken, kind_name}
+use Rattle.crush_edits.specs.Stops.{bucket_named}
+use Rattle.crush_reasons.specs.Near.{near_name}
+
+-- a name that isn't there may be near one that is
+abbrev pub near_asked : Option (List ℕ) → List ℕ
+near_asked None = []
+near_asked (Some near) = codes ": is it " ++ near ++ codes "?"
+
+abbrev pub asked_reason : List ℕ → Option (List ℕ) → List ℕ
+asked_reason n near = n ++ codes " isn't there" ++ near_asked near
+
+abbrev pub absent_reason : List Row → List ℕ → List ℕ
+absent_reason t n = asked_reason n (near_name t n)
+
+-- how many items a bucket holds
+abbrev pub held_count : List Row → List ℕ → ℕ
+held_count t n = option_map_or (λ b. length (kids t b)) (bucket_named t n) 0
+
+unfoldable pub items_said : ℕ → List ℕ
+items_said count = codes " holds " ++ decimal count ++ codes " items: move or remove them first"
+
+abbrev pub held_said : ℕ → List ℕ
+held_said count = if count == 1 then codes " holds 1 item: move or remove it first" else items_said count
+
+-- the first rule with a step that takes a bucket, with or without a class
+abbrev pub takes_it : ℕ → RuleData → Bool
+takes_it b r = list_any (λ (x : StepData). member b (bucket_taken x)) r.steps
+
+abbrev pub taking_rule : SettingData → ℕ → Option (List ℕ)
+taking_rule s b = option_map (λ (r : RuleData). r.name) (find (takes_it b) s.rules)
+
+abbrev pub taken_reason : List ℕ → Option (List ℕ) → List ℕ
+taken_reason n None = n ++ codes " is taken by a rule"
+taken_reason n (Some rule) = codes "the rule " ++ rule ++ codes " takes " ++ n
+
+-- the bucket that holds an item
+abbrev pub holder_name : List Row → List ℕ → Option (List ℕ)
+holder_name t n = option_and_then (λ b. name_of t (Bucket b)) (option_and_then (parent_of t) (id_named t n))
+
+abbrev pub placed_said : Option (List ℕ) → List ℕ
+placed_said None = codes " stands in a bucket: set and create-or-move put it into another"
+placed_said (Some holder) = codes " stands in " ++ holder ++ codes ": set and create-or-move put it into another"
+
+-- the class of a device
+abbrev pub class_named : List Row → List ℕ → Option (List ℕ)
+class_named t n = option_and_then (class_of t) (id_named t n)
+
+abbrev pub bound_said : Option (List ℕ) → List ℕ
+bound_said None = codes " has another class: rm-device-class takes it away"
+bound_said (Some class) = codes " has the class " ++ class ++ codes ": rm-device-class takes it away"
+
+-- IN THE WAY OF AN ITEM THAT IS TO COME TO A LOCATION: the bucket at which the route ends stands below the item, or is the item
+abbrev pub below_reason : List ℕ → List ℕ → List ℕ
+below_reason n end = end ++ codes " stands below " ++ n ++ codes ": a bucket cannot come below itself"
+
+abbrev pub loop_reason : List ℕ → List ℕ → List ℕ
+loop_reason n end = if bytes_eq n end then n ++ codes " cannot come into itself" else below_reason n end
+
+-- it has another type than the pair that names it
+abbrev pub type_of_item : SettingData → List Row → List ℕ → List ℕ
+type_of_item s t n = unwrap_or (option_and_then (kind_name s) (option_and_then (kind_of t) (id_named t n))) []
+
+abbrev pub type_of_pair : List Pair → List ℕ → List ℕ
+type_of_pair l n = unwrap_or (option_map (λ (p : Pair). p.kind) (find (λ (p : Pair). bytes_eq p.name n) l)) []
+
+abbrev pub types_reason : List ℕ → List ℕ → List ℕ → List ℕ
+types_reason end own wanted = end ++ codes " is of type " ++ own ++ codes ", not " ++ wanted
+
+abbrev pub end_reason : SettingData → List Row → List Pair → List ℕ → List ℕ
+end_reason s t l end = types_reason end (type_of_item s t end) (type_of_pair l end)
+
+-- where an edit puts an item
+abbrev pub location_of : Edit → Option (List Pair)
+location_of (Insert d n w l) = Some l
+location_of (CreateOrMove d n w l) = Some l
+location_of (Update d n w l) = Some l
+location_of (Move n l) = Some l
+location_of e = None
+
+-- of another edit the type of a new bucket is in the way
+abbrev pub kind_reason : List ℕ → List ℕ
+kind_reason kind = kind ++ codes " is the type of devices"
+
+abbrev pub type_reason : SettingData → List Row → Option (List Pair) → List ℕ → List ℕ
+type_reason s t (Some l) end = end_reason s t l end
+type_reason s t None kind = kind_reason kind
+
+-- a bucket alone comes below another
+abbrev pub moved_name : Edit → List ℕ
+moved_name (Move n l) = n
+moved_name e = []

@@ -1,0 +1,92 @@
+//! Names that are nearly there.
+
+ghost use Rattle.std.specs.Prelude.{◌≡◌, ◌≤◌, ◌<◌, List, IfOk, IsTrue, drop, length, map as each};
+ghost use Rattle.std.specs.Option.{option_map};
+ghost use Rattle.std.specs.Str.{str_eq_ignore_ascii_case};
+ghost use Rattle.crush_table.specs.Stands.{Stands};
+ghost use Rattle.crush_table.specs.Table.{Row};
+ghost use Rattle.crush_view.specs.SeenStep.{step_data};
+ghost use Rattle.crush_reasons.specs.Near.{first_near, is_near, is_one_off, near_name, same_heads, shared};
+
+use crate::words::from_place;
+use crush_map::CrushMap;
+use crush_view::{Step, walk};
+use std::alloc::{AllocError, Global};
+
+/// Whether two names have the same byte at a place.
+fn same_at(a: &[u8], b: &[u8], place: usize) -> bool
+    ensures value { result ≡ same_heads (drop place a.now) (drop place b.now) }
+    ensures within { IsTrue result → place < length a.now }
+{
+    place < a.len() && place < b.len() && a[place] == b[place]
+}
+
+/// How many bytes they have in common before the first that is another.
+fn shared(a: &[u8], b: &[u8]) -> usize
+    ensures value { result ≡ shared a.now b.now }
+    ensures within { result ≤ length a.now }
+{
+    let mut count = 0;
+    'bytes: while same_at(a, b, count) {
+        count += 1;
+    }
+    count
+}
+
+/// Whether the names differ by one byte: another one, or one that either has more.
+fn is_one_off(a: &[u8], b: &[u8]) -> bool
+    ensures { result ≡ is_one_off a.now b.now }
+{
+    let same = shared(a, b);
+    let (behind_a, behind_b) = (from_place(same + 1, a), from_place(same + 1, b));
+    behind_a == behind_b || behind_a == from_place(same, b) || from_place(same, a) == behind_b
+}
+
+/// Whether the names are one but for the case of their letters.
+fn is_other_case(a: &str, b: &str) -> bool
+    ensures { result ≡ str_eq_ignore_ascii_case a.now b.now }
+{
+    a.eq_ignore_ascii_case(b)
+}
+
+/// Whether the names differ by one byte, or by the case of letters alone.
+fn is_near(a: &str, b: &str) -> bool
+    ensures { result ≡ is_near a.now b.now }
+{
+    is_one_off(a.as_bytes(), b.as_bytes()) || is_other_case(a, b)
+}
+
+/// The name of the item of a step.
+fn name_of<'a>(step: &Step<'a, Global>) -> &'a str
+    ensures { result.now ≡ (step_data step.now).item.name }
+{
+    step.view().name
+}
+
+/// The first name of these items that is near.
+fn first_near<'a>(steps: &[Step<'a, Global>], name: &str) -> Option<&'a str>
+    ensures { option_map (λ near. near.now) result
+        ≡ first_near name.now (each step_data steps.now) }
+{
+    for step in steps {
+        let near = name_of(step);
+        if is_near(name, near) {
+            return Some(near);
+        }
+    }
+    None
+}
+
+/// The first name in the order of the map's tree that is near this one: with one letter more, less
+/// or other, or in another case. Each item of the map is looked at. An `Err` says that memory ran out.
+pub(crate) fn near_name<'a>(
+    alloc: Global,
+    map: &'a CrushMap<Global>,
+    name: &str,
+) -> Result<Option<&'a str>, AllocError>
+    ensures { IfOk result (λ near. (t : List Row) → Stands map.now.forest t
+        → option_map (λ near. near.now) near ≡ near_name t name.now) }
+{
+    let steps = walk(alloc, map)?;
+    Ok(first_near(steps.as_slice(), name))
+}
