@@ -3,7 +3,7 @@
 #   make           proves the program with all it stands on, and builds it
 #   make try       shows what JOB, by default an example, changes, without proving anything, and leaves nothing;
 #                  `make try JOB=my.job ARGS=--in-turn` runs a job of your own by other words
-#   make test      all tests, the stored runs and trials, without proving anything
+#   make test      all tests, the stored runs and trials but two, without proving anything
 #   make check     the merge gate: everything from nothing, the edits that must fail, the tests
 #   make install   the program, the recipe and their manual pages below PREFIX, which is /usr/local if nothing is said
 #   make dist      the same as an archive and, where dpkg-deb is there, a package of Debian, below out/
@@ -11,7 +11,7 @@
 #   make tables    writes where must-fail edits lie, and what the last `make check` took, into docs/
 #   make recipe    installs below out/, and tries there the recipe for operators and what its pages show
 #   make trials    tries that program with jobs of chance, little memory and stack, and streams that fail
-#   make monitor   as root: that program, the recipe and --as-ceph beside a monitor of Ceph 18, which is fetched below out/
+#   make monitor   as root: that program, the recipe, --to and --as-ceph beside a monitor of Ceph 18, which is fetched below out/
 #   make clean     removes what the checks kept, and out/
 
 PREFIX = /usr/local
@@ -79,7 +79,8 @@ trials: $(PROGRAM)
 monitor: $(PROGRAM)
 	bench/monitor.sh install out/monitor
 	bench/monitor.sh start out/monitor
-	python3 bench/against_monitor.py $(PROGRAM) out/monitor 2000 1; status=$$?; bench/monitor.sh stop out/monitor; exit $$status
+	{ python3 bench/plans_by_monitor.py $(PROGRAM) out/monitor 100 1 && python3 bench/against_monitor.py $(PROGRAM) out/monitor 2000 1; }; \
+	  status=$$?; bench/monitor.sh stop out/monitor; exit $$status
 
 clean:
 	rm -rf crates/*/out out

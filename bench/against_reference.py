@@ -22,9 +22,10 @@ import subprocess
 import sys
 import tempfile
 
-from at_once import fault_of, job_text, random_scripts
+from at_once import fault_of, job_text, made_by, random_scripts
 from chance import Dice, call_lines, random_call, random_job, random_map
-from looking import first_line, is_refusal, reasons
+from explained import is_reason
+from looking import first_line, history_of, is_refusal, reasons
 from model import Map, run_call
 from reading import joined, outcome, read_job, read_since
 
@@ -152,20 +153,38 @@ def refusals_fault(printed, refused, scripts):
     return None
 
 
+def told_fault(told, refused, words, adjusted, text):
+    """What is wrong with what a strict run at once tells, of whose history only these refused lines are known: with
+    --explain a line below each has the form of its reason, which only the map at that point tells."""
+    lines = told.splitlines(keepends=True)
+    below = reasons(words, None, [], adjusted, text) if "--explain" in words else ""
+    front, pairs = lines[0], lines[1 : len(lines) - len(below.splitlines())]
+    if front != first_line(5, refused, adjusted) or told != front + "".join(pairs) + below:
+        return f"at once: {told}"
+    if "--explain" not in words:
+        return None if pairs == refused else f"at once: {told}"
+    right = pairs[::2] == refused and len(pairs) == 2 * len(refused) and all(map(is_reason, refused, pairs[1::2]))
+    return None if right else f"at once: {told}"
+
+
 def at_once_fault(text, ran, words, since):
     """What is wrong with a run at once of a job that has no fault. The history may be another each time: what is told
     of it has to be of its lines."""
     status, printed, told = ran
     read, adjusted, scripts = read_job(text)
-    refused = [line for line in (told if status == 5 else printed).splitlines(keepends=True) if is_refusal(line)]
-    due = first_line(status, refused, adjusted) + reasons(words, refused, adjusted, text)
-    if status not in (0, 5) or told != due:
-        return f"at once: status {status}, {told}\n--- and not {due}"
-    if status == 5:
-        return refusals_fault(printed, refused, scripts) if "--strict" in words else "at once: status 5"
+    if status == 5 and "--strict" in words:
+        refused = [line for line in told.splitlines(keepends=True) if line.startswith("# ") and is_refusal(line)]
+        return told_fault(told, refused, words, adjusted, text) or refusals_fault(printed, refused, scripts)
+    fault = fault_of(read, dict(scripts), printed, words, read_since(since) if "--since" in words else None)
+    if status != 0 or fault:
+        return f"at once: status {status}, {told}\n{fault}"
+    history = history_of(printed, sum(len(calls) for _, calls in scripts))[1]
+    made = made_by(dict(scripts), history)
+    refused = [line for _, line in made if is_refusal(line)]
     if "--strict" in words and refused:
         return f"at once: a strict run printed {printed}"
-    return fault_of(read, dict(scripts), printed, words, read_since(since) if "--since" in words else None)
+    due = first_line(0, refused, adjusted) + reasons(words, read, made, adjusted, text)
+    return None if told == due else f"at once: {told}\n--- and not {due}"
 
 
 def parted(text):

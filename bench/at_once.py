@@ -81,7 +81,7 @@ def parts(lines):
 
 def fault_of(map, scripts, printed, words=(), since=None):
     """What is wrong with what was printed, by these words of the command line, or nothing."""
-    left, changes, made = {name: list(calls) for name, calls in scripts.items()}, 0, []
+    read, left, changes, made = map, {name: list(calls) for name, calls in scripts.items()}, 0, []
     text, history = history_of(printed, sum(len(calls) for calls in left.values()))
     for place, (number, operator, call, reply) in enumerate(parts(history), 1):
         if number != str(place) or not left.get(operator):
@@ -97,8 +97,14 @@ def fault_of(map, scripts, printed, words=(), since=None):
             return f"line {place} has another reply than the model: {answer}"
     if any(left.values()):
         return f"calls are missing: {[name for name in left if left[name]]}"
-    due = body(words, since, map, made)
+    due = body(words, since, read, map, made)
     return None if text == due else f"before the history stands something else than the model's:\n{due}"
+
+
+def made_by(scripts, history):
+    """The calls of a history's lines, which are right, each with its line."""
+    left = {name: list(calls) for name, calls in scripts.items()}
+    return [(left[line.split(" ")[2]].pop(0), line + "\n") for line in history]
 
 
 def switches(printed):

@@ -1,12 +1,12 @@
 """Whether names that collide without keys of hashing take longer than others.
 
-    python3 bench/colliding.py crates/crushedit/out/crushedit
+    python3 bench/colliding.py crates/crushedit/out/crushedit [NAMES]
 
 Keys are drawn anew for each run, so that nobody can work out names that collide. A run that lost them answers the same,
 and only takes longer: so each job is run with names that all hash alike without keys, and with as many others of the
-same length. The jobs read a map and look for names that aren't there; read a map that `--since` names; and make batches
-on copies of a map. Printed are the processor seconds of each, the least of three runs; the status is 1 where the first
-are more than three times the second.
+same length, 8,000 if nothing is said. The jobs read a map and look for names that aren't there; read a map that
+`--since` names; and make batches on copies of a map. Printed are the processor seconds of each, the least of three runs;
+the status is 1 where the first are more than three times the second.
 """
 
 import os
@@ -54,7 +54,7 @@ def seconds(program, job, earlier):
 
 
 def main():
-    program, count = os.path.abspath(sys.argv[1]), 8000
+    program, count = os.path.abspath(sys.argv[1]), int(sys.argv[2]) if len(sys.argv) > 2 else 8000
     sets = colliding(count), [f"{number:020x}" for number in range(count)]
     is_slow = False
     with tempfile.TemporaryDirectory() as folder:

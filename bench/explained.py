@@ -4,7 +4,7 @@ docs/RULES.md."""
 import pathlib
 import re
 
-from model import text_of, units_of
+from model import is_change, make, number_of, route, text_of, units_of
 
 RULES = pathlib.Path(__file__).resolve().parent.parent / "docs/RULES.md"
 MOST_SHOWN, MOST_BEFORE = 72, 40
@@ -294,8 +294,8 @@ def fault_text(text, fault, files=(("", 1, 1),), of_runs=""):
 
 
 def unread_text(line, name="", reason=""):
-    """What is told of a run that ends with this line, where a file can't be opened for this reason; without one, a
-    file that is open can't be read."""
+    """What is told of a run that ends with this line, where a file can't be opened or read for this reason; without one,
+    standard input can't be read."""
     return f"crushedit: {line}\n  {OF_RUNS[line]}\n" + (f"  {name}: {reason}\n" if reason else "")
 
 
@@ -308,13 +308,52 @@ def written_text(written, text):
     return returns + "".join(f"{name}: {word} was written, the sum is {text_of(sum)}\n" for name, word, sum in written)
 
 
-def name_told(words, kind):
-    """The name that is told of a command that was refused so, where the command alone tells it."""
+def by_id(map):
+    """Names by ids, the buckets from -1 downward and then the devices upward."""
+    names = {item["id"]: name for name, item in map.items.items()}
+    return {number: names[number] for number in in_order(names)}
+
+
+def in_order(numbers):
+    return sorted(numbers, key=lambda number: (number >= 0, abs(number)))
+
+
+def tree_rows(map):
+    """Depths and names: of each root all below it, and then the devices that stand in no bucket."""
+
+    def of(name, depth):
+        yield depth, name
+        for kid in map.items[name]["kids"]:
+            yield from of(kid, depth + 1)
+
+    alone = [name for name in by_id(map).values() if not map.parent(name)]
+    for name in alone:
+        yield from of(name, 0)
+
+
+def location_of(words):
+    return [tuple(pair.split("=")) for pair in words if "=" in pair]
+
+
+def blamed_of_location(map, at, kind):
+    """What of a location a refusal is about, or nothing."""
+    kinds, names = [kind for kind, _ in at], [name for _, name in at]
+    if kind == "BadLocation":
+        wrong = [own for place, own in enumerate(kinds) if number_of(map, own) == 0 or own in kinds[place + 1 :]]
+        return (wrong + [own for place, own in enumerate(names) if own in names[place + 1 :]])[0]
+    if kind == "NoSuchType":
+        return next(own for own in kinds if number_of(map, own) is None)
+    return route(map, at)[1] if kind in ("NotABucket", "WrongType", "Loop") else None
+
+
+def blamed(map, words, kind):
+    """The name that a refusal of a command is about, on the map that refused it."""
     command, names = words[0], words[1:]
     if command in ("add", "set", "create-or-move", "move"):
-        return None if kind in ("BadLocation", "NoSuchType", "NotABucket", "WrongType", "Loop") else names[0]
+        return blamed_of_location(map, location_of(names), kind) or names[0]
     if command == "swap-bucket":
-        return None if kind in ("NoSuchItem", "NotABucket") else names[0]
+        second = kind == "NoSuchItem" and names[0] in map.items or kind == "NotABucket" and not map.is_device(names[0])
+        return names[1] if second else names[0]
     if command == "add-bucket":
         return names[1] if kind in ("NoSuchType", "WrongType") else names[0]
     if command == "rename-bucket":
@@ -322,30 +361,102 @@ def name_told(words, kind):
     return names[1] if command == "set-device-class" else names[0]
 
 
-def edit_reason(edit, kind):
-    words = edit.split(" ")
-    name = name_told(words, kind)
-    said = OF_NAMES.get(kind)
+def is_near(name, other):
+    """Whether one has a letter more, less or other, or is the other in another case."""
+    short, long = sorted((name, other), key=len)
+    if len(long) == len(short):
+        return sum(a != b for a, b in zip(long, short)) <= 1 or long.lower() == short.lower()
+    return any(long[:place] + long[place + 1 :] == short for place in range(len(long)))
+
+
+def taking_rule(map, name):
+    return next(rule["name"] for rule in map.rules if any(number == map.items[name]["id"] for _, number in rule["lines"]))
+
+
+def sentence_of(words, kind, is_itself, count, near):
+    """The sentence of a refusal, with the words for which something of the map stands."""
     if kind == "NotADevice" and words[0].endswith("device-class"):
-        said = "NAME is a bucket: a class is a device's"
-    return said.replace("NAME", name, 1) if name and said else OF_REFUSALS[kind]
+        return "NAME is a bucket: a class is a device's"
+    if kind == "WrongType" and words[0] == "add-bucket":
+        return "NAME is the type of devices"
+    if kind == "Loop" and is_itself:
+        return "NAME cannot come into itself"
+    if kind == "NotEmpty" and count == 1:
+        return "NAME holds 1 item: move or remove it first"
+    if kind == "NoSuchItem" and near:
+        return "NAME isn't there: is it NEAR?"
+    return OF_NAMES.get(kind, OF_REFUSALS[kind])
 
 
-def refused_text(lines):
-    """The history lines of what was refused, each with its sentence below."""
-    told = ""
-    for line in lines:
-        at, kind = re.search(r" = refused (?:at (\d+) )?(\w+) ", line).groups()
-        call = line.split(" ", 3)[3].rpartition(" = refused ")[0]
-        seen, count = re.match(r"begin at (\d+) ", call), re.search(r" changes (\d+)$", line)
-        if kind == "Stale" and int(count[1]) < int(seen[1]):
-            reason = f"{seen[1]} counts the changes of this run: so far there were {count[1]}"
-        elif kind == "Stale":
-            reason = OF_REFUSALS[kind]
-        elif at:
-            edit = call.split(" ; ")[1 + int(at)]
-            reason = f"{edit}: {edit_reason(edit, kind)}"
-        else:
-            reason = edit_reason(call, kind)
-        told += f"{line}  {reason}\n"
-    return told
+def seen_in(map, words, name, kind):
+    """What the map says of the name, by the words that stand for it."""
+    item = map.items.get(name)
+    if kind == "AlreadyPlaced":
+        return {"BUCKET": map.parent(name)}
+    if kind == "WrongType" and words[0] != "add-bucket":
+        return {"TYPE": map.types[item["kind"]], "WANTED": next(own for own, other in location_of(words) if other == name)}
+    if kind == "ClassBound":
+        return {"CLASS": item["class"]}
+    if kind == "InUse":
+        return {"RULE": taking_rule(map, name)}
+    return {"MOVED": words[1]} if kind == "Loop" else {"N": str(len(item["kids"]))} if kind == "NotEmpty" else {}
+
+
+def edit_reason(map, edit, kind):
+    """What was wanted of a command that the map refused so."""
+    words = edit.split(" ")
+    name = blamed(map, words, kind)
+    near = next((other for _, other in tree_rows(map) if is_near(name, other)), None) if kind == "NoSuchItem" else None
+    count = len(map.items[name]["kids"]) if kind == "NotEmpty" else 0
+    seen = {"NAME": name, "NEAR": near, **seen_in(map, words, name, kind)}
+    sentence = sentence_of(words, kind, name == words[1], count, near)
+    return re.sub(r"\b(" + "|".join(seen) + r")\b", lambda word: seen[word[0]], sentence)
+
+
+def after_edits(map, edits):
+    for words in edits:
+        map = make(map, words)[0]
+    return map
+
+
+def call_reason(map, call, line):
+    """What was wanted of a call that the map refused, which its history line tells."""
+    at, kind = re.search(r" = refused (?:at (\d+) )?(\w+) ", line).groups()
+    seen, count = re.search(r" begin at (\d+) ", line), re.search(r" changes (\d+)$", line)
+    told = line.split(" ", 3)[3].rpartition(" = refused ")[0]
+    if kind == "Stale":
+        return (f"{seen[1]} counts the changes of this run: so far there were {count[1]}" if int(count[1]) < int(seen[1])
+                else OF_REFUSALS[kind])
+    if at:
+        edit = told.split(" ; ")[1 + int(at)]
+        return f"{edit}: {edit_reason(after_edits(map, call[1][: int(at)]), edit, kind)}"
+    return edit_reason(map, told, kind)
+
+
+def refused_text(map, made):
+    """Of calls that were made, the first on this map, each with its history line: the lines of what was refused, each
+    with its sentence below, by the map that refused it."""
+    text = ""
+    for call, line in made:
+        if " = refused " in line:
+            text += f"{line}  {call_reason(map, call, line)}\n"
+        if is_change(line):
+            map = after_edits(map, call[1])
+    return text
+
+
+def is_reason(line, reason):
+    """Whether a line below a refused one has the form of its reason, whatever the map was that refused it."""
+    at, kind = re.search(r" = refused (?:at (\d+) )?(\w+) ", line).groups()
+    if kind == "Stale":
+        return reason == f"  {call_reason(None, None, line)}\n"
+    told = line.split(" ", 3)[3].rpartition(" = refused ")[0]
+    edit = told.split(" ; ")[1 + int(at)] if at else told
+    words = edit.split(" ")
+    forms = [sentence_of(words, kind, itself, count, near) for itself in (False, True) for count in (1, 2) for near in (None, "")
+             ] + [sentence_of(words, kind, False, 2, "NEAR")]
+    names = {"NoSuchItem": "NAME|NEAR", "AlreadyPlaced": "NAME|BUCKET", "WrongType": "NAME|TYPE|WANTED", "ClassBound": "NAME|CLASS",
+             "InUse": "NAME|RULE", "Loop": "NAME|MOVED", "NotEmpty": "NAME|N"}.get(kind, "NAME")
+    front = f"{edit}: " if at else ""
+    return any(re.fullmatch("  " + re.escape(front) + re.sub(rf"\b({names})\b", lambda word: r"\S+", re.escape(form)) + "\n", reason)
+               for form in forms)

@@ -92,6 +92,8 @@ def spent(words, path, limit):
         process.returncode = os.waitstatus_to_exitcode(status)
     if process.returncode in (-signal.SIGXCPU, -signal.SIGKILL):
         return None
+    if process.returncode:
+        raise OSError(f"{' '.join(words)} < {path}: status {process.returncode}")
     return usage.ru_utime + usage.ru_stime
 
 

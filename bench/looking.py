@@ -3,31 +3,8 @@ and how a strict run ends."""
 
 import re
 
-from explained import refused_text, written_text
-from model import is_change, run_call, shown, text_of
-
-
-def by_id(map):
-    """Names by ids, the buckets from -1 downward and then the devices upward."""
-    names = {item["id"]: name for name, item in map.items.items()}
-    return {number: names[number] for number in in_order(names)}
-
-
-def in_order(numbers):
-    return sorted(numbers, key=lambda number: (number >= 0, abs(number)))
-
-
-def tree_rows(map):
-    """Depths and names: of each root all below it, and then the devices that stand in no bucket."""
-
-    def of(name, depth):
-        yield depth, name
-        for kid in map.items[name]["kids"]:
-            yield from of(kid, depth + 1)
-
-    alone = [name for name in by_id(map).values() if not map.parent(name)]
-    for name in alone:
-        yield from of(name, 0)
+from explained import by_id, in_order, refused_text, tree_rows, written_text
+from model import is_change, run_call, run_one, shown, text_of
 
 
 def type_name(map, name):
@@ -122,23 +99,31 @@ def since_text(old, new):
     return "".join(line + "\n" for line in lines)
 
 
-def ceph_text(made):
-    """Of calls that were made, each with its history line: the commands of those that changed the map."""
+def is_placed(map, name):
+    return name in map.items and map.parent(name) is not None
+
+
+def ceph_text(map, made):
+    """Of calls that were made, the first on this map, each with its history line: the commands of those that changed
+    it. A device that no bucket holds is added where it was set."""
     commands = [command for (_, edits), line in made if is_change(line) for command in edits]
     lines = [f"# {len(commands)} commands"]
     for words in commands:
+        added = words[0] == "set" and not is_placed(map, words[1])
         sure = " --yes-i-really-mean-it" if words[0] == "swap-bucket" else ""
-        lines.append(f"ceph osd crush {shown(words)}{sure}")
+        lines.append(f"ceph osd crush {shown(['add', *words[1:]] if added else words)}{sure}")
+        map = run_one(map, words)[0]
     return "".join(line + "\n" for line in lines)
 
 
-def body(words, since, map, made):
-    """What is printed before the history, by the words of the command line; `since` is the map of `--since`."""
+def body(words, since, read, map, made):
+    """What is printed before the history, by the words of the command line; `since` is the map of `--since`, `read` that
+    before the calls."""
     if "--tree" in words:
         return tree_text(map)
     if "--since" in words:
         return since_text(since, map)
-    return ceph_text(made) if "--as-ceph" in words else map.text()
+    return ceph_text(read, made) if "--as-ceph" in words else map.text()
 
 
 def run_in_turn(map, scripts):
@@ -156,12 +141,12 @@ def is_refusal(line):
     return " = refused " in line
 
 
-def reasons(words, refused, adjusted, text):
-    """What standard error is told below its one line, by the words of the command line: of the history lines of what
-    was refused, and of the text and the weights of it that were replaced."""
+def reasons(words, read, made, adjusted, text):
+    """What standard error is told below its one line, by the words of the command line: of calls that were made, the
+    first on this map, what was refused, and of the text and the weights of it that were replaced."""
     if "--explain" in words:
-        return refused_text(refused) + written_text(adjusted, text)
-    return "".join(refused) if "--strict" in words else ""
+        return refused_text(read, made) + written_text(adjusted, text)
+    return "".join(line for _, line in made if is_refusal(line)) if "--strict" in words else ""
 
 
 def first_line(status, refused, adjusted):
@@ -175,11 +160,11 @@ def ending(words, since, read, adjusted, scripts, text):
     """Status, standard output and standard error of a run in turn. `adjusted` are the weights of the text that were replaced."""
     map, made = run_in_turn(read, scripts)
     refused = [line for _, line in made if is_refusal(line)]
-    told = reasons(words, refused, adjusted, text)
+    told = reasons(words, read, made, adjusted, text)
     if "--strict" in words and refused:
         return 5, "", first_line(5, refused, adjusted) + told
     history = "" if "--no-history" in words else "".join(line for _, line in made)
-    return 0, body(words, since, map, made) + history, first_line(0, refused, adjusted) + told
+    return 0, body(words, since, read, map, made) + history, first_line(0, refused, adjusted) + told
 
 
 def history_of(printed, count):

@@ -5,8 +5,8 @@
 Each case is a command of bash, with `$C` for the program and `$L` for a library that is preloaded, with which a
 file that is synced answers that the disk is full (it needs a C compiler, `cc`, `gcc` or what CC names), in a
 folder with `job` (a map with an edit), `large` (one
-of 2,000 devices, more than a pipe holds) and `adjusted` (a weight that is no sum). Of a file that can't be opened
-`--explain` tells the reason, of one that can't be read no more than the sentence. Of each it tells the status, of
+of 2,000 devices, more than a pipe holds) and `adjusted` (a weight that is no sum). Of a file that can't be opened or
+read `--explain` tells the reason, of standard input no more than the sentence. Of each it tells the status, of
 what a signal ended 128 and its number, what standard error got, and how much of its output was written. With --table
 what comes is printed as a table and not judged; else a line for each case that ends otherwise, and status 1 where
 any does.
@@ -24,6 +24,7 @@ from make_job import map_text, script
 READ, WRITE = "crushedit: read fault", "crushedit: write fault"
 FILE_SIZE = 128 + 25
 MISSING, FORBIDDEN = "No such file or directory (os error 2)", "Permission denied (os error 13)"
+FOLDER, BROKEN = "Is a directory (os error 21)", "Input/output error (os error 5)"
 ADJUSTED = "type 1 host\nhost a { id -1 alg straw2 }\nhost b { id -2 alg straw2 item a weight 1 }\n"
 # Makes 4 the end for writing of a pipe whose only reader has closed its end.
 NO_READER = "mkfifo pipe; exec 3<> pipe 4> pipe 3<&-"
@@ -93,14 +94,16 @@ CASES = [
     ("--explain, and FILE is a link to itself", "ln -s loop loop; $C --explain loop", 3,
      unread_text("read fault", "loop", "Too many levels of symbolic links (os error 40)"), "none"),
     ("--explain, and FILE is the empty word", "$C --explain ''", 3, unread_text("read fault", "", MISSING), "none"),
-    ("--explain, and FILE is a directory", "$C --explain .", 3, unread_text("read fault"), "none"),
-    ("--explain, and a SCRIPT is a directory", "$C --explain -s . job", 3, unread_text("read fault"), "none"),
+    ("--explain, and FILE is a directory", "$C --explain .", 3, unread_text("read fault", ".", FOLDER), "none"),
+    ("--explain, and FILE fails in a read", "$C --explain /proc/self/mem", 3,
+     unread_text("read fault", "/proc/self/mem", BROKEN), "none"),
+    ("--explain, and a SCRIPT is a directory", "$C --explain -s . job", 3, unread_text("read fault", ".", FOLDER), "none"),
     ("--explain, and the MAP of --since is a directory", "$C --explain --since . job", 3,
-     unread_text("since: read fault"), "none"),
+     unread_text("since: read fault", ".", FOLDER), "none"),
     ("--explain, and the MAP of --to isn't there", "$C --explain --to missing job", 3,
      unread_text("to: read fault", "missing", MISSING), "none"),
     ("the MAP of --to never ends", "$C --to /dev/zero job", 1, "crushedit: to: TooLong", "none"),
-    ("the MAP of --to is a FIFO", "mkfifo f; sed '/^%/,$d' job > f & $C --to f job | head -n 1", 0, "", "13"),
+    ("the MAP of --to is a FIFO", "mkfifo f; sed '/^%/,$d' job > f & $C --to f job | sed -n 1p", 0, "", "13"),
     ("--explain, and standard input is closed", "$C --explain <&-", 3, unread_text("read fault"), "none"),
 ]
 # What can't be tried as root, who may look into each folder.

@@ -1,0 +1,91 @@
+"""Measures what is printed in the place of a map, `--tree`, `--since` and `--to`, beside one another and `wc`.
+
+    python3 bench/looks.py crates/crushedit/out/crushedit [--repeat 5] [--limit 120] [--only WORD ..]
+
+For each two maps it prints the bytes of the one, the processor seconds of `wc` on it, of its `--tree`, of `--since` the
+other map and of `--to` it, the least of the repeats, and how often `--since` takes the time of `--tree`, and `--to` that of
+`--since`. A `-` stands where a run takes longer than the limit. The status is 1 where `--since` takes more than three
+times as long as `--tree`, or `--to` more than four times as long as `--since`, ten times where the maps have nothing in
+common: both maps are read there, and of such two the plan has 129,000 commands.
+"""
+
+import argparse
+import os
+import sys
+import tempfile
+
+from figures import least
+from hostile import TYPES, bucket
+
+DEVICES, HOSTS, RACKS = 60000, 3000, 60
+DEPTH = 4095
+
+
+def grouped(prefix, first_id, moved=False):
+    """A map of devices in hosts in racks, all in one root; where that is asked for the first rack stands in another."""
+    lines, racks = list(TYPES), []
+    devices = [f"osd.{first_id + number}" for number in range(DEVICES)]
+    for rack in range(RACKS):
+        hosts = []
+        for host in range(rack * HOSTS // RACKS, (rack + 1) * HOSTS // RACKS):
+            items = [(name, 1) for name in devices[host * DEVICES // HOSTS : (host + 1) * DEVICES // HOSTS]]
+            lines += bucket("host", f"{prefix}host{host}", first_id + host + 101, items)
+            hosts.append((f"{prefix}host{host}", len(items)))
+        lines += bucket("rack", f"{prefix}rack{rack}", first_id + rack + 3, hosts)
+        racks.append((f"{prefix}rack{rack}", DEVICES // RACKS))
+    lines = [f"device {first_id + number} {name}" for number, name in enumerate(devices)] + lines
+    lines += bucket("root", f"{prefix}other", first_id + 2, racks[:moved])
+    return lines + bucket("root", f"{prefix}default", first_id + 1, racks[moved:])
+
+
+def nest(last):
+    """A map of buckets in one another, the innermost of which holds all devices, the last of this weight."""
+    weights = [1] * (DEVICES - 1) + [last]
+    lines = [f"device {number} osd.{number}" for number in range(DEVICES)] + TYPES
+    below, names = [(f"osd.{number}", weight / 2) for number, weight in enumerate(weights)], []
+    for number in range(DEPTH, 0, -1):
+        lines += bucket("rack", f"b{number}", number, below)
+        names.append(f"b{number}")
+        below = [(names[-1], sum(weights) / 2)]
+    return lines
+
+
+# What each two maps are called, both, and how often `--to` may take the time of `--since`.
+PAIRS = [
+    ("a rack moved", lambda: grouped("", 0), lambda: grouped("", 0, moved=True), 4),
+    ("nothing in common", lambda: grouped("", 0), lambda: grouped("new", 70000), 10),
+    ("a weight at the foot of a nest", lambda: nest(1), lambda: nest(2), 4),
+]
+
+
+def ratio_of(one, other):
+    return "-" if one is None or other is None else f"{one / other:.1f}"
+
+
+def main():
+    parser = argparse.ArgumentParser(description=__doc__.splitlines()[0])
+    parser.add_argument("program")
+    parser.add_argument("--repeat", type=int, default=5)
+    parser.add_argument("--limit", type=int, default=120, help="processor seconds that a run may take")
+    parser.add_argument("--only", nargs="+", metavar="WORD", help="the pairs whose name has one of the words")
+    options = parser.parse_args()
+    program, is_slow = os.path.abspath(options.program), False
+    print(f"{'pair':<32}{'bytes':>9}{'wc':>8}{'tree':>8}{'since':>8}{'to':>8}{'since/tree':>12}{'to/since':>10}")
+    with tempfile.TemporaryDirectory() as folder:
+        one, other = (os.path.join(folder, name) for name in ("map", "other"))
+        for name, before, after, most in PAIRS:
+            if options.only and not any(word in name for word in options.only):
+                continue
+            for place, lines in ((one, before()), (other, after())):
+                with open(place, "w") as out:
+                    out.write("\n".join(lines) + "\n")
+            words = least(["wc"], one, options)
+            tree, since, to = (least([program, *asked], one, options) for asked in (["--tree"], ["--since", other], ["--to", other]))
+            is_slow |= None in (tree, since, to) or since > 3 * tree or to > most * since
+            times = "".join(f"{'-' if seconds is None else f'{seconds:.3f}':>8}" for seconds in (words, tree, since, to))
+            print(f"{name:<32}{os.path.getsize(one):>9}{times}{ratio_of(since, tree):>12}{ratio_of(to, since):>10}", flush=True)
+    sys.exit(is_slow)
+
+
+if __name__ == "__main__":
+    main()
