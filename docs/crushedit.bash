@@ -10,7 +10,7 @@ _crushedit() {
     esac
     given=" ${COMP_WORDS[*]:1:COMP_CWORD - 1} "
     [[ $word == -* && $given != *' -- '* ]] || return
-    for it in --in-turn --no-history --strict --tree --since --as-ceph --to --by-name --explain -h --help -V --version; do
+    for it in --in-turn --no-history --strict --no-make --tree --since --as-ceph --to --by-name --exit-code --explain -h --help -V --version; do
         [[ $it != "$word"* || $given == *" $it "* ]] || COMPREPLY+=("$it")
     done
     for it in -s --script; do

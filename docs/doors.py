@@ -32,6 +32,7 @@ OFFERED = {
         "CrushMap::blamed", "CrushMap::class_of", "CrushMap::contains", "CrushMap::kind_of", "CrushMap::weight_of_class",
     },
     "crush_view": {"Step::view", "walk", "walk_below"},
+    "crush_json": {"write_map_document"},
     "crush_plan": {"Plan::count_differences", "find_plan", "plan_text", "stays"},
     "crush_editor": {
         "Book::opening", "Dial::learn", "Dial::note", "Editor::dial", "Editor::learn", "Editor::note", "Seat::slips",

@@ -71,6 +71,7 @@ def docs_above(text, at):
         elif not line.startswith("#["):
             break
     said = " ".join(lines[: lines.index("")] if "" in lines else lines)
+    said = re.sub(r"\[(`[^`]+`)\]\(crate::[\w:]+\)", r"\1", said)
     return re.split(r"\. (?=[A-Z`\[])", said)[0].rstrip(".:") + "." if said else ""
 
 
