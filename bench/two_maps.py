@@ -1,6 +1,6 @@
 """Measures what is printed in the place of a map, `--tree`, `--since` and `--to`, beside one another and `wc`.
 
-    python3 bench/looks.py crates/crushedit/out/crushedit [--repeat 5] [--limit 120] [--only WORD ..]
+    python3 bench/two_maps.py crates/crushedit/out/crushedit [--repeat 5] [--limit 120] [--only WORD ..]
 
 For each two maps it prints the bytes of the one, the processor seconds of `wc` on it, of its `--tree`, of `--since` the
 other map and of `--to` it, the least of the repeats, and how often `--since` takes the time of `--tree`, and `--to` that of
