@@ -68,6 +68,24 @@ def total(map):
     return sum(item["weight"] for name, item in map.items.items() if map.is_device(name) and map.parent(name))
 
 
+def weight_as(map, number, kind):
+    """What the devices below the bucket of an id weigh, of a class where there is one."""
+    name = map.with_id(number)
+    below = map.below(name) if name else []
+    return sum(map.items[n]["weight"] for n in below if map.is_device(n) and kind in (None, map.items[n].get("class")))
+
+
+def emptied(old, new):
+    """The lines of the new map's rules that take what weighed something and weighs nothing now."""
+    for rule in new.rules:
+        for step, number in rule["lines"]:
+            if number is not None:
+                kind = step.partition(" class ")[2] or None
+                if weight_as(old, number, kind) and not weight_as(new, number, kind):
+                    taken = new.with_id(number) + (f"~{kind}" if kind else "")
+                    yield f"rule {rule['name']} takes nothing: {taken} weighs {text_of(0)}"
+
+
 def since_text(old, new):
     before, after = by_id(old), by_id(new)
     counts = dict.fromkeys(["made", "removed", "renamed", "moved", "of other weight", "of other class"], 0)
@@ -94,6 +112,7 @@ def since_text(old, new):
         lines.append("types differ")
     if [rule["lines"] for rule in old.rules] != [rule["lines"] for rule in new.rules]:
         lines.append("rules differ")
+    lines += emptied(old, new)
     lines.append(f"total {text_of(total(old))} to {text_of(total(new))}")
     lines.append(", ".join(f"{count} {heading}" for heading, count in counts.items()))
     return "".join(line + "\n" for line in lines)
