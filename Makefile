@@ -7,7 +7,7 @@
 #   make check     the merge gate: everything from nothing, the edits that must fail, the tests
 #   make install   the program, the recipe and their manual pages below PREFIX, which is /usr/local if nothing is said
 #   make dist      the same as an archive and, where dpkg-deb is there, a package of Debian, below out/
-#   make manual    writes the manual page out of the help, which `make check` compares
+#   make manual    writes the manual page and the completion out of the help, and the signatures out of the sources, which `make check` compares
 #   make tables    writes where must-fail edits lie, and what the last `make check` took, into docs/
 #   make recipe    installs below out/, and tries there the recipe for operators and what its pages show
 #   make trials    tries that program with jobs of chance, little memory and stack, and streams that fail
@@ -57,6 +57,8 @@ dist: $(PROGRAM)
 
 manual:
 	python3 docs/manual.py
+	python3 docs/completion.py
+	python3 docs/signatures.py
 
 tables:
 	python3 docs/tables.py

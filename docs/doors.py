@@ -31,9 +31,12 @@ OFFERED = {
     "crush_map": {
         "CrushMap::blamed", "CrushMap::class_of", "CrushMap::contains", "CrushMap::kind_of", "CrushMap::weight_of_class",
     },
-    "crush_view": {"Step::view", "walk", "walk_below"},
-    "crush_json": {"write_map_document"},
-    "crush_plan": {"Plan::count_differences", "find_plan", "plan_text", "stays"},
+    "crush_view": {"Part::whole", "Step::view", "walk", "walk_below", "walk_part", "write_tree_part"},
+    "crush_since": {"count_changes", "is_changed", "is_part_changed", "same_kinds", "same_rules", "same_tunables", "since_part_text", "told_ids"},
+    "crush_json": {"write_map_document", "write_plan_document", "write_since_document", "write_tree_document"},
+    "crush_names": {"is_changed_by_name", "is_in", "stays", "write_since_by_name", "write_since_by_name_part"},
+    "crush_reasons": {"explained_job"},
+    "crush_plan": {"Plan::count_differences", "find_plan", "plan_text"},
     "crush_editor": {
         "Book::opening", "Dial::learn", "Dial::note", "Editor::dial", "Editor::learn", "Editor::note", "Seat::slips",
     },

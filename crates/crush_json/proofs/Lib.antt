@@ -1,10 +1,16 @@
 pub mod Chains
+pub mod DocumentLaws
 pub mod EntryLaws
 pub mod Finds
 pub mod IdLaws
 pub mod Kids
 pub mod Listed
 pub mod Numbers
+pub mod PlanLaws
 pub mod ReplyLaws
+pub mod SinceLaws
+pub mod StaysLaws
 pub mod Told
+pub mod TreeLaws
+pub mod WeightNumber
 pub mod Written

@@ -48,6 +48,9 @@ pub flattened : {X : Type 0} (f : X → List Data) (xs : List X) → flat_map (�
 flattened f [] = refl
 flattened f (x ∷ xs) = ap (λ (l : List Token). tokens_of_all (f x) ++ l) (flattened f xs) ∙ sym (flat_map-append tokens_of (f x) (flat_map f xs))
 
+pub flattened_seen : {X Y : Type 0} (see : X → Y) (f : Y → List Data) (xs : List X) → flat_map (λ x. tokens_of_all (f (see x))) xs ≡ tokens_of_all (flat_map f (map see xs))
+flattened_seen see f xs = flattened (λ x. f (see x)) xs ∙ ap tokens_of_all (sym (flat_map-map f see xs))
+
 -- what is behind the tokens so far
 pub one_more : {X : Type 0} (old now new first next all : List X) → now ≡ old ++ first → new ≡ now ++ next → all ≡ first ++ next → new ≡ old ++ all
 one_more old now new first next all before after is = after ∙ ap (λ l. l ++ next) before ∙ append_assoc old first next ∙ ap (λ l. old ++ l) (sym is)

@@ -8,9 +8,17 @@ abbrev pub with_history : Option Data → Members → Members
 with_history None ms = ms
 with_history (Some h) ms = member (codes "history") h ms
 
+-- an object of one value at its name, with the history before it
+abbrev pub document_of : List ℕ → Option Data → Data → Data
+document_of name history told = object (with_history history (member name told no_members))
+
 -- DOCUMENT: `{"history":H,"map":M}`, or without a history `{"map":M}`
 unfoldable pub document : Option Data → Data → Data
-document history map = object (with_history history (member (codes "map") map no_members))
+document history map = document_of (codes "map") history map
+
+-- `{"history":H,"tree":T}`
+unfoldable pub document_of_tree : Option Data → Data → Data
+document_of_tree history tree = document_of (codes "tree") history tree
 
 -- the bytes: the value without a space, and a line feed
 unfoldable pub document_text : Data → List ℕ

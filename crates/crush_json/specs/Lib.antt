@@ -2,7 +2,11 @@ pub mod Document
 pub mod HistoryDocument
 pub mod Ids
 pub mod MapDocument
+pub mod PlanDocument
 pub mod RuleDocument
 pub mod Seen
+pub mod SinceDocument
+pub mod SinceTokens
 pub mod Tokens
+pub mod TreeDocument
 pub mod Values

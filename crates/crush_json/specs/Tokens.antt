@@ -1,10 +1,18 @@
 -- The tokens of values, as a writer takes them.
 use Rattle.std.specs.Prelude.{ℕ, ℤ, List, [], ◌∷◌, ◌++◌, Option, Some, None, codes, flat_map}
+use Rattle.crush_units.specs.declared.id.ItemId.{ItemId}
+use Rattle.crush_units.specs.declared.id.ItemId.TheVariants.{Device, Bucket}
+use Rattle.crush_units.specs.Weight.{weight_text}
+use Rattle.crush_units.specs.Id.{item_number}
+use Rattle.crush_table.specs.Table.{Row, kids}
+use Rattle.crush_nodes.specs.Views.{ViewData}
+use Rattle.crush_edits.specs.Setting.{SettingData}
 use Rattle.json.specs.Token.{Token, key}
 use Rattle.json.specs.Tree.{json_tokens}
 use Rattle.serde_json.specs.Data.{Data, string}
 use Rattle.serde_json.specs.Written.{outline}
-use Rattle.crush_json.specs.Values.{natural, whole}
+use Rattle.crush_json.specs.TreeDocument.{id_values, type_word}
+use Rattle.crush_json.specs.Values.{natural, whole, list}
 
 -- of a value
 abbrev pub tokens_of : Data → List Token
@@ -26,6 +34,21 @@ text_tokens_if name (Some text) = member_tokens name (string text)
 abbrev pub whole_tokens_if : List ℕ → Option ℤ → List Token
 whole_tokens_if name None = []
 whole_tokens_if name (Some z) = member_tokens name (whole z)
+
+-- of the ids of a bucket's items
+abbrev pub children_tokens : List Row → ItemId → List Token
+children_tokens t (Device d) = []
+children_tokens t (Bucket b) = member_tokens (codes "children") (list (id_values (kids t b)))
+
+-- of what an item is
+abbrev pub item_tokens : SettingData → ViewData → List Token
+item_tokens s v =
+    member_tokens (codes "id") (whole (item_number v.id)) ++ member_tokens (codes "name") (string v.name) ++ member_tokens (codes "type") (string (type_word s v.id v.kind))
+    ++ member_tokens (codes "type_id") (natural v.kind) ++ member_tokens (codes "weight") (natural v.weight)
+
+-- of a weight as a decimal
+abbrev pub weight_tokens : ℕ → List Token
+weight_tokens w = key (codes "weight") ∷ Token.number (weight_text w) ∷ []
 
 -- of the last members of an entry of a history
 abbrev pub last_tokens : ℕ → List ℕ → Option (List ℕ) → List ℕ → List Token

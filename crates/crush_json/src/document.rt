@@ -4,12 +4,12 @@ ghost use Rattle.std.specs.Prelude.{◌≡◌, ◌++◌, ◌∷◌, [], IfOk, On
 ghost use Rattle.std.specs.Option.{option_map};
 ghost use Rattle.json.specs.Print.{print};
 ghost use Rattle.json.specs.Token.{begin_object, end_object, begin_array, end_array, key};
-ghost use Rattle.serde_json.specs.Data.{string};
+ghost use Rattle.serde_json.specs.Data.{boolean, string};
 ghost use Rattle.crush_units.specs.Id.{item_number};
-ghost use Rattle.crush_json.specs.Tokens.{member_tokens, text_tokens_if, whole_tokens_if};
+ghost use Rattle.crush_json.specs.Tokens.{member_tokens, text_tokens_if, tokens_of, weight_tokens, whole_tokens_if};
 ghost use Rattle.crush_json.specs.Values.{natural, whole};
 
-use crush_units::ItemId;
+use crush_units::{ItemId, Weight};
 use json::Writer;
 use std::alloc::{AllocError, Global};
 use std::marker::Model;
@@ -114,16 +114,62 @@ impl Document {
         self.writer.u64(number)
     }
 
+    /// A number from 0 upward, in an array.
+    pub(crate) fn push_natural(&mut self, number: u64) -> Result<(), AllocError>
+        ensures { OnOk result (self.new ≡ self.old ++ tokens_of (natural number)) }
+    {
+        self.writer.u64(number)
+    }
+
     /// A member that is a whole number.
     pub(crate) fn whole(&mut self, name: &str, number: i32) -> Result<(), AllocError>
         ensures { OnOk result (self.new ≡ self.old ++ member_tokens name.now (whole number)) }
     {
         self.writer.key(name)?;
+        self.push_whole(number)
+    }
+
+    /// A whole number, as the value of a member or in an array.
+    fn push_whole(&mut self, number: i32) -> Result<(), AllocError>
+        ensures { OnOk result (self.new ≡ self.old ++ tokens_of (whole number)) }
+    {
         if number < 0 {
             self.writer.i64(number as i64)
         } else {
             self.writer.u64(number as u64)
         }
+    }
+
+    /// The id of an item, in an array.
+    pub(crate) fn push_id(&mut self, id: ItemId) -> Result<(), AllocError>
+        ensures { OnOk result (self.new ≡ self.old ++ tokens_of (whole (item_number id))) }
+    {
+        self.push_whole(id.number())
+    }
+
+    /// A text, in an array.
+    pub(crate) fn push_text(&mut self, text: &str) -> Result<(), AllocError>
+        ensures { OnOk result (self.new ≡ self.old ++ tokens_of (string text.now)) }
+    {
+        self.writer.string(text)
+    }
+
+    /// A member that is true or false.
+    pub(crate) fn truth(&mut self, name: &str, holds: bool) -> Result<(), AllocError>
+        ensures { OnOk result (self.new ≡ self.old ++ member_tokens name.now (boolean holds)) }
+    {
+        self.writer.key(name)?;
+        self.writer.boolean(holds)
+    }
+
+    /// The member `weight`, as a decimal of five places, of which 1.0 is 65536 units.
+    pub(crate) fn weight(&mut self, alloc: Global, weight: Weight) -> Result<(), AllocError>
+        ensures { OnOk result (self.new ≡ self.old ++ weight_tokens weight) }
+    {
+        let _units = weight.units();
+        let text = format!(in alloc; "{weight}")?;
+        self.writer.key("weight")?;
+        self.writer.number(text.as_str())
     }
 
     /// A member that is the id of an item.

@@ -1,6 +1,6 @@
 //! A history as a value.
 
-ghost use Rattle.std.specs.Prelude.{◌≡◌, ◌++◌, ◌<◌, [], Some, codes, OnOk, length, slice_index_or};
+ghost use Rattle.std.specs.Prelude.{◌≡◌, ◌++◌, ◌<◌, [], Some, codes, IfSome, OnOk, length, slice_index_or};
 ghost use Rattle.std.specs.Option.{option_map};
 ghost use Rattle.serde_json.specs.Data.{member, object, string};
 ghost use Rattle.crush_table.specs.Count.{one_if};
@@ -9,7 +9,7 @@ ghost use Rattle.crush_calls.specs.HistoryText.{names_of};
 ghost use Rattle.crush_calls.specs.Script.{scripts_data};
 ghost use Rattle.crush_json.specs.HistoryDocument.{RepliesAreOfLines, answered_document, entry_document, entry_documents, made_document, refused_members, reply_text, stale_document};
 ghost use Rattle.crush_json.specs.Seen.{IsHistory, history_data};
-ghost use Rattle.crush_json.specs.Tokens.{last_tokens, member_tokens, tokens_of, tokens_of_all};
+ghost use Rattle.crush_json.specs.Tokens.{history_tokens_if, last_tokens, member_tokens, tokens_of, tokens_of_all};
 ghost use Rattle.crush_json.specs.Values.{natural};
 
 use crate::calls::call_text;
@@ -47,12 +47,27 @@ struct Told<'a> {
     reply: &'a str,
 }
 
-/// A history: an object for each entry.
-pub(crate) fn push_history(
+/// The member that tells the history, where there is one.
+pub(crate) fn push_history_if(
     alloc: Global,
-    history: History<'_>,
+    history: Option<History<'_>>,
     out: &mut Document,
 ) -> Result<(), AllocError>
+    requires { IfSome history IsHistory }
+    ensures { OnOk result (out.new ≡ out.old
+        ++ history_tokens_if (option_map history_data history.entry)) }
+{
+    match history {
+        Some(history) => {
+            out.key("history")?;
+            push_history(alloc, history, out)
+        }
+        None => Ok(()),
+    }
+}
+
+/// A history: an object for each entry.
+fn push_history(alloc: Global, history: History<'_>, out: &mut Document) -> Result<(), AllocError>
     requires { IsHistory history }
     ensures { OnOk result (out.new ≡ out.old ++ tokens_of (history_data history.entry)) }
 {

@@ -1,7 +1,8 @@
 //! Documents, written.
 
-ghost use Rattle.std.specs.Prelude.{◌≡◌, ◌++◌, List, Err, codes, IfOk, IfSome, OnOk};
+ghost use Rattle.std.specs.Prelude.{◌≡◌, ◌≤◌, ◌^◌, ◌++◌, ◌∷◌, [], List, Err, codes, IfOk, IfSome, OnOk};
 ghost use Rattle.json.specs.Print.{print};
+ghost use Rattle.json.specs.Token.{begin_object, key};
 ghost use Rattle.std.specs.Io.KnownBytes.{Keeps};
 ghost use Rattle.std.specs.Option.{option_map};
 ghost use Rattle.crush_bytes.specs.Writes.{Writes};
@@ -12,8 +13,12 @@ ghost use Rattle.crush_json.specs.MapDocument.{map_document};
 ghost use Rattle.crush_json.specs.Seen.{IsHistory, history_data};
 ghost use Rattle.crush_json.specs.Tokens.{history_tokens_if, tokens_of};
 
+pub(crate) mod plan;
+pub(crate) mod since;
+pub(crate) mod tree;
+
 use crate::document::Document;
-use crate::history::{History, push_history};
+use crate::history::{History, push_history_if};
 use crate::map::push_map;
 use crush_bytes::{WriteFault, put};
 use crush_map::CrushMap;
@@ -72,15 +77,6 @@ fn map_text<A: Allocator>(
     line_of(document)
 }
 
-/// The text of a document, and a line feed.
-fn line_of(document: Document) -> Result<Vec<u8>, AllocError>
-    ensures { IfOk result (λ text. text.items ≡ print document ++ codes "\n") }
-{
-    let mut text = document.finish();
-    text.push(b'\n')?;
-    Ok(text)
-}
-
 /// A map and its history.
 #[tactic(auto, unfolding(crate::specs::Document::document))]
 fn push_document<A: Allocator>(
@@ -94,28 +90,39 @@ fn push_document<A: Allocator>(
         ++ tokens_of (document (option_map history_data history.entry)
         (map_document map.now.setting t))) }
 {
-    out.begin_object()?;
-    push_history_if(alloc, history, out)?;
-    out.key("map")?;
+    open(alloc, history, "map", out)?;
     push_map(alloc, map, out)?;
     out.end_object()
 }
 
-/// The member that tells the history, where there is one.
-fn push_history_if(
+/// Opens a document: the history, where there is one, and the name of what follows.
+fn open(
     alloc: Global,
     history: Option<History<'_>>,
+    name: &str,
     out: &mut Document,
 ) -> Result<(), AllocError>
     requires { IfSome history IsHistory }
-    ensures { OnOk result (out.new ≡ out.old
-        ++ history_tokens_if (option_map history_data history.entry)) }
+    ensures { OnOk result (out.new ≡ out.old ++ (begin_object
+        ∷ (history_tokens_if (option_map history_data history.entry) ++ key name.now ∷ []))) }
 {
-    match history {
-        Some(history) => {
-            out.key("history")?;
-            push_history(alloc, history, out)
-        }
-        None => Ok(()),
-    }
+    out.begin_object()?;
+    push_history_if(alloc, history, out)?;
+    out.key(name)
+}
+
+/// The text of a document, and a line feed.
+fn line_of(document: Document) -> Result<Vec<u8>, AllocError>
+    ensures { IfOk result (λ text. text.items ≡ print document ++ codes "\n") }
+{
+    let mut text = document.finish();
+    text.push(b'\n')?;
+    Ok(text)
+}
+
+/// A count of which a size is made: so large that no text has more.
+fn bounded(count: usize) -> usize
+    ensures { result ≤ 2 ^ 32 }
+{
+    count.min(1 << 32)
 }

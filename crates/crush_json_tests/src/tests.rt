@@ -4,6 +4,9 @@
 //! forms in docs/FORMATS.md. What owns a map lets it go by `drop`.
 
 mod maps;
+mod plans;
+mod since;
+mod trees;
 
 ghost use Rattle.std.specs.Prelude.{◌<◌, length};
 ghost use Rattle.crush_calls.specs.Entries.{AreOf};

@@ -1,5 +1,5 @@
 -- The text of a plan is read as a script of its edits, and makes them.
-use Rattle.std.proofs.Common.{◌≡◌, ℕ, suc, ◌+◌, ◌-◌, ◌<◌, ◌≤◌, ◌&&◌, ◌==◌, Bool, true, false, not, cond, List, [], ◌∷◌, ◌++◌, None, Ok, length, map, take, drop, nat_le, refl, sym, ap, ◌∙◌, subst, arith, rules, tests, append_assoc, append-nil}
+use Rattle.std.proofs.Common.{◌≡◌, ℕ, suc, ◌+◌, ◌-◌, ◌<◌, ◌≤◌, ◌&&◌, ◌==◌, Bool, true, false, not, cond, List, [], ◌∷◌, ◌++◌, Option, None, Ok, length, map, take, drop, nat_le, refl, sym, ap, ◌∙◌, subst, arith, rules, tests, append_assoc, append-nil}
 use Rattle.std.specs.Prelude.{All, codes, decimal, flat_map, slice_index}
 use Rattle.std.specs.List.{list_all, onto_first}
 use Rattle.std.proofs.lemmas.Bool.{and_parts}
@@ -28,8 +28,9 @@ use Rattle.crush_script.proofs.MapTexts.{map_texts_have_no_section}
 use Rattle.crush_script.proofs.PrintedLaws.{name_word, printed_is_read}
 use Rattle.crush_script.proofs.PrintedWords.{IsWord, line_words-joined}
 use Rattle.crush_reasons.specs.Ceph.{ceph_heading}
-use Rattle.crush_plan.specs.Aside.{aside_text}
+use Rattle.crush_names.specs.Aside.{aside_text}
 use Rattle.crush_plan.specs.Leads.{Leads}
+use Rattle.crush_plan.specs.Part.{IsAllowed}
 use Rattle.crush_plan.specs.Plan.{PlanData, line_count}
 use Rattle.crush_plan.specs.PlanText.{commented, plan_line, plan_text, stay_heading, stay_text}
 use Rattle.crush_plan.specs.declared.text.PlanWords.TheVariants.{Script}
@@ -255,16 +256,22 @@ cut_behind starts (b ∷ bs) rest whole ends begins = at (starts && b == 37) ref
         let below : length_to_section (b == 10) bs + 1 ≡ length (b ∷ bs) = ap (λ (u : Bool). cond u 0 (length_to_section (b == 10) bs + 1)) (sym is) ∙ whole in
         ap (λ (u : Bool). cond u 0 (length_to_section (b == 10) (bs ++ rest) + 1)) is ∙ omega (arith, again (omega (arith, below)))
 
+-- the edits of a plan are such that a line says
+leads_said : (old new : List Row) (under : Option (List ℕ)) (s : SettingData) (t : List Row) (es : List Edit) (u : List Row) → Leads (IsAllowed old new under) s t es u → All IsSaid es
+leads_said old new under s t [] u leads = All-nil IsSaid
+leads_said old new under s t (e ∷ es) u leads = All-cons IsSaid e es leads.0.said (leads_said old new under s leads.2 es u leads.4)
+
 pub plans_are_scripts : PlansAreScripts
-plans_are_scripts text s t adjusted name plan map_text last is said room short =
+plans_are_scripts under old new text adjusted name plan map_text last is found room short =
+    let said = leads_said old.table new.table under old.setting old.table plan.edits found.goes.table found.goes.leads in
     let rest : List ℕ = codes "%operator " ++ name ++ codes "\n" ++ plan_text Script plan in
-    let place = cut_behind true text rest (map_texts_have_no_section text s t adjusted map_text) last refl in
+    let place = cut_behind true text rest (map_texts_have_no_section text old.setting old.table adjusted map_text) last refl in
     let front : map_part (text ++ rest) ≡ text = ap (λ (n : ℕ). take n (text ++ rest)) place ∙ take-append_seam text rest in
     let back : section_part (text ++ rest) ≡ rest = ap (λ (n : ℕ). drop n (text ++ rest)) place ∙ drop-append_seam text rest in
     let number : ℕ = section_line (text ++ rest) in
     record {
       short = short;
-      map = subst (λ (m : List ℕ). IsMapText m s t adjusted) (sym front) map_text;
+      map = subst (λ (m : List ℕ). IsMapText m old.setting old.table adjusted) (sym front) map_text;
       said = state name (map One plan.edits) (0 + length plan.edits);
       sections = ap (λ (bytes : List ℕ). with_lines number no_sections (lines bytes)) back ∙ section_read name plan is said number room;
       scripts = refl;
@@ -274,20 +281,20 @@ plans_are_scripts text s t adjusted name plan map_text last is said room short =
 abbrev IsChange : EntryData → Type 0
 IsChange e = is_change e.reply ≡ true
 
-edits_run : (s : SettingData) (k : ℕ) (es : List Edit) (q : Counted) (u : List Row) → Leads s q.table es u
+edits_run : (P : List Row → Edit → Type 0) (s : SettingData) (k : ℕ) (es : List Edit) (q : Counted) (u : List Row) → Leads P s q.table es u
     → ((counted_after s q (turn s q k (map One es))).table ≡ u) × All IsChange (turn s q k (map One es))
 unfolding counted_after turn
-edits_run s k [] q u leads = (leads, All-nil IsChange)
-edits_run s k (e ∷ es) q u leads =
+edits_run P s k [] q u leads = (leads, All-nil IsChange)
+edits_run P s k (e ∷ es) q u leads =
     let entry : EntryData = entry_on s q k (One e) in
-    let made : (later s q entry).table ≡ leads.1 = ap (λ (a : Answer). (edit_outcome q.table a).table) leads.2 in
-    let others = edits_run s k es (later s q entry) u (subst (λ (t : List Row). Leads s t es u) (sym made) leads.3) in
-    (others.0, All-cons IsChange entry (turn s (later s q entry) k (map One es)) (ap (λ (a : Answer). is_change (edit_outcome q.table a).reply) leads.2) others.1)
+    let made : (later s q entry).table ≡ leads.2 = ap (λ (a : Answer). (edit_outcome q.table a).table) leads.3 in
+    let others = edits_run P s k es (later s q entry) u (subst (λ (t : List Row). Leads P s t es u) (sym made) leads.4) in
+    (others.0, All-cons IsChange entry (turn s (later s q entry) k (map One es)) (ap (λ (a : Answer). is_change (edit_outcome q.table a).reply) leads.3) others.1)
 
 pub plans_are_run : PlansAreRun
 unfolding turns_from
-plans_are_run s t name es u leads =
-    let run = edits_run s 0 es (untouched t) u leads in
+plans_are_run old new under s t name es u leads =
+    let run = edits_run (IsAllowed old new under) s 0 es (untouched t) u leads in
     let whole = append-nil (turn s (untouched t) 0 (map One es)) in
     record {
       table = ap (λ (h : List EntryData). (counted_after s (untouched t) h).table) whole ∙ run.0;

@@ -1,5 +1,1 @@
-pub mod AlikeLaws
 pub mod Going
-pub mod LineLaws
-pub mod NamedLaws
-pub mod TreeLaws

@@ -1,9 +1,5 @@
-pub mod Alike
-pub mod Aside
 pub mod Draft
 pub mod Leads
-pub mod Named
-pub mod NamedRules
+pub mod Part
 pub mod Plan
 pub mod PlanText
-pub mod Stays

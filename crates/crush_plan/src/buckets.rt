@@ -3,9 +3,11 @@
 ghost use Rattle.std.specs.Prelude.{OnOk};
 ghost use Rattle.crush_plan.specs.Draft.{GoesOn};
 
+use crate::aim::Aim;
 use crate::compare::{Identity, loses_bucket};
 use crate::draft::Draft;
 use crate::names::free_of_lost;
+use crate::walked::{Known, Walked};
 use crush_map::{CrushMap, Setting};
 use crush_units::{BucketId, ItemId, Name, TypeId};
 use std::alloc::{AllocError, Allocator, Global};
@@ -14,14 +16,14 @@ use std::alloc::{AllocError, Allocator, Global};
 /// id that is nearest to 0.
 pub(crate) fn make_buckets<A: Allocator + Clone, B: Allocator>(
     draft: &mut Draft<A>,
-    wanted: &CrushMap<B>,
+    aim: &Aim<'_, A, B>,
     buckets: &[BucketId],
 ) -> Result<(), AllocError>
-    ensures { OnOk result (GoesOn draft.old draft.new) }
+    ensures { OnOk result (GoesOn aim.now draft.old draft.new) }
 {
-    let coming = coming_buckets(draft.alloc, draft.identity, &draft.map, wanted, buckets)?;
+    let coming = coming_buckets(draft.alloc, aim.identity, &draft.map, &aim.there, buckets)?;
     for bucket in &coming {
-        make_bucket(draft, wanted, *bucket)?;
+        make_bucket(draft, aim, *bucket)?;
     }
     Ok(())
 }
@@ -31,7 +33,7 @@ fn coming_buckets<A: Allocator, B: Allocator>(
     alloc: Global,
     identity: Identity,
     map: &CrushMap<A>,
-    wanted: &CrushMap<B>,
+    wanted: &Walked<'_, B>,
     buckets: &[BucketId],
 ) -> Result<Vec<BucketId>, AllocError> {
     let mut coming = Vec::new(alloc);
@@ -47,19 +49,19 @@ fn coming_buckets<A: Allocator, B: Allocator>(
 /// Makes the bucket, and frees its name before, where the map has its type.
 fn make_bucket<A: Allocator + Clone, B: Allocator>(
     draft: &mut Draft<A>,
-    wanted: &CrushMap<B>,
+    aim: &Aim<'_, A, B>,
     bucket: BucketId,
 ) -> Result<(), AllocError>
-    ensures { OnOk result (GoesOn draft.old draft.new) }
+    ensures { OnOk result (GoesOn aim.now draft.old draft.new) }
 {
-    let Some(there) = wanted.find(ItemId::Bucket(bucket)) else {
+    let Some(there) = aim.there.view(ItemId::Bucket(bucket)) else {
         return Ok(());
     };
     let Some(kind) = kind_name(draft.alloc, draft.map.setting(), there.kind)? else {
         return Ok(());
     };
-    free_of_lost(draft, wanted, Some(there.name))?;
-    draft.add_bucket(there.name.as_bytes(), kind)
+    free_of_lost(draft, aim, Some(there.name))?;
+    draft.add_bucket(aim, there.name.as_bytes(), kind)
 }
 
 /// A copy of the name of the type of this number, where the setting has it.

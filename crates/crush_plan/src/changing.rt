@@ -1,19 +1,20 @@
 //! The items of two maps for which there may be something to do.
 //!
-//! Of buckets there are few, and all are listed. A device that is the same in both maps is listed as
-//! one that may come to stand elsewhere alone, since names of buckets change on the way.
+//! An item that is the same in both maps is listed as one that may come to stand elsewhere alone,
+//! since names of buckets change on the way.
 
-use crate::staying::are_near;
-use crush_map::CrushMap;
+use crate::aim::{Aim, Extent};
+use crate::compare::is_same_kind;
+use crate::walked::{Known, Walked};
+use crush_names::are_near;
 use crush_tree::View;
 use crush_units::{BucketId, DeviceId, ItemId};
-use crush_view::walk;
 use std::alloc::{AllocError, Allocator, Global};
 
 /// The items of the map, in the order of its tree: a bucket stands before what is below it.
 #[derive(Drop)]
 pub(crate) struct Here {
-    /// All buckets.
+    /// The buckets that the wanted map hasn't as they are called.
     pub buckets: Vec<BucketId>,
     /// The devices that the wanted map lacks.
     pub lost: Vec<DeviceId>,
@@ -26,6 +27,8 @@ pub(crate) struct Here {
 pub(crate) struct There {
     /// All buckets.
     pub buckets: Vec<BucketId>,
+    /// The buckets that the map hasn't as they are called.
+    pub coming: Vec<BucketId>,
     /// All devices.
     pub placed: Vec<Placed>,
     /// The devices that the map lacks, and those whose class is another.
@@ -40,47 +43,77 @@ pub(crate) struct Placed {
     pub parent: Option<BucketId>,
 }
 
-/// The items of the map.
-pub(crate) fn items_here<A: Allocator, B: Allocator>(
+/// The items of both maps.
+#[derive(Drop)]
+pub(crate) struct Items {
+    pub here: Here,
+    pub there: There,
+}
+
+/// The items of both maps: of buckets that differ none, where they are to stay as they are. An `Err`
+/// says that memory ran out.
+pub(crate) fn items_of_both<A: Allocator, B: Allocator>(
     alloc: Global,
-    map: &CrushMap<A>,
-    wanted: &CrushMap<B>,
+    aim: &Aim<'_, A, B>,
+) -> Result<Items, AllocError> {
+    let before = Walked::new(alloc, aim.before)?;
+    let mut here = items_here(alloc, &before, &aim.there)?;
+    let mut there = items_there(alloc, &before, &aim.there)?;
+    if aim.extent == Extent::SameBuckets {
+        here.buckets.clear();
+        there.coming.clear();
+    }
+    Ok(Items { here, there })
+}
+
+/// The items of the map.
+fn items_here<A: Allocator, B: Allocator>(
+    alloc: Global,
+    map: &Walked<'_, A>,
+    wanted: &Walked<'_, B>,
 ) -> Result<Here, AllocError> {
     let mut here = Here {
         buckets: Vec::new(alloc),
         lost: Vec::new(alloc),
         reweighed: Vec::new(alloc),
     };
-    let steps = walk(alloc, map)?;
-    for step in &steps {
-        here.push(wanted, &step.view())?;
+    for step in &map.steps {
+        here.push(map, wanted, &step.view())?;
     }
     Ok(here)
 }
 
 /// The items of the wanted map.
-pub(crate) fn items_there<A: Allocator, B: Allocator>(
+fn items_there<A: Allocator, B: Allocator>(
     alloc: Global,
-    map: &CrushMap<A>,
-    wanted: &CrushMap<B>,
+    map: &Walked<'_, A>,
+    wanted: &Walked<'_, B>,
 ) -> Result<There, AllocError> {
     let mut there = There {
         buckets: Vec::new(alloc),
+        coming: Vec::new(alloc),
         placed: Vec::new(alloc),
         set: Vec::new(alloc),
     };
-    let steps = walk(alloc, wanted)?;
-    for step in &steps {
-        there.push(map, &step.view())?;
+    for step in &wanted.steps {
+        there.push(map, wanted, &step.view())?;
     }
     Ok(there)
 }
 
 /// The item of this one's id and name that the map has.
-fn same_item<'a, A: Allocator>(map: &'a CrushMap<A>, item: &View<'_>) -> Option<View<'a>> {
-    match map.find(item.id) {
+fn same_item<'a, M: Known>(map: &'a M, item: &View<'_>) -> Option<View<'a>> {
+    match map.view(item.id) {
         Some(view) if view.name.as_bytes() == item.name.as_bytes() => Some(view),
         _ => None,
+    }
+}
+
+/// Whether the other map has the bucket too, of its id, its name and its type.
+fn has_as_called<M: Known, N: Known>(other: &N, map: &M, bucket: &View<'_>) -> bool {
+    match same_item(other, bucket) {
+        Some(view) => is_same_kind(map, bucket.kind, other, view.kind),
+        None => false,
     }
 }
 
@@ -91,12 +124,14 @@ fn weigh_alike(here: &View<'_>, there: &View<'_>) -> bool {
 
 impl Here {
     /// Pushes an item of the map.
-    fn push<B: Allocator>(
+    fn push<M: Known, N: Known>(
         &mut self,
-        wanted: &CrushMap<B>,
+        map: &M,
+        wanted: &N,
         item: &View<'_>,
     ) -> Result<(), AllocError> {
         match item.id {
+            ItemId::Bucket(_) if has_as_called(wanted, map, item) => {}
             ItemId::Bucket(bucket) => self.buckets.push(bucket)?,
             ItemId::Device(device) => match same_item(wanted, item) {
                 None => self.lost.push(device)?,
@@ -110,9 +145,19 @@ impl Here {
 
 impl There {
     /// Pushes an item of the wanted map.
-    fn push<A: Allocator>(&mut self, map: &CrushMap<A>, item: &View<'_>) -> Result<(), AllocError> {
+    fn push<M: Known, N: Known>(
+        &mut self,
+        map: &M,
+        wanted: &N,
+        item: &View<'_>,
+    ) -> Result<(), AllocError> {
         match item.id {
-            ItemId::Bucket(bucket) => self.buckets.push(bucket)?,
+            ItemId::Bucket(bucket) => {
+                self.buckets.push(bucket)?;
+                if !has_as_called(map, wanted, item) {
+                    self.coming.push(bucket)?;
+                }
+            }
             ItemId::Device(device) => {
                 self.placed.push(Placed {
                     id: device,

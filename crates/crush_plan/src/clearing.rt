@@ -3,6 +3,7 @@
 ghost use Rattle.std.specs.Prelude.{OnOk};
 ghost use Rattle.crush_plan.specs.Draft.{GoesOn};
 
+use crate::aim::Aim;
 use crate::changing::Here;
 use crate::compare::{loses_bucket, loses_device};
 use crate::draft::Draft;
@@ -14,25 +15,25 @@ use std::alloc::{AllocError, Allocator};
 /// nothing, the lowest first.
 pub(crate) fn clear<A: Allocator + Clone, B: Allocator>(
     draft: &mut Draft<A>,
-    wanted: &CrushMap<B>,
+    aim: &Aim<'_, A, B>,
     here: &Here,
 ) -> Result<(), AllocError>
-    ensures { OnOk result (GoesOn draft.old draft.new) }
+    ensures { OnOk result (GoesOn aim.now draft.old draft.new) }
 {
-    clear_devices(draft, wanted, here.lost.as_slice())?;
-    clear_buckets(draft, wanted, here.buckets.as_slice())
+    clear_devices(draft, aim, here.lost.as_slice())?;
+    clear_buckets(draft, aim, here.buckets.as_slice())
 }
 
 /// Removes the devices that the wanted map lacks.
 fn clear_devices<A: Allocator + Clone, B: Allocator>(
     draft: &mut Draft<A>,
-    wanted: &CrushMap<B>,
+    aim: &Aim<'_, A, B>,
     devices: &[DeviceId],
 ) -> Result<(), AllocError>
-    ensures { OnOk result (GoesOn draft.old draft.new) }
+    ensures { OnOk result (GoesOn aim.now draft.old draft.new) }
 {
     for device in devices {
-        clear_device(draft, wanted, *device)?;
+        clear_device(draft, aim, *device)?;
     }
     Ok(())
 }
@@ -40,27 +41,27 @@ fn clear_devices<A: Allocator + Clone, B: Allocator>(
 /// Removes the device, where the wanted map lacks it.
 fn clear_device<A: Allocator + Clone, B: Allocator>(
     draft: &mut Draft<A>,
-    wanted: &CrushMap<B>,
+    aim: &Aim<'_, A, B>,
     device: DeviceId,
 ) -> Result<(), AllocError>
-    ensures { OnOk result (GoesOn draft.old draft.new) }
+    ensures { OnOk result (GoesOn aim.now draft.old draft.new) }
 {
-    if !loses_device(&draft.map, wanted, device) {
+    if !loses_device(&draft.map, &aim.there, device) {
         return Ok(());
     }
-    draft.remove(ItemId::Device(device))
+    draft.remove(aim, ItemId::Device(device))
 }
 
 /// Removes the buckets that the wanted map lacks, the last first. One that holds items stays.
 fn clear_buckets<A: Allocator + Clone, B: Allocator>(
     draft: &mut Draft<A>,
-    wanted: &CrushMap<B>,
+    aim: &Aim<'_, A, B>,
     buckets: &[BucketId],
 ) -> Result<(), AllocError>
-    ensures { OnOk result (GoesOn draft.old draft.new) }
+    ensures { OnOk result (GoesOn aim.now draft.old draft.new) }
 {
     for bucket in buckets.iter().rev() {
-        clear_bucket(draft, wanted, *bucket)?;
+        clear_bucket(draft, aim, *bucket)?;
     }
     Ok(())
 }
@@ -68,13 +69,13 @@ fn clear_buckets<A: Allocator + Clone, B: Allocator>(
 /// Removes the bucket, where the wanted map lacks it and it holds nothing.
 fn clear_bucket<A: Allocator + Clone, B: Allocator>(
     draft: &mut Draft<A>,
-    wanted: &CrushMap<B>,
+    aim: &Aim<'_, A, B>,
     bucket: BucketId,
 ) -> Result<(), AllocError>
-    ensures { OnOk result (GoesOn draft.old draft.new) }
+    ensures { OnOk result (GoesOn aim.now draft.old draft.new) }
 {
-    if !loses_bucket(draft.identity, &draft.map, wanted, bucket) {
+    if !loses_bucket(aim.identity, &draft.map, &aim.there, bucket) {
         return Ok(());
     }
-    draft.remove(ItemId::Bucket(bucket))
+    draft.remove(aim, ItemId::Bucket(bucket))
 }

@@ -1,8 +1,7 @@
 //! What one map has of the items of another.
 
-use crush_map::CrushMap;
+use crate::walked::Known;
 use crush_units::{BucketId, DeviceId, ItemId, TypeId};
-use std::alloc::Allocator;
 
 /// Whether both texts are there, and the same.
 fn are_one(here: Option<&str>, there: Option<&str>) -> bool {
@@ -12,14 +11,26 @@ fn are_one(here: Option<&str>, there: Option<&str>) -> bool {
     }
 }
 
+/// The name of the item, if it is there.
+pub(crate) fn name_of<M: Known>(map: &M, id: ItemId) -> Option<&str> {
+    match map.view(id) {
+        Some(view) => Some(view.name),
+        None => None,
+    }
+}
+
+/// The number of the item's type, if it is there.
+fn kind_of<M: Known>(map: &M, id: ItemId) -> Option<TypeId> {
+    match map.view(id) {
+        Some(view) => Some(view.kind),
+        None => None,
+    }
+}
+
 /// Whether both maps have the device, with one name.
-pub(crate) fn have_device<A: Allocator, B: Allocator>(
-    map: &CrushMap<A>,
-    wanted: &CrushMap<B>,
-    device: DeviceId,
-) -> bool {
-    let here = map.name_of(ItemId::Device(device));
-    let there = wanted.name_of(ItemId::Device(device));
+pub(crate) fn have_device<M: Known, N: Known>(map: &M, wanted: &N, device: DeviceId) -> bool {
+    let here = name_of(map, ItemId::Device(device));
+    let there = name_of(wanted, ItemId::Device(device));
     are_one(here, there)
 }
 
@@ -33,15 +44,15 @@ pub enum Identity {
 }
 
 /// Whether a type of each map has one name.
-fn is_same_kind<A: Allocator, B: Allocator>(
-    map: &CrushMap<A>,
+pub(crate) fn is_same_kind<M: Known, N: Known>(
+    map: &M,
     here: TypeId,
-    wanted: &CrushMap<B>,
+    wanted: &N,
     there: TypeId,
 ) -> bool {
     match (
-        map.setting().kind_name(here),
-        wanted.setting().kind_name(there),
+        map.surroundings().kind_name(here),
+        wanted.surroundings().kind_name(there),
     ) {
         (Some(here), Some(there)) => here.as_bytes() == there.as_bytes(),
         _ => false,
@@ -49,13 +60,9 @@ fn is_same_kind<A: Allocator, B: Allocator>(
 }
 
 /// Whether both maps have the bucket of this id, of one type.
-pub(crate) fn have_bucket<A: Allocator, B: Allocator>(
-    map: &CrushMap<A>,
-    wanted: &CrushMap<B>,
-    bucket: BucketId,
-) -> bool {
-    let here = map.kind_of(ItemId::Bucket(bucket));
-    let there = wanted.kind_of(ItemId::Bucket(bucket));
+pub(crate) fn have_bucket<M: Known, N: Known>(map: &M, wanted: &N, bucket: BucketId) -> bool {
+    let here = kind_of(map, ItemId::Bucket(bucket));
+    let there = kind_of(wanted, ItemId::Bucket(bucket));
     match (here, there) {
         (Some(here), Some(there)) => is_same_kind(map, here, wanted, there),
         _ => false,
@@ -63,12 +70,8 @@ pub(crate) fn have_bucket<A: Allocator, B: Allocator>(
 }
 
 /// Whether the map has a device of this id that the wanted map lacks.
-pub(crate) fn loses_device<A: Allocator, B: Allocator>(
-    map: &CrushMap<A>,
-    wanted: &CrushMap<B>,
-    device: DeviceId,
-) -> bool {
-    map.name_of(ItemId::Device(device)).is_some() && !have_device(map, wanted, device)
+pub(crate) fn loses_device<M: Known, N: Known>(map: &M, wanted: &N, device: DeviceId) -> bool {
+    map.view(ItemId::Device(device)).is_some() && !have_device(map, wanted, device)
 }
 
 /// The bucket that this id is of, if it is of one.
@@ -80,34 +83,30 @@ fn only_bucket(id: ItemId) -> Option<BucketId> {
 }
 
 /// The bucket of this name, or `None` where none or a device has it.
-pub(crate) fn bucket_named<A: Allocator>(map: &CrushMap<A>, name: &str) -> Option<BucketId> {
-    only_bucket(map.locate(name)?)
+pub(crate) fn bucket_named<M: Known>(map: &M, name: &str) -> Option<BucketId> {
+    only_bucket(map.id_of(name)?)
 }
 
 /// The bucket of the map that is to be as this one of the wanted map: the one of its name.
-pub(crate) fn counterpart<A: Allocator, B: Allocator>(
-    map: &CrushMap<A>,
-    wanted: &CrushMap<B>,
+pub(crate) fn counterpart<M: Known, N: Known>(
+    map: &M,
+    wanted: &N,
     bucket: BucketId,
 ) -> Option<BucketId> {
-    bucket_named(map, wanted.name_of(ItemId::Bucket(bucket))?)
+    bucket_named(map, name_of(wanted, ItemId::Bucket(bucket))?)
 }
 
 /// The bucket of the map that is to hold what this item of the wanted map is.
-pub(crate) fn destination<A: Allocator, B: Allocator>(
-    map: &CrushMap<A>,
-    wanted: &CrushMap<B>,
-    id: ItemId,
-) -> Option<BucketId> {
-    counterpart(map, wanted, wanted.parent(id)?)
+pub(crate) fn destination<M: Known, N: Known>(map: &M, wanted: &N, id: ItemId) -> Option<BucketId> {
+    counterpart(map, wanted, wanted.holder(id)?)
 }
 
 /// The bucket of the wanted map that this one of the map is in all but its id, which no edit sets: of
 /// its name and its type. Where buckets are told apart by ids, neither map has the id of the other.
-fn namesake<A: Allocator, B: Allocator>(
+fn namesake<M: Known, N: Known>(
     identity: Identity,
-    map: &CrushMap<A>,
-    wanted: &CrushMap<B>,
+    map: &M,
+    wanted: &N,
     bucket: BucketId,
 ) -> Option<BucketId> {
     let other = counterpart(wanted, map, bucket)?;
@@ -116,8 +115,8 @@ fn namesake<A: Allocator, B: Allocator>(
     {
         return None;
     }
-    let here = map.kind_of(ItemId::Bucket(bucket))?;
-    let there = wanted.kind_of(ItemId::Bucket(other))?;
+    let here = kind_of(map, ItemId::Bucket(bucket))?;
+    let there = kind_of(wanted, ItemId::Bucket(other))?;
     if is_same_kind(map, here, wanted, there) {
         Some(other)
     } else {
@@ -126,14 +125,14 @@ fn namesake<A: Allocator, B: Allocator>(
 }
 
 /// Whether the map has a bucket of this id that the wanted map lacks, also by its name.
-pub(crate) fn loses_bucket<A: Allocator, B: Allocator>(
+pub(crate) fn loses_bucket<M: Known, N: Known>(
     identity: Identity,
-    map: &CrushMap<A>,
-    wanted: &CrushMap<B>,
+    map: &M,
+    wanted: &N,
     bucket: BucketId,
 ) -> bool {
     let is_kept = identity == Identity::Ids && have_bucket(map, wanted, bucket);
-    map.name_of(ItemId::Bucket(bucket)).is_some()
+    map.view(ItemId::Bucket(bucket)).is_some()
         && !is_kept
         && namesake(identity, map, wanted, bucket).is_none()
 }

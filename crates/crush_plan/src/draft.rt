@@ -1,9 +1,12 @@
 //! A map on its way to another.
 
-ghost use Rattle.std.specs.Prelude.{◌≡◌, ◌++◌, ◌∷◌, [], OnOk, if◌then◌else◌};
-ghost use Rattle.crush_plan.specs.Draft.{GoesOn};
+ghost use Rattle.std.specs.Prelude.{◌≡◌, ◌++◌, ◌∷◌, [], List, OnOk, if◌then◌else◌, true};
+ghost use Rattle.crush_table.specs.Stands.{Stands};
+ghost use Rattle.crush_table.specs.Table.{Row};
+ghost use Rattle.crush_plan.specs.Draft.{Allows, GoesOn};
 
-use crate::compare::Identity;
+use crate::aim::Aim;
+use crate::said::is_said;
 use crush_map::{CrushMap, Edit, EditFault, Location};
 use crush_units::{BucketId, DeviceId, ItemId, Name, Weight};
 use std::alloc::{AllocError, Allocator, Global};
@@ -13,8 +16,6 @@ use std::alloc::{AllocError, Allocator, Global};
 pub(crate) struct Draft<A: Allocator> {
     /// In which memory edits are kept.
     pub alloc: Global,
-    /// By what buckets are told apart.
-    pub identity: Identity,
     /// The map after the edits.
     pub map: CrushMap<A>,
     /// The edits: each was done, and changed the map.
@@ -30,9 +31,33 @@ pub(crate) fn copy_name(alloc: Global, name: &[u8]) -> Result<Name<Global>, Allo
 }
 
 impl<A: Allocator + Clone> Draft<A> {
+    /// Makes the edit where it is allowed, and keeps it where it is done and has changed the map.
+    pub(crate) fn give<B: Allocator>(
+        &mut self,
+        aim: &Aim<'_, A, B>,
+        edit: Edit,
+    ) -> Result<(), AllocError>
+        ensures { OnOk result (GoesOn aim.now self.old self.new) }
+    {
+        if self.allows(aim, &edit) {
+            self.make(aim, edit)
+        } else {
+            Ok(())
+        }
+    }
+
+    /// Whether a script can say the edit, and it is of the part that is asked for.
+    fn allows<B: Allocator>(&self, aim: &Aim<'_, A, B>, edit: &Edit) -> bool
+        ensures { result ≡ true → (v : List Row) → Stands self.now.map.forest v
+            → Allows aim.now v edit.now }
+    {
+        is_said(edit) && aim.concerns(&self.map, edit)
+    }
+
     /// Makes the edit, and keeps it where it is done and has changed the map.
-    pub(crate) fn give(&mut self, edit: Edit) -> Result<(), AllocError>
-        ensures { OnOk result (GoesOn self.old self.new) }
+    fn make<B: Allocator>(&mut self, aim: &Aim<'_, A, B>, edit: Edit) -> Result<(), AllocError>
+        requires allowed { (v : List Row) → Stands self.old.map.forest v → Allows aim.now v edit }
+        ensures { OnOk result (GoesOn aim.now self.old self.new) }
     {
         match self.map.apply(&edit) {
             Ok(done) => self.keep(edit, done.changed),
@@ -77,115 +102,158 @@ impl<A: Allocator + Clone> Draft<A> {
     }
 
     /// Removes the item.
-    pub(crate) fn remove(&mut self, id: ItemId) -> Result<(), AllocError>
-        ensures { OnOk result (GoesOn self.old self.new) }
+    pub(crate) fn remove<B: Allocator>(
+        &mut self,
+        aim: &Aim<'_, A, B>,
+        id: ItemId,
+    ) -> Result<(), AllocError>
+        ensures { OnOk result (GoesOn aim.now self.old self.new) }
     {
         match self.name_of(id)? {
-            Some(name) => self.give(Edit::Remove { name }),
+            Some(name) => self.give(aim, Edit::Remove { name }),
             None => Ok(()),
         }
     }
 
     /// Has two buckets exchange their names and items.
-    pub(crate) fn swap(&mut self, a: BucketId, b: BucketId) -> Result<(), AllocError>
-        ensures { OnOk result (GoesOn self.old self.new) }
+    pub(crate) fn swap<B: Allocator>(
+        &mut self,
+        aim: &Aim<'_, A, B>,
+        a: BucketId,
+        b: BucketId,
+    ) -> Result<(), AllocError>
+        ensures { OnOk result (GoesOn aim.now self.old self.new) }
     {
         let a = self.name_of(ItemId::Bucket(a))?;
         let b = self.name_of(ItemId::Bucket(b))?;
         match (a, b) {
-            (Some(a), Some(b)) => self.give(Edit::Swap { a, b }),
+            (Some(a), Some(b)) => self.give(aim, Edit::Swap { a, b }),
             _ => Ok(()),
         }
     }
 
     /// Gives the bucket another name.
-    pub(crate) fn rename_bucket(&mut self, bucket: BucketId, to: &[u8]) -> Result<(), AllocError>
-        ensures { OnOk result (GoesOn self.old self.new) }
+    pub(crate) fn rename_bucket<B: Allocator>(
+        &mut self,
+        aim: &Aim<'_, A, B>,
+        bucket: BucketId,
+        to: &[u8],
+    ) -> Result<(), AllocError>
+        ensures { OnOk result (GoesOn aim.now self.old self.new) }
     {
         let to = copy_name(self.alloc, to)?;
         match self.name_of(ItemId::Bucket(bucket))? {
-            Some(from) => self.give(Edit::Rename { from, to }),
+            Some(from) => self.give(aim, Edit::Rename { from, to }),
             None => Ok(()),
         }
     }
 
     /// Makes a bucket of this name and type.
-    pub(crate) fn add_bucket(&mut self, name: &[u8], kind: Name<Global>) -> Result<(), AllocError>
-        ensures { OnOk result (GoesOn self.old self.new) }
+    pub(crate) fn add_bucket<B: Allocator>(
+        &mut self,
+        aim: &Aim<'_, A, B>,
+        name: &[u8],
+        kind: Name<Global>,
+    ) -> Result<(), AllocError>
+        ensures { OnOk result (GoesOn aim.now self.old self.new) }
     {
         let name = copy_name(self.alloc, name)?;
-        self.give(Edit::AddBucket { name, kind })
+        self.give(aim, Edit::AddBucket { name, kind })
     }
 
     /// Puts the item below the bucket.
-    pub(crate) fn relocate(&mut self, id: ItemId, bucket: BucketId) -> Result<(), AllocError>
-        ensures { OnOk result (GoesOn self.old self.new) }
+    pub(crate) fn relocate<B: Allocator>(
+        &mut self,
+        aim: &Aim<'_, A, B>,
+        id: ItemId,
+        bucket: BucketId,
+    ) -> Result<(), AllocError>
+        ensures { OnOk result (GoesOn aim.now self.old self.new) }
     {
         let Some(name) = self.name_of(id)? else {
             return Ok(());
         };
         let at = self.place(bucket)?;
-        self.give(Edit::Move { name, at })
+        self.give(aim, Edit::Move { name, at })
     }
 
     /// Gives the device this weight.
-    pub(crate) fn reweight(&mut self, device: DeviceId, weight: Weight) -> Result<(), AllocError>
-        ensures { OnOk result (GoesOn self.old self.new) }
+    pub(crate) fn reweight<B: Allocator>(
+        &mut self,
+        aim: &Aim<'_, A, B>,
+        device: DeviceId,
+        weight: Weight,
+    ) -> Result<(), AllocError>
+        ensures { OnOk result (GoesOn aim.now self.old self.new) }
     {
         match self.name_of(ItemId::Device(device))? {
-            Some(name) => self.give(Edit::Reweight { name, weight }),
+            Some(name) => self.give(aim, Edit::Reweight { name, weight }),
             None => Ok(()),
         }
     }
 
     /// Gives each device below the bucket this weight.
-    pub(crate) fn reweight_below(
+    pub(crate) fn reweight_below<B: Allocator>(
         &mut self,
+        aim: &Aim<'_, A, B>,
         bucket: BucketId,
         weight: Weight,
     ) -> Result<(), AllocError>
-        ensures { OnOk result (GoesOn self.old self.new) }
+        ensures { OnOk result (GoesOn aim.now self.old self.new) }
     {
         match self.name_of(ItemId::Bucket(bucket))? {
-            Some(name) => self.give(Edit::ReweightSubtree { name, weight }),
+            Some(name) => self.give(aim, Edit::ReweightSubtree { name, weight }),
             None => Ok(()),
         }
     }
 
     /// Puts a new device of this name below the bucket.
-    pub(crate) fn insert(
+    pub(crate) fn insert<B: Allocator>(
         &mut self,
+        aim: &Aim<'_, A, B>,
         device: DeviceId,
         name: &[u8],
         weight: Weight,
         bucket: BucketId,
     ) -> Result<(), AllocError>
-        ensures { OnOk result (GoesOn self.old self.new) }
+        ensures { OnOk result (GoesOn aim.now self.old self.new) }
     {
         let name = copy_name(self.alloc, name)?;
         let at = self.place(bucket)?;
-        self.give(Edit::Insert {
-            device,
-            name,
-            weight,
-            at,
-        })
+        self.give(
+            aim,
+            Edit::Insert {
+                device,
+                name,
+                weight,
+                at,
+            },
+        )
     }
 
     /// Takes the class of the device of this name away.
-    pub(crate) fn remove_class(&mut self, name: &[u8]) -> Result<(), AllocError>
-        ensures { OnOk result (GoesOn self.old self.new) }
+    pub(crate) fn remove_class<B: Allocator>(
+        &mut self,
+        aim: &Aim<'_, A, B>,
+        name: &[u8],
+    ) -> Result<(), AllocError>
+        ensures { OnOk result (GoesOn aim.now self.old self.new) }
     {
         let name = copy_name(self.alloc, name)?;
-        self.give(Edit::RemoveClass { name })
+        self.give(aim, Edit::RemoveClass { name })
     }
 
     /// Gives the device of this name this class.
-    pub(crate) fn set_class(&mut self, name: &[u8], class: &[u8]) -> Result<(), AllocError>
-        ensures { OnOk result (GoesOn self.old self.new) }
+    pub(crate) fn set_class<B: Allocator>(
+        &mut self,
+        aim: &Aim<'_, A, B>,
+        name: &[u8],
+        class: &[u8],
+    ) -> Result<(), AllocError>
+        ensures { OnOk result (GoesOn aim.now self.old self.new) }
     {
         let name = copy_name(self.alloc, name)?;
         let class = copy_name(self.alloc, class)?;
-        self.give(Edit::SetClass { name, class })
+        self.give(aim, Edit::SetClass { name, class })
     }
 }

@@ -3,9 +3,11 @@
 ghost use Rattle.std.specs.Prelude.{OnOk};
 ghost use Rattle.crush_plan.specs.Draft.{GoesOn};
 
+use crate::aim::Aim;
 use crate::changing::{Placed, There};
 use crate::compare::{counterpart, destination};
 use crate::draft::Draft;
+use crate::walked::Walked;
 use crush_map::CrushMap;
 use crush_units::{BucketId, DeviceId, ItemId};
 use std::alloc::{AllocError, Allocator};
@@ -14,25 +16,25 @@ use std::alloc::{AllocError, Allocator};
 /// is above it: so what is above its place is in place already.
 pub(crate) fn move_all<A: Allocator + Clone, B: Allocator>(
     draft: &mut Draft<A>,
-    wanted: &CrushMap<B>,
+    aim: &Aim<'_, A, B>,
     there: &There,
 ) -> Result<(), AllocError>
-    ensures { OnOk result (GoesOn draft.old draft.new) }
+    ensures { OnOk result (GoesOn aim.now draft.old draft.new) }
 {
-    move_buckets(draft, wanted, there.buckets.as_slice())?;
-    move_devices(draft, wanted, there.placed.as_slice())
+    move_buckets(draft, aim, there.buckets.as_slice())?;
+    move_devices(draft, aim, there.placed.as_slice())
 }
 
 /// Puts the buckets.
 fn move_buckets<A: Allocator + Clone, B: Allocator>(
     draft: &mut Draft<A>,
-    wanted: &CrushMap<B>,
+    aim: &Aim<'_, A, B>,
     buckets: &[BucketId],
 ) -> Result<(), AllocError>
-    ensures { OnOk result (GoesOn draft.old draft.new) }
+    ensures { OnOk result (GoesOn aim.now draft.old draft.new) }
 {
     for bucket in buckets {
-        move_bucket(draft, wanted, *bucket)?;
+        move_bucket(draft, aim, *bucket)?;
     }
     Ok(())
 }
@@ -40,33 +42,33 @@ fn move_buckets<A: Allocator + Clone, B: Allocator>(
 /// Puts the bucket that is to be as this one of the wanted map.
 fn move_bucket<A: Allocator + Clone, B: Allocator>(
     draft: &mut Draft<A>,
-    wanted: &CrushMap<B>,
+    aim: &Aim<'_, A, B>,
     bucket: BucketId,
 ) -> Result<(), AllocError>
-    ensures { OnOk result (GoesOn draft.old draft.new) }
+    ensures { OnOk result (GoesOn aim.now draft.old draft.new) }
 {
-    let Some(item) = counterpart(&draft.map, wanted, bucket) else {
+    let Some(item) = counterpart(&draft.map, &aim.there, bucket) else {
         return Ok(());
     };
-    let Some(place) = destination(&draft.map, wanted, ItemId::Bucket(bucket)) else {
+    let Some(place) = destination(&draft.map, &aim.there, ItemId::Bucket(bucket)) else {
         return Ok(());
     };
     if draft.map.parent(ItemId::Bucket(item)) == Some(place) {
         return Ok(());
     }
-    draft.relocate(ItemId::Bucket(item), place)
+    draft.relocate(aim, ItemId::Bucket(item), place)
 }
 
 /// Puts the devices.
 fn move_devices<A: Allocator + Clone, B: Allocator>(
     draft: &mut Draft<A>,
-    wanted: &CrushMap<B>,
+    aim: &Aim<'_, A, B>,
     devices: &[Placed],
 ) -> Result<(), AllocError>
-    ensures { OnOk result (GoesOn draft.old draft.new) }
+    ensures { OnOk result (GoesOn aim.now draft.old draft.new) }
 {
     for device in devices {
-        move_device(draft, wanted, device)?;
+        move_device(draft, aim, device)?;
     }
     Ok(())
 }
@@ -74,35 +76,36 @@ fn move_devices<A: Allocator + Clone, B: Allocator>(
 /// Puts the device, where it is to stand in a bucket.
 fn move_device<A: Allocator + Clone, B: Allocator>(
     draft: &mut Draft<A>,
-    wanted: &CrushMap<B>,
+    aim: &Aim<'_, A, B>,
     device: &Placed,
 ) -> Result<(), AllocError>
-    ensures { OnOk result (GoesOn draft.old draft.new) }
+    ensures { OnOk result (GoesOn aim.now draft.old draft.new) }
 {
-    match place_of(&draft.map, wanted, device) {
-        Some(place) => put_device(draft, device.id, place),
+    match place_of(&draft.map, &aim.there, device) {
+        Some(place) => put_device(draft, aim, device.id, place),
         None => Ok(()),
     }
 }
 
 /// Puts the device below the bucket, unless it stands there.
-fn put_device<A: Allocator + Clone>(
+fn put_device<A: Allocator + Clone, B: Allocator>(
     draft: &mut Draft<A>,
+    aim: &Aim<'_, A, B>,
     device: DeviceId,
     place: BucketId,
 ) -> Result<(), AllocError>
-    ensures { OnOk result (GoesOn draft.old draft.new) }
+    ensures { OnOk result (GoesOn aim.now draft.old draft.new) }
 {
     if draft.map.parent(ItemId::Device(device)) == Some(place) {
         return Ok(());
     }
-    draft.relocate(ItemId::Device(device), place)
+    draft.relocate(aim, ItemId::Device(device), place)
 }
 
 /// The bucket of the map that is to hold the device.
 fn place_of<A: Allocator, B: Allocator>(
     map: &CrushMap<A>,
-    wanted: &CrushMap<B>,
+    wanted: &Walked<'_, B>,
     device: &Placed,
 ) -> Option<BucketId> {
     counterpart(map, wanted, device.parent?)

@@ -3,8 +3,10 @@
 ghost use Rattle.std.specs.Prelude.{OnOk};
 ghost use Rattle.crush_plan.specs.Draft.{GoesOn};
 
-use crate::compare::{Identity, bucket_named, counterpart, have_bucket, loses_bucket};
+use crate::aim::Aim;
+use crate::compare::{Identity, bucket_named, counterpart, have_bucket, loses_bucket, name_of};
 use crate::draft::{Draft, copy_name};
+use crate::walked::{Known, Walked};
 use crush_map::CrushMap;
 use crush_units::{BucketId, ItemId, Name};
 use itoa::Buffer;
@@ -17,27 +19,27 @@ const LONGEST_STEM: usize = 240;
 /// names go round in a ring, one of them is freed.
 pub(crate) fn rename_all<A: Allocator + Clone, B: Allocator>(
     draft: &mut Draft<A>,
-    wanted: &CrushMap<B>,
+    aim: &Aim<'_, A, B>,
     buckets: &[BucketId],
 ) -> Result<(), AllocError>
-    ensures { OnOk result (GoesOn draft.old draft.new) }
+    ensures { OnOk result (GoesOn aim.now draft.old draft.new) }
 {
-    rename_waiting(draft, wanted, buckets)?;
-    rename_rings(draft, wanted, buckets)
+    rename_waiting(draft, aim, buckets)?;
+    rename_rings(draft, aim, buckets)
 }
 
 /// Gives the buckets their names, where these are free or come free, or a bucket that goes has them.
 fn rename_waiting<A: Allocator + Clone, B: Allocator>(
     draft: &mut Draft<A>,
-    wanted: &CrushMap<B>,
+    aim: &Aim<'_, A, B>,
     buckets: &[BucketId],
 ) -> Result<(), AllocError>
-    ensures { OnOk result (GoesOn draft.old draft.new) }
+    ensures { OnOk result (GoesOn aim.now draft.old draft.new) }
 {
     for bucket in buckets {
-        let name = wanted_name(&draft.map, wanted, *bucket);
-        free_of_lost(draft, wanted, name)?;
-        take_names(draft, wanted, *bucket, buckets.len())?;
+        let name = wanted_name(&draft.map, aim, *bucket);
+        free_of_lost(draft, aim, name)?;
+        take_names(draft, aim, *bucket, buckets.len())?;
     }
     Ok(())
 }
@@ -45,16 +47,16 @@ fn rename_waiting<A: Allocator + Clone, B: Allocator>(
 /// Gives the other buckets their names.
 fn rename_rings<A: Allocator + Clone, B: Allocator>(
     draft: &mut Draft<A>,
-    wanted: &CrushMap<B>,
+    aim: &Aim<'_, A, B>,
     buckets: &[BucketId],
 ) -> Result<(), AllocError>
-    ensures { OnOk result (GoesOn draft.old draft.new) }
+    ensures { OnOk result (GoesOn aim.now draft.old draft.new) }
 {
     for bucket in buckets {
-        open_ring(draft, wanted, *bucket, buckets.len())?;
-        let name = wanted_name(&draft.map, wanted, *bucket);
-        free(draft, wanted, name)?;
-        take_names(draft, wanted, *bucket, buckets.len())?;
+        open_ring(draft, aim, *bucket, buckets.len())?;
+        let name = wanted_name(&draft.map, aim, *bucket);
+        free(draft, aim, name)?;
+        take_names(draft, aim, *bucket, buckets.len())?;
     }
     Ok(())
 }
@@ -63,44 +65,72 @@ fn rename_rings<A: Allocator + Clone, B: Allocator>(
 /// to that one.
 fn open_ring<A: Allocator + Clone, B: Allocator>(
     draft: &mut Draft<A>,
-    wanted: &CrushMap<B>,
+    aim: &Aim<'_, A, B>,
     bucket: BucketId,
     most: usize,
 ) -> Result<(), AllocError>
-    ensures { OnOk result (GoesOn draft.old draft.new) }
+    ensures { OnOk result (GoesOn aim.now draft.old draft.new) }
 {
-    let Some(next) = waiting(&draft.map, wanted, bucket) else {
+    let Some(next) = waiting(&draft.map, aim, bucket) else {
         return Ok(());
     };
+    if !can_open(&draft.map, aim, bucket, most) {
+        return Ok(());
+    }
     let Some(name) = draft.name_of(ItemId::Bucket(bucket))? else {
         return Ok(());
     };
-    free(draft, wanted, Some(name.as_str()))?;
-    take_names(draft, wanted, next, most)
+    free(draft, aim, Some(name.as_str()))?;
+    take_names(draft, aim, next, most)
 }
 
 /// The bucket that waits for the name of this one, which is to have another.
 fn waiting<A: Allocator, B: Allocator>(
     map: &CrushMap<A>,
-    wanted: &CrushMap<B>,
+    aim: &Aim<'_, A, B>,
     bucket: BucketId,
 ) -> Option<BucketId> {
-    let _name = wanted_name(map, wanted, bucket)?;
-    counterpart(wanted, map, bucket)
+    let _name = wanted_name(map, aim, bucket)?;
+    counterpart(&aim.there, map, bucket)
 }
 
-/// The name that a bucket of both maps is to have, where it has another.
+/// Whether the ring of names may be opened at this bucket: of a part alone each bucket of the ring has
+/// to be given its name, so that none is left with a free one.
+fn can_open<A: Allocator, B: Allocator>(
+    map: &CrushMap<A>,
+    aim: &Aim<'_, A, B>,
+    first: BucketId,
+    most: usize,
+) -> bool {
+    if aim.under.is_none() {
+        return true;
+    }
+    if !aim.has_stood(ItemId::Bucket(first)) {
+        return false;
+    }
+    let mut bucket = first;
+    for _turn in 0..most {
+        match waiting(map, aim, bucket) {
+            Some(next) if next == first => return true,
+            Some(next) => bucket = next,
+            None => return false,
+        }
+    }
+    false
+}
+
+/// The name that a bucket of both maps is to have, where it has another and may be given it.
 fn wanted_name<'a, A: Allocator, B: Allocator>(
     map: &CrushMap<A>,
-    wanted: &'a CrushMap<B>,
+    aim: &'a Aim<'_, A, B>,
     bucket: BucketId,
 ) -> Option<&'a str> {
-    if !have_bucket(map, wanted, bucket) {
+    if !have_bucket(map, &aim.there, bucket) {
         return None;
     }
     let here = map.name_of(ItemId::Bucket(bucket))?;
-    let there = wanted.name_of(ItemId::Bucket(bucket))?;
-    if here.as_bytes() == there.as_bytes() {
+    let there = name_of(&aim.there, ItemId::Bucket(bucket))?;
+    if here.as_bytes() == there.as_bytes() || !aim.may_have(ItemId::Bucket(bucket), there) {
         return None;
     }
     Some(there)
@@ -109,10 +139,10 @@ fn wanted_name<'a, A: Allocator, B: Allocator>(
 /// The same, where nothing has that name.
 fn free_name<'a, A: Allocator, B: Allocator>(
     map: &CrushMap<A>,
-    wanted: &'a CrushMap<B>,
+    aim: &'a Aim<'_, A, B>,
     bucket: BucketId,
 ) -> Option<&'a str> {
-    let name = wanted_name(map, wanted, bucket)?;
+    let name = wanted_name(map, aim, bucket)?;
     if map.locate(name).is_some() {
         return None;
     }
@@ -123,34 +153,35 @@ fn free_name<'a, A: Allocator, B: Allocator>(
 /// have that, and so on, at most so many times.
 fn take_names<A: Allocator + Clone, B: Allocator>(
     draft: &mut Draft<A>,
-    wanted: &CrushMap<B>,
+    aim: &Aim<'_, A, B>,
     first: BucketId,
     most: usize,
 ) -> Result<(), AllocError>
-    ensures { OnOk result (GoesOn draft.old draft.new) }
+    ensures { OnOk result (GoesOn aim.now draft.old draft.new) }
 {
     let mut next = Some(first);
     for _turn in 0..most {
         let Some(bucket) = next else {
             return Ok(());
         };
-        let name = free_name(&draft.map, wanted, bucket);
-        next = heir(&draft.map, wanted, bucket);
-        take_name(draft, bucket, name)?;
+        let name = free_name(&draft.map, aim, bucket);
+        next = heir(&draft.map, aim, bucket);
+        take_name(draft, aim, bucket, name)?;
     }
     Ok(())
 }
 
 /// Gives the bucket the name, if there is one.
-fn take_name<A: Allocator + Clone>(
+fn take_name<A: Allocator + Clone, B: Allocator>(
     draft: &mut Draft<A>,
+    aim: &Aim<'_, A, B>,
     bucket: BucketId,
     name: Option<&str>,
 ) -> Result<(), AllocError>
-    ensures { OnOk result (GoesOn draft.old draft.new) }
+    ensures { OnOk result (GoesOn aim.now draft.old draft.new) }
 {
     match name {
-        Some(name) => draft.rename_bucket(bucket, name.as_bytes()),
+        Some(name) => draft.rename_bucket(aim, bucket, name.as_bytes()),
         None => Ok(()),
     }
 }
@@ -158,23 +189,23 @@ fn take_name<A: Allocator + Clone>(
 /// The bucket that is to have the name that this one has, where this one gets another.
 fn heir<A: Allocator, B: Allocator>(
     map: &CrushMap<A>,
-    wanted: &CrushMap<B>,
+    aim: &Aim<'_, A, B>,
     bucket: BucketId,
 ) -> Option<BucketId> {
-    let _name = free_name(map, wanted, bucket)?;
-    counterpart(wanted, map, bucket)
+    let _name = free_name(map, aim, bucket)?;
+    counterpart(&aim.there, map, bucket)
 }
 
 /// Frees the name, if there is one, where a bucket has it that goes.
 pub(crate) fn free_of_lost<A: Allocator + Clone, B: Allocator>(
     draft: &mut Draft<A>,
-    wanted: &CrushMap<B>,
+    aim: &Aim<'_, A, B>,
     name: Option<&str>,
 ) -> Result<(), AllocError>
-    ensures { OnOk result (GoesOn draft.old draft.new) }
+    ensures { OnOk result (GoesOn aim.now draft.old draft.new) }
 {
-    match lost_bucket(draft.identity, &draft.map, wanted, name) {
-        Some(_) => free(draft, wanted, name),
+    match lost_bucket(aim.identity, &draft.map, &aim.there, name) {
+        Some(_) => free(draft, aim, name),
         None => Ok(()),
     }
 }
@@ -183,7 +214,7 @@ pub(crate) fn free_of_lost<A: Allocator + Clone, B: Allocator>(
 fn lost_bucket<A: Allocator, B: Allocator>(
     identity: Identity,
     map: &CrushMap<A>,
-    wanted: &CrushMap<B>,
+    wanted: &Walked<'_, B>,
     name: Option<&str>,
 ) -> Option<BucketId> {
     let bucket = bucket_named(map, name?)?;
@@ -197,10 +228,10 @@ fn lost_bucket<A: Allocator, B: Allocator>(
 /// Gives the bucket that has the name, if there is one, another, that neither map has.
 fn free<A: Allocator + Clone, B: Allocator>(
     draft: &mut Draft<A>,
-    wanted: &CrushMap<B>,
+    aim: &Aim<'_, A, B>,
     name: Option<&str>,
 ) -> Result<(), AllocError>
-    ensures { OnOk result (GoesOn draft.old draft.new) }
+    ensures { OnOk result (GoesOn aim.now draft.old draft.new) }
 {
     let Some(name) = name else {
         return Ok(());
@@ -208,8 +239,8 @@ fn free<A: Allocator + Clone, B: Allocator>(
     let Some(bucket) = bucket_named(&draft.map, name) else {
         return Ok(());
     };
-    match spare_name(draft.alloc, &draft.map, wanted, name.as_bytes())? {
-        Some(spare) => draft.rename_bucket(bucket, spare.as_bytes()),
+    match spare_name(draft.alloc, &draft.map, &aim.there, name.as_bytes())? {
+        Some(spare) => draft.rename_bucket(aim, bucket, spare.as_bytes()),
         None => Ok(()),
     }
 }
@@ -218,12 +249,12 @@ fn free<A: Allocator + Clone, B: Allocator>(
 fn spare_name<A: Allocator, B: Allocator>(
     alloc: Global,
     map: &CrushMap<A>,
-    wanted: &CrushMap<B>,
+    wanted: &Walked<'_, B>,
     name: &[u8],
 ) -> Result<Option<Name<Global>>, AllocError> {
     for number in 1..u32::MAX {
         let spare = numbered_name(alloc, name, number)?;
-        if map.locate(spare.as_str()).is_none() && wanted.locate(spare.as_str()).is_none() {
+        if map.locate(spare.as_str()).is_none() && wanted.id_of(spare.as_str()).is_none() {
             return Ok(Some(spare));
         }
     }

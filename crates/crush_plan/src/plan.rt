@@ -1,25 +1,27 @@
 //! The plan from one map to another.
 
 ghost use Rattle.std.specs.Prelude.{◌≡◌, [], IfOk, List, OnOk, true};
+ghost use Rattle.std.specs.Option.{option_map};
 ghost use Rattle.crush_table.specs.Stands.{Stands};
 ghost use Rattle.crush_table.specs.Table.{Row};
-ghost use Rattle.crush_view.specs.Since.{told};
+ghost use Rattle.crush_since.specs.Since.{told};
 ghost use Rattle.crush_plan.specs.Draft.{GoesOn, IsDraftOf};
 ghost use Rattle.crush_plan.specs.Plan.{GoesTo, IsBetter, IsPlan, TellsRest, line_count, plan_data};
 
-use crate::aside::{Counts, count_aside};
+use crate::aim::{Aim, Extent};
 use crate::buckets::make_buckets;
-use crate::changing::{Here, There, items_here, items_there};
+use crate::changing::{Items, items_of_both};
 use crate::clearing::clear;
 use crate::compare::Identity;
 use crate::devices::set_devices;
 use crate::draft::Draft;
 use crate::moves::move_all;
 use crate::names::rename_all;
-use crate::staying::stays;
 use crate::swaps::swap_all;
+use crate::walked::Walked;
 use crate::weights::{Which, set_weights};
 use crush_map::{CrushMap, Edit};
+use crush_names::{Counts, count_aside, stays_part};
 use crush_units::BucketId;
 use std::alloc::{AllocError, Allocator, Global};
 
@@ -34,25 +36,35 @@ pub struct Plan {
     pub aside: Counts,
 }
 
-/// Finds the edits that lead from a map to another. Where with them no fewer differences stay than
-/// without, nor as many and fewer other ids, there are none. An `Err` says that memory ran out.
+/// Finds the edits that lead from a map to another, each of which a script can say; of a part, those
+/// of items that stand or shall stand there: the item of its name, and what is below it. An `Err`
+/// says that memory ran out.
+///
+/// Where with all that are found no fewer differences stay than without, nor as many and fewer other
+/// ids, those are taken that leave all buckets as they are; and where these help no more, none.
 pub fn find_plan<A: Allocator + Clone, B: Allocator>(
     alloc: Global,
     identity: Identity,
+    under: Option<&str>,
     map: &CrushMap<A>,
     wanted: &CrushMap<B>,
 ) -> Result<Plan, AllocError>
     ensures { IfOk result (λ plan. (t u : List Row)
         → Stands map.now.forest t → Stands wanted.now.forest u
-        → IsPlan (told map.now.setting t) (told wanted.now.setting u) (plan_data plan)) }
+        → IsPlan (option_map (λ name. name.now) under.entry) (told map.now.setting t)
+        (told wanted.now.setting u) (plan_data plan)) }
 {
-    let after = with_edits(alloc, identity, map, wanted)?;
-    if after.has_no_edits() {
-        return Ok(after);
+    let whole = with_edits(alloc, Extent::Whole, identity, under, map, wanted)?;
+    if whole.has_no_edits() {
+        return Ok(whole);
     }
-    let before = without_edits(alloc, map, wanted)?;
-    if is_better(&after, &before) {
-        return Ok(after);
+    let before = without_edits(alloc, under, map, wanted)?;
+    if is_better(&whole, &before) {
+        return Ok(whole);
+    }
+    let lesser = with_edits(alloc, Extent::SameBuckets, identity, under, map, wanted)?;
+    if is_better(&lesser, &before) {
+        return Ok(lesser);
     }
     Ok(before)
 }
@@ -60,16 +72,18 @@ pub fn find_plan<A: Allocator + Clone, B: Allocator>(
 /// The plan that has no edits.
 fn without_edits<A: Allocator, B: Allocator>(
     alloc: Global,
+    under: Option<&str>,
     map: &CrushMap<A>,
     wanted: &CrushMap<B>,
 ) -> Result<Plan, AllocError>
     ensures none { IfOk result (λ plan. plan.edits.items ≡ []) }
     ensures tells { IfOk result (λ plan. (t u : List Row)
         → Stands map.now.forest t → Stands wanted.now.forest u
-        → TellsRest (told map.now.setting t) (told wanted.now.setting u) (plan_data plan)) }
+        → TellsRest (option_map (λ name. name.now) under.entry) (told map.now.setting t)
+        (told wanted.now.setting u) (plan_data plan)) }
 {
-    let rest = stays(alloc, map, wanted)?;
-    let aside = count_aside(alloc, map, wanted)?;
+    let rest = stays_part(alloc, under, map, wanted)?;
+    let aside = count_aside(alloc, under, map, wanted)?;
     Ok(Plan {
         edits: Vec::new(alloc),
         rest,
@@ -77,20 +91,44 @@ fn without_edits<A: Allocator, B: Allocator>(
     })
 }
 
-/// The plan of all edits that are found.
+/// The plan of the edits that are found, of those that it may have.
 fn with_edits<A: Allocator + Clone, B: Allocator>(
     alloc: Global,
+    extent: Extent,
     identity: Identity,
+    under: Option<&str>,
     map: &CrushMap<A>,
     wanted: &CrushMap<B>,
 ) -> Result<Plan, AllocError>
     ensures { IfOk result (λ plan. (t u : List Row)
         → Stands map.now.forest t → Stands wanted.now.forest u
-        → GoesTo (told map.now.setting t) (told wanted.now.setting u) (plan_data plan)) }
+        → GoesTo (option_map (λ name. name.now) under.entry) (told map.now.setting t)
+        (told wanted.now.setting u) (plan_data plan)) }
 {
-    let draft = drafted(alloc, identity, map.try_copy()?, wanted)?;
-    let rest = stays(alloc, &draft.map, wanted)?;
-    let aside = count_aside(alloc, &draft.map, wanted)?;
+    let aim = Aim {
+        identity,
+        extent,
+        under,
+        before: map,
+        wanted,
+        there: Walked::new(alloc, wanted)?,
+    };
+    to_aim(alloc, &aim)
+}
+
+/// The plan of the edits that are found, and what stays behind them.
+fn to_aim<A: Allocator + Clone, B: Allocator>(
+    alloc: Global,
+    aim: &Aim<'_, A, B>,
+) -> Result<Plan, AllocError>
+    ensures { IfOk result (λ plan. (t u : List Row)
+        → Stands aim.now.before.now.forest t → Stands aim.now.wanted.now.forest u
+        → GoesTo (option_map (λ name. name.now) aim.now.under)
+        (told aim.now.before.now.setting t) (told aim.now.wanted.now.setting u) (plan_data plan)) }
+{
+    let draft = drafted(alloc, aim)?;
+    let rest = stays_part(alloc, aim.under, &draft.map, aim.wanted)?;
+    let aside = count_aside(alloc, aim.under, &draft.map, aim.wanted)?;
     let Draft { edits, .. } = draft;
     Ok(Plan { edits, rest, aside })
 }
@@ -133,24 +171,20 @@ pub(crate) fn count_lines(text: &[u8]) -> usize
     count
 }
 
-/// The map with all edits made that are found, and these edits.
+/// The map before with all edits made that are found, and these edits.
 fn drafted<A: Allocator + Clone, B: Allocator>(
     alloc: Global,
-    identity: Identity,
-    map: CrushMap<A>,
-    wanted: &CrushMap<B>,
+    aim: &Aim<'_, A, B>,
 ) -> Result<Draft<A>, AllocError>
-    ensures { IfOk result (IsDraftOf map) }
+    ensures { IfOk result (IsDraftOf aim.now) }
 {
-    let here = items_here(alloc, &map, wanted)?;
-    let there = items_there(alloc, &map, wanted)?;
+    let items = items_of_both(alloc, aim)?;
     let mut draft = Draft {
         alloc,
-        identity,
-        map,
+        map: aim.before.try_copy()?,
         edits: Vec::new(alloc),
     };
-    go(&mut draft, wanted, &here, &there)?;
+    go(&mut draft, aim, &items)?;
     Ok(draft)
 }
 
@@ -160,33 +194,33 @@ fn drafted<A: Allocator + Clone, B: Allocator>(
 /// together, so that no sum is in the way.
 fn go<A: Allocator + Clone, B: Allocator>(
     draft: &mut Draft<A>,
-    wanted: &CrushMap<B>,
-    here: &Here,
-    there: &There,
+    aim: &Aim<'_, A, B>,
+    items: &Items,
 ) -> Result<(), AllocError>
-    ensures { OnOk result (GoesOn draft.old draft.new) }
+    ensures { OnOk result (GoesOn aim.now draft.old draft.new) }
 {
-    clear(draft, wanted, here)?;
-    set_weights(draft, wanted, here.reweighed.as_slice(), Which::Less)?;
-    give_names(draft, wanted, here.buckets.as_slice())?;
-    make_buckets(draft, wanted, there.buckets.as_slice())?;
-    move_all(draft, wanted, there)?;
-    clear(draft, wanted, here)?;
-    set_weights(draft, wanted, here.reweighed.as_slice(), Which::Other)?;
-    set_devices(draft, wanted, there.set.as_slice())
+    let (here, there) = (&items.here, &items.there);
+    clear(draft, aim, here)?;
+    set_weights(draft, aim, here.reweighed.as_slice(), Which::Less)?;
+    give_names(draft, aim, here.buckets.as_slice())?;
+    make_buckets(draft, aim, there.coming.as_slice())?;
+    move_all(draft, aim, there)?;
+    clear(draft, aim, here)?;
+    set_weights(draft, aim, here.reweighed.as_slice(), Which::Other)?;
+    set_devices(draft, aim, there.set.as_slice())
 }
 
 /// Swaps and renames buckets, where they are told apart by ids; where it is by names, each has its own.
 fn give_names<A: Allocator + Clone, B: Allocator>(
     draft: &mut Draft<A>,
-    wanted: &CrushMap<B>,
+    aim: &Aim<'_, A, B>,
     buckets: &[BucketId],
 ) -> Result<(), AllocError>
-    ensures { OnOk result (GoesOn draft.old draft.new) }
+    ensures { OnOk result (GoesOn aim.now draft.old draft.new) }
 {
-    if draft.identity == Identity::Names {
+    if aim.identity == Identity::Names {
         return Ok(());
     }
-    swap_all(draft, wanted, buckets)?;
-    rename_all(draft, wanted, buckets)
+    swap_all(draft, aim, buckets)?;
+    rename_all(draft, aim, buckets)
 }

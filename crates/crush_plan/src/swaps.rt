@@ -3,8 +3,10 @@
 ghost use Rattle.std.specs.Prelude.{OnOk};
 ghost use Rattle.crush_plan.specs.Draft.{GoesOn};
 
+use crate::aim::Aim;
 use crate::compare::{counterpart, have_bucket};
 use crate::draft::Draft;
+use crate::walked::{Known, Walked};
 use crush_map::CrushMap;
 use crush_tree::Node;
 use crush_units::BucketId;
@@ -14,13 +16,13 @@ use std::alloc::{AllocError, Allocator};
 /// are to change sides than to stay.
 pub(crate) fn swap_all<A: Allocator + Clone, B: Allocator>(
     draft: &mut Draft<A>,
-    wanted: &CrushMap<B>,
+    aim: &Aim<'_, A, B>,
     buckets: &[BucketId],
 ) -> Result<(), AllocError>
-    ensures { OnOk result (GoesOn draft.old draft.new) }
+    ensures { OnOk result (GoesOn aim.now draft.old draft.new) }
 {
     for bucket in buckets {
-        swap_one(draft, wanted, *bucket)?;
+        swap_one(draft, aim, *bucket)?;
     }
     Ok(())
 }
@@ -28,13 +30,13 @@ pub(crate) fn swap_all<A: Allocator + Clone, B: Allocator>(
 /// Swaps the bucket, where there is another to swap it with.
 fn swap_one<A: Allocator + Clone, B: Allocator>(
     draft: &mut Draft<A>,
-    wanted: &CrushMap<B>,
+    aim: &Aim<'_, A, B>,
     bucket: BucketId,
 ) -> Result<(), AllocError>
-    ensures { OnOk result (GoesOn draft.old draft.new) }
+    ensures { OnOk result (GoesOn aim.now draft.old draft.new) }
 {
-    match partner(&draft.map, wanted, bucket) {
-        Some(other) => draft.swap(bucket, other),
+    match partner(&draft.map, &aim.there, bucket) {
+        Some(other) => draft.swap(aim, bucket, other),
         None => Ok(()),
     }
 }
@@ -42,7 +44,7 @@ fn swap_one<A: Allocator + Clone, B: Allocator>(
 /// The bucket that this one is to be swapped with, if there is one.
 fn partner<A: Allocator, B: Allocator>(
     map: &CrushMap<A>,
-    wanted: &CrushMap<B>,
+    wanted: &Walked<'_, B>,
     bucket: BucketId,
 ) -> Option<BucketId> {
     let other = counterpart(map, wanted, bucket)?;
@@ -63,7 +65,7 @@ fn partner<A: Allocator, B: Allocator>(
 /// Whether more items of the two buckets are to change sides than to stay.
 fn is_worth<A: Allocator, B: Allocator>(
     map: &CrushMap<A>,
-    wanted: &CrushMap<B>,
+    wanted: &Walked<'_, B>,
     a: BucketId,
     b: BucketId,
 ) -> bool {
@@ -77,7 +79,7 @@ fn is_worth<A: Allocator, B: Allocator>(
 /// How many items of the one bucket are to stand in the other.
 fn count_below<A: Allocator, B: Allocator>(
     map: &CrushMap<A>,
-    wanted: &CrushMap<B>,
+    wanted: &Walked<'_, B>,
     from: BucketId,
     to: BucketId,
 ) -> u32 {
@@ -90,12 +92,12 @@ fn count_below<A: Allocator, B: Allocator>(
 /// How many of the items are to stand in the bucket.
 fn count_in<A: Allocator, B: Allocator>(
     items: &[Node<A>],
-    wanted: &CrushMap<B>,
+    wanted: &Walked<'_, B>,
     bucket: BucketId,
 ) -> u32 {
     let mut count: u32 = 0;
     for item in items {
-        if wanted.parent(item.id()) == Some(bucket) {
+        if wanted.holder(item.id()) == Some(bucket) {
             count = count.saturating_add(1);
         }
     }

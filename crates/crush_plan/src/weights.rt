@@ -5,11 +5,13 @@ ghost use Rattle.crush_plan.specs.Draft.{GoesOn};
 
 mod common;
 
+use crate::aim::Aim;
 use crate::compare::have_device;
 use crate::draft::Draft;
-use crate::staying::are_near;
+use crate::walked::{Known, Walked};
 use common::{Subtree, subtrees};
 use crush_map::CrushMap;
+use crush_names::are_near;
 use crush_units::{DeviceId, ItemId, Weight};
 use std::alloc::{AllocError, Allocator};
 
@@ -37,29 +39,30 @@ impl Which {
 /// weight may be another.
 pub(crate) fn set_weights<A: Allocator + Clone, B: Allocator>(
     draft: &mut Draft<A>,
-    wanted: &CrushMap<B>,
+    aim: &Aim<'_, A, B>,
     devices: &[DeviceId],
     which: Which,
 ) -> Result<(), AllocError>
-    ensures { OnOk result (GoesOn draft.old draft.new) }
+    ensures { OnOk result (GoesOn aim.now draft.old draft.new) }
 {
     if devices.is_empty() {
         return Ok(());
     }
-    let found = subtrees(draft.alloc, &draft.map, wanted, which)?;
-    set_below(draft, found.as_slice())?;
-    set_one_by_one(draft, wanted, devices, which)
+    let found = subtrees(draft.alloc, &draft.map, aim, which)?;
+    set_below(draft, aim, found.as_slice())?;
+    set_one_by_one(draft, aim, devices, which)
 }
 
 /// Sets the weights below each of the buckets.
-fn set_below<A: Allocator + Clone>(
+fn set_below<A: Allocator + Clone, B: Allocator>(
     draft: &mut Draft<A>,
+    aim: &Aim<'_, A, B>,
     found: &[Subtree],
 ) -> Result<(), AllocError>
-    ensures { OnOk result (GoesOn draft.old draft.new) }
+    ensures { OnOk result (GoesOn aim.now draft.old draft.new) }
 {
     for subtree in found {
-        draft.reweight_below(subtree.bucket, subtree.weight)?;
+        draft.reweight_below(aim, subtree.bucket, subtree.weight)?;
     }
     Ok(())
 }
@@ -67,14 +70,14 @@ fn set_below<A: Allocator + Clone>(
 /// Sets weights one by one.
 fn set_one_by_one<A: Allocator + Clone, B: Allocator>(
     draft: &mut Draft<A>,
-    wanted: &CrushMap<B>,
+    aim: &Aim<'_, A, B>,
     devices: &[DeviceId],
     which: Which,
 ) -> Result<(), AllocError>
-    ensures { OnOk result (GoesOn draft.old draft.new) }
+    ensures { OnOk result (GoesOn aim.now draft.old draft.new) }
 {
     for device in devices {
-        set_weight(draft, wanted, *device, which)?;
+        set_weight(draft, aim, *device, which)?;
     }
     Ok(())
 }
@@ -82,14 +85,14 @@ fn set_one_by_one<A: Allocator + Clone, B: Allocator>(
 /// Sets the weight of the device.
 fn set_weight<A: Allocator + Clone, B: Allocator>(
     draft: &mut Draft<A>,
-    wanted: &CrushMap<B>,
+    aim: &Aim<'_, A, B>,
     device: DeviceId,
     which: Which,
 ) -> Result<(), AllocError>
-    ensures { OnOk result (GoesOn draft.old draft.new) }
+    ensures { OnOk result (GoesOn aim.now draft.old draft.new) }
 {
-    match other_weight(&draft.map, wanted, device, which) {
-        Some(weight) => draft.reweight(device, weight),
+    match other_weight(&draft.map, &aim.there, device, which) {
+        Some(weight) => draft.reweight(aim, device, weight),
         None => Ok(()),
     }
 }
@@ -97,7 +100,7 @@ fn set_weight<A: Allocator + Clone, B: Allocator>(
 /// The weight that the device of both maps is to have and has not.
 fn other_weight<A: Allocator, B: Allocator>(
     map: &CrushMap<A>,
-    wanted: &CrushMap<B>,
+    wanted: &Walked<'_, B>,
     device: DeviceId,
     which: Which,
 ) -> Option<Weight> {
@@ -114,8 +117,8 @@ fn other_weight<A: Allocator, B: Allocator>(
 }
 
 /// What the device weighs, where a bucket holds it.
-fn placed_weight<A: Allocator>(map: &CrushMap<A>, device: DeviceId) -> Option<Weight> {
-    match map.find(ItemId::Device(device)) {
+fn placed_weight<M: Known>(map: &M, device: DeviceId) -> Option<Weight> {
+    match map.view(ItemId::Device(device)) {
         Some(view) if view.parent.is_some() => Some(view.weight),
         _ => None,
     }

@@ -4,9 +4,12 @@
 //! lets it go by `drop`.
 
 mod maps;
+mod names_part;
+mod names_since;
 
 use crush_map::CrushMap;
-use crush_plan::{Identity, PlanWords, find_plan, plan_text, stays};
+use crush_names::stays;
+use crush_plan::{Identity, PlanWords, find_plan, plan_text};
 use crush_text::read_map;
 use maps::*;
 use std::alloc::Global;
@@ -25,9 +28,20 @@ fn planned(
     words: PlanWords,
     texts: [&[u8]; 2],
 ) -> Vec<u8> {
+    planned_under(rt, identity, words, None, texts)
+}
+
+/// The same of the part of this name.
+fn planned_under(
+    rt: &(impl Abort + AllocGlobal),
+    identity: Identity,
+    words: PlanWords,
+    under: Option<&str>,
+    texts: [&[u8]; 2],
+) -> Vec<u8> {
     let map = map_of(rt, texts[0]);
     let wanted = map_of(rt, texts[1]);
-    let plan = find_plan(rt.alloc(), identity, &map, &wanted).expect(rt, "no memory");
+    let plan = find_plan(rt.alloc(), identity, under, &map, &wanted).expect(rt, "no memory");
     let text = plan_text(rt.alloc(), &plan, words).expect(rt, "no memory");
     drop(plan);
     drop(wanted);
@@ -38,6 +52,17 @@ fn planned(
 /// Whether the plan, told by ids and in the words of a script, is this text.
 fn is_planned(rt: &(impl Abort + AllocGlobal), texts: [&[u8]; 2], told: &[u8]) -> bool {
     planned(rt, Identity::Ids, PlanWords::Script, texts).as_slice() == told
+}
+
+/// Whether the plan of the part of this name, told by ids and in the words of a script, is this text.
+fn is_planned_under(
+    rt: &(impl Abort + AllocGlobal),
+    under: &str,
+    texts: [&[u8]; 2],
+    told: &[u8],
+) -> bool {
+    let text = planned_under(rt, Identity::Ids, PlanWords::Script, Some(under), texts);
+    text.as_slice() == told
 }
 
 #[test]
@@ -182,6 +207,61 @@ fn by_name_items_are_moved_in_place_of_names(rt: HostRuntime) {
     assert!(rt;
         text.as_slice()
             == b"# 3 commands\nmove osd.0 host=h2\nmove osd.1 host=h2\nmove osd.2 host=h1\n# ids of 2 buckets differ\n".as_slice()
+    );
+}
+
+#[test]
+fn of_a_part_its_weights_alone_are_set(rt: HostRuntime) {
+    assert!(rt;
+        is_planned_under(
+            &rt,
+            "h1",
+            [EXAMPLE_MAP, WEIGHTLESS],
+            b"# 1 commands\nreweight-subtree h1 0.00000\n"
+        )
+    );
+}
+
+#[test]
+fn what_is_above_a_part_stays(rt: HostRuntime) {
+    assert!(rt;
+        is_planned_under(
+            &rt,
+            "h3",
+            [GROWN, EXAMPLE_MAP],
+            b"# 2 commands\nrm osd.3\nrm h3\n"
+        )
+    );
+}
+
+#[test]
+fn what_comes_into_a_part_is_of_it(rt: HostRuntime) {
+    assert!(rt;
+        is_planned_under(
+            &rt,
+            "h2",
+            [EXAMPLE_MAP, MOVED],
+            b"# 1 commands\nmove osd.0 host=h2\n"
+        )
+    );
+}
+
+#[test]
+fn of_a_part_without_a_difference_nothing_is_told(rt: HostRuntime) {
+    assert!(rt; is_planned_under(&rt, "h2", [EXAMPLE_MAP, CLASSED], b"# 0 commands\n"));
+}
+
+#[test]
+fn where_all_help_nothing_a_class_is_set_alone(rt: HostRuntime) {
+    let text = planned(
+        &rt,
+        Identity::Names,
+        PlanWords::Script,
+        [NAMES_OF_OTHER_TYPES, NAMES_EXCHANGED],
+    );
+    assert!(rt;
+        text.as_slice()
+            == b"# 1 commands\nset-device-class hdd osd.4\n# 3 differences stay\n# r1: type row, wanted root; alg list, wanted straw\n# other: type root, wanted row; alg straw, wanted list\n# rules differ\n# ids of 2 buckets differ\n".as_slice()
     );
 }
 

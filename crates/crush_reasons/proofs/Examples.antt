@@ -20,7 +20,7 @@ use Rattle.crush_view.proofs.Examples.{example, setting}
 use Rattle.crush_script.specs.declared.fault.JobFault.TheVariants as job
 use Rattle.crush_text.specs.declared.fault.TextFaultKind.TheVariants.{Ended, UnknownType}
 use Rattle.crush_reasons.specs.Ceph.{ceph_heading, ceph_line, ceph_text, edits_for_ceph}
-use Rattle.crush_reasons.specs.Explained.{explained_text, reason_line}
+use Rattle.crush_reasons.specs.Explained.{explained_behind, explained_text}
 use Rattle.crush_reasons.specs.Fault.{fault_line, fault_text}
 use Rattle.crush_reasons.specs.Forms.{form_of}
 use Rattle.crush_reasons.specs.Named.{edit_reason}
@@ -30,7 +30,7 @@ use Rattle.crush_reasons.specs.Way.{items_said}
 use Rattle.crush_reasons.specs.Place.{column_line, from_line, number_line}
 use Rattle.crush_reasons.specs.Flaws.{begins_at, open_text}
 use Rattle.crush_reasons.specs.Misfit.{misfit_text, with_point}
-use Rattle.crush_reasons.specs.Shown.{told}
+use Rattle.crush_reasons.specs.Shown.{reason_line, told}
 use Rattle.crush_reasons.specs.Wanted.{further, opened}
 use Rattle.crush_script.specs.Lines.{words_between_blanks}
 use Rattle.crush_reasons.specs.Sentences.{job_sentence}
@@ -95,7 +95,7 @@ explained : explained_text setting example (codes "a" ∷ []) 1 (
     ∷ entry (Batch (Remove (codes "osd.1") ∷ Remove (codes "h1") ∷ Remove (codes "default") ∷ [])) (BatchRefused 2 NotEmpty)
     ∷ [])
     ≡ codes "# 1 a rm default = refused NotEmpty 39\n  default holds 2 items: move or remove them first\n# 3 a begin at 0 ; rm x ; commit = refused Stale 11 changes 1\n  the map has changed since: look at it again, and name the number of changes that is told\n# 4 a rm h1 = refused NotEmpty 39\n  h1 holds 1 item: move or remove it first\n# 5 a begin ; rm osd.1 ; rm h1 ; rm default ; commit = refused at 2 NotEmpty 39\n  rm default: default holds 1 item: move or remove it first\n"
-unfolding explained_text line_head line_end items_said table_after_edits digits
+unfolding explained_behind line_head line_end items_said table_after_edits digits
 explained = refl
 
 -- names with a letter more, less and other, and in another case

@@ -1,3 +1,4 @@
+pub mod EditsLeft
 pub mod Explaining
 pub mod Replays
 pub mod LawReplay
@@ -8,3 +9,5 @@ pub mod Examples
 pub mod Naming
 pub mod Nearing
 pub mod Scanning
+pub mod SumLaws
+pub mod Sections

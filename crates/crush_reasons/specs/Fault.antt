@@ -4,10 +4,10 @@ use Rattle.crush_script.specs.declared.fault.JobFault.{JobFault}
 use Rattle.crush_script.specs.declared.fault.JobFault.TheVariants.{BadLine, NoSuchCommand, OpenBatch, TooManyOperators, DuplicateOperator, Text, OutOfMemory, TooLong, TooManyCalls}
 use Rattle.crush_script.specs.Lines.{line_words}
 use Rattle.crush_text.specs.declared.fault.TextFault.{TextFault}
-use Rattle.crush_reasons.specs.Explained.{reason_line}
+use Rattle.crush_reasons.specs.Shown.{reason_line}
 use Rattle.crush_reasons.specs.Flaws.{flaw_place, flaw_reason}
 use Rattle.crush_reasons.specs.Misfit.{line_reason}
-use Rattle.crush_reasons.specs.Place.{OriginData, at_line, last_line, line_at, own_line, place_text, to_feed}
+use Rattle.crush_reasons.specs.Place.{OriginData, at_line, first_line, last_line, line_at, own_line, place_text}
 use Rattle.crush_reasons.specs.Sentences.{job_sentence}
 
 -- FAULT LINE: the line of a job at which a fault is told, counted from 1, or 0 where it has none
@@ -24,9 +24,6 @@ fault_line bytes OutOfMemory = 0
 
 -- OF A LINE THAT ISN'T OF ITS FORM the form, and the first word that doesn't fit; of one that was put before a script, whose file
 -- has no operator's name, what to write
-abbrev pub first_line : List ℕ → List ℕ
-first_line bytes = take (to_feed bytes) bytes
-
 abbrev pub bad_line_reason : OriginData → List ℕ → ℕ → List ℕ
 bad_line_reason origin bytes line =
     if own_line origin line == 0 then codes "the file's name is no operator's: begin it with a line %operator NAME"

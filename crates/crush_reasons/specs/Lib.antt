@@ -12,5 +12,8 @@ pub mod Forms
 pub mod Misfit
 pub mod Wanted
 pub mod Flaws
+pub mod EditLines
+pub mod EditsLeft
 pub mod Fault
+pub mod Sums
 pub mod Written

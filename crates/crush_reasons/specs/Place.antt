@@ -1,10 +1,9 @@
 -- Lines of a job and places in a text, as they are shown.
-use Rattle.std.specs.Prelude.{ℕ, zero, suc, ◌+◌, ◌-◌, ◌==◌, List, [], ◌++◌, codes, decimal, drop, if◌then◌else◌, length, map, min, replicate, reverse, take}
+use Rattle.std.specs.Prelude.{ℕ, zero, suc, ◌+◌, ◌-◌, ◌==◌, List, [], ◌∷◌, ◌++◌, codes, decimal, drop, if◌then◌else◌, length, map, min, replicate, reverse, take}
 use Rattle.std.specs.List.{position_or_len}
 use Rattle.crush_script.specs.Lines.{line_feeds}
-use Rattle.crush_reasons.specs.Explained.{reason_line}
 use Rattle.crush_reasons.specs.declared.place.Origin.{Origin}
-use Rattle.crush_reasons.specs.Shown.{shown_byte}
+use Rattle.crush_reasons.specs.Shown.{reason_line, shown_byte}
 
 -- where bytes of a job come from: the name of the file, empty where none is told, and how many lines of the job stand before the file's own
 pub record OriginData : Type 0 where
@@ -60,7 +59,10 @@ at_place origin bytes before =
 abbrev pub place_text : OriginData → List ℕ → ℕ → List ℕ
 place_text origin bytes place = at_place origin bytes (take place bytes)
 
--- what stands behind the first line, and from a line on, where lines count from 0
+-- the first line, what stands behind it, and what stands from a line on, where lines count from 0
+abbrev pub first_line : List ℕ → List ℕ
+first_line bytes = take (to_feed bytes) bytes
+
 abbrev pub behind_line : List ℕ → List ℕ
 behind_line bytes = drop 1 (drop (to_feed bytes) bytes)
 
@@ -78,3 +80,11 @@ line_at bytes line = from_line (line - 1) bytes
 
 abbrev pub at_line : OriginData → List ℕ → ℕ → List ℕ → List ℕ
 at_line origin bytes line reason = number_line origin line ++ shown_line (line_at bytes line) ++ reason_line reason
+
+-- where a command stands, before it: the file and the line there, or the line alone where no file is told
+abbrev pub named_head : List ℕ → ℕ → List ℕ
+named_head [] line = codes "line " ++ decimal line ++ codes ": "
+named_head (b ∷ name) line = (b ∷ name) ++ codes ":" ++ decimal line ++ codes ": "
+
+unfoldable pub command_head : OriginData → ℕ → List ℕ
+command_head origin line = named_head origin.name (own_line origin line)

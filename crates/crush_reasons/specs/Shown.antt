@@ -8,3 +8,7 @@ shown_byte b = if nat_lt 31 b && nat_lt b 127 then b else if b == 9 || b == 13 t
 -- a word as it is told: 72 bytes of it at most, in backquotes
 unfoldable pub told : List ℕ → List ℕ
 told word = codes "`" ++ map shown_byte (take (min (length word) 72) word) ++ codes "`"
+
+-- a sentence on a line of its own, behind two spaces
+abbrev pub reason_line : List ℕ → List ℕ
+reason_line sentence = codes "  " ++ sentence ++ codes "\n"

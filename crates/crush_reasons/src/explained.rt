@@ -1,15 +1,20 @@
 //! The lines of the entries that were refused, with reasons.
 
-ghost use Rattle.std.specs.Prelude.{◌≡◌, ◌<◌, ◌^◌, ◌++◌, List, IfOk, OnOk, drop, length, take};
+ghost use Rattle.std.specs.Prelude.{◌≡◌, ◌<◌, ◌^◌, ◌++◌, List, [], IfOk, OnOk, drop, length, map as each, take};
 ghost use Rattle.crush_table.specs.Stands.{Stands};
 ghost use Rattle.crush_table.specs.Table.{Row};
 ghost use Rattle.crush_calls.specs.Entries.{AreOf};
 ghost use Rattle.crush_calls.specs.HistoryText.{names_of, line_text};
 ghost use Rattle.crush_calls.specs.Script.{scripts_data};
 ghost use Rattle.crush_calls.specs.HistoryText.{edit_text};
-ghost use Rattle.crush_reasons.specs.Explained.{AreExplained, batched_reason, call_reason, explained_line, explained_text, first_reason, reason_line, so_far, stale_reason, too_high};
+ghost use Rattle.crush_reasons.specs.Explained.{AreExplained, batched_reason, call_reason, explained_behind, explained_job, explained_line, explained_text, first_reason, refused_reason, so_far, stale_reason, too_high};
+ghost use Rattle.crush_reasons.specs.EditsLeft.{head_in, told_place};
+ghost use Rattle.crush_reasons.specs.Shown.{reason_line};
 ghost use Rattle.crush_reasons.specs.Replay.{table_after_entry};
 
+use crate::edit_lines::job_edits;
+use crate::edits_left::{EditPlace, EditsLeft, push_place, refused_place};
+use crate::locates::{JobText, Locates, Nowhere};
 use crate::named::push_edit_reason;
 use crate::replay::{make_edits, make_entry};
 use crate::sentences::{STALE, refusal_sentence, reply_sentence};
@@ -62,44 +67,69 @@ fn before_edit(index: usize, edits: &[Edit]) -> &[Edit]
     }
 }
 
-/// What was wanted of the first of these edits by the map, behind its command.
+/// An entry's number in its history, its operator's name, and where its refused edit stands.
+#[derive(Clone, Copy)]
+struct EntryHead<'a> {
+    number: u32,
+    operator: &'a [u8],
+    place: Option<EditPlace<'a>>,
+}
+
+/// What was wanted of an edit by the map, behind its command.
+fn push_refused(
+    alloc: Global,
+    map: &CrushMap<Global>,
+    edit: &Edit,
+    refusal: Refusal,
+    text: &mut Vec<u8>,
+) -> Result<(), AllocError>
+    ensures { OnOk result ((t : List Row) → Stands map.now.forest t → text.new.items
+        ≡ text.old.items ++ refused_reason map.now.setting t edit.now refusal) }
+{
+    push_edit(edit, text)?;
+    text.extend_from_slice(b": ")?;
+    push_edit_reason(alloc, map, edit, refusal, text)
+}
+
+/// The same of the first of these edits, behind where it stands.
 fn push_first(
     alloc: Global,
     map: &CrushMap<Global>,
+    place: &Option<EditPlace<'_>>,
     edits: &[Edit],
     refusal: Refusal,
     text: &mut Vec<u8>,
 ) -> Result<(), AllocError>
     ensures { OnOk result ((t : List Row) → Stands map.now.forest t → text.new.items
-        ≡ text.old.items ++ first_reason map.now.setting t edits.now refusal) }
+        ≡ text.old.items ++ first_reason map.now.setting t (told_place place.now) edits.now refusal) }
 {
     match edits {
         [] => text.extend_from_slice(refusal_sentence(refusal).as_bytes()),
         [edit, ..] => {
-            push_edit(edit, text)?;
-            text.extend_from_slice(b": ")?;
-            push_edit_reason(alloc, map, edit, refusal, text)
+            push_place(place, text)?;
+            push_refused(alloc, map, edit, refusal, text)
         }
     }
 }
 
-/// What was wanted where an edit of a batch was refused: by a copy of the map, on which the edits
-/// before it are made.
+/// What was wanted where an edit of a batch was refused, which stands there: by a copy of the map, on
+/// which the edits before it are made.
 fn push_batched(
     alloc: Global,
     map: &CrushMap<Global>,
+    place: &Option<EditPlace<'_>>,
     edits: &[Edit],
     index: u32,
     refusal: Refusal,
     text: &mut Vec<u8>,
 ) -> Result<(), AllocError>
     ensures { OnOk result ((t : List Row) → Stands map.now.forest t → text.new.items
-        ≡ text.old.items ++ batched_reason map.now.setting t edits.now index refusal) }
+        ≡ text.old.items ++ batched_reason map.now.setting t (told_place place.now) edits.now index refusal) }
 {
     let index = index as usize;
     let mut copy = map.try_copy()?;
     make_edits(&mut copy, before_edit(index, edits))?;
-    push_first(alloc, &copy, from_edit(index, edits), refusal, text)
+    push_first(alloc, &copy, place, from_edit(index, edits), refusal, text)
 }
 
 /// How many changes there were.
@@ -141,12 +171,13 @@ fn push_stale(seen: u32, count: u32, text: &mut Vec<u8>) -> Result<(), AllocErro
 fn push_call_reason(
     alloc: Global,
     map: &CrushMap<Global>,
+    place: &Option<EditPlace<'_>>,
     call: &Call,
     reply: Reply,
     text: &mut Vec<u8>,
 ) -> Result<(), AllocError>
     ensures { OnOk result ((t : List Row) → Stands map.now.forest t
-        → text.new.items ≡ text.old.items ++ call_reason map.now.setting t call.now reply) }
+        → text.new.items ≡ text.old.items ++ call_reason map.now.setting t (told_place place.now) call.now reply) }
 {
     match (call, reply) {
         (Call::One(edit), Reply::Refused(refusal)) => {
@@ -154,7 +185,7 @@ fn push_call_reason(
         }
         (Call::Batch(edits), Reply::BatchRefused(index, refusal))
         | (Call::Guarded { edits, .. }, Reply::BatchRefused(index, refusal)) => {
-            push_batched(alloc, map, edits.as_slice(), index, refusal, text)
+            push_batched(alloc, map, place, edits.as_slice(), index, refusal, text)
         }
         (Call::Guarded { seen, .. }, Reply::Stale(count)) => push_stale(*seen, count, text),
         _ => text.extend_from_slice(reply_sentence(reply).as_bytes()),
@@ -165,15 +196,16 @@ fn push_call_reason(
 fn push_reply(
     alloc: Global,
     map: &CrushMap<Global>,
+    place: &Option<EditPlace<'_>>,
     call: &Call,
     reply: Reply,
     text: &mut Vec<u8>,
 ) -> Result<(), AllocError>
     ensures { OnOk result ((t : List Row) → Stands map.now.forest t → text.new.items
-        ≡ text.old.items ++ reason_line (call_reason map.now.setting t call.now reply)) }
+        ≡ text.old.items ++ reason_line (call_reason map.now.setting t (told_place place.now) call.now reply)) }
 {
     text.extend_from_slice(b"  ")?;
-    push_call_reason(alloc, map, call, reply, text)?;
+    push_call_reason(alloc, map, place, call, reply, text)?;
     text.extend_from_slice(b"\n")
 }
 
@@ -181,27 +213,26 @@ fn push_reply(
 fn push_explained(
     alloc: Global,
     map: &CrushMap<Global>,
-    number: u32,
-    operator: &[u8],
+    head: &EntryHead<'_>,
     entry: &Entry,
     text: &mut Vec<u8>,
 ) -> Result<(), AllocError>
     ensures { OnOk result ((t : List Row) → Stands map.now.forest t → text.new.items
-        ≡ text.old.items ++ explained_line map.now.setting t number operator.now entry.now) }
+        ≡ text.old.items ++ explained_line map.now.setting t head.now.number head.now.operator.now
+        (told_place head.now.place) entry.now) }
 {
     if !is_refused(entry.reply) {
         return Ok(());
     }
-    push_entry(number, operator, entry, text)?;
-    push_reply(alloc, map, &entry.call, entry.reply, text)
+    push_entry(head.number, head.operator, entry, text)?;
+    push_reply(alloc, map, &head.place, &entry.call, entry.reply, text)
 }
 
 /// The lines of an entry that the map refused; one that changed it is made once more.
 fn push_made(
     alloc: Global,
     map: &mut CrushMap<Global>,
-    number: u32,
-    operator: &[u8],
+    head: &EntryHead<'_>,
     entry: &Entry,
     text: &mut Vec<u8>,
 ) -> Result<(), AllocError>
@@ -209,41 +240,84 @@ fn push_made(
         → Stands map.new.forest (table_after_entry map.old.setting t entry.now)) }
     ensures setting { map.new.setting ≡ map.old.setting }
     ensures lines { OnOk result ((t : List Row) → Stands map.old.forest t → text.new.items
-        ≡ text.old.items ++ explained_line map.old.setting t number operator.now entry.now) }
+        ≡ text.old.items ++ explained_line map.old.setting t head.now.number head.now.operator.now
+        (told_place head.now.place) entry.now) }
 {
-    push_explained(alloc, map, number, operator, entry, text)?;
+    push_explained(alloc, map, head, entry, text)?;
     make_entry(map, entry)
 }
 
-/// The lines of a history.
-fn push_entries(
+/// The lines of a history, of whose operators' edits these are the lines.
+fn push_entries<O: Locates>(
     alloc: Global,
     map: &mut CrushMap<Global>,
-    scripts: &[Script],
+    told: &ToldOf<'_, O>,
     entries: &[Entry],
     text: &mut Vec<u8>,
 ) -> Result<(), AllocError>
     requires few { length entries.now < 2 ^ 32 }
-    requires operators { AreOf (length scripts.now) entries.now }
-    ensures { OnOk result (AreExplained (names_of (scripts_data scripts.now)) map.old map.new
+    requires operators { AreOf (length told.now.scripts.now) entries.now }
+    ensures { OnOk result (AreExplained
+        (head_in (O.origin told.now.origins.now)
+        (each (λ numbers. numbers.items) told.now.sections.now))
+        (names_of (scripts_data told.now.scripts.now)) map.old map.new
         text.old.items text.new.items entries.now) }
 {
+    let mut left = EditsLeft::new(alloc, told.sections)?;
     for (place, entry) in entries.iter().enumerate() {
-        let number = place as u32 + 1;
-        let name = operator_name(scripts, entry.operator);
-        push_made(alloc, map, number, name, entry, text)?;
+        let head = EntryHead {
+            number: place as u32 + 1,
+            operator: operator_name(told.scripts, entry.operator),
+            place: refused_place(told.origins, &left, entry),
+        };
+        push_made(alloc, map, &head, entry, text)?;
+        left.pass(entry);
     }
     Ok(())
 }
 
+/// The scripts of a job, the lines of the edits of each of its sections, and where lines come from.
+#[derive(Clone, Copy)]
+struct ToldOf<'a, O> {
+    scripts: &'a [Script],
+    sections: &'a [Vec<usize>],
+    origins: &'a O,
+}
+
 /// The lines of the entries that were refused, each as the history has it, with its number there,
 /// and below each two spaces and what was wanted: by the name that was in the way, and by what the
-/// map said of it that refused, and of a batch behind the command of the edit that was refused.
+/// map said of it that refused. Of a batch that stands behind the file and the line of the edit that
+/// was refused, `FILE:LINE: ` or without a file `line LINE: `, and its command.
 ///
-/// The commands that changed the map are made once more, on the map as it was before the first of
-/// them, which is used up; a batch that was refused is made on a copy up to its refused edit. Where
-/// a name isn't there, each name of the map is looked at. There are fewer than 2^32 entries, so that
-/// each has a number; a job's are at most 65,536. An `Err` says that memory ran out.
+/// The text is that of the job whose scripts the calls come from, in the order of its sections. The
+/// commands that changed the map are made once more, on the map as it was before the first of them,
+/// which is used up; a batch that was refused is made on a copy up to its refused edit. Where a name
+/// isn't there, each name of the map is looked at. There are fewer than 2^32 entries, so that each has
+/// a number; a job's are at most 65,536. An `Err` says that memory ran out.
+pub fn explained_job<O: Locates>(
+    alloc: Global,
+    job: JobText<'_, O>,
+    opening: CrushMap<Global>,
+    scripts: &[Script],
+    entries: &[Entry],
+) -> Result<Vec<u8>, AllocError>
+    requires short { length job.bytes.now < 2 ^ 32 }
+    requires few { length entries.now < 2 ^ 32 }
+    requires operators { AreOf (length scripts.now) entries.now }
+    ensures { IfOk result (λ text. (t : List Row) → Stands opening.forest t → text.items
+        ≡ explained_job (O.origin job.entry.origins.now) job.entry.bytes.now opening.setting t
+        (names_of (scripts_data scripts.now)) entries.now) }
+{
+    let sections = job_edits(alloc, job.bytes)?;
+    let told = ToldOf {
+        scripts,
+        sections: sections.as_slice(),
+        origins: job.origins,
+    };
+    explained(alloc, opening, &told, entries)
+}
+
+/// The same of the entries of a history of which no text is known: no line of an edit is told.
 pub fn explained_text(
     alloc: Global,
     opening: CrushMap<Global>,
@@ -255,8 +329,30 @@ pub fn explained_text(
     ensures { IfOk result (λ text. (t : List Row) → Stands opening.forest t → text.items
         ≡ explained_text opening.setting t (names_of (scripts_data scripts.now)) 1 entries.now) }
 {
+    let told = ToldOf {
+        scripts,
+        sections: &[],
+        origins: &Nowhere,
+    };
+    explained(alloc, opening, &told, entries)
+}
+
+/// The lines of a history before which this was the map.
+fn explained<O: Locates>(
+    alloc: Global,
+    opening: CrushMap<Global>,
+    told: &ToldOf<'_, O>,
+    entries: &[Entry],
+) -> Result<Vec<u8>, AllocError>
+    requires few { length entries.now < 2 ^ 32 }
+    requires operators { AreOf (length told.now.scripts.now) entries.now }
+    ensures { IfOk result (λ text. (t : List Row) → Stands opening.forest t → text.items
+        ≡ explained_behind (head_in (O.origin told.now.origins.now)
+        (each (λ numbers. numbers.items) told.now.sections.now)) opening.setting t
+        (names_of (scripts_data told.now.scripts.now)) 1 [] entries.now) }
+{
     let mut map = opening;
     let mut text = Vec::new(alloc);
-    push_entries(alloc, &mut map, scripts, entries, &mut text)?;
+    push_entries(alloc, &mut map, told, entries, &mut text)?;
     Ok(text)
 }

@@ -2,25 +2,18 @@
 
 ghost use Rattle.std.specs.Prelude.{◌≡◌, ◌<◌, ◌^◌, ◌++◌, IfOk, OnOk, length};
 ghost use Rattle.crush_text.specs.declared.fault.TextFault.{TextFault};
-ghost use Rattle.crush_reasons.specs.Explained.{reason_line};
-ghost use Rattle.crush_reasons.specs.Fault.{bad_line_reason, fault_line, fault_text, first_line, flaw_text};
+ghost use Rattle.crush_reasons.specs.Shown.{reason_line};
+ghost use Rattle.crush_reasons.specs.Fault.{bad_line_reason, fault_line, fault_text, flaw_text};
 ghost use Rattle.crush_reasons.specs.Place.{at_line, number_line, origin_data, shown_line};
 
 use crate::flaws::{flaw_place, push_flaw_reason};
 use crate::misfit::push_line_reason;
-use crate::place::{Origin, last_line, line_at, push_at_line, push_place, to_feed};
+use crate::place::{Origin, first_line, last_line, line_at, push_at_line, push_place};
 use crate::sentences::job_sentence;
 use crate::words::{push_reason, up_to};
 use crush_script::{JobFault, LineWords};
 use crush_text::TextFault;
 use std::alloc::{AllocError, Global};
-
-/// The first line of these.
-fn first_line(bytes: &[u8]) -> &[u8]
-    ensures { result.now ≡ first_line bytes.now }
-{
-    bytes.split_at(to_feed(bytes)).0
-}
 
 /// What is told of a line that isn't of its form.
 fn push_bad_line_reason(

@@ -1,7 +1,7 @@
 //! Lines of a job and places in a text, as they are shown.
 
 ghost use Rattle.std.specs.Prelude.{◌≡◌, ◌≤◌, ◌<◌, ◌^◌, ◌+◌, ◌++◌, ◌==◌, OnOk, if◌then◌else◌, length, replicate};
-ghost use Rattle.crush_reasons.specs.Place.{at_place, behind_feed, behind_line, column_line, from_line, last_line, line_at, name_head, number_line, origin_data, own_line, place_text, shown_line, sign_line, to_feed};
+ghost use Rattle.crush_reasons.specs.Place.{at_place, behind_feed, behind_line, column_line, command_head, first_line, from_line, last_line, line_at, named_head, name_head, number_line, origin_data, own_line, place_text, shown_line, sign_line, to_feed};
 
 use crate::shown::{MOST_SHOWN, push_shown};
 use crate::words::{push_all, up_to};
@@ -192,8 +192,15 @@ pub(crate) fn push_place(
     push_end_of(origin, bytes, up_to(place, bytes), text)
 }
 
+/// The first line of these.
+pub(crate) fn first_line(bytes: &[u8]) -> &[u8]
+    ensures { result.now ≡ first_line bytes.now }
+{
+    bytes.split_at(to_feed(bytes)).0
+}
+
 /// What stands behind the first line.
-fn behind_line(bytes: &[u8]) -> &[u8]
+pub(crate) fn behind_line(bytes: &[u8]) -> &[u8]
     ensures { result.now ≡ behind_line bytes.now }
 {
     let (_, rest) = bytes.split_at(to_feed(bytes));
@@ -233,4 +240,29 @@ pub(crate) fn push_at_line(
 {
     push_number_line(origin, line, text)?;
     push_line(line_at(bytes, line), text)
+}
+
+/// The file of a command and the line there, or the line alone where no file is told.
+fn push_named_head(name: &[u8], line: usize, text: &mut Vec<u8>) -> Result<(), AllocError>
+    ensures { OnOk result (text.new.items ≡ text.old.items ++ named_head name.now line) }
+{
+    let mut buffer = Buffer::new();
+    let line = buffer.format(line).as_bytes();
+    match name {
+        [] => push_all(&[b"line ".as_slice(), line, b": ".as_slice()], text),
+        [_, ..] => push_all(&[name, b":".as_slice(), line, b": ".as_slice()], text),
+    }
+}
+
+/// Where a command stands, before it. Its line counts in the job.
+#[tactic(auto, unfolding(crate::specs::Place::command_head))]
+pub(crate) fn push_command_head(
+    origin: Origin<'_>,
+    line: usize,
+    text: &mut Vec<u8>,
+) -> Result<(), AllocError>
+    ensures { OnOk result (text.new.items
+        ≡ text.old.items ++ command_head (origin_data origin.entry) line) }
+{
+    push_named_head(origin.name, origin.own_line(line), text)
 }

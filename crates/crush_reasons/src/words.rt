@@ -1,7 +1,7 @@
 //! Bytes, pushed behind what a `Vec` holds, and words and parts of a text.
 
 ghost use Rattle.std.specs.Prelude.{◌≡◌, ◌≤◌, ◌++◌, ◌∷◌, [], MatchOption, OnOk, drop, flat_map, length, take};
-ghost use Rattle.crush_reasons.specs.Explained.{reason_line};
+ghost use Rattle.crush_reasons.specs.Shown.{reason_line};
 
 use crush_bytes::{Reader, Token, put_all};
 use std::alloc::AllocError;

@@ -5,8 +5,10 @@ ghost use Rattle.std.specs.List.{list_any};
 ghost use Rattle.crush_units.specs.Weight.{weight_of_text};
 ghost use Rattle.crush_table.specs.Stands.{Stands};
 ghost use Rattle.crush_table.specs.Table.{Row, id_named};
+ghost use Rattle.crush_reasons.specs.Sums.{IsSummed};
 ghost use Rattle.crush_reasons.specs.Written.{IsNextWord, bucket_sum, first_line, is_inside, item_line, line_of_sum, line_of_weight, lines_left, sum_told, unequal_line, has_returns_alone, returns_text, weights_text, written_text};
 
+use crate::sums::SummedMap;
 use crate::words::push_all;
 use crush_bytes::{Reader, Token};
 use crush_map::CrushMap;
@@ -35,26 +37,26 @@ fn is_inside(inside: bool, word: &[u8]) -> bool
 }
 
 /// What the bucket of this name weighs. `None` where no bucket has it.
-fn sum_named(map: &CrushMap<Global>, name: &str) -> Option<Weight>
-    ensures { (t : List Row) → Stands map.now.forest t
+fn sum_named(summed: &SummedMap<'_>, name: &str) -> Option<Weight>
+    ensures { (t : List Row) → IsSummed summed.now t
         → result ≡ bucket_sum t (id_named t name.now) }
 {
-    match map.locate(name) {
-        Some(ItemId::Bucket(_)) => map.weight_of(name),
-        Some(ItemId::Device(_)) => None,
-        None => None,
+    let id = summed.map.locate(name)?;
+    match id {
+        ItemId::Bucket(bucket) => summed.sum_of(bucket),
+        ItemId::Device(_) => None,
     }
 }
 
 /// The same of the bytes of a name.
-fn bucket_sum(map: &CrushMap<Global>, name: &[u8]) -> Option<Weight>
-    ensures { (t : List Row) → Stands map.now.forest t
+fn bucket_sum(summed: &SummedMap<'_>, name: &[u8]) -> Option<Weight>
+    ensures { (t : List Row) → IsSummed summed.now t
         → result ≡ bucket_sum t (id_named t name.now) }
 {
     let Ok(name) = str::from_utf8(name) else {
         return None;
     };
-    sum_named(map, name)
+    sum_named(summed, name)
 }
 
 /// What is told behind a weight that was written: the sum.
@@ -108,15 +110,15 @@ fn push_weighed(
 
 /// That line of an item of this name, where it is a bucket.
 fn push_item(
-    map: &CrushMap<Global>,
+    summed: &SummedMap<'_>,
     name: &[u8],
     written: &[u8],
     text: &mut Vec<u8>,
 ) -> Result<(), AllocError>
-    ensures { OnOk result ((t : List Row) → Stands map.now.forest t → text.new.items
+    ensures { OnOk result ((t : List Row) → IsSummed summed.now t → text.new.items
         ≡ text.old.items ++ line_of_sum name.now written.now (bucket_sum t (id_named t name.now))) }
 {
-    match bucket_sum(map, name) {
+    match bucket_sum(summed, name) {
         None => Ok(()),
         Some(sum) => push_weighed(name, written, sum, text),
     }
@@ -124,19 +126,19 @@ fn push_item(
 
 /// The line of an item that goes on with these three words.
 fn push_item_line(
-    map: &CrushMap<Global>,
+    summed: &SummedMap<'_>,
     name: &[u8],
     key: &[u8],
     weight: &[u8],
     text: &mut Vec<u8>,
 ) -> Result<(), AllocError>
-    ensures { OnOk result ((t : List Row) → Stands map.now.forest t → text.new.items
+    ensures { OnOk result ((t : List Row) → IsSummed summed.now t → text.new.items
         ≡ text.old.items ++ item_line t (name.now ∷ key.now ∷ weight.now ∷ [])) }
 {
     if !is(key, b"weight") {
         return Ok(());
     }
-    push_item(map, name, weight, text)
+    push_item(summed, name, weight, text)
 }
 
 /// The next word of a text, if there is one.
@@ -179,23 +181,23 @@ impl<'a> Scan<'a> {
     /// Puts the line of the first word, where the word that follows the three is this one.
     fn push_first(
         &self,
-        map: &CrushMap<Global>,
+        summed: &SummedMap<'_>,
         weight: &[u8],
         text: &mut Vec<u8>,
     ) -> Result<(), AllocError>
-        ensures { OnOk result ((t : List Row) → Stands map.now.forest t → text.new.items
+        ensures { OnOk result ((t : List Row) → IsSummed summed.now t → text.new.items
             ≡ text.old.items ++ first_line t self.now weight.now) }
     {
         if self.inside && is(self.item, b"item") {
-            push_item_line(map, self.name, self.key, weight, text)
+            push_item_line(summed, self.name, self.key, weight, text)
         } else {
             Ok(())
         }
     }
 
     /// Puts the line of the first word and goes on by one. False where no word follows the three.
-    fn push_next(&mut self, map: &CrushMap<Global>, text: &mut Vec<u8>) -> Result<bool, AllocError>
-        ensures goes { IfOk result (λ more. (t : List Row) → Stands map.now.forest t
+    fn push_next(&mut self, summed: &SummedMap<'_>, text: &mut Vec<u8>) -> Result<bool, AllocError>
+        ensures goes { IfOk result (λ more. (t : List Row) → IsSummed summed.now t
             → text.new.items ++ (if more then lines_left t self.new else [])
             ≡ text.old.items ++ lines_left t self.old) }
         ensures shorter { IfOk result (λ more. IsTrue more
@@ -204,7 +206,7 @@ impl<'a> Scan<'a> {
         let Some(word) = next_word(&mut self.reader) else {
             return Ok(false);
         };
-        self.push_first(map, word, text)?;
+        self.push_first(summed, word, text)?;
         self.inside = is_inside(self.inside, self.item);
         self.item = self.name;
         self.name = self.key;
@@ -213,11 +215,11 @@ impl<'a> Scan<'a> {
     }
 
     /// Puts the lines of all words that are left.
-    fn push_left(&mut self, map: &CrushMap<Global>, text: &mut Vec<u8>) -> Result<(), AllocError>
-        ensures { OnOk result ((t : List Row) → Stands map.now.forest t
+    fn push_left(&mut self, summed: &SummedMap<'_>, text: &mut Vec<u8>) -> Result<(), AllocError>
+        ensures { OnOk result ((t : List Row) → IsSummed summed.now t
             → text.new.items ≡ text.old.items ++ lines_left t self.old) }
     {
-        'words: while self.push_next(map, text)? {}
+        'words: while self.push_next(summed, text)? {}
         Ok(())
     }
 }
@@ -264,7 +266,8 @@ pub fn written_text(
 {
     let mut text = Vec::new(alloc);
     push_returns(bytes, &mut text)?;
+    let summed = SummedMap::new(alloc, map)?;
     let mut scan = Scan::new(bytes);
-    scan.push_left(map, &mut text)?;
+    scan.push_left(&summed, &mut text)?;
     Ok(text)
 }

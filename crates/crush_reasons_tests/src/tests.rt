@@ -5,9 +5,12 @@
 ghost use Rattle.std.specs.Prelude.{◌<◌, length};
 ghost use Rattle.crush_calls.specs.Entries.{AreOf};
 
-use crush_calls::{Call, Entry, Script, is_change, make_call};
+use crush_calls::{Entry, Script, is_change, make_call};
 use crush_map::{CrushMap, Hashing};
-use crush_reasons::{Origin, ceph_text, explained_text, fault_line, fault_text, written_text};
+use crush_reasons::{
+    JobText, Locates, Origin, ceph_text, explained_job, explained_text, fault_line, fault_text,
+    written_text,
+};
 use crush_script::{Job, JobFault, read_job};
 use std::alloc::Global;
 use std::process::Abort;
@@ -137,10 +140,13 @@ fn the_line_of_a_fault_counts_in_the_job(rt: HostRuntime) {
 fn entries_of(
     rt: &(impl Abort + AllocGlobal),
     map: &mut CrushMap<Global>,
-    calls: &[Call],
+    scripts: &[Script],
+    operator: usize,
 ) -> Vec<Entry>
-    ensures { AreOf 1 result.items }
+    requires { operator < length scripts.now }
+    ensures { AreOf (length scripts.now) result.items }
 {
+    let calls = scripts[operator].calls.as_slice();
     let mut entries = Vec::new(rt.alloc());
     let mut changes = 0u32;
     for call in calls {
@@ -148,7 +154,7 @@ fn entries_of(
         changes = changes.saturating_add(is_change(reply) as u32);
         let call = call.try_copy(rt.alloc()).expect(rt, "no memory");
         let entry = Entry {
-            operator: 0,
+            operator,
             call,
             reply,
         };
@@ -185,7 +191,7 @@ fn is_answered(rt: &(impl Abort + AllocGlobal), job: &Job, made: &[u8], told: &[
         return false;
     }
     let mut map = job.map.try_copy().expect(rt, "no memory");
-    let entries = entries_of(rt, &mut map, scripts[0].calls.as_slice());
+    let entries = entries_of(rt, &mut map, scripts, 0);
     let answered = entries.len() < 100
         && are_printed(rt, &job.map, scripts, entries.as_slice(), made, told);
     drop(entries);
@@ -235,5 +241,105 @@ fn written_weights_are_told(rt: HostRuntime) {
     let job = read_job(rt.alloc(), Hashing::plain(), WEIGHED).expect(&rt, "no job");
     let told = written_text(rt.alloc(), &job.map, WEIGHED).expect(&rt, "no memory");
     assert!(rt; told.as_slice() == WEIGHTS);
+    drop(job);
+}
+
+/// A map of a host, and the scripts of two operators, with a batch that is refused in each.
+const BATCHES: &[u8] =
+    b"type 1 host\nhost h1 {\nid -1\nalg straw2\n}\n%operator a\n# one\nbegin\n\nadd-bucket h2 host\nadd osd.1000 1 rack=r1\ncommit\nrm h3\n%operator b\nrm h2\nbegin at 0\nrename-bucket h1 h5 # two\nrm h1\ncommit\n";
+
+const BATCHES_OF_A: &[u8] =
+    b"# 1 a begin ; add-bucket h2 host ; add osd.1000 1.00000 rack=r1 ; commit = refused at 1 NoSuchType 22\n  cmds:5: add osd.1000 1.00000 rack=r1: rack is no type of the map\n# 2 a rm h3 = refused NoSuchItem 2\n  h3 isn't there: is it h1?\n";
+
+const BATCHES_OF_NO_FILE: &[u8] =
+    b"# 1 a begin ; add-bucket h2 host ; add osd.1000 1.00000 rack=r1 ; commit = refused at 1 NoSuchType 22\n  line 11: add osd.1000 1.00000 rack=r1: rack is no type of the map\n# 2 a rm h3 = refused NoSuchItem 2\n  h3 isn't there: is it h1?\n";
+
+const BATCHES_OF_B: &[u8] =
+    b"# 1 b rm h2 = refused NoSuchItem 2\n  h2 isn't there: is it h1?\n# 2 b begin at 0 ; rename-bucket h1 h5 ; rm h1 ; commit = refused at 1 NoSuchItem 2\n  b.txt:4: rm h1: h1 isn't there: is it h5?\n";
+
+/// A file from which all lines come.
+#[derive(Drop)]
+struct Whole<'a> {
+    name: &'a [u8],
+    before: usize,
+}
+
+impl Locates for Whole<'_> {
+    ghost origin = { λ file _. record { name = file.name.now; before = file.before } };
+
+    fn at(&self, line: usize) -> Origin<'_> {
+        let _ = line;
+        Origin {
+            name: self.name,
+            before: self.before,
+        }
+    }
+}
+
+/// Whether this is told of the calls of one operator of a short job, made alone.
+fn are_explained(
+    rt: &(impl Abort + AllocGlobal),
+    job: &Job,
+    operator: usize,
+    file: &Whole<'_>,
+    told: &[u8],
+) -> bool {
+    let scripts = job.scripts.as_slice();
+    if operator >= scripts.len() {
+        return false;
+    }
+    let mut map = job.map.try_copy().expect(rt, "no memory");
+    let entries = entries_of(rt, &mut map, scripts, operator);
+    let opening = job.map.try_copy().expect(rt, "no memory");
+    let explained = entries.len() < 100
+        && are_told(rt, opening, file, scripts, entries.as_slice(), told);
+    drop(entries);
+    drop(map);
+    explained
+}
+
+/// Whether this is told of these entries.
+fn are_told(
+    rt: &(impl Abort + AllocGlobal),
+    opening: CrushMap<Global>,
+    file: &Whole<'_>,
+    scripts: &[Script],
+    entries: &[Entry],
+    told: &[u8],
+) -> bool
+    requires few { length entries.now < 100 }
+    requires operators { AreOf (length scripts.now) entries.now }
+{
+    let text = JobText {
+        bytes: BATCHES,
+        origins: file,
+    };
+    let reasons = explained_job(rt.alloc(), text, opening, scripts, entries).expect(
+        rt,
+        "no memory",
+    );
+    reasons.as_slice() == told
+}
+
+#[test]
+fn a_batch_tells_where_its_refused_edit_stands(rt: HostRuntime) {
+    let job = read_job(rt.alloc(), Hashing::plain(), BATCHES).expect(&rt, "no job");
+    let cmds = Whole {
+        name: b"cmds",
+        before: 6,
+    };
+    let none = Whole {
+        name: b"",
+        before: 0,
+    };
+    let second = Whole {
+        name: b"b.txt",
+        before: 14,
+    };
+    assert!(rt;
+        are_explained(&rt, &job, 0, &cmds, BATCHES_OF_A)
+            && are_explained(&rt, &job, 0, &none, BATCHES_OF_NO_FILE)
+            && are_explained(&rt, &job, 1, &second, BATCHES_OF_B)
+    );
     drop(job);
 }

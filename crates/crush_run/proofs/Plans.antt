@@ -1,17 +1,18 @@
 -- A plan that there is, and what is told of one.
 use Rattle.std.proofs.Common.{ℕ, ◌<◌, List, [], ◌++◌, length, refl, inl, arith}
+use Rattle.std.specs.Prelude.{None}
 use Rattle.std.proofs.lemmas.List.{length-append}
 use Rattle.std.specs.List.{count_by}
 use Rattle.crush_table.specs.Forest.{rows_of}
 use Rattle.crush_table.specs.Table.{Row}
 use Rattle.crush_edits.specs.Setting.{SettingData}
 use Rattle.crush_reasons.specs.Ceph.{ceph_heading}
-use Rattle.crush_view.specs.Since.{Told, told}
+use Rattle.crush_since.specs.Since.{Told, told}
 use Rattle.crush_view.specs.Tree.{tree_rows}
-use Rattle.crush_plan.specs.Aside.{other_class_ids, other_id}
+use Rattle.crush_names.specs.Aside.{is_aside, other_class_ids, other_id}
 use Rattle.crush_plan.specs.Plan.{IsPlan, PlanData}
 use Rattle.crush_plan.specs.PlanText.{plan_text}
-use Rattle.crush_plan.specs.Stays.{stays}
+use Rattle.crush_names.specs.Stays.{stays}
 use Rattle.crush_plan.specs.declared.text.PlanWords.{PlanWords}
 use Rattle.crush_input.specs.declared.asked.Asked.{Asked}
 use Rattle.crush_input.specs.declared.asked.Asked.TheVariants as asked
@@ -22,10 +23,10 @@ without : Told → Told → PlanData
 without old new = record {
   edits = [];
   rest = stays old new;
-  aside = record { ids = count_by (other_id old.table new.table) (tree_rows new.table); class_ids = count_by (other_class_ids old.table new.table) (tree_rows new.table) };
+  aside = record { ids = count_by (is_aside other_id None old.table new.table) (tree_rows new.table); class_ids = count_by (is_aside other_class_ids None old.table new.table) (tree_rows new.table) };
 }
 
-without_is_plan : (old new : Told) → IsPlan old new (without old new)
+without_is_plan : (old new : Told) → IsPlan None old new (without old new)
 unfolding without
 without_is_plan old new = record {
   goes = record { table = old.table; leads = refl; tells = record { rest = refl; aside = record { ids = refl; class_ids = refl } } };

@@ -19,9 +19,9 @@ use Rattle.crush_calls.specs.Turns.{calls_at, calls_of}
 use Rattle.crush_calls.specs.HistoryText.{names_of}
 use Rattle.crush_print.proofs.SameText.{map_text_is_some}
 use Rattle.crush_reasons.specs.Ceph.{ceph_heading, ceph_text}
-use Rattle.crush_view.specs.Since.{told}
-use Rattle.crush_view.proofs.ChangeTextLaws.{changes_text_is_some}
-use Rattle.crush_view.proofs.PartLaws.{since_text_is_some}
+use Rattle.crush_since.specs.Since.{told}
+use Rattle.crush_since.proofs.ChangeTextLaws.{changes_text_is_some}
+use Rattle.crush_since.proofs.PartLaws.{since_text_is_some}
 use Rattle.crush_view.proofs.WalkLaws.{tree_text_is_some}
 use Rattle.crush_calls.proofs.Histories.{turns_are_history}
 use Rattle.crush_editor.specs.Book.{MakesAll}

@@ -5,8 +5,8 @@ use Rattle.crush_table.specs.Forest.{rows_of}
 use Rattle.crush_table.specs.Table.{Row}
 use Rattle.crush_edits.specs.Setting.{SettingData}
 use Rattle.crush_print.specs.MapText.{map_text}
-use Rattle.crush_view.specs.ChangeText.{changes_text}
-use Rattle.crush_view.specs.Since.{Told, told, since_text}
+use Rattle.crush_since.specs.ChangeText.{changes_text}
+use Rattle.crush_since.specs.Since.{Told, told, since_text}
 use Rattle.crush_view.specs.TreeText.{tree_text}
 use Rattle.crush_reasons.specs.Ceph.{ceph_text}
 use Rattle.crush_plan.specs.Plan.{PlanData}

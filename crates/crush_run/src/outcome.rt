@@ -12,7 +12,7 @@ ghost use Rattle.crush_calls.specs.Script.{scripts_data};
 ghost use Rattle.crush_edits.specs.Setting.{SettingData};
 ghost use Rattle.crush_input.specs.Notes.{IsKept, IsNoMake, IsStrict};
 ghost use Rattle.crush_reasons.specs.Ceph.{ceph_text};
-ghost use Rattle.crush_view.specs.Since.{since_text, told};
+ghost use Rattle.crush_since.specs.Since.{since_text, told};
 ghost use Rattle.crush_plan.specs.Plan.{plan_data};
 ghost use Rattle.crush_run.specs.Planned.{IsWhole};
 ghost use Rattle.crush_run.specs.Run.{differs_of, is_told_since, lines_asked, main_text, summed};
@@ -31,7 +31,8 @@ use crush_options::Mode;
 use crush_plan::Plan;
 use crush_print::write_map;
 use crush_reasons::ceph_text;
-use crush_view::{write_changes, write_since, write_tree};
+use crush_since::{write_changes, write_since};
+use crush_view::write_tree;
 use std::alloc::{AllocError, Global};
 use std::io::Write;
 

@@ -12,7 +12,8 @@ ghost use Rattle.crush_run.specs.Planned.{IsDiffersFault, IsPlanned, IsWhole, pl
 use crush_bytes::{WriteFault, put};
 use crush_input::{Asked, RunFault, WantedMap};
 use crush_map::CrushMap;
-use crush_plan::{Counts, Identity, Plan, PlanWords, find_plan, plan_text};
+use crush_names::Counts;
+use crush_plan::{Identity, Plan, PlanWords, find_plan, plan_text};
 use std::alloc::{AllocError, Global};
 use std::io::Write;
 
@@ -62,7 +63,7 @@ pub(crate) fn plan_asked(
     match asked {
         Asked::To(wanted) => {
             wanted.map.forest().recall_invariant();
-            find_plan(alloc, identity_of(wanted), map, &wanted.map)
+            find_plan(alloc, identity_of(wanted), None, map, &wanted.map)
         }
         _ => Ok(no_plan(alloc)),
     }

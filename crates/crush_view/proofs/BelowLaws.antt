@@ -17,7 +17,8 @@ use Rattle.crush_nodes.specs.declared.node.Node.{Node}
 use Rattle.crush_nodes.proofs.CountLaws.{bucket_count-forest}
 use Rattle.crush_tree.proofs.ReadLemmas.Items.{map-node_id}
 use Rattle.crush_print.proofs.Told.{Told, stands_told, size_le_rows}
-use Rattle.crush_view.proofs.WalkLaws.{steps_told}
+use Rattle.crush_view.proofs.WalkLaws.{node_steps, steps_told}
+use Rattle.crush_view.specs.SeenPart.{HasSteps}
 use Rattle.crush_view.specs.Tree.{StepData, steps_at, steps_of}
 
 -- what a table tells of items it tells of those of a bucket among them
@@ -68,6 +69,11 @@ no_kids t (r ∷ u) b parents absent =
 -- THE STEPS BELOW
 pub few_below : (f : ForestData) (b : ℕ) (k : Items) → IsSound f → Some k ≡ kids_in b (all_items f) → size_of k < 2 ^ 31
 few_below f b k sound e = let most = sound.lawful.buckets in let le = kids_no_more b (all_items f) k (sym e) in omega (arith, most, bucket_count-forest f, le, sizes-join f.unplaced f.roots)
+
+pub each_below : {A : _} (f : ForestData) (t : List Row) (b : ℕ) (ns : List (Node A)) → Stands f t → Some (items_of ns) ≡ kids_in b (all_items f) → All (HasSteps t (Some b)) ns
+each_below f t b ns stands e =
+    let le = kids_no_more b (all_items f) (items_of ns) (sym e) in
+    node_steps t (Some b) ns (told_kids t None (all_items f) (items_of ns) b (stands_told f t stands) (sym e)) (omega (arith, le, size_le_rows None (all_items f), reordered-length stands.same.rows))
 
 pub steps_below : {A : _} (f : ForestData) (t : List Row) (b : ℕ) (ns : List (Node A)) → Stands f t → Some (items_of ns) ≡ kids_in b (all_items f) → map node_id ns ≡ kids t b
     → steps_of 0 (Some b) (items_of ns) ≡ flat_map (steps_at t (length t) 0) (kids t b)

@@ -1,4 +1,4 @@
-//! Words in columns, pushed behind what a `Vec` holds.
+//! Words in columns, pushed behind what a `Vec` holds. An `Err` says that memory ran out.
 
 ghost use Rattle.std.specs.Prelude.{◌≡◌, ◌++◌, ◌-◌, OnOk, length};
 ghost use Rattle.crush_view.specs.TreeText.{spaces, at_left, at_right};
@@ -6,7 +6,7 @@ ghost use Rattle.crush_view.specs.TreeText.{spaces, at_left, at_right};
 use std::alloc::AllocError;
 
 /// So many spaces.
-pub(crate) fn push_spaces(count: usize, out: &mut Vec<u8>) -> Result<(), AllocError>
+pub fn push_spaces(count: usize, out: &mut Vec<u8>) -> Result<(), AllocError>
     ensures { OnOk result (out.new.items ≡ out.old.items ++ spaces count) }
 {
     for _done in 0..count {
@@ -19,7 +19,7 @@ pub(crate) fn push_spaces(count: usize, out: &mut Vec<u8>) -> Result<(), AllocEr
 
 /// A word at the right end of a column of the width.
 #[tactic(auto, unfolding(crate::specs::TreeText::at_right))]
-pub(crate) fn push_right(width: usize, word: &[u8], out: &mut Vec<u8>) -> Result<(), AllocError>
+pub fn push_right(width: usize, word: &[u8], out: &mut Vec<u8>) -> Result<(), AllocError>
     ensures { OnOk result (out.new.items ≡ out.old.items ++ at_right width word.now) }
 {
     push_spaces(width.saturating_sub(word.len()), out)?;
@@ -28,7 +28,7 @@ pub(crate) fn push_right(width: usize, word: &[u8], out: &mut Vec<u8>) -> Result
 
 /// A word at the left end of a column of the width.
 #[tactic(auto, unfolding(crate::specs::TreeText::at_left))]
-pub(crate) fn push_left(width: usize, word: &[u8], out: &mut Vec<u8>) -> Result<(), AllocError>
+pub fn push_left(width: usize, word: &[u8], out: &mut Vec<u8>) -> Result<(), AllocError>
     ensures { OnOk result (out.new.items ≡ out.old.items ++ at_left width word.now) }
 {
     out.extend_from_slice(word)?;

@@ -10,9 +10,11 @@ ghost use Rattle.crush_table.specs.Stands.{Stands};
 ghost use Rattle.crush_table.specs.Table.{Row};
 ghost use Rattle.crush_units.specs.Weight.{weight_text};
 ghost use Rattle.crush_view.specs.SeenStep.{step_data};
+ghost use Rattle.crush_view.specs.TreePart.{WholeTreeIsAPart, tree_part_text};
 ghost use Rattle.crush_view.specs.TreeText.{SameTablesHaveOneTree, at_right, heading, indent, kind_prefix, step_line, steps_text, tree_text, widths_of};
 
 use crate::columns::{push_left, push_right};
+use crate::part::{Part, walk_part};
 use crate::steps::{Step, walk};
 use crate::words::{bytes_of, push_id, push_indent, push_kind, push_row, push_weight};
 use crush_bytes::{WriteFault, put};
@@ -54,6 +56,35 @@ pub fn write_tree<A: Allocator, W: Write>(
     put(out, text.as_slice())
 }
 
+/// Writes a part of the tree of a map: a heading, and a line for each item in the order of
+/// [`walk_part`].
+///
+/// The text is laid out in the given memory first. With [`WriteFault::OutOfMemory`] nothing is
+/// written, with [`WriteFault::Write`] a prefix of the text.
+pub fn write_tree_part<A: Allocator, W: Write>(
+    alloc: Global,
+    map: &CrushMap<A>,
+    part: Part,
+    out: &mut W,
+) -> Result<(), WriteFault>
+    ensures writes { (t : List Row) → Stands map.now.forest t → Writes result
+        (W.contents out.old) (W.contents out.new) (tree_part_text map.now.setting part t) }
+    ensures none { result ≡ Err WriteFault.OutOfMemory
+        → Keeps (W.contents out.old) (W.contents out.new) }
+{
+    let mut text = Vec::new(alloc);
+    if push_part(alloc, map, part, &mut text).is_err() {
+        return Err(WriteFault::OutOfMemory);
+    }
+    put(out, text.as_slice())
+}
+
+/// The part of which nothing is said is the whole tree. There is nothing to run: the contract is the
+/// law.
+pub fn whole_tree_is_a_part()
+    ensures { WholeTreeIsAPart }
+{}
+
 /// A map's tree is that of its table, whatever the order of the table's rows: only the order of each
 /// bucket's items is told. There is nothing to run: the contract is the law.
 pub fn same_tables_have_one_tree()
@@ -71,6 +102,21 @@ fn push_tree<A: Allocator>(
         → OnOk result (out.new.items ≡ out.old.items ++ tree_text map.now.setting t) }
 {
     let steps = walk(alloc, map)?;
+    push_text(alloc, map.setting(), steps.as_slice(), out)
+}
+
+/// A part of the tree.
+#[tactic(auto, unfolding(crate::specs::TreePart::tree_part_text))]
+fn push_part<A: Allocator>(
+    alloc: Global,
+    map: &CrushMap<A>,
+    part: Part,
+    out: &mut Vec<u8>,
+) -> Result<(), AllocError>
+    ensures { (t : List Row) → Stands map.now.forest t
+        → OnOk result (out.new.items ≡ out.old.items ++ tree_part_text map.now.setting part t) }
+{
+    let steps = walk_part(alloc, map, part)?;
     push_text(alloc, map.setting(), steps.as_slice(), out)
 }
 
@@ -133,8 +179,8 @@ fn push_line<A: Allocator>(
     )
 }
 
-/// An id in its column.
-pub(crate) fn id_column(alloc: Global, width: usize, id: ItemId) -> Result<Vec<u8>, AllocError>
+/// An id in its column. An `Err` says that memory ran out.
+pub fn id_column(alloc: Global, width: usize, id: ItemId) -> Result<Vec<u8>, AllocError>
     ensures { IfOk result (λ column. column.items ≡ at_right width (id_text id)) }
 {
     let mut word = Vec::new(alloc);
@@ -204,14 +250,14 @@ fn push_heading(alloc: Global, widths: &Widths, out: &mut Vec<u8>) -> Result<(),
 }
 
 /// A width, or the length of a word that is longer.
-pub(crate) fn wider(width: usize, word: &[u8]) -> usize
+pub fn wider(width: usize, word: &[u8]) -> usize
     ensures { result ≡ max width (length word.now) }
 {
     width.max(word.len())
 }
 
-/// A width, or the length of an id that is longer.
-pub(crate) fn wider_id(alloc: Global, width: usize, id: ItemId) -> Result<usize, AllocError>
+/// A width, or the length of an id that is longer. An `Err` says that memory ran out.
+pub fn wider_id(alloc: Global, width: usize, id: ItemId) -> Result<usize, AllocError>
     ensures { IfOk result (λ wider. wider ≡ max width (length (id_text id))) }
 {
     let mut word = Vec::new(alloc);

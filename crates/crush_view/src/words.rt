@@ -1,4 +1,4 @@
-//! The words of a tree's line.
+//! The words of a tree's line, pushed behind what a `Vec` holds. An `Err` says that memory ran out.
 
 ghost use Rattle.std.specs.Prelude.{◌≡◌, [], ◌++◌, OnOk, flat_map, unwrap_or};
 ghost use Rattle.std.specs.Option.{option_map};
@@ -15,14 +15,14 @@ use itoa::Buffer;
 use std::alloc::AllocError;
 
 /// All parts, one after the other.
-pub(crate) fn push_all(parts: &[&[u8]], out: &mut Vec<u8>) -> Result<(), AllocError>
+pub fn push_all(parts: &[&[u8]], out: &mut Vec<u8>) -> Result<(), AllocError>
     ensures { OnOk result (out.new.items ≡ out.old.items ++ flat_map (λ part. part.now) parts.now) }
 {
     put_all(out, parts).map_err(|_| AllocError)
 }
 
 /// An id: that of a bucket is below 0.
-pub(crate) fn push_id(id: ItemId, out: &mut Vec<u8>) -> Result<(), AllocError>
+pub fn push_id(id: ItemId, out: &mut Vec<u8>) -> Result<(), AllocError>
     ensures { OnOk result (out.new.items ≡ out.old.items ++ id_text id) }
 {
     let mut buffer = Buffer::new();
@@ -39,7 +39,7 @@ pub(crate) fn push_id(id: ItemId, out: &mut Vec<u8>) -> Result<(), AllocError>
 }
 
 /// A text, or nothing where there is none.
-pub(crate) fn bytes_of<'a>(text: Option<&'a str>) -> &'a [u8]
+pub fn bytes_of<'a>(text: Option<&'a str>) -> &'a [u8]
     ensures { result.now ≡ unwrap_or (option_map (λ c. c.now) text.entry) [] }
 {
     match text {
@@ -49,7 +49,7 @@ pub(crate) fn bytes_of<'a>(text: Option<&'a str>) -> &'a [u8]
 }
 
 /// A weight with five decimals.
-pub(crate) fn push_weight(weight: Weight, out: &mut Vec<u8>) -> Result<(), AllocError>
+pub fn push_weight(weight: Weight, out: &mut Vec<u8>) -> Result<(), AllocError>
     ensures { OnOk result (out.new.items ≡ out.old.items ++ weight_text weight) }
 {
     let mut room = [0; 16];
@@ -69,14 +69,14 @@ fn kind_name(setting: &Setting, number: TypeId) -> &[u8]
 }
 
 /// Four spaces for each bucket above, 64 at most.
-pub(crate) fn push_indent(depth: u32, out: &mut Vec<u8>) -> Result<(), AllocError>
+pub fn push_indent(depth: u32, out: &mut Vec<u8>) -> Result<(), AllocError>
     ensures { OnOk result (out.new.items ≡ out.old.items ++ indent depth) }
 {
     push_spaces(4 * depth.min(16) as usize, out)
 }
 
 /// Of a bucket the name of its type, and a space.
-pub(crate) fn push_kind(
+pub fn push_kind(
     setting: &Setting,
     id: ItemId,
     kind: TypeId,
@@ -91,7 +91,7 @@ pub(crate) fn push_kind(
 }
 
 /// A line of these columns.
-pub(crate) fn push_row(
+pub fn push_row(
     id: &[u8],
     class: &[u8],
     weight: &[u8],

@@ -1,4 +1,4 @@
-//! Tests of `crush_view` through its public calls.
+//! Tests of `crush_view` and `crush_since` through their public calls.
 #![tactic(auto)]
 
 #[cfg(test)]

@@ -4,7 +4,9 @@
 //! `drop`.
 
 mod change_trees;
+mod changed_parts;
 mod changes;
+mod parts;
 mod trees;
 
 use crush_map::CrushMap;

@@ -145,3 +145,10 @@ pub const JOB_DOCUMENT: &[u8] = b"\
     \"name\":\"default\",\"type_id\":1,\"type_name\":\"root\",\"weight\":0}],\
     \"devices\":[],\"rules\":[],\"tunables\":{},\
     \"types\":[{\"name\":\"root\",\"type_id\":1}]}}\n";
+
+/// A map with a device that no bucket holds, and without a type 0.
+pub const STRAY_MAP: &[u8] = b"\
+    device 7 osd.7 class ssd\n\
+    device 3 osd.3\n\
+    type 1 root\n\
+    root default { id -4 alg straw hash 0 item osd.7 weight 1.5 }\n";

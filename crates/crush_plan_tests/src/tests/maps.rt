@@ -212,3 +212,27 @@ pub const OTHERWISE: &[u8] = b"\
     root default { id -1 alg straw2 hash 0 item h1 item h2 }\n\
     host h3 { id -4 alg straw2 hash 0 }\n\
     rule replicated_rule { id 0 type replicated step take default step chooseleaf firstn 0 type host step emit }\n";
+
+/// A row with a device, and a root, of which a rule takes the root.
+pub const NAMES_OF_OTHER_TYPES: &[u8] = b"\
+    device 2 osd.2\n\
+    device 4 osd.4\n\
+    type 0 osd\n\
+    type 1 host\n\
+    type 4 row\n\
+    type 11 root\n\
+    root other { id -1 alg straw hash 0 }\n\
+    row r1 { id -9 alg list hash 0 item osd.2 weight 0.0 }\n\
+    rule r { id 0 type replicated step take other step chooseleaf firstn 0 type host step emit }\n";
+
+/// The same where both have exchanged their names and items, and osd.4 has a class.
+pub const NAMES_EXCHANGED: &[u8] = b"\
+    device 2 osd.2\n\
+    device 4 osd.4 class hdd\n\
+    type 0 osd\n\
+    type 1 host\n\
+    type 4 row\n\
+    type 11 root\n\
+    root r1 { id -1 alg straw hash 0 item osd.2 weight 0.0 }\n\
+    row other { id -9 alg list hash 0 }\n\
+    rule r { id 0 type replicated step take r1 step chooseleaf firstn 0 type host step emit }\n";

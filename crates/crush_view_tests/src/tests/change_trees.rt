@@ -3,7 +3,7 @@
 use super::changes::MOVED;
 use super::{EXAMPLE_MAP, map_of};
 use crush_map::CrushMap;
-use crush_view::write_changes;
+use crush_since::write_changes;
 use std::alloc::Global;
 use std::process::Abort;
 

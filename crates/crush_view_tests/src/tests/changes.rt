@@ -2,7 +2,7 @@
 
 use super::{EXAMPLE_MAP, map_of};
 use crush_map::CrushMap;
-use crush_view::write_since;
+use crush_since::write_since;
 use std::alloc::Global;
 use std::process::Abort;
 

@@ -5,4 +5,4 @@ use Rattle.crush_reasons.proofs.written.bucket_sum.Goals as goal
 
 -- bytes that are no text name nothing
 pub returns-in_default : goal.returns-in_default
-returns-in_default c = λ t stands. ap (bucket_sum t) (sym (no_name t c.args.name.now stands.lawful.rows c.in_default.ensures.cases.0))
+returns-in_default c = λ t stands. ap (bucket_sum t) (sym (no_name t c.args.name.now stands.stands.lawful.rows c.in_default.ensures.cases.0))

@@ -1,16 +1,8 @@
-use Rattle.std.proofs.Common.{ap, sym, subst, ◌∙◌}
-use Rattle.std.proofs.lemmas.Result.{on_ok_weaker}
-use Rattle.crush_table.specs.Stands.{Stands}
-use Rattle.crush_map.specs.MapData.{MapData}
-use Rattle.crush_plan.proofs.Going.{gave}
+use Rattle.crush_plan.proofs.Going.{stays_here}
 use Rattle.crush_plan.proofs.draft.Draft.give.Goals as goal
 
-pub returns-in-Ok : goal.returns-in-Ok
-returns-in-Ok g c =
-    on_ok_weaker c.keep.result
-    (λ is. gave c.args.self.now c.keep.new.self c.args.edit c.in-Ok.done.changed c.in-Ok.done.made
-    (ap (λ (m : MapData). m.setting) c.keep.ensures.map ∙ c.in-Ok.ensures.setting)
-    is
-    (λ t st. let d = c.in-Ok.ensures.done t st in (d.0, d.1, subst (λ (m : MapData). Stands m.forest d.0) (sym c.keep.ensures.map) d.2))
-    (λ no. c.keep.ensures.map ∙ c.in-Ok.ensures.still no))
-    c.keep.ensures.edits
+pub make-requires : goal.make-requires
+make-requires g c = record { allowed = c.allows.ensures c.if-allows.true }
+
+pub returns-else-allows : goal.returns-else-allows
+returns-else-allows g c = stays_here c.args.self.now

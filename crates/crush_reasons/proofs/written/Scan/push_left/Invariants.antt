@@ -1,12 +1,12 @@
 use Rattle.std.proofs.Common.{◌≡◌, ◌++◌, List, length}
-use Rattle.crush_table.specs.Stands.{Stands}
 use Rattle.crush_table.specs.Table.{Row}
+use Rattle.crush_reasons.specs.Sums.{IsSummed}
 use Rattle.crush_reasons.specs.Written.{lines_left}
 use Rattle.crush_reasons.proofs.written.Scan.push_left.Given as goal
 
 -- the lines so far, and those of the words that are left
 abbrev pub invariant-words : goal.invariant-words
-invariant-words l = (t : List Row) → Stands l.map.forest t → l.text.items ++ lines_left t l.self ≡ l.fn.text.items ++ lines_left t l.fn.self
+invariant-words l = (t : List Row) → IsSummed l.summed t → l.text.items ++ lines_left t l.self ≡ l.fn.text.items ++ lines_left t l.fn.self
 
 abbrev pub decreases-words : goal.decreases-words
 decreases-words l = length l.self.reader.words

@@ -1,0 +1,56 @@
+-- A weight's text is a number of JSON.
+use Rattle.std.proofs.Common.{◌≡◌, ℕ, zero, suc, ◌/◌, ◌+◌, ◌<◌, ◌^◌, true, false, List, [], ◌∷◌, ◌++◌, length, refl, ap, arith}
+use Rattle.std.proofs.lemmas.Fmt.{decimal_is_IsNumeral, decimal_digit, first_decimal}
+use Rattle.std.proofs.lemmas.Str.{digit_value_digit}
+use Rattle.std.specs.Char.{digit_value}
+use Rattle.std.specs.Prelude.{decimal, slice_index}
+use Rattle.std.specs.Float.Numeral.{Parts, text_of}
+use Rattle.ryu.specs.Plain.{IsPlain}
+use Rattle.json.specs.Print.{IsNumber}
+use Rattle.json.proofs.Printed.Floats.{IsNumber-plain}
+use Rattle.crush_units.specs.Weight.{weight_text, parts_of, digit}
+
+-- each byte behind the point is a digit
+digit_is : (n : ℕ) → digit_value (digit n) < 10
+digit_is n = let v = digit_value_digit (digit n) (omega arith, omega arith) in omega (arith, v)
+
+-- no 0 stands before the whole part
+no_zero : (n : ℕ) → n < 2 ^ 64 → slice_index (decimal n) 0 ≡ 48 → length (decimal n) ≡ 1
+no_zero zero small is = ap length (decimal_digit 0 (omega arith))
+no_zero (suc n) small is = absurd (omega (arith, first_decimal (suc n) (omega arith) small, is))
+
+-- a whole part, a point and five digits
+unfoldable parts : ℕ → ℕ → Parts
+parts whole h = record {
+  whole = decimal whole;
+  point = true;
+  fraction = digit (h / 10000) ∷ digit (h / 1000) ∷ digit (h / 100) ∷ digit (h / 10) ∷ digit h ∷ [];
+  exponent_negative = false;
+  exponent = [];
+  len = length (decimal whole ++ 46 ∷ digit (h / 10000) ∷ digit (h / 1000) ∷ digit (h / 100) ∷ digit (h / 10) ∷ digit h ∷ []);
+}
+
+plain : (whole h : ℕ) → whole < 2 ^ 64 → IsPlain (parts whole h)
+unfolding parts
+plain whole h small =
+    let digits = decimal_is_IsNumeral whole small in
+    record {
+      well_formed = record {
+        whole_digits = digits.0.1;
+        fraction_digits = (digit_is (h / 10000), (digit_is (h / 1000), (digit_is (h / 100), (digit_is (h / 10), (digit_is h, tt)))));
+        exponent_digits = tt;
+        no_point = λ e. absurd cc;
+        no_exponent = λ e. refl;
+        len_is = refl;
+      };
+      whole = digits.0.0;
+      no_leading_zero = no_zero whole small;
+      fraction = λ e. omega arith;
+      marked = λ e. absurd cc;
+    }
+
+pub weight_is_number : (w : ℕ) → w < 2 ^ 32 → IsNumber (weight_text w)
+unfolding parts
+weight_is_number w small =
+    let h = parts_of w in
+    IsNumber-plain (weight_text w) (false, parts (h / 100000) h, refl, plain (h / 100000) h (omega arith))

@@ -1,0 +1,123 @@
+-- A plan as a value: its edits as the commands that a monitor takes, with the members of each object by name.
+use Rattle.std.specs.Prelude.{ℕ, ◌==◌, true, List, [], ◌∷◌, ◌++◌, Option, Some, None, if◌then◌else◌, codes, map}
+use Rattle.std.specs.Str.Lossy.{utf8_lossy}
+use Rattle.crush_units.specs.Weight.{weight_text}
+use Rattle.crush_edits.specs.declared.location.Pair.{Pair}
+use Rattle.crush_edits.specs.declared.edit.Edit.{Edit}
+use Rattle.crush_edits.specs.declared.edit.Edit.TheVariants.{Insert, CreateOrMove, Update, Move, Swap, Reweight, ReweightSubtree, Remove, AddBucket, Rename, SetClass, RemoveClass}
+use Rattle.json.specs.Json as json
+use Rattle.json.specs.Print.{print}
+use Rattle.json.specs.Tree.{json_tokens}
+use Rattle.serde_json.specs.Data.{Data, boolean, string}
+use Rattle.serde_json.specs.Written.{outline}
+use Rattle.crush_json.specs.Values.{natural, list}
+
+-- members: of a value, of a text, and of a weight as a decimal
+abbrev pub told : List ℕ → Data → json.Members → json.Members
+told name d ms = json.member name (outline d) ms
+
+abbrev pub text : List ℕ → List ℕ → json.Members → json.Members
+text name s ms = told name (string s) ms
+
+abbrev pub weight : ℕ → json.Members
+weight w = json.member (codes "weight") (json.number (weight_text w)) json.no_members
+
+-- the pairs of a location, `TYPE=NAME` each
+abbrev pub pair_word : Pair → List ℕ
+pair_word p = p.kind ++ codes "=" ++ p.name
+
+abbrev pub pair_values : List Pair → List Data
+pair_values at = map (λ p. string (pair_word p)) at
+
+-- one name, as the list that a command asks for
+abbrev pub one_name : List ℕ → Data
+one_name name = list (string name ∷ [])
+
+-- COMMANDS: a device with its weight and its location, an item with its location, two texts, a name with a weight, and a name
+unfoldable pub placing : List ℕ → ℕ → ℕ → List Pair → json.Json
+placing prefix device w at =
+    json.object (told (codes "args") (list (pair_values at)) (told (codes "id") (natural device) (text (codes "prefix") prefix (weight w))))
+
+unfoldable pub moving : List ℕ → List Pair → json.Json
+moving name at =
+    json.object (told (codes "args") (list (pair_values at)) (text (codes "name") name (text (codes "prefix") (codes "osd crush move") json.no_members)))
+
+unfoldable pub swapping : List ℕ → List ℕ → json.Json
+swapping a b =
+    json.object (text (codes "dest") b (text (codes "prefix") (codes "osd crush swap-bucket") (text (codes "source") a
+    (told (codes "yes_i_really_mean_it") (boolean true) json.no_members))))
+
+unfoldable pub weighing : List ℕ → List ℕ → ℕ → json.Json
+weighing prefix name w = json.object (text (codes "name") name (text (codes "prefix") prefix (weight w)))
+
+unfoldable pub removing : List ℕ → json.Json
+removing name = json.object (text (codes "name") name (text (codes "prefix") (codes "osd crush rm") json.no_members))
+
+unfoldable pub adding : List ℕ → List ℕ → json.Json
+adding name kind =
+    json.object (text (codes "name") name (text (codes "prefix") (codes "osd crush add-bucket") (text (codes "type") kind json.no_members)))
+
+unfoldable pub renaming : List ℕ → List ℕ → json.Json
+renaming from to =
+    json.object (text (codes "dstname") to (text (codes "prefix") (codes "osd crush rename-bucket") (text (codes "srcname") from json.no_members)))
+
+unfoldable pub classing : List ℕ → List ℕ → json.Json
+classing name class =
+    json.object (text (codes "class") class (told (codes "ids") (one_name name) (text (codes "prefix") (codes "osd crush set-device-class") json.no_members)))
+
+unfoldable pub declassing : List ℕ → json.Json
+declassing name = json.object (told (codes "ids") (one_name name) (text (codes "prefix") (codes "osd crush rm-device-class") json.no_members))
+
+-- AN EDIT as the command of it
+abbrev pub command : Edit → json.Json
+command (Insert device name w at) = placing (codes "osd crush add") device w at
+command (CreateOrMove device name w at) = placing (codes "osd crush create-or-move") device w at
+command (Update device name w at) = placing (codes "osd crush set") device w at
+command (Move name at) = moving name at
+command (Swap a b) = swapping a b
+command (Reweight name w) = weighing (codes "osd crush reweight") name w
+command (ReweightSubtree name w) = weighing (codes "osd crush reweight-subtree") name w
+command (Remove name) = removing name
+command (AddBucket name kind) = adding name kind
+command (Rename from to) = renaming from to
+command (SetClass name class) = classing name class
+command (RemoveClass name) = declassing name
+
+-- values as the items of an array
+abbrev pub all_of : List json.Json → json.Items
+all_of [] = json.no_items
+all_of (j ∷ js) = json.item j (all_of js)
+
+-- LINES of a text, without their line feeds; what stands behind the last line feed is one too, where there is anything
+abbrev pub last_line : List ℕ → List (List ℕ)
+last_line [] = []
+last_line (b ∷ line) = (b ∷ line) ∷ []
+
+unfoldable pub lines_behind : List ℕ → List ℕ → List (List ℕ)
+lines_behind line [] = last_line line
+lines_behind line (b ∷ bs) = if b == 10 then line ∷ lines_behind [] bs else lines_behind (line ++ b ∷ []) bs
+
+unfoldable pub lines : List ℕ → List (List ℕ)
+lines bytes = lines_behind [] bytes
+
+-- a line as text: what is no UTF-8 of it as U+FFFD
+abbrev pub line_value : List ℕ → Data
+line_value line = string (utf8_lossy line)
+
+unfoldable pub stays_document : List ℕ → Data
+stays_document rest = list (map line_value (lines rest))
+
+-- members with the history before them, where there is one
+abbrev pub behind_history : Option Data → json.Members → json.Members
+behind_history None ms = ms
+behind_history (Some h) ms = told (codes "history") h ms
+
+-- PLAN DOCUMENT: the commands of edits, and what stays, with the history before them
+unfoldable pub plan_document : Option Data → List Edit → List ℕ → json.Json
+plan_document history edits rest =
+    json.object (behind_history history (json.member (codes "plan") (json.array (all_of (map command edits)))
+    (told (codes "stays") (stays_document rest) json.no_members)))
+
+-- the bytes: the value without a space, and a line feed
+unfoldable pub plan_document_text : json.Json → List ℕ
+plan_document_text j = print (json_tokens j) ++ codes "\n"

@@ -1,0 +1,71 @@
+//! What stays of a plan, line by line.
+
+ghost use Rattle.std.specs.Prelude.{◌≡◌, ℕ, List, ◌∷◌, ◌++◌, OnOk, map as each};
+ghost use Rattle.crush_json.specs.PlanDocument.{last_line, line_value, lines, lines_behind, stays_document};
+ghost use Rattle.crush_json.specs.Tokens.{tokens_of, tokens_of_all};
+
+use crate::document::Document;
+use std::alloc::{AllocError, Global};
+
+/// The lines of a text, each a text of its own. An `Err` says that memory ran out.
+pub(crate) fn push_stays(alloc: Global, rest: &[u8], out: &mut Document) -> Result<(), AllocError>
+    ensures { OnOk result (out.new ≡ out.old ++ tokens_of (stays_document rest.now)) }
+{
+    out.begin_array()?;
+    push_lines(alloc, rest, out)?;
+    out.end_array()
+}
+
+/// The same, without brackets.
+fn push_lines(alloc: Global, rest: &[u8], out: &mut Document) -> Result<(), AllocError>
+    ensures { OnOk result (out.new ≡ out.old
+        ++ tokens_of_all (each line_value (lines rest.now))) }
+{
+    let mut line = Vec::new(alloc);
+    for byte in rest {
+        push_byte(alloc, *byte, &mut line, out)?;
+    }
+    push_last(alloc, line.as_slice(), out)
+}
+
+/// A byte more of a line, which a line feed ends.
+fn push_byte(
+    alloc: Global,
+    byte: u8,
+    line: &mut Vec<u8>,
+    out: &mut Document,
+) -> Result<(), AllocError>
+    ensures { OnOk result ((bytes : List ℕ) → out.new
+        ++ tokens_of_all (each line_value (lines_behind line.new.items bytes))
+        ≡ out.old ++ tokens_of_all (each line_value (lines_behind line.old.items
+        (byte ∷ bytes)))) }
+{
+    if byte == b'\n' {
+        push_line(alloc, line.as_slice(), out)?;
+        line.clear();
+        Ok(())
+    } else {
+        line.push(byte)?;
+        Ok(())
+    }
+}
+
+/// What stands behind the last line feed, if anything does.
+fn push_last(alloc: Global, line: &[u8], out: &mut Document) -> Result<(), AllocError>
+    ensures { OnOk result (out.new ≡ out.old
+        ++ tokens_of_all (each line_value (last_line line.now))) }
+{
+    if line.is_empty() {
+        Ok(())
+    } else {
+        push_line(alloc, line, out)
+    }
+}
+
+/// A line.
+fn push_line(alloc: Global, line: &[u8], out: &mut Document) -> Result<(), AllocError>
+    ensures { OnOk result (out.new ≡ out.old ++ tokens_of (line_value line.now)) }
+{
+    let text = String::from_utf8_lossy(alloc, line)?;
+    out.push_text(text.as_str())
+}

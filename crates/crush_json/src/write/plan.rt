@@ -1,0 +1,107 @@
+//! The document of a plan, written.
+
+ghost use Rattle.std.specs.Prelude.{◌≡◌, ◌++◌, Err, IfOk, IfSome, OnOk, flat_map, map as each};
+ghost use Rattle.std.specs.Io.KnownBytes.{Keeps};
+ghost use Rattle.std.specs.Option.{option_map};
+ghost use Rattle.crush_bytes.specs.Writes.{Writes};
+ghost use Rattle.json.specs.Json.{array};
+ghost use Rattle.json.specs.Tree.{json_tokens};
+ghost use Rattle.crush_json.specs.PlanDocument.{all_of, command, plan_document, plan_document_text};
+ghost use Rattle.crush_json.specs.Seen.{IsHistory, history_data};
+
+use crate::commands::push_command;
+use crate::document::Document;
+use crate::history::History;
+use crate::stays::push_stays;
+use crate::write::{bounded, line_of, open};
+use crush_bytes::{WriteFault, put};
+use crush_map::Edit;
+use std::alloc::{AllocError, Global};
+use std::io::Write;
+
+/// How many bytes tell of a command, as a rule of thumb.
+const USUAL_COMMAND: usize = 96;
+
+/// Writes `{"history":H,"plan":[..],"stays":[..]}` and a line feed, or without a history the same
+/// without that member: each edit of a plan as the command that a monitor takes, with the keys of
+/// Ceph's own table of commands, and each line of what stays, the rest of the plan, as a text.
+///
+/// A weight is a decimal of five places here, as `ceph` itself is given one; every other number is
+/// whole.
+///
+/// The text is laid out in the given memory first. With [`WriteFault::OutOfMemory`] nothing is
+/// written, with [`WriteFault::Write`] a prefix of the text.
+pub fn write_plan_document<W: Write>(
+    alloc: Global,
+    edits: &[Edit],
+    rest: &[u8],
+    history: Option<History<'_>>,
+    out: &mut W,
+) -> Result<(), WriteFault>
+    requires { IfSome history IsHistory }
+    ensures writes { Writes result (W.contents out.old) (W.contents out.new) (plan_document_text
+        (plan_document (option_map history_data history.entry) edits.now rest.now)) }
+    ensures none { result ≡ Err WriteFault.OutOfMemory
+        → Keeps (W.contents out.old) (W.contents out.new) }
+{
+    let Ok(text) = plan_text(alloc, edits, rest, history) else {
+        return Err(WriteFault::OutOfMemory);
+    };
+    put(out, text.as_slice())
+}
+
+/// The whole text.
+fn plan_text(
+    alloc: Global,
+    edits: &[Edit],
+    rest: &[u8],
+    history: Option<History<'_>>,
+) -> Result<Vec<u8>, AllocError>
+    requires { IfSome history IsHistory }
+    ensures { IfOk result (λ text. text.items ≡ plan_document_text
+        (plan_document (option_map history_data history.entry) edits.now rest.now)) }
+{
+    let mut document = Document::new(alloc, bounded(edits.len()) * USUAL_COMMAND)?;
+    push_document(alloc, edits, rest, history, &mut document)?;
+    line_of(document)
+}
+
+/// A plan and its history.
+fn push_document(
+    alloc: Global,
+    edits: &[Edit],
+    rest: &[u8],
+    history: Option<History<'_>>,
+    out: &mut Document,
+) -> Result<(), AllocError>
+    requires { IfSome history IsHistory }
+    ensures { OnOk result (out.new ≡ out.old ++ json_tokens
+        (plan_document (option_map history_data history.entry) edits.now rest.now)) }
+{
+    open(alloc, history, "plan", out)?;
+    push_commands(alloc, edits, out)?;
+    out.key("stays")?;
+    push_stays(alloc, rest, out)?;
+    out.end_object()
+}
+
+/// The commands of edits, in their order.
+fn push_commands(alloc: Global, edits: &[Edit], out: &mut Document) -> Result<(), AllocError>
+    ensures { OnOk result (out.new ≡ out.old
+        ++ json_tokens (array (all_of (each command edits.now)))) }
+{
+    out.begin_array()?;
+    push_each(alloc, edits, out)?;
+    out.end_array()
+}
+
+/// The same, without brackets.
+fn push_each(alloc: Global, edits: &[Edit], out: &mut Document) -> Result<(), AllocError>
+    ensures { OnOk result (out.new ≡ out.old
+        ++ flat_map (λ e. json_tokens (command e)) edits.now) }
+{
+    for edit in edits {
+        push_command(alloc, edit, out)?;
+    }
+    Ok(())
+}

@@ -1,0 +1,97 @@
+//! The document of what has changed, written.
+
+ghost use Rattle.std.specs.Prelude.{◌≡◌, ◌++◌, List, Err, IfOk, IfSome, OnOk};
+ghost use Rattle.std.specs.Io.KnownBytes.{Keeps};
+ghost use Rattle.std.specs.Option.{option_map};
+ghost use Rattle.crush_bytes.specs.Writes.{Writes};
+ghost use Rattle.crush_table.specs.Stands.{Stands};
+ghost use Rattle.crush_table.specs.Table.{Row};
+ghost use Rattle.crush_since.specs.Since.{told};
+ghost use Rattle.crush_json.specs.Document.{document_text};
+ghost use Rattle.crush_json.specs.Seen.{IsHistory, history_data};
+ghost use Rattle.crush_json.specs.SinceDocument.{document_of_since, since_document};
+ghost use Rattle.crush_json.specs.Tokens.{tokens_of};
+
+use crate::document::Document;
+use crate::history::History;
+use crate::since::push_since;
+use crate::write::{line_of, open};
+use crush_bytes::{WriteFault, put};
+use crush_map::CrushMap;
+use crush_units::ItemId;
+use std::alloc::{AllocError, Allocator, Global};
+use std::io::Write;
+
+/// For how many bytes memory is asked at first.
+const USUAL_CHANGES: usize = 4096;
+
+/// Writes `{"history":H,"since":S}` and a line feed, or without a history `{"since":S}`: what has
+/// changed from the old map to the new, an object for each item of
+/// `crush_since::told_ids` with what it was and what it is; how many items differ in which
+/// way; whether rules, tunables and types differ; and what all placed devices weighed, and weigh. Of
+/// what stands below an item or stood below it, it tells the items alone.
+///
+/// Weights are in units, of which 65536 are 1.0; a bucket's is its sum.
+///
+/// The text is laid out in the given memory first. With [`WriteFault::OutOfMemory`] nothing is
+/// written, with [`WriteFault::Write`] a prefix of the text.
+pub fn write_since_document<A: Allocator, B: Allocator, W: Write>(
+    alloc: Global,
+    old: &CrushMap<A>,
+    new: &CrushMap<B>,
+    under: Option<ItemId>,
+    history: Option<History<'_>>,
+    out: &mut W,
+) -> Result<(), WriteFault>
+    requires { IfSome history IsHistory }
+    ensures writes { (t u : List Row) → Stands old.now.forest t → Stands new.now.forest u
+        → Writes result (W.contents out.old) (W.contents out.new) (document_text
+        (document_of_since (option_map history_data history.entry)
+        (since_document under (told old.now.setting t) (told new.now.setting u)))) }
+    ensures none { result ≡ Err WriteFault.OutOfMemory
+        → Keeps (W.contents out.old) (W.contents out.new) }
+{
+    let Ok(text) = since_text(alloc, old, new, under, history) else {
+        return Err(WriteFault::OutOfMemory);
+    };
+    put(out, text.as_slice())
+}
+
+/// The whole text.
+fn since_text<A: Allocator, B: Allocator>(
+    alloc: Global,
+    old: &CrushMap<A>,
+    new: &CrushMap<B>,
+    under: Option<ItemId>,
+    history: Option<History<'_>>,
+) -> Result<Vec<u8>, AllocError>
+    requires { IfSome history IsHistory }
+    ensures { IfOk result (λ text. (t u : List Row) → Stands old.now.forest t
+        → Stands new.now.forest u → text.items
+        ≡ document_text (document_of_since (option_map history_data history.entry)
+        (since_document under (told old.now.setting t) (told new.now.setting u)))) }
+{
+    let mut document = Document::new(alloc, USUAL_CHANGES)?;
+    push_document(alloc, old, new, under, history, &mut document)?;
+    line_of(document)
+}
+
+/// What has changed and its history.
+fn push_document<A: Allocator, B: Allocator>(
+    alloc: Global,
+    old: &CrushMap<A>,
+    new: &CrushMap<B>,
+    under: Option<ItemId>,
+    history: Option<History<'_>>,
+    out: &mut Document,
+) -> Result<(), AllocError>
+    requires { IfSome history IsHistory }
+    ensures { (t u : List Row) → Stands old.now.forest t → Stands new.now.forest u
+        → OnOk result (out.new ≡ out.old
+        ++ tokens_of (document_of_since (option_map history_data history.entry)
+        (since_document under (told old.now.setting t) (told new.now.setting u)))) }
+{
+    open(alloc, history, "since", out)?;
+    push_since(alloc, old, new, under, out)?;
+    out.end_object()
+}

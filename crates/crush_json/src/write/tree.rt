@@ -1,0 +1,108 @@
+//! The document of a tree, written.
+
+ghost use Rattle.std.specs.Prelude.{◌≡◌, ◌++◌, List, Err, IfOk, IfSome, OnOk, map as each};
+ghost use Rattle.std.specs.Io.KnownBytes.{Keeps};
+ghost use Rattle.std.specs.Option.{option_map};
+ghost use Rattle.crush_bytes.specs.Writes.{Writes};
+ghost use Rattle.crush_table.specs.Stands.{Stands};
+ghost use Rattle.crush_table.specs.Table.{Row};
+ghost use Rattle.crush_view.specs.SeenStep.{step_data};
+ghost use Rattle.crush_view.specs.TreePart.{part_steps};
+ghost use Rattle.crush_json.specs.Document.{document_of_tree, document_text};
+ghost use Rattle.crush_json.specs.Seen.{IsHistory, history_data};
+ghost use Rattle.crush_json.specs.Tokens.{tokens_of};
+ghost use Rattle.crush_json.specs.TreeDocument.{tree_document};
+
+use crate::document::Document;
+use crate::history::History;
+use crate::tree::push_tree;
+use crate::write::{bounded, line_of, open};
+use crush_bytes::{WriteFault, put};
+use crush_map::CrushMap;
+use crush_view::{Part, Step, walk_part};
+use std::alloc::{AllocError, Allocator, Global};
+use std::io::Write;
+
+/// How many bytes tell of an item, as a rule of thumb.
+const USUAL_NODE: usize = 96;
+
+/// Writes `{"history":H,"tree":T}` and a line feed, or without a history `{"tree":T}`: a node for
+/// each item of the part in the order of [`walk_part`], with the keys that `ceph osd tree` has, and
+/// in a list of their own the devices that no bucket holds.
+///
+/// Weights are in units, of which 65536 are 1.0; a bucket's is its sum. A bucket tells the ids of all its
+/// items, also of those that are no part.
+///
+/// The text is laid out in the given memory first. With [`WriteFault::OutOfMemory`] nothing is
+/// written, with [`WriteFault::Write`] a prefix of the text.
+pub fn write_tree_document<A: Allocator, W: Write>(
+    alloc: Global,
+    map: &CrushMap<A>,
+    part: Part,
+    history: Option<History<'_>>,
+    out: &mut W,
+) -> Result<(), WriteFault>
+    requires { IfSome history IsHistory }
+    ensures writes { (t : List Row) → Stands map.now.forest t
+        → Writes result (W.contents out.old) (W.contents out.new) (document_text
+        (document_of_tree (option_map history_data history.entry)
+        (tree_document map.now.setting t (part_steps part t)))) }
+    ensures none { result ≡ Err WriteFault.OutOfMemory
+        → Keeps (W.contents out.old) (W.contents out.new) }
+{
+    let Ok(text) = tree_text(alloc, map, part, history) else {
+        return Err(WriteFault::OutOfMemory);
+    };
+    put(out, text.as_slice())
+}
+
+/// The whole text.
+fn tree_text<A: Allocator>(
+    alloc: Global,
+    map: &CrushMap<A>,
+    part: Part,
+    history: Option<History<'_>>,
+) -> Result<Vec<u8>, AllocError>
+    requires { IfSome history IsHistory }
+    ensures { IfOk result (λ text. (t : List Row) → Stands map.now.forest t → text.items
+        ≡ document_text (document_of_tree (option_map history_data history.entry)
+        (tree_document map.now.setting t (part_steps part t)))) }
+{
+    let steps = walk_part(alloc, map, part)?;
+    steps_text(alloc, map, steps.as_slice(), history)
+}
+
+/// The text of a tree of these steps.
+fn steps_text<A: Allocator>(
+    alloc: Global,
+    map: &CrushMap<A>,
+    steps: &[Step<'_, A>],
+    history: Option<History<'_>>,
+) -> Result<Vec<u8>, AllocError>
+    requires { IfSome history IsHistory }
+    ensures { IfOk result (λ text. (t : List Row) → Stands map.now.forest t → text.items
+        ≡ document_text (document_of_tree (option_map history_data history.entry)
+        (tree_document map.now.setting t (each step_data steps.now)))) }
+{
+    let mut document = Document::new(alloc, bounded(steps.len()) * USUAL_NODE)?;
+    push_document(alloc, map, steps, history, &mut document)?;
+    line_of(document)
+}
+
+/// A tree of these steps and its history.
+fn push_document<A: Allocator>(
+    alloc: Global,
+    map: &CrushMap<A>,
+    steps: &[Step<'_, A>],
+    history: Option<History<'_>>,
+    out: &mut Document,
+) -> Result<(), AllocError>
+    requires { IfSome history IsHistory }
+    ensures { (t : List Row) → Stands map.now.forest t → OnOk result (out.new ≡ out.old
+        ++ tokens_of (document_of_tree (option_map history_data history.entry)
+        (tree_document map.now.setting t (each step_data steps.now)))) }
+{
+    open(alloc, history, "tree", out)?;
+    push_tree(map, steps, out)?;
+    out.end_object()
+}

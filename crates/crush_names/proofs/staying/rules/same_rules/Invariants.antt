@@ -1,0 +1,12 @@
+use Rattle.std.proofs.Common.{◌≡◌, true, take, List}
+use Rattle.crush_edits.specs.SettingSeen.{rule_data}
+use Rattle.crush_table.specs.Stands.{Stands}
+use Rattle.crush_table.specs.Table.{Row}
+use Rattle.crush_since.proofs.PairLaws.{same_seen}
+use Rattle.crush_names.specs.NamedRules.{named_rule}
+use Rattle.crush_names.proofs.staying.rules.same_rules.Given as goal
+
+-- all pairs so far are the same
+abbrev pub invariant-loop-index : goal.invariant-loop-index
+invariant-loop-index g l =
+    (t u : List Row) → Stands l.map.forest t → Stands l.wanted.forest u → same_seen (named_rule t u) rule_data rule_data (take l.index l.here) (take l.index l.there) ≡ true

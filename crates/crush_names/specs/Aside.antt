@@ -1,0 +1,46 @@
+-- What differs and is no difference, since no command sets it: the ids of buckets that both maps have.
+use Rattle.std.specs.Prelude.{◌≡◌, ℕ, ◌==◌, Bool, not, false, ◌&&◌, List, [], ◌++◌, Option, None, Some, if◌then◌else◌, codes, decimal}
+use Rattle.std.specs.Cmp.Lexicographic.{pointwise}
+use Rattle.std.specs.List.{count_by}
+use Rattle.crush_units.specs.Id.{same_id}
+use Rattle.crush_table.specs.Table.{Row}
+use Rattle.crush_since.specs.ItemData.{ItemData, own_class_ids}
+use Rattle.crush_since.specs.ItemParts.{same_class_id}
+use Rattle.crush_view.specs.Tree.{StepData, tree_rows}
+use Rattle.crush_names.specs.declared.aside.Counts.{Counts}
+use Rattle.crush_names.specs.declared.named.Devices.TheVariants.{ById}
+use Rattle.crush_names.specs.Named.{counterpart}
+use Rattle.crush_names.specs.Pairs.{is_of_part, step_item}
+
+-- TESTS of a wanted item and the one of its name: another id, other class ids
+abbrev pub has_other_id : Option ItemData → ItemData → Bool
+has_other_id None y = false
+has_other_id (Some x) y = not (same_id x.view.id y.view.id)
+
+abbrev pub has_other_class_ids : List Row → List Row → Option ItemData → ItemData → Bool
+has_other_class_ids t u None y = false
+has_other_class_ids t u (Some x) y = not (pointwise same_class_id (own_class_ids t x.view.id) (own_class_ids u y.view.id))
+
+abbrev pub other_id : List Row → List Row → StepData → Bool
+other_id t u step = has_other_id (counterpart ById t (step_item u step)) (step_item u step)
+
+abbrev pub other_class_ids : List Row → List Row → StepData → Bool
+other_class_ids t u step = has_other_class_ids t u (counterpart ById t (step_item u step)) (step_item u step)
+
+-- how many buckets of the wanted table meet them, of those that stand in the part in either
+abbrev pub is_aside : (List Row → List Row → StepData → Bool) → Option (List ℕ) → List Row → List Row → StepData → Bool
+is_aside test under t u step = test t u step && is_of_part ById under t u (step_item u step)
+
+pub record CountsAsideOf (under : Option (List ℕ)) (t u : List Row) (counts : Counts) : Type 0 where
+  pub ids : counts.ids ≡ count_by (is_aside other_id under t u) (tree_rows u)
+  pub class_ids : counts.class_ids ≡ count_by (is_aside other_class_ids under t u) (tree_rows u)
+
+abbrev pub CountsAside : List Row → List Row → Counts → Type 0
+CountsAside t u counts = CountsAsideOf None t u counts
+
+-- ASIDE: a line for either, where any do
+abbrev pub aside_line : List ℕ → ℕ → List ℕ
+aside_line what n = if n == 0 then [] else what ++ decimal n ++ codes " buckets differ\n"
+
+unfoldable pub aside_text : Counts → List ℕ
+aside_text counts = aside_line (codes "ids of ") counts.ids ++ aside_line (codes "class ids of ") counts.class_ids

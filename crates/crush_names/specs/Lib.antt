@@ -1,0 +1,10 @@
+pub mod Alike
+pub mod Aside
+pub mod Counted
+pub mod Named
+pub mod NamedRules
+pub mod PairLines
+pub mod Pairs
+pub mod SinceLaws
+pub mod SinceNames
+pub mod Stays

@@ -1,0 +1,42 @@
+-- Items of two maps that are told apart by their names.
+use Rattle.std.specs.Prelude.{◌≡◌, ℕ, ◌==◌, Bool, true, false, ◌||◌, List, Option, None, Some, if◌then◌else◌, option_and_then}
+use Rattle.std.specs.Option.{option_map_or}
+use Rattle.crush_units.specs.declared.id.ItemId.{ItemId}
+use Rattle.crush_units.specs.declared.id.ItemId.TheVariants.{Device, Bucket}
+use Rattle.crush_units.specs.Id.{same_id}
+use Rattle.crush_table.specs.Table.{Row, id_named, is_below, name_of}
+use Rattle.crush_since.specs.ItemData.{ItemData, item_of}
+use Rattle.crush_names.specs.declared.named.Devices.{Devices}
+use Rattle.crush_names.specs.declared.named.Devices.TheVariants.{ById, ByName}
+
+-- whether two items of one name are one: two buckets, or two devices, of one id if they are told apart so
+abbrev pub is_one_device : Devices → ℕ → ℕ → Bool
+is_one_device ById d e = d == e
+is_one_device ByName d e = true
+
+abbrev pub are_one : Devices → ItemId → ItemId → Bool
+are_one by (Device d) (Device e) = is_one_device by d e
+are_one by (Device d) (Bucket b) = false
+are_one by (Bucket b) (Device d) = false
+are_one by (Bucket b) (Bucket c) = true
+
+abbrev pub if_one : Devices → List Row → ItemId → ItemId → Option ItemData
+if_one by t i j = if are_one by i j then item_of t j else None
+
+-- COUNTERPART: of an item of another map the one of its name here, if the two are one
+unfoldable pub counterpart : Devices → List Row → ItemData → Option ItemData
+counterpart by t x = option_and_then (if_one by t x.view.id) (id_named t x.view.name)
+
+-- an item that was looked at has the name of the bucket that holds it
+abbrev pub HasItsHolder : List Row → Option ItemData → Type 0
+HasItsHolder t None = Unit {0}
+HasItsHolder t (Some x) = x.holder ≡ option_and_then (λ p. name_of t (Bucket p)) x.view.parent
+
+-- PART of a map: the item of a name and what is below it, or without a name everything
+abbrev pub is_at : List Row → ItemId → ItemId → Bool
+is_at t (Device d) i = same_id (Device d) i
+is_at t (Bucket b) i = same_id (Bucket b) i || is_below t b i
+
+abbrev pub is_in : Option (List ℕ) → List Row → ItemId → Bool
+is_in None t i = true
+is_in (Some n) t i = option_map_or (λ j. is_at t j i) (id_named t n) false

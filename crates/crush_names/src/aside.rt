@@ -1,0 +1,220 @@
+//! What differs and is no difference: ids, which no command sets.
+
+ghost use Rattle.std.specs.Prelude.{◌≡◌, ◌+◌, ◌^◌, ◌<◌, ◌≤◌, ◌++◌, List, OnOk, IfOk};
+ghost use Rattle.std.specs.List.{count_by};
+ghost use Rattle.crush_table.specs.Count.{one_if};
+ghost use Rattle.crush_table.specs.Stands.{Stands};
+ghost use Rattle.crush_table.specs.Table.{Row};
+ghost use Rattle.crush_view.specs.SeenStep.{step_data};
+ghost use Rattle.crush_since.specs.SeenItem.{seen_data};
+ghost use Rattle.crush_names.specs.Aside.{CountsAsideOf, aside_line, aside_text, has_other_class_ids, has_other_id, is_aside, other_class_ids, other_id};
+ghost use Rattle.crush_names.specs.Named.{counterpart};
+ghost use Rattle.crush_names.specs.Pairs.{is_of_part, step_item};
+ghost use Rattle.crush_names.specs.declared.named.Devices.TheVariants.{ById};
+ghost use Rattle.std.specs.Option.{option_map};
+
+use crate::named::{Devices, counterpart};
+use crate::pairs::{Comparison, Telling, is_of_part};
+use crush_bytes::put_all;
+use crush_map::CrushMap;
+use crush_since::{Seen, class_ids_of, same_class_ids, step_seen};
+use crush_tree::Node;
+use crush_view::{Step, walk};
+use itoa::Buffer;
+use std::alloc::{AllocError, Allocator, Global};
+
+/// How many buckets that both maps have differ in what no command sets.
+#[derive(Clone, Copy, Debug, PartialEq, Eq)]
+pub struct Counts {
+    /// In their ids.
+    pub ids: usize,
+    /// In their class ids.
+    pub class_ids: usize,
+}
+
+/// Counts the buckets that both maps have, by their names, whose ids or class ids differ: with a name
+/// those that stand at or below the one of this name in either map. An `Err` says that memory ran out.
+pub fn count_aside<A: Allocator, B: Allocator>(
+    alloc: Global,
+    under: Option<&str>,
+    map: &CrushMap<A>,
+    wanted: &CrushMap<B>,
+) -> Result<Counts, AllocError>
+    ensures { IfOk result (λ counts. (t u : List Row)
+        → Stands map.now.forest t → Stands wanted.now.forest u
+        → CountsAsideOf (option_map (λ n. n.now) under.entry) t u counts) }
+{
+    let maps = Comparison {
+        telling: Telling::Stays,
+        devices: Devices::ById,
+        under,
+        old: map,
+        new: wanted,
+    };
+    let steps = walk(alloc, wanted)?;
+    Ok(Counts {
+        ids: count_ids(&maps, steps.as_slice()),
+        class_ids: count_class_ids(&maps, steps.as_slice()),
+    })
+}
+
+/// A count with one more, where the test says so.
+fn more(count: usize, test: bool) -> usize
+    requires { count + 1 < 2 ^ 64 }
+    ensures sum { result ≡ count + one_if test }
+    ensures most { result ≤ count + 1 }
+{
+    if test { count + 1 } else { count }
+}
+
+/// How many of these items have another id in the map.
+fn count_ids<A: Allocator, B: Allocator>(
+    maps: &Comparison<'_, A, B>,
+    steps: &[Step<'_, B>],
+) -> usize
+    ensures { (t u : List Row) → Stands maps.now.old.now.forest t
+        → Stands maps.now.new.now.forest u
+        → result ≡ count_by (λ s. is_aside other_id (option_map (λ n. n.now) maps.now.under)
+        t u (step_data s)) steps.now }
+{
+    let mut count: usize = 0;
+    for step in steps {
+        count = more(count, has_aside_id(maps, step));
+    }
+    count
+}
+
+/// How many of these items have other class ids in the map.
+fn count_class_ids<A: Allocator, B: Allocator>(
+    maps: &Comparison<'_, A, B>,
+    steps: &[Step<'_, B>],
+) -> usize
+    ensures { (t u : List Row) → Stands maps.now.old.now.forest t
+        → Stands maps.now.new.now.forest u
+        → result ≡ count_by (λ s. is_aside other_class_ids
+        (option_map (λ n. n.now) maps.now.under) t u (step_data s)) steps.now }
+{
+    let mut count: usize = 0;
+    for step in steps {
+        count = more(count, has_aside_class_ids(maps, step));
+    }
+    count
+}
+
+/// Whether the map has an item of this one's name with another id, and either stands in the part.
+fn has_aside_id<A: Allocator, B: Allocator>(maps: &Comparison<'_, A, B>, step: &Step<'_, B>) -> bool
+    ensures { (t u : List Row) → Stands maps.now.old.now.forest t
+        → Stands maps.now.new.now.forest u → result
+        ≡ is_aside other_id (option_map (λ n. n.now) maps.now.under) t u (step_data step.now) }
+{
+    has_other_id(maps.old, maps.new, step) && stands_in_part(maps, step)
+}
+
+/// Whether the map has an item of this one's name with other class ids, and either stands in the part.
+fn has_aside_class_ids<A: Allocator, B: Allocator>(
+    maps: &Comparison<'_, A, B>,
+    step: &Step<'_, B>,
+) -> bool
+    ensures { (t u : List Row) → Stands maps.now.old.now.forest t
+        → Stands maps.now.new.now.forest u → result
+        ≡ is_aside other_class_ids (option_map (λ n. n.now) maps.now.under) t u (step_data step.now) }
+{
+    has_other_class_ids(maps.old, maps.new, step) && stands_in_part(maps, step)
+}
+
+/// Whether an item of the wanted map stands in the part in either map.
+fn stands_in_part<A: Allocator, B: Allocator>(
+    maps: &Comparison<'_, A, B>,
+    step: &Step<'_, B>,
+) -> bool
+    ensures { (t u : List Row) → Stands maps.now.old.now.forest t
+        → Stands maps.now.new.now.forest u → result
+        ≡ is_of_part ById (option_map (λ n. n.now) maps.now.under) t u
+        (step_item u (step_data step.now)) }
+{
+    let there = step_seen(maps.new, step);
+    let here = counterpart(Devices::ById, maps.old, &there);
+    is_of_part(maps, &here, &there)
+}
+
+/// Whether the map has an item of this one's name with another id. Two devices are one by their ids,
+/// so that no device has.
+fn has_other_id<A: Allocator, B: Allocator>(
+    map: &CrushMap<A>,
+    wanted: &CrushMap<B>,
+    step: &Step<'_, B>,
+) -> bool
+    ensures { (t u : List Row) → Stands map.now.forest t → Stands wanted.now.forest u
+        → result ≡ other_id t u (step_data step.now) }
+{
+    match step.node {
+        Node::Device(_) => false,
+        Node::Bucket(_) => has_another_id(map, &step_seen(wanted, step)),
+    }
+}
+
+/// Whether the map has an item of this one's name with another id.
+fn has_another_id<A: Allocator>(map: &CrushMap<A>, there: &Seen<'_>) -> bool
+    ensures { (t : List Row) → Stands map.now.forest t
+        → result ≡ has_other_id (counterpart ById t (seen_data there.now)) (seen_data there.now) }
+{
+    match counterpart(Devices::ById, map, there) {
+        Some(here) => !here.view.id.is_same(there.view.id),
+        None => false,
+    }
+}
+
+/// Whether the map has an item of this one's name with other class ids, which no device has.
+fn has_other_class_ids<A: Allocator, B: Allocator>(
+    map: &CrushMap<A>,
+    wanted: &CrushMap<B>,
+    step: &Step<'_, B>,
+) -> bool
+    ensures { (t u : List Row) → Stands map.now.forest t → Stands wanted.now.forest u
+        → result ≡ other_class_ids t u (step_data step.now) }
+{
+    match step.node {
+        Node::Device(_) => false,
+        Node::Bucket(_) => has_another_class_id(map, wanted, &step_seen(wanted, step)),
+    }
+}
+
+/// Whether the map has an item of this one's name with other class ids.
+fn has_another_class_id<A: Allocator, B: Allocator>(
+    map: &CrushMap<A>,
+    wanted: &CrushMap<B>,
+    there: &Seen<'_>,
+) -> bool
+    ensures { (t u : List Row) → Stands map.now.forest t → Stands wanted.now.forest u
+        → result ≡ has_other_class_ids t u (counterpart ById t (seen_data there.now))
+        (seen_data there.now) }
+{
+    match counterpart(Devices::ById, map, there) {
+        Some(here) => !same_class_ids(
+            class_ids_of(map, here.view.id),
+            class_ids_of(wanted, there.view.id),
+        ),
+        None => false,
+    }
+}
+
+/// The lines of these counts.
+#[tactic(auto, unfolding(crate::specs::Aside::aside_text))]
+pub fn push_aside(counts: Counts, lines: &mut Vec<u8>) -> Result<(), AllocError>
+    ensures { OnOk result (lines.new.items ≡ lines.old.items ++ aside_text counts) }
+{
+    push_count(b"ids of ".as_slice(), counts.ids, lines)?;
+    push_count(b"class ids of ".as_slice(), counts.class_ids, lines)
+}
+
+/// A line, where there are any.
+fn push_count(what: &[u8], count: usize, lines: &mut Vec<u8>) -> Result<(), AllocError>
+    ensures { OnOk result (lines.new.items ≡ lines.old.items ++ aside_line what.now count) }
+{
+    if count == 0 {
+        return Ok(());
+    }
+    let mut buffer = Buffer::new();
+    let number = buffer.format(count).as_bytes();
+    put_all(lines, &[what, number, b" buckets differ\n".as_slice()]).map_err(|_| AllocError)
+}

@@ -1,0 +1,260 @@
+//! What two maps have of each name, and what is told of it.
+
+ghost use Rattle.std.specs.Prelude.{◌≡◌, ◌||◌, [], ◌++◌, List, None, OnOk, flat_map, if◌then◌else◌};
+ghost use Rattle.std.specs.Option.{option_map};
+ghost use Rattle.crush_table.specs.Stands.{Stands};
+ghost use Rattle.crush_table.specs.Table.{Row};
+ghost use Rattle.crush_since.specs.SeenItem.{seen_data};
+ghost use Rattle.crush_view.specs.SeenStep.{step_data};
+ghost use Rattle.crush_names.specs.Named.{is_in};
+ghost use Rattle.crush_names.specs.PairLines.{pair_line};
+ghost use Rattle.crush_names.specs.Pairs.{is_found_in, is_gone, new_pair, new_pairs, old_pair, old_pairs, pairs, step_item};
+ghost use Rattle.crush_names.specs.Stays.{pair_name};
+
+use crate::named::{Devices, counterpart_next, has_counterpart, is_in, seen_next};
+use crate::since::parts::push_changed_pair;
+use crate::staying::push_stay_pair;
+use crush_map::{CrushMap, Setting};
+use crush_since::Seen;
+use crush_view::{Step, walk};
+use std::alloc::{AllocError, Allocator, Global};
+
+/// What is told of two maps.
+#[derive(Clone, Copy, Debug)]
+pub(crate) enum Telling {
+    /// What stays between a map and the one that is wanted.
+    Stays,
+    /// What has changed from one map to another.
+    Changes,
+}
+
+/// Two maps whose items are told apart by their names.
+#[derive(Drop)]
+pub(crate) struct Comparison<'a, A: Allocator, B: Allocator> {
+    /// What is told of them.
+    pub telling: Telling,
+    /// By what two devices of one name are one.
+    pub devices: Devices,
+    /// Of what is told: the items that stand or stood at or below the one of this name. Of
+    /// everything, where there is none.
+    pub under: Option<&'a str>,
+    /// The map before.
+    pub old: &'a CrushMap<A>,
+    /// The map after.
+    pub new: &'a CrushMap<B>,
+}
+
+/// What there is to tell of each name: of each item of the new map, in the order of its tree, with the
+/// one of its name in the old; and behind the last of them, in the order of its own, of those that the
+/// old map alone has.
+pub(crate) fn push_told<A: Allocator, B: Allocator>(
+    alloc: Global,
+    maps: &Comparison<'_, A, B>,
+    lines: &mut Vec<u8>,
+) -> Result<(), AllocError>
+    ensures { (t u : List Row) → Stands maps.now.old.now.forest t
+        → Stands maps.now.new.now.forest u → OnOk result (lines.new.items ≡ lines.old.items
+        ++ flat_map (pair_line maps.now.telling maps.now.old.now.setting maps.now.new.now.setting)
+        (pairs maps.now.devices (option_map (λ n. n.now) maps.now.under) t u)) }
+{
+    push_new(alloc, maps, lines)?;
+    push_old(alloc, maps, lines)
+}
+
+/// What there is to tell of the items of the new map.
+fn push_new<A: Allocator, B: Allocator>(
+    alloc: Global,
+    maps: &Comparison<'_, A, B>,
+    lines: &mut Vec<u8>,
+) -> Result<(), AllocError>
+    ensures { (t u : List Row) → Stands maps.now.old.now.forest t
+        → Stands maps.now.new.now.forest u → OnOk result (lines.new.items ≡ lines.old.items
+        ++ flat_map (pair_line maps.now.telling maps.now.old.now.setting maps.now.new.now.setting)
+        (new_pairs maps.now.devices (option_map (λ n. n.now) maps.now.under) t u)) }
+{
+    let steps = walk(alloc, maps.new)?;
+    push_each_new(alloc, maps, steps.as_slice(), lines)
+}
+
+/// What there is to tell of these items of the new map, each looked up by its name in the old.
+fn push_each_new<'a, A: Allocator, B: Allocator>(
+    alloc: Global,
+    maps: &Comparison<'a, A, B>,
+    steps: &[Step<'a, B>],
+    lines: &mut Vec<u8>,
+) -> Result<(), AllocError>
+    ensures { (t u : List Row) → Stands maps.now.old.now.forest t
+        → Stands maps.now.new.now.forest u → OnOk result (lines.new.items ≡ lines.old.items
+        ++ flat_map (λ s. flat_map
+        (pair_line maps.now.telling maps.now.old.now.setting maps.now.new.now.setting)
+        (new_pair maps.now.devices (option_map (λ n. n.now) maps.now.under) t u
+        (step_item u (step_data s)))) steps.now) }
+{
+    let mut last_before = None;
+    let mut last_after = None;
+    for step in steps {
+        let after = seen_next(maps.new, &last_after, step);
+        let before = counterpart_next(maps.devices, maps.old, &last_before, &after);
+        let is_told = is_of_part(maps, &before, &after);
+        last_before = before;
+        last_after = Some(after);
+        push_if(alloc, is_told, maps, &last_before, &last_after, lines)?;
+    }
+    Ok(())
+}
+
+/// Whether an item of the new map stands in the part, or stood there as this item of the old.
+pub(crate) fn is_of_part<A: Allocator, B: Allocator>(
+    maps: &Comparison<'_, A, B>,
+    before: &Option<Seen<'_>>,
+    after: &Seen<'_>,
+) -> bool
+    ensures { (t u : List Row) → Stands maps.now.old.now.forest t
+        → Stands maps.now.new.now.forest u → result
+        ≡ (is_in (option_map (λ n. n.now) maps.now.under) u (seen_data after.now).view.id
+        || is_found_in (option_map (λ n. n.now) maps.now.under) t
+        (option_map seen_data before.now)) }
+{
+    is_in(maps.new, maps.under, after.view.id) || is_found_in(maps.old, maps.under, before)
+}
+
+/// Whether an item that was found is of the part.
+fn is_found_in<A: Allocator>(
+    map: &CrushMap<A>,
+    under: Option<&str>,
+    item: &Option<Seen<'_>>,
+) -> bool
+    ensures { (t : List Row) → Stands map.now.forest t
+        → result ≡ is_found_in (option_map (λ n. n.now) under.entry) t
+        (option_map seen_data item.now) }
+{
+    match item {
+        Some(item) => is_in(map, under, item.view.id),
+        None => false,
+    }
+}
+
+/// What there is to tell of the items that the old map alone has.
+fn push_old<A: Allocator, B: Allocator>(
+    alloc: Global,
+    maps: &Comparison<'_, A, B>,
+    lines: &mut Vec<u8>,
+) -> Result<(), AllocError>
+    ensures { (t u : List Row) → Stands maps.now.old.now.forest t
+        → Stands maps.now.new.now.forest u → OnOk result (lines.new.items ≡ lines.old.items
+        ++ flat_map (pair_line maps.now.telling maps.now.old.now.setting maps.now.new.now.setting)
+        (old_pairs maps.now.devices (option_map (λ n. n.now) maps.now.under) t u)) }
+{
+    let steps = walk(alloc, maps.old)?;
+    push_each_old(alloc, maps, steps.as_slice(), lines)
+}
+
+/// What there is to tell of those of these items that the old map alone has.
+fn push_each_old<'a, A: Allocator, B: Allocator>(
+    alloc: Global,
+    maps: &Comparison<'a, A, B>,
+    steps: &[Step<'a, A>],
+    lines: &mut Vec<u8>,
+) -> Result<(), AllocError>
+    ensures { (t u : List Row) → Stands maps.now.old.now.forest t
+        → Stands maps.now.new.now.forest u → OnOk result (lines.new.items ≡ lines.old.items
+        ++ flat_map (λ s. flat_map
+        (pair_line maps.now.telling maps.now.old.now.setting maps.now.new.now.setting)
+        (old_pair maps.now.devices (option_map (λ n. n.now) maps.now.under) t u
+        (step_item t (step_data s)))) steps.now) }
+{
+    let mut last = None;
+    for step in steps {
+        let before = seen_next(maps.old, &last, step);
+        let is_told = is_gone(maps, &before);
+        last = Some(before);
+        push_gone_if(alloc, is_told, maps, &last, lines)?;
+    }
+    Ok(())
+}
+
+/// Whether an item of the old map is of the part, and the new map has it no longer.
+fn is_gone<A: Allocator, B: Allocator>(maps: &Comparison<'_, A, B>, item: &Seen<'_>) -> bool
+    ensures { (t u : List Row) → Stands maps.now.old.now.forest t
+        → Stands maps.now.new.now.forest u → result
+        ≡ is_gone maps.now.devices (option_map (λ n. n.now) maps.now.under) t u
+        (seen_data item.now) }
+{
+    is_in(maps.old, maps.under, item.view.id)
+        && !has_counterpart(maps.devices, maps.new, &item.view)
+}
+
+/// What there is to tell of an item that the old map alone has, if it is told.
+fn push_gone_if<A: Allocator, B: Allocator>(
+    alloc: Global,
+    is_told: bool,
+    maps: &Comparison<'_, A, B>,
+    before: &Option<Seen<'_>>,
+    lines: &mut Vec<u8>,
+) -> Result<(), AllocError>
+    ensures { OnOk result (lines.new.items ≡ lines.old.items ++ (if is_told then
+        pair_line maps.now.telling maps.now.old.now.setting maps.now.new.now.setting
+        (record { before = option_map seen_data before.now; after = None }) else [])) }
+{
+    let none = None;
+    push_if(alloc, is_told, maps, before, &none, lines)
+}
+
+/// What there is to tell of an item, if it is told.
+fn push_if<A: Allocator, B: Allocator>(
+    alloc: Global,
+    is_told: bool,
+    maps: &Comparison<'_, A, B>,
+    before: &Option<Seen<'_>>,
+    after: &Option<Seen<'_>>,
+    lines: &mut Vec<u8>,
+) -> Result<(), AllocError>
+    ensures { OnOk result (lines.new.items ≡ lines.old.items ++ (if is_told then
+        pair_line maps.now.telling maps.now.old.now.setting maps.now.new.now.setting
+        (record {
+          before = option_map seen_data before.now;
+          after = option_map seen_data after.now;
+        }) else [])) }
+{
+    if !is_told {
+        return Ok(());
+    }
+    let (old, new) = (maps.old.setting(), maps.new.setting());
+    push_pair(alloc, maps.telling, old, new, before, after, lines)
+}
+
+/// What there is to tell of an item.
+fn push_pair(
+    alloc: Global,
+    telling: Telling,
+    old: &Setting,
+    new: &Setting,
+    before: &Option<Seen<'_>>,
+    after: &Option<Seen<'_>>,
+    lines: &mut Vec<u8>,
+) -> Result<(), AllocError>
+    ensures { OnOk result (lines.new.items ≡ lines.old.items ++ pair_line telling old.now new.now
+        (record {
+          before = option_map seen_data before.now;
+          after = option_map seen_data after.now;
+        })) }
+{
+    match telling {
+        Telling::Stays => push_stay_pair(alloc, old, new, before, after, lines),
+        Telling::Changes => push_changed_pair(alloc, old, new, before, after, lines),
+    }
+}
+
+/// The name of an item, after, or before of what is gone.
+pub(crate) fn pair_name<'a>(before: &Option<Seen<'a>>, after: &Option<Seen<'a>>) -> &'a [u8]
+    ensures { result.now
+        ≡ pair_name (option_map seen_data before.now) (option_map seen_data after.now) }
+{
+    match after {
+        Some(after) => after.view.name.as_bytes(),
+        None => match before {
+            Some(before) => before.view.name.as_bytes(),
+            None => b"".as_slice(),
+        },
+    }
+}

@@ -1,0 +1,124 @@
+//! How many items differ, and in which way.
+
+ghost use Rattle.std.specs.Prelude.{◌≡◌, ◌+◌, ◌<◌, ◌≤◌, ◌^◌, List, Some, IfOk, is_some, not};
+ghost use Rattle.std.specs.List.{count_by};
+ghost use Rattle.std.specs.Option.{option_map};
+ghost use Rattle.crush_table.specs.Count.{one_if};
+ghost use Rattle.crush_table.specs.Stands.{Stands};
+ghost use Rattle.crush_table.specs.Table.{Row};
+ghost use Rattle.crush_since.specs.SeenItem.{seen_data};
+ghost use Rattle.crush_since.specs.Tallies.{HasRoom, is_made, is_reclassed, is_reweighed};
+ghost use Rattle.crush_view.specs.SeenStep.{step_data};
+ghost use Rattle.crush_names.specs.Counted.{is_gone_by_name, is_moved_by_name, new_tally, tally_by_name, tally_plus};
+
+use crate::named::{Devices, counterpart_next, has_counterpart, seen_next};
+use crate::staying::columns::same_place;
+use crush_map::CrushMap;
+use crush_since::{Seen, Tally, is_made, is_reclassed, is_reweighed};
+use crush_view::{Step, walk};
+use std::alloc::{AllocError, Allocator, Global};
+
+/// How many items differ in which way. None has another name.
+pub(crate) fn tally_of<A: Allocator, B: Allocator>(
+    alloc: Global,
+    old: &CrushMap<A>,
+    new: &CrushMap<B>,
+) -> Result<Tally, AllocError>
+    ensures { IfOk result (λ tally. (t u : List Row) → Stands old.now.forest t
+        → Stands new.now.forest u → tally ≡ tally_by_name t u) }
+{
+    let before = walk(alloc, old)?;
+    let after = walk(alloc, new)?;
+    let removed = count_gone(new, before.as_slice());
+    let tally = count_new(old, new, after.as_slice());
+    Ok(Tally { removed, ..tally })
+}
+
+/// How many of these items of the old map the new one hasn't.
+fn count_gone<A: Allocator, B: Allocator>(new: &CrushMap<B>, steps: &[Step<'_, A>]) -> usize
+    ensures { (t u : List Row) → Stands new.now.forest u
+        → result ≡ count_by (λ s. is_gone_by_name t u (step_data s)) steps.now }
+{
+    let mut count: usize = 0;
+    for step in steps {
+        count = more(count, is_gone(new, step));
+    }
+    count
+}
+
+/// Whether the new map hasn't this item of the old.
+fn is_gone<A: Allocator, B: Allocator>(new: &CrushMap<B>, step: &Step<'_, A>) -> bool
+    ensures { (t u : List Row) → Stands new.now.forest u
+        → result ≡ is_gone_by_name t u (step_data step.now) }
+{
+    let view = step.view();
+    !has_counterpart(Devices::ByName, new, &view)
+}
+
+/// How many of these items of the new map differ in which way.
+fn count_new<'a, A: Allocator, B: Allocator>(
+    old: &'a CrushMap<A>,
+    new: &'a CrushMap<B>,
+    steps: &[Step<'a, B>],
+) -> Tally
+    ensures { (t u : List Row) → Stands old.now.forest t → Stands new.now.forest u
+        → result ≡ new_tally t u step_data steps.now }
+{
+    let mut tally = Tally {
+        made: 0,
+        removed: 0,
+        renamed: 0,
+        moved: 0,
+        reweighed: 0,
+        reclassed: 0,
+    };
+    let mut last_before = None;
+    let mut last_after = None;
+    for step in steps {
+        let after = seen_next(new, &last_after, step);
+        let before = counterpart_next(Devices::ByName, old, &last_before, &after);
+        last_before = before;
+        last_after = Some(after);
+        tally = with(&tally, &last_before, &last_after);
+    }
+    tally
+}
+
+/// The counts with one item more.
+fn with(tally: &Tally, before: &Option<Seen<'_>>, after: &Option<Seen<'_>>) -> Tally
+    requires { HasRoom tally.now }
+    ensures { result ≡ tally_plus tally.now (option_map seen_data before.now)
+        (option_map seen_data after.now) }
+{
+    Tally {
+        made: more(tally.made, is_made(before, after)),
+        removed: tally.removed,
+        renamed: tally.renamed,
+        moved: more(tally.moved, is_moved(before, after)),
+        reweighed: more(tally.reweighed, is_reweighed(before, after)),
+        reclassed: more(tally.reclassed, is_reclassed(before, after)),
+    }
+}
+
+/// A count with one more, where the test says so.
+fn more(count: usize, test: bool) -> usize
+    requires { count + 1 < 2 ^ 64 }
+    ensures sum { result ≡ count + one_if test }
+    ensures most { result ≤ count + 1 }
+{
+    if test { count + 1 } else { count }
+}
+
+/// Whether both maps have the item, in buckets of other names.
+fn is_moved(before: &Option<Seen<'_>>, after: &Option<Seen<'_>>) -> bool
+    ensures { result
+        ≡ is_moved_by_name (option_map seen_data before.now) (option_map seen_data after.now) }
+{
+    match before {
+        Some(before) => match after {
+            Some(after) => !same_place(before, after),
+            None => false,
+        },
+        None => false,
+    }
+}

@@ -1,0 +1,148 @@
+//! What there is to tell of an item whose maps tell their items apart by names.
+
+ghost use Rattle.std.specs.Prelude.{◌≡◌, ◌++◌, OnOk, codes, flat_map};
+ghost use Rattle.std.specs.Option.{option_map};
+ghost use Rattle.crush_since.specs.ItemParts.{behind};
+ghost use Rattle.crush_since.specs.SeenItem.{seen_data};
+ghost use Rattle.crush_names.specs.SinceNames.{changed, changed_pair, changed_parts, other_weights, whole_word};
+
+use crate::pairs::pair_name;
+use crate::staying::columns::{
+    push_alg, push_class, push_place, push_type, push_wanted_word, push_weight,
+};
+use crate::staying::push_line;
+use crush_bytes::put_all;
+use crush_map::Setting;
+use crush_since::{Seen, push_with_class, weight_of};
+use std::alloc::{AllocError, Global};
+
+/// The line of an item, by what either map has of its name.
+pub(crate) fn push_changed_pair(
+    alloc: Global,
+    old: &Setting,
+    new: &Setting,
+    before: &Option<Seen<'_>>,
+    after: &Option<Seen<'_>>,
+    out: &mut Vec<u8>,
+) -> Result<(), AllocError>
+    ensures { OnOk result (out.new.items ≡ out.old.items ++ changed_pair old.now new.now
+        (record {
+          before = option_map seen_data before.now;
+          after = option_map seen_data after.now;
+        })) }
+{
+    let mut parts = Vec::new(alloc);
+    push_parts(alloc, old, new, before, after, &mut parts)?;
+    push_line(pair_name(before, after), parts.as_slice(), out)
+}
+
+/// What there is to tell of an item, each part behind a semicolon.
+fn push_parts(
+    alloc: Global,
+    old: &Setting,
+    new: &Setting,
+    before: &Option<Seen<'_>>,
+    after: &Option<Seen<'_>>,
+    parts: &mut Vec<u8>,
+) -> Result<(), AllocError>
+    ensures { OnOk result (parts.new.items ≡ parts.old.items ++ behind (changed_parts old.now
+        new.now (option_map seen_data before.now) (option_map seen_data after.now))) }
+{
+    match before {
+        None => match after {
+            None => Ok(()),
+            Some(after) => push_made(alloc, new, after, parts),
+        },
+        Some(before) => match after {
+            None => push_removed(alloc, old, before, parts),
+            Some(after) => push_changed(alloc, old, new, before, after, parts),
+        },
+    }
+}
+
+/// What an item is that the new map alone has.
+fn push_made(
+    alloc: Global,
+    setting: &Setting,
+    item: &Seen<'_>,
+    parts: &mut Vec<u8>,
+) -> Result<(), AllocError>
+    ensures { OnOk result (parts.new.items ≡ parts.old.items
+        ++ (codes "; made as " ++ whole_word setting.now (seen_data item.now))) }
+{
+    parts.extend_from_slice(b"; made as ")?;
+    push_whole(alloc, setting, item, parts)
+}
+
+/// What an item was that the old map alone has.
+fn push_removed(
+    alloc: Global,
+    setting: &Setting,
+    item: &Seen<'_>,
+    parts: &mut Vec<u8>,
+) -> Result<(), AllocError>
+    ensures { OnOk result (parts.new.items ≡ parts.old.items
+        ++ (codes "; removed, was " ++ whole_word setting.now (seen_data item.now))) }
+{
+    parts.extend_from_slice(b"; removed, was ")?;
+    push_whole(alloc, setting, item, parts)
+}
+
+/// What is another of an item that both maps have.
+fn push_changed(
+    alloc: Global,
+    old: &Setting,
+    new: &Setting,
+    before: &Seen<'_>,
+    after: &Seen<'_>,
+    parts: &mut Vec<u8>,
+) -> Result<(), AllocError>
+    ensures { OnOk result (parts.new.items ≡ parts.old.items
+        ++ behind (changed old.now new.now (seen_data before.now) (seen_data after.now))) }
+{
+    push_type(b" to ", old, new, before, after, parts)?;
+    push_place(b"from ", b" to ", before, after, parts)?;
+    push_other_weight(alloc, before, after, parts)?;
+    push_class(b" to ", before, after, parts)?;
+    push_alg(b" to ", before, after, parts)?;
+    Ok(())
+}
+
+/// The weights, where they differ.
+fn push_other_weight(
+    alloc: Global,
+    before: &Seen<'_>,
+    after: &Seen<'_>,
+    parts: &mut Vec<u8>,
+) -> Result<(), AllocError>
+    ensures { OnOk result (parts.new.items ≡ parts.old.items
+        ++ behind (other_weights (seen_data before.now) (seen_data after.now))) }
+{
+    let same = before.view.weight.units() == after.view.weight.units();
+    push_weight(alloc, same, b" to ", before, after, parts)
+}
+
+/// What an item is that one of the maps alone has.
+#[tactic(auto, unfolding(crate::specs::SinceNames::whole_word))]
+fn push_whole(
+    alloc: Global,
+    setting: &Setting,
+    item: &Seen<'_>,
+    parts: &mut Vec<u8>,
+) -> Result<(), AllocError>
+    ensures { OnOk result (parts.new.items ≡ parts.old.items
+        ++ whole_word setting.now (seen_data item.now)) }
+{
+    push_wanted_word(setting, item, parts)?;
+    let weight = weight_of(alloc, item.view.weight)?;
+    push_bytes(&[b", weight ".as_slice(), weight.as_slice()], parts)?;
+    push_with_class(item.view.class, parts)
+}
+
+/// All of these, one after the other.
+fn push_bytes(words: &[&[u8]], parts: &mut Vec<u8>) -> Result<(), AllocError>
+    ensures { OnOk result (parts.new.items ≡ parts.old.items
+        ++ flat_map (λ w. w.now) words.now) }
+{
+    put_all(parts, words).map_err(|_| AllocError)
+}

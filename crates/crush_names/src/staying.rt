@@ -1,0 +1,211 @@
+//! What differs between a map and the one that is wanted, told by names.
+
+ghost use Rattle.std.specs.Prelude.{◌≡◌, ◌++◌, List, OnOk, IfOk};
+ghost use Rattle.std.specs.Option.{option_map};
+ghost use Rattle.crush_table.specs.Stands.{Stands};
+ghost use Rattle.crush_table.specs.Table.{Row};
+ghost use Rattle.crush_since.specs.ItemParts.{behind};
+ghost use Rattle.crush_since.specs.SeenItem.{seen_data};
+ghost use Rattle.crush_since.specs.Since.{told};
+ghost use Rattle.crush_names.specs.Stays.{differing, named_setting_lines, settings_beside, stay_line, stay_lines, stay_pair, stay_parts, stay_text_line, stays, stays_part, wanted_parts};
+
+pub(crate) mod columns;
+mod rules;
+
+use crate::named::Devices;
+use crate::pairs::{Comparison, Telling, pair_name, push_told};
+pub use columns::are_near;
+use columns::{push_alg, push_class, push_far_weight, push_lacking, push_place, push_type};
+use crush_bytes::put_all;
+use crush_map::{CrushMap, Setting};
+use crush_since::{Seen, push_kinds, push_part, push_tunables};
+use rules::push_rules;
+use std::alloc::{AllocError, Allocator, Global};
+
+/// What differs, by names, between a map and the one that is wanted: a line for each item of the
+/// wanted map that the map lacks or has otherwise, in the order of its tree; one for each that isn't
+/// wanted, in the order of the map's; and one each where tunables, types and rules differ.
+///
+/// Weights that are at most one unit apart are no difference, nor are ids. An `Err` says that memory
+/// ran out.
+pub fn stays<A: Allocator, B: Allocator>(
+    alloc: Global,
+    map: &CrushMap<A>,
+    wanted: &CrushMap<B>,
+) -> Result<Vec<u8>, AllocError>
+    ensures { IfOk result (λ lines. (t u : List Row)
+        → Stands map.now.forest t → Stands wanted.now.forest u
+        → lines.items ≡ stays (told map.now.setting t) (told wanted.now.setting u)) }
+{
+    stays_part(alloc, None, map, wanted)
+}
+
+/// What differs so of a part: of the items that stand in the map, or in the wanted one, at or below
+/// the one of this name, and of no settings. Without a name it is what differs of everything, as
+/// [`stays`] tells it. An `Err` says that memory ran out.
+pub fn stays_part<A: Allocator, B: Allocator>(
+    alloc: Global,
+    under: Option<&str>,
+    map: &CrushMap<A>,
+    wanted: &CrushMap<B>,
+) -> Result<Vec<u8>, AllocError>
+    ensures { IfOk result (λ lines. (t u : List Row)
+        → Stands map.now.forest t → Stands wanted.now.forest u
+        → lines.items ≡ stays_part (option_map (λ n. n.now) under.entry) (told map.now.setting t)
+        (told wanted.now.setting u)) }
+{
+    let mut lines = Vec::new(alloc);
+    push_lines(alloc, under, map, wanted, &mut lines)?;
+    push_beside(under, map, wanted, &mut lines)?;
+    Ok(lines)
+}
+
+/// The lines of the items.
+fn push_lines<A: Allocator, B: Allocator>(
+    alloc: Global,
+    under: Option<&str>,
+    map: &CrushMap<A>,
+    wanted: &CrushMap<B>,
+    lines: &mut Vec<u8>,
+) -> Result<(), AllocError>
+    ensures { (t u : List Row) → Stands map.now.forest t → Stands wanted.now.forest u
+        → OnOk result (lines.new.items ≡ lines.old.items
+        ++ stay_lines (option_map (λ n. n.now) under.entry) (told map.now.setting t)
+        (told wanted.now.setting u)) }
+{
+    let maps = Comparison {
+        telling: Telling::Stays,
+        devices: Devices::ById,
+        under,
+        old: map,
+        new: wanted,
+    };
+    push_told(alloc, &maps, lines)
+}
+
+/// The line of an item, by what either map has of its name.
+pub(crate) fn push_stay_pair(
+    alloc: Global,
+    map: &Setting,
+    wanted: &Setting,
+    here: &Option<Seen<'_>>,
+    there: &Option<Seen<'_>>,
+    lines: &mut Vec<u8>,
+) -> Result<(), AllocError>
+    ensures { OnOk result (lines.new.items ≡ lines.old.items ++ stay_pair map.now wanted.now
+        (record {
+          before = option_map seen_data here.now;
+          after = option_map seen_data there.now;
+        })) }
+{
+    let mut parts = Vec::new(alloc);
+    push_parts(alloc, map, wanted, here, there, &mut parts)?;
+    push_line(pair_name(here, there), parts.as_slice(), lines)
+}
+
+/// What there is to tell of an item, each part behind a semicolon.
+fn push_parts(
+    alloc: Global,
+    map: &Setting,
+    wanted: &Setting,
+    here: &Option<Seen<'_>>,
+    there: &Option<Seen<'_>>,
+    parts: &mut Vec<u8>,
+) -> Result<(), AllocError>
+    ensures { OnOk result (parts.new.items ≡ parts.old.items ++ behind (stay_parts map.now
+        wanted.now (option_map seen_data here.now) (option_map seen_data there.now))) }
+{
+    match there {
+        Some(there) => push_wanted_parts(alloc, map, wanted, here, there, parts),
+        None => match here {
+            Some(_) => push_part(false, &[b"not wanted".as_slice()], parts),
+            None => Ok(()),
+        },
+    }
+}
+
+/// What there is to tell of a wanted item, by what the map has of its name, each part behind a
+/// semicolon.
+fn push_wanted_parts(
+    alloc: Global,
+    map: &Setting,
+    wanted: &Setting,
+    here: &Option<Seen<'_>>,
+    there: &Seen<'_>,
+    parts: &mut Vec<u8>,
+) -> Result<(), AllocError>
+    ensures { OnOk result (parts.new.items ≡ parts.old.items ++ behind (wanted_parts map.now
+        wanted.now (option_map seen_data here.now) (seen_data there.now))) }
+{
+    match here {
+        Some(here) => push_differing(alloc, map, wanted, here, there, parts),
+        None => push_lacking(wanted, there, parts),
+    }
+}
+
+/// What there is to tell of an item that both maps have.
+fn push_differing(
+    alloc: Global,
+    map: &Setting,
+    wanted: &Setting,
+    here: &Seen<'_>,
+    there: &Seen<'_>,
+    parts: &mut Vec<u8>,
+) -> Result<(), AllocError>
+    ensures { OnOk result (parts.new.items ≡ parts.old.items
+        ++ behind (differing map.now wanted.now (seen_data here.now) (seen_data there.now))) }
+{
+    push_type(b", wanted ", map, wanted, here, there, parts)?;
+    push_place(b"in ", b", wanted in ", here, there, parts)?;
+    push_far_weight(alloc, here, there, parts)?;
+    push_class(b", wanted ", here, there, parts)?;
+    push_alg(b", wanted ", here, there, parts)?;
+    Ok(())
+}
+
+/// A name with its parts, which are each behind a semicolon and a space. Nothing where there are none.
+pub(crate) fn push_line(name: &[u8], parts: &[u8], lines: &mut Vec<u8>) -> Result<(), AllocError>
+    ensures { OnOk result (lines.new.items ≡ lines.old.items ++ stay_text_line name.now parts.now) }
+{
+    match parts {
+        [_, _, text @ ..] => put_all(
+            lines,
+            &[name, b": ".as_slice(), text, b"\n".as_slice()],
+        ).map_err(|_| AllocError),
+        _ => Ok(()),
+    }
+}
+
+/// A line each where tunables, types and rules differ.
+#[tactic(auto, unfolding(crate::specs::Stays::named_setting_lines))]
+pub(crate) fn push_settings<A: Allocator, B: Allocator>(
+    map: &CrushMap<A>,
+    wanted: &CrushMap<B>,
+    lines: &mut Vec<u8>,
+) -> Result<(), AllocError>
+    ensures { (t u : List Row) → Stands map.now.forest t → Stands wanted.now.forest u
+        → OnOk result (lines.new.items ≡ lines.old.items
+        ++ named_setting_lines (told map.now.setting t) (told wanted.now.setting u)) }
+{
+    push_tunables(map.setting(), wanted.setting(), lines)?;
+    push_kinds(map.setting(), wanted.setting(), lines)?;
+    push_rules(map, wanted, lines)
+}
+
+/// These lines beside those of everything, and of a part none.
+pub(crate) fn push_beside<A: Allocator, B: Allocator>(
+    under: Option<&str>,
+    map: &CrushMap<A>,
+    wanted: &CrushMap<B>,
+    lines: &mut Vec<u8>,
+) -> Result<(), AllocError>
+    ensures { (t u : List Row) → Stands map.now.forest t → Stands wanted.now.forest u
+        → OnOk result (lines.new.items ≡ lines.old.items
+        ++ settings_beside (option_map (λ n. n.now) under.entry) (told map.now.setting t)
+        (told wanted.now.setting u)) }
+{
+    match under {
+        Some(_) => Ok(()),
+        None => push_settings(map, wanted, lines),
+    }
+}

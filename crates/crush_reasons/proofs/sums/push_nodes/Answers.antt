@@ -1,0 +1,7 @@
+use Rattle.crush_reasons.proofs.SumLaws.{sums-more}
+use Rattle.crush_view.proofs.WalkLaws.{one_more}
+use Rattle.crush_reasons.proofs.sums.push_nodes.Goals as goal
+
+pub loop-node-preserved : goal.loop-node-preserved
+loop-node-preserved g c =
+    one_more _ _ _ _ _ _ c.loop-node.invariant c.in_ok-push_node.ensures (sums-more c.args.nodes.now c.loop-node.node-index c.node-item.result c.loop-node-test.true c.node-item.is)

@@ -1,0 +1,32 @@
+-- What the buckets of a map weigh, by one walk.
+use Rattle.std.specs.Prelude.{◌≡◌, ℕ, ◌==◌, List, [], ◌∷◌, ◌++◌, Some, All}
+use Rattle.std.specs.List.{count_by, sum_by}
+use Rattle.std.specs.List.Sorted.{IsNonDecreasingBy}
+use Rattle.crush_units.specs.Id.{same_id}
+use Rattle.crush_units.specs.declared.id.ItemId.TheVariants.{Bucket}
+use Rattle.crush_table.specs.Count.{one_if}
+use Rattle.crush_table.specs.Items.{Items, none, device, bucket}
+use Rattle.crush_table.specs.Stands.{Stands}
+use Rattle.crush_table.specs.Table.{Row, weight_of}
+use Rattle.crush_reasons.specs.declared.sums.Sum.{Sum}
+use Rattle.crush_reasons.specs.declared.sums.SummedMap.{SummedMap}
+
+-- the buckets of items as plain data, each behind those below it, with what they store
+abbrev pub sum : ℕ → ℕ → Sum
+sum b w = record { bucket = b; weight = w }
+
+abbrev pub sums_of : Items → List Sum
+sums_of none = []
+sums_of (device d rest) = sums_of rest
+sums_of (bucket h w m k rest) = sums_of k ++ (sum h.id w ∷ sums_of rest)
+
+-- the sums of a table's buckets, one for each, by ids that rise
+pub record AreSums (t : List Row) (sums : List Sum) : Type 0 where
+  pub told : All (λ (s : Sum). weight_of t (Bucket s.bucket) ≡ Some s.weight) sums
+  pub each : (b : ℕ) → sum_by (λ (s : Sum). one_if (s.bucket == b)) sums ≡ count_by (λ (r : Row). same_id r.id (Bucket b)) t
+  pub rising : IsNonDecreasingBy (λ (s : Sum). s.bucket) sums
+
+-- a map with its sums stands for a table, of which they are the sums
+pub record IsSummed (m : SummedMap) (t : List Row) : Type 0 where
+  pub stands : Stands m.map.now.forest t
+  pub sums : AreSums t m.sums.items

@@ -1,0 +1,142 @@
+//! Where the edits of a job stand that were refused in their batches.
+
+ghost use Rattle.std.specs.Prelude.{◌≡◌, ◌++◌, IfOk, OnOk, drop, map as each, slice_get, slice_index_or, []};
+ghost use Rattle.crush_reasons.specs.EditLines.{line_in};
+ghost use Rattle.crush_reasons.specs.EditsLeft.{head_left, left_behind, line_place, lines_left, refused_index, told_place};
+
+use crate::locates::Locates;
+use crate::place::{Origin, push_command_head};
+use crate::replay::edits_of;
+use crush_calls::{Entry, Reply};
+use std::alloc::{AllocError, Global};
+
+/// Where an edit of a batch stands in a job.
+#[derive(Clone, Copy)]
+pub(crate) struct EditPlace<'a> {
+    /// Where its line comes from.
+    pub(crate) origin: Origin<'a>,
+    /// Its line in the job, counted from 1.
+    pub(crate) line: usize,
+}
+
+/// Where an edit stands, before its command, if that is known.
+pub(crate) fn push_place(
+    place: &Option<EditPlace<'_>>,
+    text: &mut Vec<u8>,
+) -> Result<(), AllocError>
+    ensures { OnOk result (text.new.items ≡ text.old.items ++ told_place place.now) }
+{
+    match place {
+        None => Ok(()),
+        Some(place) => push_command_head(place.origin, place.line, text),
+    }
+}
+
+/// Which edit of a batch was refused.
+fn refused_index(reply: Reply) -> Option<usize>
+    ensures { result ≡ refused_index reply }
+{
+    match reply {
+        Reply::BatchRefused(index, _) => Some(index as usize),
+        _ => None,
+    }
+}
+
+/// The lines of the edits of each section that are left behind the entries so far.
+#[derive(Drop)]
+pub(crate) struct EditsLeft<'a> {
+    lines: Vec<&'a [usize]>,
+}
+
+impl<'a> EditsLeft<'a> {
+    /// All of them.
+    pub(crate) fn new(
+        alloc: Global,
+        sections: &'a [Vec<usize>],
+    ) -> Result<EditsLeft<'a>, AllocError>
+        ensures { IfOk result (λ left. lines_left left
+            ≡ each (λ numbers. numbers.items) sections.now) }
+    {
+        let mut lines = Vec::new(alloc);
+        for section in sections {
+            let Ok(()) = lines.push(section.as_slice()) else {
+                return Err(AllocError);
+            };
+        }
+        Ok(EditsLeft { lines })
+    }
+
+    /// Those that are left of an operator.
+    fn of(&self, operator: usize) -> &'a [usize]
+        ensures { result.now ≡ slice_index_or (lines_left self.now) operator [] }
+    {
+        if operator < self.lines.len() {
+            self.lines[operator]
+        } else {
+            &[]
+        }
+    }
+
+    /// The line of the edit of this number, counted from 0, of those that are left of an operator.
+    fn line(&self, operator: usize, index: usize) -> Option<usize>
+        ensures { result ≡ line_in (lines_left self.now) operator index }
+    {
+        line_of(self.of(operator), index)
+    }
+
+    /// Leaves those of an entry behind.
+    pub(crate) fn pass(&mut self, entry: &Entry)
+        ensures { lines_left self.new ≡ left_behind (lines_left self.old) entry.now }
+    {
+        let left = self.of(entry.operator);
+        if entry.operator < self.lines.len() {
+            self.lines[entry.operator] = from_line(edits_of(&entry.call).len(), left);
+        }
+    }
+}
+
+/// The line of an edit, of the lines of several.
+fn line_of(lines: &[usize], index: usize) -> Option<usize>
+    ensures { result ≡ slice_get lines.now index }
+{
+    if index < lines.len() {
+        Some(lines[index])
+    } else {
+        None
+    }
+}
+
+/// The lines of the edits from one on.
+fn from_line(index: usize, lines: &[usize]) -> &[usize]
+    ensures { result.now ≡ drop index lines.now }
+{
+    if index < lines.len() {
+        lines.split_at(index).1
+    } else {
+        &[]
+    }
+}
+
+/// Where a line of a job stands, if there is one.
+fn place_of<O: Locates>(origins: &O, line: Option<usize>) -> Option<EditPlace<'_>>
+    ensures { told_place result ≡ line_place (O.origin origins.now) line }
+{
+    let line = line?;
+    Some(EditPlace {
+        origin: origins.at(line),
+        line,
+    })
+}
+
+/// Where the edit of an entry stands that was refused in its batch.
+pub(crate) fn refused_place<'a, O: Locates>(
+    origins: &'a O,
+    left: &EditsLeft<'_>,
+    entry: &Entry,
+) -> Option<EditPlace<'a>>
+    ensures { told_place result
+        ≡ head_left (O.origin origins.now) (lines_left left.now) entry.now }
+{
+    let index = refused_index(entry.reply)?;
+    place_of(origins, left.line(entry.operator, index))
+}

@@ -1,0 +1,122 @@
+-- The trees of what has changed between two maps, computed.
+use Rattle.std.proofs.Common.{◌≡◌, refl}
+use Rattle.std.specs.Prelude.{ℕ, List, [], ◌∷◌, Some, None, codes}
+use Rattle.std.specs.Fmt.{digits}
+use Rattle.crush_edits.specs.Setting.{SettingData, take, emit}
+use Rattle.crush_table.specs.Items.{Items, LeafData, none, device, bucket}
+use Rattle.crush_table.specs.Forest.{rows_of}
+use Rattle.crush_table.specs.Table.{Row}
+use Rattle.crush_print.specs.MapText.{root_numbers, kind_text}
+use Rattle.crush_print.specs.RuleLines.{bucket_name}
+use Rattle.crush_since.specs.Changes.{stood_at, left_from, is_told, stands_at, root_rows, unplaced_rows, change_rows}
+use Rattle.crush_since.specs.ChangeText.{heading, weights_column, name_column, change_line, rows_text, changes_text}
+use Rattle.crush_since.specs.Emptied.{emptied_lines, rule_takes, weighs_nothing}
+use Rattle.crush_since.specs.Settings.{tunables_line, kinds_line, rules_line, setting_lines}
+use Rattle.crush_since.specs.Since.{Told, told, id_line, all_ids, all_buckets, all_devices, totals_line, last_lines}
+use Rattle.crush_since.specs.Tallies.{first_counts, last_counts, counts_line}
+use Rattle.crush_view.specs.Tree.{unplaced_numbers}
+use Rattle.crush_view.specs.TreeText.{at_left, at_right}
+use Rattle.crush_view.proofs.Examples.{leaf, header, type, setting, example}
+
+abbrev of_roots : Items → List Row
+of_roots roots = rows_of (record { roots = roots; unplaced = none; root_capacity = 1; unplaced_capacity = 0 })
+
+abbrev of : List Row → Told
+of t = told setting t
+
+-- osd.0 has gone from h1 to h2
+abbrev moved : List Row
+moved = of_roots (bucket (header 1 11 (codes "default")) 163840 2
+    (bucket (header 2 1 (codes "h1")) 65536 2 (device (leaf 1 (codes "osd.1") 65536) none)
+    (bucket (header 3 1 (codes "h2")) 98304 2 (device (leaf 2 (codes "osd.2") 32768) (device (leaf 0 (codes "osd.0") 65536) none)) none)) none)
+
+changes_moved : changes_text (of example) (of moved)
+    ≡ codes "ID  CLASS  WAS      WEIGHT   TYPE NAME\n-1         2.50000  2.50000  root default\n-2         2.00000  1.00000      host h1\n 0         1.00000        -          osd.0\n-3         0.50000  1.50000      host h2\n 0               -  1.00000          osd.0 (from h1)\ntotal 2.50000 to 2.50000\n0 made, 0 removed, 0 renamed, 1 moved, 2 of other weight, 0 of other class\n"
+unfolding changes_text rows_text change_rows root_rows unplaced_rows stands_at stood_at left_from is_told id_line heading change_line weights_column name_column at_left at_right root_numbers unplaced_numbers kind_text last_lines setting_lines tunables_line kinds_line rules_line emptied_lines rule_takes weighs_nothing bucket_name totals_line counts_line first_counts last_counts all_ids all_buckets all_devices digits
+changes_moved = refl
+
+-- a device, its host and the host's rack are new
+abbrev grown : List Row
+grown = of_roots (bucket (header 1 11 (codes "default")) 229376 3
+    (bucket (header 2 1 (codes "h1")) 131072 2 (device (leaf 0 (codes "osd.0") 65536) (device (leaf 1 (codes "osd.1") 65536) none))
+    (bucket (header 3 1 (codes "h2")) 32768 1 (device (leaf 2 (codes "osd.2") 32768) none)
+    (bucket (header 5 3 (codes "r1")) 65536 1 (bucket (header 4 1 (codes "h3")) 65536 1 (device (leaf 3 (codes "osd.3") 65536) none) none) none))) none)
+
+changes_grown : changes_text (of example) (of grown)
+    ≡ codes "ID  CLASS  WAS      WEIGHT   TYPE NAME\n-1         2.50000  3.50000  root default\n-5               -  1.00000      rack r1 (made)\n-4               -  1.00000          host h3 (made)\n 3               -  1.00000              osd.3 (made)\ntotal 2.50000 to 3.50000\n3 made, 0 removed, 0 renamed, 0 moved, 1 of other weight, 0 of other class\n"
+unfolding changes_text rows_text change_rows root_rows unplaced_rows stands_at stood_at left_from is_told id_line heading change_line weights_column name_column at_left at_right root_numbers unplaced_numbers kind_text last_lines setting_lines tunables_line kinds_line rules_line emptied_lines rule_takes weighs_nothing bucket_name totals_line counts_line first_counts last_counts all_ids all_buckets all_devices digits
+changes_grown = refl
+
+-- h1 and h2 have exchanged their names and items
+abbrev swapped : List Row
+swapped = of_roots (bucket (header 1 11 (codes "default")) 163840 2
+    (bucket (header 2 1 (codes "h2")) 32768 2 (device (leaf 2 (codes "osd.2") 32768) none)
+    (bucket (header 3 1 (codes "h1")) 131072 2 (device (leaf 0 (codes "osd.0") 65536) (device (leaf 1 (codes "osd.1") 65536) none)) none)) none)
+
+changes_swapped : changes_text (of example) (of swapped)
+    ≡ codes "ID  CLASS  WAS      WEIGHT   TYPE NAME\n-1         2.50000  2.50000  root default\n-2         2.00000  0.50000      host h2 (was h1)\n 2               -  0.50000          osd.2 (from h2)\n 0         1.00000        -          osd.0\n 1         1.00000        -          osd.1\n-3         0.50000  2.00000      host h1 (was h2)\n 0               -  1.00000          osd.0 (from h1)\n 1               -  1.00000          osd.1 (from h1)\n 2         0.50000        -          osd.2\ntotal 2.50000 to 2.50000\n0 made, 0 removed, 2 renamed, 3 moved, 2 of other weight, 0 of other class\n"
+unfolding changes_text rows_text change_rows root_rows unplaced_rows stands_at stood_at left_from is_told id_line heading change_line weights_column name_column at_left at_right root_numbers unplaced_numbers kind_text last_lines setting_lines tunables_line kinds_line rules_line emptied_lines rule_takes weighs_nothing bucket_name totals_line counts_line first_counts last_counts all_ids all_buckets all_devices digits
+changes_swapped = refl
+
+-- h1 is gone with its devices
+abbrev shrunk : List Row
+shrunk = of_roots (bucket (header 1 11 (codes "default")) 32768 2 (bucket (header 3 1 (codes "h2")) 32768 1 (device (leaf 2 (codes "osd.2") 32768) none) none) none)
+
+changes_shrunk : changes_text (of example) (of shrunk)
+    ≡ codes "ID  CLASS  WAS      WEIGHT   TYPE NAME\n-1         2.50000  0.50000  root default\n-2         2.00000        -      host h1 (removed)\n 0         1.00000        -          osd.0 (removed)\n 1         1.00000        -          osd.1 (removed)\ntotal 2.50000 to 0.50000\n0 made, 3 removed, 0 renamed, 0 moved, 1 of other weight, 0 of other class\n"
+unfolding changes_text rows_text change_rows root_rows unplaced_rows stands_at stood_at left_from is_told id_line heading change_line weights_column name_column at_left at_right root_numbers unplaced_numbers kind_text last_lines setting_lines tunables_line kinds_line rules_line emptied_lines rule_takes weighs_nothing bucket_name totals_line counts_line first_counts last_counts all_ids all_buckets all_devices digits
+changes_shrunk = refl
+
+-- an empty rack is gone, and a host has its id
+abbrev with_row : SettingData
+with_row = record { kinds = type 0 (codes "osd") ∷ (type 1 (codes "host") ∷ (type 3 (codes "rack") ∷ (type 4 (codes "row") ∷ (type 11 (codes "root") ∷ [])))); tunables = []; rules = [] }
+
+abbrev row_before : List Row
+row_before = of_roots (bucket (header 1 11 (codes "default")) 65536 1 (bucket (header 2 4 (codes "row00")) 65536 2
+    (bucket (header 3 3 (codes "rack000")) 65536 1 (device (leaf 0 (codes "osd.0") 65536) none) (bucket (header 4 3 (codes "rack001")) 0 0 none none)) none) none)
+
+abbrev row_after : List Row
+row_after = of_roots (bucket (header 1 11 (codes "default")) 131072 1 (bucket (header 2 4 (codes "row00")) 131072 2
+    (bucket (header 3 3 (codes "rack000")) 131072 2 (device (leaf 0 (codes "osd.0") 65536) (bucket (header 4 1 (codes "h9")) 65536 1 (device (leaf 1 (codes "osd.1") 65536) none) none)) none) none) none)
+
+changes_again : changes_text (told with_row row_before) (told with_row row_after)
+    ≡ codes "ID  CLASS  WAS      WEIGHT   TYPE NAME\n-1         1.00000  2.00000  root default\n-2         1.00000  2.00000      row row00\n-3         1.00000  2.00000          rack rack000\n-4               -  1.00000              host h9 (was rack001; type rack to host; from row00)\n 1               -  1.00000                  osd.1 (made)\n-4         0.00000        -          rack rack001\ntotal 1.00000 to 2.00000\n1 made, 0 removed, 1 renamed, 1 moved, 4 of other weight, 0 of other class\n"
+unfolding changes_text rows_text change_rows root_rows unplaced_rows stands_at stood_at left_from is_told id_line heading change_line weights_column name_column at_left at_right root_numbers unplaced_numbers kind_text last_lines setting_lines tunables_line kinds_line rules_line emptied_lines rule_takes weighs_nothing bucket_name totals_line counts_line first_counts last_counts all_ids all_buckets all_devices digits
+changes_again = refl
+
+-- a root is in the other, one device is unplaced and another no longer, and a rule finds no device of its class
+abbrev of_class : List ℕ → LeafData
+of_class c = record { id = 0; name = codes "osd.0"; weight = 65536; class = Some c }
+
+abbrev ruled : SettingData
+ruled = record {
+  kinds = type 11 (codes "root") ∷ [];
+  tunables = [];
+  rules = record { name = codes "data"; id = 0; kind = codes "replicated"; min_size = None; max_size = None; steps = take 1 (Some (codes "hdd")) ∷ (take 2 None ∷ (emit ∷ [])) } ∷ [];
+}
+
+abbrev tops_before : List Row
+tops_before = rows_of (record {
+  roots = bucket (header 1 11 (codes "a")) 65536 1 (device (of_class (codes "hdd")) none) (bucket (header 2 11 (codes "b")) 65536 1 (device (leaf 1 (codes "osd.1") 65536) none) none);
+  unplaced = device (leaf 2 (codes "osd.2") 0) none;
+  root_capacity = 2;
+  unplaced_capacity = 1;
+})
+
+abbrev tops_after : List Row
+tops_after = rows_of (record {
+  roots = bucket (header 1 11 (codes "a")) 196608 2 (device (of_class (codes "ssd")) (bucket (header 2 11 (codes "b")) 131072 1 (device (leaf 2 (codes "osd.2") 131072) none) none)) none;
+  unplaced = device (leaf 1 (codes "osd.1") 0) none;
+  root_capacity = 1;
+  unplaced_capacity = 1;
+})
+
+changes_tops : changes_text (told ruled tops_before) (told ruled tops_after)
+    ≡ codes "ID  CLASS  WAS      WEIGHT   TYPE NAME\n-1         1.00000  3.00000  root a\n 0    ssd  1.00000  1.00000      osd.0 (class hdd to ssd)\n-2               -  2.00000      root b (from (root))\n 2               -  2.00000          osd.2 (from (unplaced))\n 1         1.00000        -          osd.1\n-2         1.00000        -  root b\n 1               -  0.00000  osd.1 (from b)\n 2         0.00000        -  osd.2\nrule data takes nothing: a~hdd weighs 0.00000\ntotal 2.00000 to 3.00000\n0 made, 0 removed, 0 renamed, 3 moved, 4 of other weight, 1 of other class\n"
+unfolding changes_text rows_text change_rows root_rows unplaced_rows stands_at stood_at left_from is_told id_line heading change_line weights_column name_column at_left at_right root_numbers unplaced_numbers kind_text last_lines setting_lines tunables_line kinds_line rules_line emptied_lines rule_takes weighs_nothing bucket_name totals_line counts_line first_counts last_counts all_ids all_buckets all_devices digits
+changes_tops = refl
+
+-- a map since itself
+changes_itself : changes_text (of example) (of example) ≡ codes "ID  CLASS  WAS  WEIGHT  TYPE NAME\ntotal 2.50000 to 2.50000\n0 made, 0 removed, 0 renamed, 0 moved, 0 of other weight, 0 of other class\n"
+unfolding changes_text rows_text change_rows root_rows unplaced_rows stands_at stood_at left_from is_told id_line heading change_line weights_column name_column at_left at_right root_numbers unplaced_numbers kind_text last_lines setting_lines tunables_line kinds_line rules_line emptied_lines rule_takes weighs_nothing bucket_name totals_line counts_line first_counts last_counts all_ids all_buckets all_devices digits
+changes_itself = refl

@@ -1,0 +1,15 @@
+use Rattle.std.proofs.Common.{◌∙◌, sym, arith}
+use Rattle.crush_edits.specs.SettingSeen.{rule_data}
+use Rattle.crush_since.specs.Settings.{same_rule}
+use Rattle.crush_since.proofs.PairLaws.{pair_differs, pair_more}
+use Rattle.crush_since.proofs.since.settings.same_rules.Goals as goal
+
+pub returns-then-not-same_rule : goal.returns-then-not-same_rule
+returns-then-not-same_rule c =
+    sym (pair_differs same_rule rule_data rule_data c.loop-index.index c.args.old.now c.args.new.now c.index-old-index.result c.index-new-index.result c.loop-index-test.true (omega (arith, c.loop-index-test.true, c.if-old-new.false))
+    c.index-old-index.is c.index-new-index.is (sym c.same_rule.ensures ∙ c.if-not-same_rule.true))
+
+pub loop-index-preserved : goal.loop-index-preserved
+loop-index-preserved c =
+    pair_more same_rule rule_data rule_data c.loop-index.index c.args.old.now c.args.new.now c.index-old-index.result c.index-new-index.result c.loop-index-test.true (omega (arith, c.loop-index-test.true, c.if-old-new.false))
+    c.index-old-index.is c.index-new-index.is c.loop-index.invariant (sym c.same_rule.ensures ∙ c.if-not-same_rule.false)

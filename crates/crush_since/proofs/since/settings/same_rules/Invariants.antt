@@ -1,0 +1,9 @@
+use Rattle.std.proofs.Common.{◌≡◌, true, take}
+use Rattle.crush_edits.specs.SettingSeen.{rule_data}
+use Rattle.crush_since.specs.Settings.{same_rule}
+use Rattle.crush_since.proofs.PairLaws.{same_seen}
+use Rattle.crush_since.proofs.since.settings.same_rules.Given as goal
+
+-- all pairs so far are the same
+abbrev pub invariant-loop-index : goal.invariant-loop-index
+invariant-loop-index l = same_seen same_rule rule_data rule_data (take l.index l.old) (take l.index l.new) ≡ true

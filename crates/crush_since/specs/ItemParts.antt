@@ -1,0 +1,85 @@
+-- What there is to tell of an item, by what two maps say of it.
+use Rattle.std.specs.Prelude.{ℕ, ◌==◌, Bool, true, false, ◌&&◌, List, [], ◌∷◌, ◌++◌, Option, None, Some, if◌then◌else◌, flat_map, codes, bytes_eq}
+use Rattle.crush_units.specs.declared.alg.Alg.{Alg}
+use Rattle.crush_units.specs.declared.id.ItemId.{ItemId}
+use Rattle.crush_units.specs.Alg.{same_alg}
+use Rattle.crush_units.specs.Weight.{weight_text}
+use Rattle.crush_table.specs.Items.{ShadowData}
+use Rattle.crush_nodes.specs.Views.{ViewData}
+use Rattle.crush_edits.specs.Setting.{SettingData}
+use Rattle.crush_since.specs.Equal.{same_option, same_text}
+use Rattle.crush_since.specs.ItemData.{ItemData}
+use Rattle.crush_since.specs.ItemWords.{item_word, place_word, type_word, class_or_none, alg_word, whole_word}
+
+-- TESTS of columns
+abbrev pub same_algs : Option Alg → Option Alg → Bool
+same_algs None None = true
+same_algs None (Some b) = false
+same_algs (Some a) None = false
+same_algs (Some a) (Some b) = same_alg a b
+
+abbrev pub same_class_id : ShadowData → ShadowData → Bool
+same_class_id x y = (x.id == y.id) && bytes_eq x.class y.class
+
+-- PARTS: a part is told where a column differs
+abbrev pub part : Bool → List ℕ → List (List ℕ)
+part same text = if same then [] else text ∷ []
+
+-- `WORD A to B`
+abbrev pub change : Bool → List ℕ → List ℕ → List ℕ → List (List ℕ)
+change same word a b = part same (word ++ a ++ codes " to " ++ b)
+
+-- what is another of an item that both maps have, column by column
+abbrev pub name_part : ViewData → ViewData → List (List ℕ)
+name_part a b = part (bytes_eq a.name b.name) (codes "was " ++ a.name)
+
+abbrev pub type_part : SettingData → SettingData → ViewData → ViewData → List (List ℕ)
+type_part old new a b = change (a.kind == b.kind) (codes "type ") (type_word old a.id a.kind) (type_word new b.id b.kind)
+
+abbrev pub place_part : ItemData → ItemData → List (List ℕ)
+place_part a b = change (same_option a.view.parent b.view.parent) (codes "from ") (place_word a) (place_word b)
+
+abbrev pub weight_part : ViewData → ViewData → List (List ℕ)
+weight_part a b = change (a.weight == b.weight) (codes "weight ") (weight_text a.weight) (weight_text b.weight)
+
+abbrev pub class_part : ViewData → ViewData → List (List ℕ)
+class_part a b = change (same_text a.class b.class) (codes "class ") (class_or_none a.class) (class_or_none b.class)
+
+abbrev pub alg_part : ViewData → ViewData → List (List ℕ)
+alg_part a b = change (same_algs a.alg b.alg) (codes "alg ") (alg_word a.alg) (alg_word b.alg)
+
+abbrev pub class_ids_part : Bool → List (List ℕ)
+class_ids_part same = part same (codes "class ids")
+
+abbrev pub changes : SettingData → SettingData → ItemData → ItemData → Bool → List (List ℕ)
+changes old new a b same =
+    name_part a.view b.view ++ type_part old new a.view b.view ++ place_part a b ++ weight_part a.view b.view ++ class_part a.view b.view ++ alg_part a.view b.view
+    ++ class_ids_part same
+
+-- what there is to tell of an item, by what both tables say of its id and whether its class ids are the same: nothing where all is the same
+abbrev pub parts : SettingData → SettingData → Option ItemData → Option ItemData → Bool → List (List ℕ)
+parts old new None None same = []
+parts old new None (Some b) same = (codes "made as " ++ whole_word new b) ∷ []
+parts old new (Some a) None same = (codes "removed, was " ++ whole_word old a) ∷ []
+parts old new (Some a) (Some b) same = changes old new a b same
+
+-- the name after, or before of what is gone
+abbrev pub name_told : Option ItemData → Option ItemData → List ℕ
+name_told before (Some b) = b.view.name
+name_told None None = []
+name_told (Some a) None = a.view.name
+
+-- parts, each behind `; `
+abbrev pub behind : List (List ℕ) → List ℕ
+behind ps = flat_map (λ p. codes "; " ++ p) ps
+
+-- LINES: an item with its parts, joined by `; `, if there are any
+abbrev pub line_text : List ℕ → ItemId → List ℕ → List ℕ
+line_text name i text = item_word name i ++ codes ": " ++ text ++ codes "\n"
+
+abbrev pub line : List ℕ → ItemId → List (List ℕ) → List ℕ
+line name i [] = []
+line name i (p ∷ rest) = line_text name i (p ++ behind rest)
+
+abbrev pub item_line : SettingData → SettingData → ItemId → Option ItemData → Option ItemData → Bool → List ℕ
+item_line old new i before after same = line (name_told before after) i (parts old new before after same)

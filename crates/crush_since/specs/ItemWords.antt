@@ -1,0 +1,48 @@
+-- The words of what has changed: an item, its place, its type and its other columns.
+use Rattle.std.specs.Prelude.{ℕ, List, [], ◌++◌, Option, None, Some, codes, unwrap_or}
+use Rattle.crush_units.specs.declared.alg.Alg.{Alg}
+use Rattle.crush_units.specs.declared.id.ItemId.{ItemId}
+use Rattle.crush_units.specs.declared.id.ItemId.TheVariants.{Device, Bucket}
+use Rattle.crush_units.specs.Alg.{alg_text}
+use Rattle.crush_units.specs.Weight.{weight_text}
+use Rattle.crush_edits.specs.Setting.{SettingData, kind_name}
+use Rattle.crush_print.specs.Lines.{id_text}
+use Rattle.crush_since.specs.ItemData.{ItemData}
+
+-- an item as `NAME (ID)`
+abbrev pub item_word : List ℕ → ItemId → List ℕ
+item_word name i = name ++ codes " (" ++ id_text i ++ codes ")"
+
+-- where an item stands: the bucket that holds it, or that none does
+abbrev pub place_in : ItemId → Option (List ℕ) → Option ℕ → List ℕ
+place_in i holder (Some p) = item_word (unwrap_or holder []) (Bucket p)
+place_in (Device d) holder None = codes "(unplaced)"
+place_in (Bucket b) holder None = codes "(root)"
+
+abbrev pub place_word : ItemData → List ℕ
+place_word x = place_in x.view.id x.holder x.view.parent
+
+-- the name of a type; a device's is `osd` where no type 0 is declared
+abbrev pub default_kind : ItemId → List ℕ
+default_kind (Device d) = codes "osd"
+default_kind (Bucket b) = []
+
+abbrev pub type_word : SettingData → ItemId → ℕ → List ℕ
+type_word s i kind = unwrap_or (kind_name s kind) (default_kind i)
+
+-- a class, or that there is none
+abbrev pub class_or_none : Option (List ℕ) → List ℕ
+class_or_none c = unwrap_or c (codes "(none)")
+
+abbrev pub alg_word : Option Alg → List ℕ
+alg_word None = []
+alg_word (Some a) = alg_text a
+
+-- `, class C` where there is one
+abbrev pub with_class : Option (List ℕ) → List ℕ
+with_class None = []
+with_class (Some c) = codes ", class " ++ c
+
+-- what an item is that one of the maps alone has
+abbrev pub whole_word : SettingData → ItemData → List ℕ
+whole_word s x = type_word s x.view.id x.view.kind ++ codes " in " ++ place_word x ++ codes ", weight " ++ weight_text x.view.weight ++ with_class x.view.class

@@ -1,0 +1,54 @@
+-- In what two settings differ.
+use Rattle.std.specs.Prelude.{ℕ, ◌==◌, Bool, true, false, ◌&&◌, List, [], ◌++◌, if◌then◌else◌, map, codes, bytes_eq}
+use Rattle.std.specs.Cmp.Lexicographic.{pointwise}
+use Rattle.std.specs.List.{list_all}
+use Rattle.std.specs.Ordering.{int_eq}
+use Rattle.crush_edits.specs.Setting.{KindData, TunableData, StepData, take, choose, set, emit, RuleData, SettingData, kind_name}
+use Rattle.crush_since.specs.Equal.{same_option, same_text}
+
+-- tunables, in order
+abbrev pub same_tunable : TunableData → TunableData → Bool
+same_tunable x y = bytes_eq x.name y.name && (x.value == y.value)
+
+-- types, in whatever order: each number of either has one name in both
+abbrev pub kind_numbers : SettingData → List ℕ
+kind_numbers s = map (λ (k : KindData). k.number) s.kinds
+
+abbrev pub agree_on : SettingData → SettingData → ℕ → Bool
+agree_on a b n = same_text (kind_name a n) (kind_name b n)
+
+abbrev pub same_kinds : SettingData → SettingData → Bool
+same_kinds a b = list_all (agree_on a b) (kind_numbers a) && list_all (agree_on a b) (kind_numbers b)
+
+-- rules, in order: a bucket that a step takes is its id, whatever it is called
+abbrev pub same_bool : Bool → Bool → Bool
+same_bool true b = b
+same_bool false true = false
+same_bool false false = true
+
+abbrev pub same_step : StepData → StepData → Bool
+same_step (take b c) (take d e) = (b == d) && same_text c e
+same_step (choose l f n k) (choose m g o j) = same_bool l m && same_bool f g && int_eq n o && bytes_eq k j
+same_step (set w v) (set x y) = bytes_eq w x && (v == y)
+same_step emit emit = true
+same_step x y = false
+
+abbrev pub same_rule : RuleData → RuleData → Bool
+same_rule x y =
+    bytes_eq x.name y.name && (x.id == y.id) && bytes_eq x.kind y.kind && same_option x.min_size y.min_size && same_option x.max_size y.max_size && pointwise same_step x.steps y.steps
+
+-- a line for each list that differs
+abbrev pub told_if_not : Bool → List ℕ → List ℕ
+told_if_not same text = if same then [] else text
+
+unfoldable pub tunables_line : SettingData → SettingData → List ℕ
+tunables_line a b = told_if_not (pointwise same_tunable a.tunables b.tunables) (codes "tunables differ\n")
+
+unfoldable pub kinds_line : SettingData → SettingData → List ℕ
+kinds_line a b = told_if_not (same_kinds a b) (codes "types differ\n")
+
+unfoldable pub rules_line : SettingData → SettingData → List ℕ
+rules_line a b = told_if_not (pointwise same_rule a.rules b.rules) (codes "rules differ\n")
+
+unfoldable pub setting_lines : SettingData → SettingData → List ℕ
+setting_lines a b = tunables_line a b ++ kinds_line a b ++ rules_line a b

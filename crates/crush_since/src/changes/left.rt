@@ -1,0 +1,181 @@
+//! The rows of items that stood here in the old map, and do no longer.
+
+ghost use Rattle.std.specs.Prelude.{◌≡◌, ◌+◌, ◌<◌, ◌^◌, List, [], ◌∷◌, ◌++◌, None, Some, OnOk, All, flat_map, map as each};
+ghost use Rattle.crush_table.specs.Items.{size_of};
+ghost use Rattle.crush_table.specs.Table.{Row, is_there, kids};
+ghost use Rattle.crush_nodes.specs.Seen.{items_of};
+ghost use Rattle.crush_units.specs.declared.id.ItemId.TheVariants.{Bucket as BucketItem, Device as DeviceItem};
+ghost use Rattle.crush_print.specs.MapText.{root_numbers};
+ghost use Rattle.crush_since.specs.ChangeItems.{left_of, stood_of};
+ghost use Rattle.crush_since.specs.Changes.{left_from, stands_in};
+ghost use Rattle.crush_since.specs.Listing.{Lists};
+ghost use Rattle.crush_since.specs.SeenChange.{AreTables, place_change};
+ghost use Rattle.crush_view.specs.Tree.{unplaced_numbers};
+
+use crate::changes::rows::{Both, Place};
+use crate::since::columns::same_parent;
+use crate::since::listing::Listing;
+use crush_print::nodes_in_order;
+use crush_tree::{Bucket, Node};
+use crush_units::{BucketId, ItemId};
+use std::alloc::{AllocError, Allocator, Global};
+
+/// The roots of the old map that are none now.
+pub(super) fn push_left_roots<A: Allocator, B: Allocator>(
+    alloc: Global,
+    both: &Both<'_, A, B>,
+    rows: &mut Vec<Place>,
+) -> Result<(), AllocError>
+    ensures { (t u : List Row) → AreTables t u both.now
+        → OnOk result (each (place_change t u) rows.new.items ≡ each (place_change t u) rows.old.items
+        ++ left_from t u 0 None (each BucketItem (root_numbers t))) }
+{
+    let forest = both.old.forest();
+    forest.recall_invariant();
+    let roots = nodes_in_order(alloc, forest.roots())?;
+    push_left_tops(both, roots.as_slice(), rows)
+}
+
+/// The unplaced devices of the old map that are none now.
+pub(super) fn push_left_unplaced<A: Allocator, B: Allocator>(
+    alloc: Global,
+    both: &Both<'_, A, B>,
+    rows: &mut Vec<Place>,
+) -> Result<(), AllocError>
+    ensures { (t u : List Row) → AreTables t u both.now
+        → OnOk result (each (place_change t u) rows.new.items ≡ each (place_change t u) rows.old.items
+        ++ left_from t u 0 None (each DeviceItem (unplaced_numbers t))) }
+{
+    let forest = both.old.forest();
+    forest.recall_invariant();
+    let unplaced = nodes_in_order(alloc, forest.unplaced())?;
+    push_left_tops(both, unplaced.as_slice(), rows)
+}
+
+/// Of nodes that no bucket held in the old map those that stand elsewhere now or are gone.
+fn push_left_tops<A: Allocator, B: Allocator>(
+    both: &Both<'_, A, B>,
+    nodes: &[&Node<A>],
+    rows: &mut Vec<Place>,
+) -> Result<(), AllocError>
+    requires { All (λ r. size_of (items_of (r.now ∷ [])) < 2 ^ 32) nodes.now }
+    ensures { (t u : List Row) → AreTables t u both.now
+        → OnOk result (each (place_change t u) rows.new.items ≡ each (place_change t u) rows.old.items
+        ++ flat_map (λ r. left_of t u 0 None r.now) nodes.now) }
+{
+    for node in nodes {
+        push_if_left(both, *node, None, 0, rows)?;
+    }
+    Ok(())
+}
+
+/// The items that stood in the bucket in the old map, and do no longer, in their order there.
+pub(super) fn push_left<A: Allocator, B: Allocator>(
+    both: &Both<'_, A, B>,
+    bucket: BucketId,
+    depth: u32,
+    rows: &mut Vec<Place>,
+) -> Result<(), AllocError>
+    requires { depth < 2 ^ 31 }
+    ensures { (t u : List Row) → AreTables t u both.now
+        → OnOk result (each (place_change t u) rows.new.items ≡ each (place_change t u) rows.old.items
+        ++ left_from t u depth (Some bucket) (kids t bucket)) }
+{
+    let forest = both.old.forest();
+    forest.recall_invariant();
+    match both.old.items(bucket) {
+        Some(items) => push_left_items(both, items, bucket, depth, rows),
+        None => Ok(()),
+    }
+}
+
+/// Of items that stood in the bucket those that do no longer.
+fn push_left_items<A: Allocator, B: Allocator>(
+    both: &Both<'_, A, B>,
+    items: &[Node<A>],
+    bucket: BucketId,
+    depth: u32,
+    rows: &mut Vec<Place>,
+) -> Result<(), AllocError>
+    requires { depth + size_of (items_of items.now) < 2 ^ 32 }
+    ensures { (t u : List Row) → AreTables t u both.now
+        → OnOk result (each (place_change t u) rows.new.items ≡ each (place_change t u) rows.old.items
+        ++ flat_map (left_of t u depth (Some bucket)) items.now) }
+{
+    for item in items {
+        push_if_left(both, item, Some(bucket), depth, rows)?;
+    }
+    Ok(())
+}
+
+/// A node that stood in this place, unless it stands there now.
+fn push_if_left<A: Allocator, B: Allocator>(
+    both: &Both<'_, A, B>,
+    node: &Node<A>,
+    place: Option<BucketId>,
+    depth: u32,
+    rows: &mut Vec<Place>,
+) -> Result<(), AllocError>
+    requires { depth + size_of (items_of (node.now ∷ [])) < 2 ^ 32 }
+    ensures { (t u : List Row) → AreTables t u both.now
+        → OnOk result (each (place_change t u) rows.new.items ≡ each (place_change t u) rows.old.items
+        ++ left_of t u depth place node.now) }
+{
+    if stands_in(&both.after, node.id(), place) {
+        return Ok(());
+    }
+    push_stood(both, node, depth, rows)
+}
+
+/// A node that stood here, and below what is gone all that stood below it.
+fn push_stood<A: Allocator, B: Allocator>(
+    both: &Both<'_, A, B>,
+    node: &Node<A>,
+    depth: u32,
+    rows: &mut Vec<Place>,
+) -> Result<(), AllocError>
+    requires { depth + size_of (items_of (node.now ∷ [])) < 2 ^ 32 }
+    ensures { (t u : List Row) → AreTables t u both.now
+        → OnOk result (each (place_change t u) rows.new.items ≡ each (place_change t u) rows.old.items
+        ++ stood_of t u depth (items_of (node.now ∷ []))) }
+{
+    let row = Place {
+        id: node.id(),
+        depth,
+        stands: false,
+    };
+    let Ok(()) = rows.push(row) else {
+        return Err(AllocError);
+    };
+    match node {
+        Node::Device(_) => Ok(()),
+        Node::Bucket(bucket) => {
+            let bucket: &Bucket<A> = bucket;
+            if is_there(&both.after, ItemId::Bucket(bucket.header.id)) {
+                return Ok(());
+            }
+            let items = bucket.items.as_slice();
+            for item in items {
+                push_stood(both, item, depth + 1, rows)?;
+            }
+            Ok(())
+        }
+    }
+}
+
+/// Whether an item stands in this place: below the bucket, or below none.
+fn stands_in<A: Allocator>(listing: &Listing<'_, A>, id: ItemId, place: Option<BucketId>) -> bool
+    ensures { (u : List Row) → Lists u listing.now.items.items → result ≡ stands_in u place id }
+{
+    match listing.find(id) {
+        Some(item) => same_parent(item.parent, place),
+        None => false,
+    }
+}
+
+/// Whether an item is there.
+fn is_there<A: Allocator>(listing: &Listing<'_, A>, id: ItemId) -> bool
+    ensures { (u : List Row) → Lists u listing.now.items.items → result ≡ is_there u id }
+{
+    listing.find(id).is_some()
+}

@@ -1,0 +1,237 @@
+//! The lines of the tree of what has changed.
+
+ghost use Rattle.std.specs.Prelude.{◌≡◌, ◌++◌, List, IfOk, OnOk, flat_map, map as each};
+ghost use Rattle.std.specs.Option.{option_map};
+ghost use Rattle.crush_table.specs.Table.{Row};
+ghost use Rattle.crush_since.specs.ChangeText.{change_line, heading, kind_and_name, name_column, name_word, rows_text, side_by_side, weight_or_dash as dashed, weights_column};
+ghost use Rattle.crush_since.specs.SeenChange.{AreTables, change_data, place_change};
+ghost use Rattle.crush_since.specs.SeenItem.{seen_data};
+ghost use Rattle.crush_view.specs.TreeText.{at_left, at_right};
+
+use crate::changes::notes::push_brackets;
+use crate::changes::rows::{Both, Place};
+use crate::changes::seen::{Change, change_at};
+use crate::changes::weights::{class_bytes, weighed, weighs, weight_or_dash};
+use crate::changes::widths::{ChangeWidths, widths_of};
+use crate::since::seen::Seen;
+use crush_map::Setting;
+use crush_units::{ItemId, Weight};
+use crush_view::columns::{push_left, push_right};
+use crush_view::id_column;
+use crush_view::words::{push_all, push_indent, push_kind, push_row};
+use std::alloc::{AllocError, Allocator, Global};
+
+/// The heading and the lines of rows.
+#[tactic(auto, unfolding(crate::specs::ChangeText::rows_text))]
+pub(super) fn push_rows<A: Allocator, B: Allocator>(
+    alloc: Global,
+    both: &Both<'_, A, B>,
+    rows: &[Place],
+    out: &mut Vec<u8>,
+) -> Result<(), AllocError>
+    ensures { (t u : List Row) → AreTables t u both.now → OnOk result (out.new.items
+        ≡ out.old.items ++ rows_text both.now.old.now.setting both.now.new.now.setting
+        (each (place_change t u) rows.now)) }
+{
+    let widths = widths_of(alloc, both, rows)?;
+    push_heading(alloc, &widths, out)?;
+    push_lines(alloc, both, &widths, rows, out)
+}
+
+/// The headings.
+#[tactic(auto, unfolding(crate::specs::ChangeText::heading))]
+fn push_heading(alloc: Global, widths: &ChangeWidths, out: &mut Vec<u8>) -> Result<(), AllocError>
+    ensures { OnOk result (out.new.items ≡ out.old.items ++ heading widths.now) }
+{
+    let id = left_column(alloc, widths.id, b"ID")?;
+    let class = left_column(alloc, widths.class, b"CLASS")?;
+    let was = left_column(alloc, widths.was, b"WAS")?;
+    let weight = left_column(alloc, widths.weight, b"WEIGHT")?;
+    let weights = side_by_side(alloc, was.as_slice(), weight.as_slice())?;
+    push_row(
+        id.as_slice(),
+        class.as_slice(),
+        weights.as_slice(),
+        b"TYPE NAME",
+        out,
+    )
+}
+
+/// The lines of rows.
+fn push_lines<A: Allocator, B: Allocator>(
+    alloc: Global,
+    both: &Both<'_, A, B>,
+    widths: &ChangeWidths,
+    rows: &[Place],
+    out: &mut Vec<u8>,
+) -> Result<(), AllocError>
+    ensures { (t u : List Row) → AreTables t u both.now → OnOk result (out.new.items
+        ≡ out.old.items ++ flat_map (λ row. change_line both.now.old.now.setting
+        both.now.new.now.setting widths.now (place_change t u row)) rows.now) }
+{
+    for row in rows {
+        push_row_of(alloc, both, widths, row, out)?;
+    }
+    Ok(())
+}
+
+/// The line of a row.
+fn push_row_of<A: Allocator, B: Allocator>(
+    alloc: Global,
+    both: &Both<'_, A, B>,
+    widths: &ChangeWidths,
+    row: &Place,
+    out: &mut Vec<u8>,
+) -> Result<(), AllocError>
+    ensures { (t u : List Row) → AreTables t u both.now → OnOk result (out.new.items
+        ≡ out.old.items ++ change_line both.now.old.now.setting both.now.new.now.setting
+        widths.now (place_change t u row.now)) }
+{
+    let change = change_at(both, row);
+    let layout = Layout {
+        old: both.old.setting(),
+        new: both.new.setting(),
+        widths: *widths,
+    };
+    push_line(alloc, &layout, &change, out)
+}
+
+/// How a line is laid out: what surrounds the items of both maps, and the widths of the columns.
+#[derive(Clone, Copy)]
+struct Layout<'a> {
+    /// What surrounds the items before.
+    old: &'a Setting,
+    /// What surrounds the items after.
+    new: &'a Setting,
+    /// The widths of the columns.
+    widths: ChangeWidths,
+}
+
+/// The line of what both maps say of an item.
+#[tactic(auto, unfolding(crate::specs::ChangeText::change_line))]
+fn push_line(
+    alloc: Global,
+    layout: &Layout<'_>,
+    change: &Change<'_>,
+    out: &mut Vec<u8>,
+) -> Result<(), AllocError>
+    ensures { OnOk result (out.new.items ≡ out.old.items
+        ++ change_line layout.now.old.now layout.now.new.now layout.now.widths
+        (change_data change.now)) }
+{
+    let id = id_column(alloc, layout.widths.id, change.id)?;
+    let class = right_column(alloc, layout.widths.class, class_bytes(change))?;
+    let weights = weights_column(alloc, &layout.widths, change)?;
+    let name = name_column(alloc, layout.old, layout.new, change)?;
+    push_row(
+        id.as_slice(),
+        class.as_slice(),
+        weights.as_slice(),
+        name.as_slice(),
+        out,
+    )
+}
+
+/// The columns of the weights.
+#[tactic(auto, unfolding(crate::specs::ChangeText::weights_column))]
+fn weights_column(
+    alloc: Global,
+    widths: &ChangeWidths,
+    change: &Change<'_>,
+) -> Result<Vec<u8>, AllocError>
+    ensures { IfOk result (λ column. column.items
+        ≡ weights_column widths.now (change_data change.now)) }
+{
+    let was = weight_column(alloc, widths.was, weighed(change))?;
+    let weight = weight_column(alloc, widths.weight, weighs(change))?;
+    side_by_side(alloc, was.as_slice(), weight.as_slice())
+}
+
+/// A name behind its spaces, of a bucket behind its type, and what there is to tell of it.
+#[tactic(auto, unfolding(crate::specs::ChangeText::name_column))]
+fn name_column(
+    alloc: Global,
+    old: &Setting,
+    new: &Setting,
+    change: &Change<'_>,
+) -> Result<Vec<u8>, AllocError>
+    ensures { IfOk result (λ column. column.items
+        ≡ name_column old.now new.now (change_data change.now)) }
+{
+    let mut column = Vec::new(alloc);
+    push_indent(change.depth, &mut column)?;
+    push_name(old, new, change, &mut column)?;
+    push_brackets(alloc, old, new, change, &mut column)?;
+    Ok(column)
+}
+
+/// A name, and of a bucket the name of its type before it, in the map in which it stands here.
+fn push_name(
+    old: &Setting,
+    new: &Setting,
+    change: &Change<'_>,
+    out: &mut Vec<u8>,
+) -> Result<(), AllocError>
+    ensures { OnOk result (out.new.items ≡ out.old.items
+        ++ name_word old.now new.now (change_data change.now)) }
+{
+    if change.stands {
+        push_kind_and_name(new, change.id, &change.after, out)
+    } else {
+        push_kind_and_name(old, change.id, &change.before, out)
+    }
+}
+
+/// A name, and of a bucket the name of its type before it. Nothing of an item that isn't there.
+fn push_kind_and_name(
+    setting: &Setting,
+    id: ItemId,
+    item: &Option<Seen<'_>>,
+    out: &mut Vec<u8>,
+) -> Result<(), AllocError>
+    ensures { OnOk result (out.new.items ≡ out.old.items
+        ++ kind_and_name setting.now id (option_map seen_data item.now)) }
+{
+    match item {
+        Some(item) => {
+            push_kind(setting, id, item.view.kind, out)?;
+            push_all(&[item.view.name.as_bytes()], out)
+        }
+        None => Ok(()),
+    }
+}
+
+/// A weight, or a dash, in its column.
+fn weight_column(alloc: Global, width: usize, weight: Option<Weight>) -> Result<Vec<u8>, AllocError>
+    ensures { IfOk result (λ column. column.items ≡ at_right width (dashed weight)) }
+{
+    let word = weight_or_dash(alloc, weight)?;
+    right_column(alloc, width, word.as_slice())
+}
+
+/// A word at the right end of a column of the width.
+fn right_column(alloc: Global, width: usize, word: &[u8]) -> Result<Vec<u8>, AllocError>
+    ensures { IfOk result (λ column. column.items ≡ at_right width word.now) }
+{
+    let mut column = Vec::new(alloc);
+    push_right(width, word, &mut column)?;
+    Ok(column)
+}
+
+/// A word at the left end of a column of the width.
+fn left_column(alloc: Global, width: usize, word: &[u8]) -> Result<Vec<u8>, AllocError>
+    ensures { IfOk result (λ column. column.items ≡ at_left width word.now) }
+{
+    let mut column = Vec::new(alloc);
+    push_left(width, word, &mut column)?;
+    Ok(column)
+}
+
+/// Two columns, two spaces between.
+fn side_by_side(alloc: Global, first: &[u8], second: &[u8]) -> Result<Vec<u8>, AllocError>
+    ensures { IfOk result (λ columns. columns.items ≡ side_by_side first.now second.now) }
+{
+    let mut columns = Vec::new(alloc);
+    push_all(&[first, b"  ".as_slice(), second], &mut columns)?;
+    Ok(columns)
+}

@@ -1,0 +1,181 @@
+//! The rows of the tree of what has changed.
+
+ghost use Rattle.std.specs.Prelude.{◌≡◌, ◌+◌, ◌-◌, ◌<◌, ◌^◌, List, [], ◌∷◌, ◌++◌, true, OnOk, IfOk, All, length, flat_map, map as each};
+ghost use Rattle.crush_table.specs.Items.{size_of};
+ghost use Rattle.crush_table.specs.Table.{Row};
+ghost use Rattle.crush_nodes.specs.Seen.{items_of};
+ghost use Rattle.crush_since.specs.ChangeItems.{stands_of};
+ghost use Rattle.crush_since.specs.Changes.{ChangeData, change_at, change_rows, is_told as is_told_of, root_rows, unplaced_rows, with_below};
+ghost use Rattle.crush_since.specs.SeenChange.{AreTables, place_change};
+ghost use Rattle.crush_since.specs.Since.{told};
+
+use crate::changes::left::{push_left, push_left_roots, push_left_unplaced};
+use crate::since::listing::Listing;
+use crate::since::told::is_told_of;
+use crush_map::CrushMap;
+use crush_print::nodes_in_order;
+use crush_tree::{Bucket, Node};
+use crush_units::ItemId;
+use std::alloc::{AllocError, Allocator, Global};
+
+/// Two maps, and the items of each by their ids.
+#[derive(Drop)]
+pub(crate) struct Both<'a, A: Allocator, B: Allocator> {
+    /// The map before.
+    pub old: &'a CrushMap<A>,
+    /// The map after.
+    pub new: &'a CrushMap<B>,
+    /// The items before.
+    pub before: Listing<'a, A>,
+    /// The items after.
+    pub after: Listing<'a, B>,
+}
+
+/// A row: an item that stands here now, or stood here and does no longer.
+#[derive(Clone, Copy, Debug)]
+pub(crate) struct Place {
+    /// Its id.
+    pub id: ItemId,
+    /// How many buckets are above it.
+    pub depth: u32,
+    /// Whether it stands here now.
+    pub stands: bool,
+}
+
+/// The rows of what has changed: first the roots, from -1 downward, with what is below them, and those
+/// that are none now; then the unplaced devices, by ascending number, and those that are none now.
+#[tactic(auto, unfolding(crate::specs::Changes::change_rows))]
+pub(crate) fn rows_of<A: Allocator, B: Allocator>(
+    alloc: Global,
+    both: &Both<'_, A, B>,
+) -> Result<Vec<Place>, AllocError>
+    ensures { IfOk result (λ rows. (t u : List Row) → AreTables t u both.now
+        → each (place_change t u) rows.items
+        ≡ change_rows (told both.now.old.now.setting t) (told both.now.new.now.setting u)) }
+{
+    let mut rows = Vec::new(alloc);
+    push_roots(alloc, both, &mut rows)?;
+    push_unplaced(alloc, both, &mut rows)?;
+    Ok(rows)
+}
+
+/// The rows of the roots.
+fn push_roots<A: Allocator, B: Allocator>(
+    alloc: Global,
+    both: &Both<'_, A, B>,
+    rows: &mut Vec<Place>,
+) -> Result<(), AllocError>
+    ensures { (t u : List Row) → AreTables t u both.now
+        → OnOk result (each (place_change t u) rows.new.items ≡ each (place_change t u) rows.old.items
+        ++ root_rows (told both.now.old.now.setting t) (told both.now.new.now.setting u)) }
+{
+    let forest = both.new.forest();
+    forest.recall_invariant();
+    let roots = nodes_in_order(alloc, forest.roots())?;
+    push_tops(both, roots.as_slice(), rows)?;
+    push_left_roots(alloc, both, rows)
+}
+
+/// The rows of the unplaced devices.
+fn push_unplaced<A: Allocator, B: Allocator>(
+    alloc: Global,
+    both: &Both<'_, A, B>,
+    rows: &mut Vec<Place>,
+) -> Result<(), AllocError>
+    ensures { (t u : List Row) → AreTables t u both.now
+        → OnOk result (each (place_change t u) rows.new.items ≡ each (place_change t u) rows.old.items
+        ++ unplaced_rows (told both.now.old.now.setting t) (told both.now.new.now.setting u)) }
+{
+    let forest = both.new.forest();
+    forest.recall_invariant();
+    let unplaced = nodes_in_order(alloc, forest.unplaced())?;
+    push_tops(both, unplaced.as_slice(), rows)?;
+    push_left_unplaced(alloc, both, rows)
+}
+
+/// The rows of nodes that no bucket holds.
+fn push_tops<A: Allocator, B: Allocator>(
+    both: &Both<'_, A, B>,
+    nodes: &[&Node<B>],
+    rows: &mut Vec<Place>,
+) -> Result<(), AllocError>
+    requires { All (λ r. size_of (items_of (r.now ∷ [])) < 2 ^ 31) nodes.now }
+    ensures { (t u : List Row) → AreTables t u both.now
+        → OnOk result (each (place_change t u) rows.new.items ≡ each (place_change t u) rows.old.items
+        ++ flat_map (λ r. stands_of (told both.now.old.now.setting t)
+        (told both.now.new.now.setting u) 0 (items_of (r.now ∷ []))) nodes.now) }
+{
+    for node in nodes {
+        push_standing(both, *node, 0, rows)?;
+    }
+    Ok(())
+}
+
+/// The rows of a node that stands here, of what is below it and of what stood below it: none where
+/// nothing is told of any of them.
+fn push_standing<B: Allocator, A: Allocator>(
+    both: &Both<'_, A, B>,
+    node: &Node<B>,
+    depth: u32,
+    rows: &mut Vec<Place>,
+) -> Result<(), AllocError>
+    requires { depth + size_of (items_of (node.now ∷ [])) < 2 ^ 31 }
+    ensures { (t u : List Row) → AreTables t u both.now
+        → OnOk result (each (place_change t u) rows.new.items ≡ each (place_change t u) rows.old.items
+        ++ stands_of (told both.now.old.now.setting t) (told both.now.new.now.setting u) depth
+        (items_of (node.now ∷ []))) }
+{
+    let at = rows.len();
+    let is_told = push_told(both, &node.id(), depth, rows)?;
+    match node {
+        Node::Device(_) => {
+            settle(at, is_told, rows);
+            Ok(())
+        }
+        Node::Bucket(bucket) => {
+            let bucket: &Bucket<B> = bucket;
+            let items = bucket.items.as_slice();
+            for item in items {
+                push_standing(both, item, depth + 1, rows)?;
+            }
+            push_left(both, bucket.header.id, depth + 1, rows)?;
+            settle(at, is_told, rows);
+            Ok(())
+        }
+    }
+}
+
+/// Pushes the row of an item that stands here. The answer is whether something is told of it.
+fn push_told<A: Allocator, B: Allocator>(
+    both: &Both<'_, A, B>,
+    id: &ItemId,
+    depth: u32,
+    rows: &mut Vec<Place>,
+) -> Result<bool, AllocError>
+    ensures row { (t u : List Row) → AreTables t u both.now → OnOk result
+        (each (place_change t u) rows.new.items ≡ each (place_change t u) rows.old.items
+        ++ change_at t u true depth id.now ∷ []) }
+    ensures told { IfOk result (λ answer. (t u : List Row) → AreTables t u both.now → answer
+        ≡ is_told_of (told both.now.old.now.setting t) (told both.now.new.now.setting u)
+        id.now) }
+{
+    let is_told = is_told_of(&both.before, &both.after, id);
+    let row = Place {
+        id: *id,
+        depth,
+        stands: true,
+    };
+    rows.push(row)?;
+    Ok(is_told)
+}
+
+/// Takes back the row at this place where nothing is told of its item and no row stands behind it.
+fn settle(at: usize, is_told: bool, rows: &mut Vec<Place>)
+    ensures { (t u : List Row) (before below : List ChangeData) (row : ChangeData)
+        → length before ≡ at → each (place_change t u) rows.old.items ≡ before ++ row ∷ below
+        → each (place_change t u) rows.new.items ≡ before ++ with_below is_told row below }
+{
+    if !is_told && rows.len().saturating_sub(at) == 1 {
+        rows.truncate(at);
+    }
+}

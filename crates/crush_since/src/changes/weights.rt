@@ -1,0 +1,100 @@
+//! What an item weighed here, and weighs here.
+
+ghost use Rattle.std.specs.Prelude.{◌≡◌, ◌++◌, true, Some, IfOk, OnOk};
+ghost use Rattle.std.specs.Option.{option_map};
+ghost use Rattle.crush_since.specs.ChangeText.{class_word, item_class, weight_or_dash, weighed, weighed_here, weighs};
+ghost use Rattle.crush_since.specs.SeenChange.{change_data};
+ghost use Rattle.crush_since.specs.SeenItem.{seen_data};
+
+use crate::changes::seen::Change;
+use crate::since::columns::same_parent;
+use crate::since::seen::Seen;
+use crush_units::Weight;
+use crush_view::words::{bytes_of, push_all, push_weight};
+use std::alloc::{AllocError, Global};
+
+/// The class that the item has in the map in which it stands here, or nothing.
+pub(super) fn class_bytes<'a>(change: &Change<'a>) -> &'a [u8]
+    ensures { result.now ≡ class_word (change_data change.now) }
+{
+    if change.stands {
+        class_of(&change.after)
+    } else {
+        class_of(&change.before)
+    }
+}
+
+/// The class of an item, or nothing.
+fn class_of<'a>(item: &Option<Seen<'a>>) -> &'a [u8]
+    ensures { result.now ≡ item_class (option_map seen_data item.now) }
+{
+    match item {
+        Some(item) => bytes_of(item.view.class),
+        None => b"".as_slice(),
+    }
+}
+
+/// What the item weighed here, if it stood here. One that stands here now stood here where its parent
+/// is the same.
+pub(super) fn weighed(change: &Change<'_>) -> Option<Weight>
+    ensures { result ≡ weighed (change_data change.now) }
+{
+    match &change.before {
+        Some(before) => {
+            if change.stands {
+                weighed_before(before, &change.after)
+            } else {
+                Some(before.view.weight)
+            }
+        }
+        None => None,
+    }
+}
+
+/// What an item weighed that stands here now, if it stood here.
+fn weighed_before(before: &Seen<'_>, after: &Option<Seen<'_>>) -> Option<Weight>
+    ensures { result ≡ weighed_here true (Some (seen_data before.now)) (option_map seen_data after.now) }
+{
+    match after {
+        Some(after) => {
+            if same_parent(before.view.parent, after.view.parent) {
+                Some(before.view.weight)
+            } else {
+                None
+            }
+        }
+        None => None,
+    }
+}
+
+/// What the item weighs here, if it stands here now.
+pub(super) fn weighs(change: &Change<'_>) -> Option<Weight>
+    ensures { result ≡ weighs (change_data change.now) }
+{
+    if !change.stands {
+        return None;
+    }
+    match &change.after {
+        Some(after) => Some(after.view.weight),
+        None => None,
+    }
+}
+
+/// A weight, or a dash.
+fn push_weight_or_dash(weight: Option<Weight>, out: &mut Vec<u8>) -> Result<(), AllocError>
+    ensures { OnOk result (out.new.items ≡ out.old.items ++ weight_or_dash weight) }
+{
+    match weight {
+        Some(weight) => push_weight(weight, out),
+        None => push_all(&[b"-".as_slice()], out),
+    }
+}
+
+/// The text of a weight, or a dash.
+pub(super) fn weight_or_dash(alloc: Global, weight: Option<Weight>) -> Result<Vec<u8>, AllocError>
+    ensures { IfOk result (λ text. text.items ≡ weight_or_dash weight) }
+{
+    let mut text = Vec::new(alloc);
+    push_weight_or_dash(weight, &mut text)?;
+    Ok(text)
+}

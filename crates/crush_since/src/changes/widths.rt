@@ -1,0 +1,62 @@
+//! How wide the columns are.
+
+ghost use Rattle.std.specs.Prelude.{◌≡◌, List, IfOk, length, max, map as each};
+ghost use Rattle.crush_table.specs.Table.{Row};
+ghost use Rattle.crush_since.specs.ChangeText.{weight_or_dash as dashed, widths_of};
+ghost use Rattle.crush_since.specs.SeenChange.{AreTables, place_change};
+
+use crate::changes::rows::{Both, Place};
+use crate::changes::seen::change_at;
+use crate::changes::weights::{class_bytes, weighed, weighs, weight_or_dash};
+use crush_units::Weight;
+use crush_view::{wider, wider_id};
+use std::alloc::{AllocError, Allocator, Global};
+
+/// The widths of the columns before the names.
+#[derive(Clone, Copy, Debug)]
+pub(crate) struct ChangeWidths {
+    /// Of ids.
+    pub id: usize,
+    /// Of classes.
+    pub class: usize,
+    /// Of weights before.
+    pub was: usize,
+    /// Of weights after.
+    pub weight: usize,
+}
+
+/// How wide the columns of rows are.
+pub(super) fn widths_of<A: Allocator, B: Allocator>(
+    alloc: Global,
+    both: &Both<'_, A, B>,
+    rows: &[Place],
+) -> Result<ChangeWidths, AllocError>
+    ensures { IfOk result (λ widths. (t u : List Row) → AreTables t u both.now
+        → widths ≡ widths_of (each (place_change t u) rows.now)) }
+{
+    let mut id = 2;
+    let mut class = 5;
+    let mut was = 3;
+    let mut weight = 6;
+    for row in rows {
+        let change = change_at(both, row);
+        id = wider_id(alloc, id, change.id)?;
+        class = wider(class, class_bytes(&change));
+        was = wider_weight(alloc, was, weighed(&change))?;
+        weight = wider_weight(alloc, weight, weighs(&change))?;
+    }
+    Ok(ChangeWidths {
+        id,
+        class,
+        was,
+        weight,
+    })
+}
+
+/// A width, or the length of a weight or of a dash that is longer.
+fn wider_weight(alloc: Global, width: usize, weight: Option<Weight>) -> Result<usize, AllocError>
+    ensures { IfOk result (λ wider. wider ≡ max width (length (dashed weight))) }
+{
+    let word = weight_or_dash(alloc, weight)?;
+    Ok(wider(width, word.as_slice()))
+}

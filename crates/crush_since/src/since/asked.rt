@@ -1,0 +1,83 @@
+//! The ids of items of which there is something to tell.
+
+ghost use Rattle.std.specs.Prelude.{◌≡◌, ◌∷◌, ◌++◌, [], List, IfOk, OnOk, filter};
+ghost use Rattle.crush_edits.specs.Setting.{SettingData};
+ghost use Rattle.crush_table.specs.Stands.{Stands};
+ghost use Rattle.crush_table.specs.Table.{Row};
+ghost use Rattle.crush_since.specs.Changes.{is_told};
+ghost use Rattle.crush_since.specs.Listing.{Lists};
+ghost use Rattle.crush_since.specs.Since.{told};
+ghost use Rattle.crush_since.specs.SincePart.{told_ids};
+
+use crate::since::ids::ids_of_both;
+use crate::since::listing::{Listing, listing_of};
+use crate::since::part::part_ids;
+use crate::since::told::is_told_of;
+use crush_map::CrushMap;
+use crush_units::ItemId;
+use std::alloc::{AllocError, Allocator, Global};
+
+/// The ids of the items of which [`write_since`](crate::write_since) tells, in its order: of all
+/// items, or of those that stand below this one or stood below it, it among them.
+/// [`look_up`](crate::look_up) says what each map has of one.
+///
+/// An `Err` says that memory ran out.
+#[tactic(auto, unfolding(crate::specs::SincePart::told_ids))]
+pub fn told_ids<A: Allocator, B: Allocator>(
+    alloc: Global,
+    old: &CrushMap<A>,
+    new: &CrushMap<B>,
+    under: Option<ItemId>,
+) -> Result<Vec<ItemId>, AllocError>
+    ensures { IfOk result (λ ids. (t u : List Row) → Stands old.now.forest t
+        → Stands new.now.forest u
+        → ids.items ≡ told_ids under (told old.now.setting t) (told new.now.setting u)) }
+{
+    let before = listing_of(alloc, old)?;
+    let after = listing_of(alloc, new)?;
+    match under {
+        Some(item) => {
+            let ids = part_ids(alloc, old, new, item)?;
+            told_among(alloc, &before, &after, ids.as_slice())
+        }
+        None => {
+            let ids = ids_of_both(alloc, &before, &after)?;
+            told_among(alloc, &before, &after, ids.as_slice())
+        }
+    }
+}
+
+/// Of these ids those of the items of which there is something to tell.
+fn told_among<A: Allocator, B: Allocator>(
+    alloc: Global,
+    old: &Listing<'_, A>,
+    new: &Listing<'_, B>,
+    ids: &[ItemId],
+) -> Result<Vec<ItemId>, AllocError>
+    ensures { IfOk result (λ found. (s p : SettingData) (t u : List Row)
+        → Lists t old.now.items.items → Lists u new.now.items.items
+        → found.items ≡ filter (is_told (told s t) (told p u)) ids.now) }
+{
+    let mut found = Vec::new(alloc);
+    for id in ids {
+        push_if_told(old, new, id, &mut found)?;
+    }
+    Ok(found)
+}
+
+/// Pushes this id, if there is something to tell of its item.
+fn push_if_told<A: Allocator, B: Allocator>(
+    old: &Listing<'_, A>,
+    new: &Listing<'_, B>,
+    id: &ItemId,
+    found: &mut Vec<ItemId>,
+) -> Result<(), AllocError>
+    ensures { (s p : SettingData) (t u : List Row) → Lists t old.now.items.items
+        → Lists u new.now.items.items → OnOk result (found.new.items ≡ found.old.items
+        ++ filter (is_told (told s t) (told p u)) (id.now ∷ [])) }
+{
+    if is_told_of(old, new, id) {
+        found.push(*id)?;
+    }
+    Ok(())
+}

@@ -1,0 +1,128 @@
+//! The ids of two maps, each once.
+
+ghost use Rattle.std.specs.Prelude.{◌≡◌, ◌++◌, List, OnOk, IfOk, flat_map, map as each};
+ghost use Rattle.crush_print.specs.MapText.{ascending, device_number};
+ghost use Rattle.crush_table.specs.Table.{Row, bucket_ids};
+ghost use Rattle.crush_since.specs.Listing.{Lists, listed_id};
+ghost use Rattle.crush_since.specs.Since.{all_ids, once};
+ghost use Rattle.crush_since.specs.SincePart.{each_once};
+
+use crate::since::columns::same_number;
+use crate::since::listing::{Listed, Listing};
+use crush_units::{BucketId, DeviceId, ItemId};
+use std::alloc::{AllocError, Allocator, Global};
+
+/// The ids of both maps, each once: buckets from -1 downward, and then devices upward.
+pub(crate) fn ids_of_both<A: Allocator, B: Allocator>(
+    alloc: Global,
+    old: &Listing<'_, A>,
+    new: &Listing<'_, B>,
+) -> Result<Vec<ItemId>, AllocError>
+    ensures { IfOk result (λ ids. (t u : List Row) → Lists t old.now.items.items
+        → Lists u new.now.items.items → ids.items ≡ all_ids t u) }
+{
+    let mut found = Vec::new(alloc);
+    push_ids(old.items.as_slice(), &mut found)?;
+    push_ids(new.items.as_slice(), &mut found)?;
+    each_once(alloc, found.as_slice())
+}
+
+/// The ids, each once: buckets from -1 downward, and then devices upward.
+#[tactic(auto, unfolding(crate::specs::SincePart::each_once))]
+pub(crate) fn each_once(alloc: Global, found: &[ItemId]) -> Result<Vec<ItemId>, AllocError>
+    ensures { IfOk result (λ ids. ids.items ≡ each_once found.now) }
+{
+    let buckets = buckets_among(alloc, found)?;
+    let devices = devices_among(alloc, found)?;
+    let mut ids = Vec::new(alloc);
+    push_buckets(buckets.as_slice(), &mut ids)?;
+    push_devices(devices.as_slice(), &mut ids)?;
+    Ok(ids)
+}
+
+/// The ids of items.
+fn push_ids<A: Allocator>(
+    items: &[Listed<'_, A>],
+    found: &mut Vec<ItemId>,
+) -> Result<(), AllocError>
+    ensures { OnOk result (found.new.items ≡ found.old.items ++ each listed_id items.now) }
+{
+    for item in items {
+        found.push(item.node.id())?;
+    }
+    Ok(())
+}
+
+/// The buckets among the ids, from -1 downward.
+fn buckets_among(alloc: Global, ids: &[ItemId]) -> Result<Vec<BucketId>, AllocError>
+    ensures { IfOk result (λ buckets. buckets.items ≡ ascending (flat_map bucket_ids ids.now)) }
+{
+    let mut buckets = only_buckets(alloc, ids)?;
+    buckets.sort_unstable_by_key(|bucket| bucket.distance());
+    Ok(buckets)
+}
+
+/// The buckets among the ids, in their order.
+fn only_buckets(alloc: Global, ids: &[ItemId]) -> Result<Vec<BucketId>, AllocError>
+    ensures { IfOk result (λ buckets. buckets.items ≡ flat_map bucket_ids ids.now) }
+{
+    let mut buckets = Vec::new(alloc);
+    for id in ids {
+        if let ItemId::Bucket(bucket) = id {
+            buckets.push(*bucket)?;
+        }
+    }
+    Ok(buckets)
+}
+
+/// The devices among the ids, upward.
+fn devices_among(alloc: Global, ids: &[ItemId]) -> Result<Vec<DeviceId>, AllocError>
+    ensures { IfOk result (λ devices. devices.items ≡ ascending (flat_map device_number ids.now)) }
+{
+    let mut devices = only_devices(alloc, ids)?;
+    devices.sort_unstable_by_key(|device| device.number());
+    Ok(devices)
+}
+
+/// The devices among the ids, in their order.
+fn only_devices(alloc: Global, ids: &[ItemId]) -> Result<Vec<DeviceId>, AllocError>
+    ensures { IfOk result (λ devices. devices.items ≡ flat_map device_number ids.now) }
+{
+    let mut devices = Vec::new(alloc);
+    for id in ids {
+        if let ItemId::Device(device) = id {
+            devices.push(*device)?;
+        }
+    }
+    Ok(devices)
+}
+
+/// Pushes buckets whose equals stand side by side, each once.
+fn push_buckets(buckets: &[BucketId], ids: &mut Vec<ItemId>) -> Result<(), AllocError>
+    ensures { OnOk result (ids.new.items ≡ ids.old.items
+        ++ each ItemId.Bucket (once buckets.now)) }
+{
+    let mut last = None;
+    for bucket in buckets {
+        if !same_number(last, bucket.distance()) {
+            ids.push(ItemId::Bucket(*bucket))?;
+        }
+        last = Some(bucket.distance());
+    }
+    Ok(())
+}
+
+/// Pushes devices whose equals stand side by side, each once.
+fn push_devices(devices: &[DeviceId], ids: &mut Vec<ItemId>) -> Result<(), AllocError>
+    ensures { OnOk result (ids.new.items ≡ ids.old.items
+        ++ each ItemId.Device (once devices.now)) }
+{
+    let mut last = None;
+    for device in devices {
+        if !same_number(last, device.number()) {
+            ids.push(ItemId::Device(*device))?;
+        }
+        last = Some(device.number());
+    }
+    Ok(())
+}

@@ -1,0 +1,93 @@
+//! What has changed below an item.
+
+ghost use Rattle.std.specs.Prelude.{◌≡◌, List, IfOk, None, Some, map as each};
+ghost use Rattle.crush_table.specs.Stands.{Stands};
+ghost use Rattle.crush_table.specs.Table.{Row};
+ghost use Rattle.crush_view.specs.SeenStep.{step_data};
+ghost use Rattle.crush_since.specs.Since.{told};
+ghost use Rattle.crush_since.specs.SincePart.{ids_below, part_ids, since_part_text, step_ids};
+
+use crate::since::ids::each_once;
+use crate::since::listing::listing_of;
+use crate::since::push_items;
+use crush_map::CrushMap;
+use crush_units::ItemId;
+use crush_view::{Part, Step, walk_part};
+use std::alloc::{AllocError, Allocator, Global};
+
+/// What has changed from the old map to the new of the items that stand below this one or stood below
+/// it, it among them: a line for each that differs, as [`write_since`](crate::write_since) writes it,
+/// buckets by id from -1 downward and then devices upward, and nothing behind them.
+///
+/// An `Err` says that memory ran out.
+#[tactic(auto, unfolding(crate::specs::SincePart::since_part_text))]
+pub fn since_part_text<A: Allocator, B: Allocator>(
+    alloc: Global,
+    old: &CrushMap<A>,
+    new: &CrushMap<B>,
+    under: ItemId,
+) -> Result<Vec<u8>, AllocError>
+    ensures { IfOk result (λ text. (t u : List Row) → Stands old.now.forest t
+        → Stands new.now.forest u → text.items
+        ≡ since_part_text under (told old.now.setting t) (told new.now.setting u)) }
+{
+    let before = listing_of(alloc, old)?;
+    let after = listing_of(alloc, new)?;
+    let ids = part_ids(alloc, old, new, under)?;
+    let mut text = Vec::new(alloc);
+    push_items(&before, &after, ids.as_slice(), &mut text)?;
+    Ok(text)
+}
+
+/// The ids of what stands below this item in either map, it among them, each once: buckets from -1
+/// downward, and then devices upward.
+#[tactic(auto, unfolding(crate::specs::SincePart::part_ids))]
+pub(crate) fn part_ids<A: Allocator, B: Allocator>(
+    alloc: Global,
+    old: &CrushMap<A>,
+    new: &CrushMap<B>,
+    under: ItemId,
+) -> Result<Vec<ItemId>, AllocError>
+    ensures { IfOk result (λ ids. (t u : List Row) → Stands old.now.forest t
+        → Stands new.now.forest u → ids.items ≡ part_ids t u under) }
+{
+    let mut found = ids_below(alloc, old, &under)?;
+    let more = ids_below(alloc, new, &under)?;
+    found.extend_from_slice(more.as_slice())?;
+    each_once(alloc, found.as_slice())
+}
+
+/// The ids of an item and of what is below it. None where it isn't there.
+fn ids_below<A: Allocator>(
+    alloc: Global,
+    map: &CrushMap<A>,
+    under: &ItemId,
+) -> Result<Vec<ItemId>, AllocError>
+    ensures { IfOk result (λ ids. (t : List Row) → Stands map.now.forest t
+        → ids.items ≡ ids_below t under.now) }
+{
+    let steps = walk_part(alloc, map, part_below(*under))?;
+    step_ids(alloc, steps.as_slice())
+}
+
+/// The part of a tree that has an item and all that is below it.
+fn part_below(under: ItemId) -> Part
+    ensures under { result.under ≡ Some under }
+    ensures down_to { result.down_to ≡ None }
+{
+    Part {
+        under: Some(under),
+        down_to: None,
+    }
+}
+
+/// The ids of the items of steps.
+fn step_ids<A: Allocator>(alloc: Global, steps: &[Step<'_, A>]) -> Result<Vec<ItemId>, AllocError>
+    ensures { IfOk result (λ ids. ids.items ≡ step_ids (each step_data steps.now)) }
+{
+    let mut ids = Vec::new(alloc);
+    for step in steps {
+        ids.push(step.node.id())?;
+    }
+    Ok(ids)
+}

@@ -1,0 +1,291 @@
+//! The line of an item: what there is to tell of it.
+
+ghost use Rattle.std.specs.Prelude.{◌≡◌, ◌≤◌, ◌++◌, OnOk, length, drop, flat_map};
+ghost use Rattle.std.specs.Option.{option_map};
+ghost use Rattle.crush_since.specs.SeenItem.{seen_data};
+ghost use Rattle.crush_nodes.specs.SeenView.{view_data};
+ghost use Rattle.crush_since.specs.ItemParts.{behind, part, change, name_part, type_part, place_part, weight_part, class_part, alg_part, class_ids_part, changes, line_text, name_told, parts as all_parts, item_line};
+
+use crate::since::columns::{same_algs, same_class, same_parent};
+use crate::since::seen::Seen;
+use crate::since::words::{
+    alg_bytes, class_bytes, place_of, push_item_word, push_whole, type_bytes, weight_of,
+};
+use crush_map::Setting;
+use crush_tree::View;
+use crush_units::ItemId;
+use crush_view::words::push_all;
+use std::alloc::{AllocError, Global};
+
+/// What two maps say of an id.
+#[derive(Clone, Copy)]
+pub(crate) struct Compared<'a> {
+    /// What surrounds the items of the map before.
+    pub old: &'a Setting,
+    /// What surrounds those of the map after.
+    pub new: &'a Setting,
+    /// The item before, if there is one.
+    pub before: Option<Seen<'a>>,
+    /// The item after, if there is one.
+    pub after: Option<Seen<'a>>,
+    /// Whether both maps give it the same class ids.
+    pub same_class_ids: bool,
+}
+
+/// The line of an item. Nothing where both maps say the same of its id.
+pub(crate) fn push_line(
+    alloc: Global,
+    id: ItemId,
+    item: &Compared<'_>,
+    out: &mut Vec<u8>,
+) -> Result<(), AllocError>
+    ensures { OnOk result (out.new.items ≡ out.old.items
+        ++ item_line item.now.old.now item.now.new.now id (option_map seen_data item.now.before)
+        (option_map seen_data item.now.after) item.now.same_class_ids) }
+{
+    let mut parts = Vec::new(alloc);
+    push_parts(alloc, item, &mut parts)?;
+    let told = parts.as_slice();
+    if told.is_empty() {
+        return Ok(());
+    }
+    push_text(
+        name_told(&item.before, &item.after),
+        id,
+        after_mark(told),
+        out,
+    )?;
+    Ok(())
+}
+
+/// Parts without the mark before the first.
+pub(crate) fn after_mark(parts: &[u8]) -> &[u8]
+    requires { 2 ≤ length parts.now }
+    ensures { result.now ≡ drop 2 parts.now }
+{
+    &parts[2..]
+}
+
+/// The line of an item of which this is told.
+fn push_text(name: &[u8], id: ItemId, text: &[u8], out: &mut Vec<u8>) -> Result<(), AllocError>
+    ensures { OnOk result (out.new.items ≡ out.old.items ++ line_text name.now id text.now) }
+{
+    push_item_word(name, id, out)?;
+    push_all(&[b": ".as_slice(), text, b"\n".as_slice()], out)
+}
+
+/// The name after, or before of what is gone.
+fn name_told<'a>(before: &'a Option<Seen<'_>>, after: &'a Option<Seen<'_>>) -> &'a [u8]
+    ensures { result.now
+        ≡ name_told (option_map seen_data before.now) (option_map seen_data after.now) }
+{
+    match after {
+        Some(after) => after.view.name.as_bytes(),
+        None => match before {
+            Some(before) => before.view.name.as_bytes(),
+            None => b"".as_slice(),
+        },
+    }
+}
+
+/// What there is to tell of an item, each part behind a semicolon.
+fn push_parts(alloc: Global, item: &Compared<'_>, parts: &mut Vec<u8>) -> Result<(), AllocError>
+    ensures { OnOk result (parts.new.items ≡ parts.old.items
+        ++ behind (all_parts item.now.old.now item.now.new.now
+        (option_map seen_data item.now.before) (option_map seen_data item.now.after)
+        item.now.same_class_ids)) }
+{
+    match &item.before {
+        None => match &item.after {
+            None => Ok(()),
+            Some(after) => {
+                push_all(&[b"; made as ".as_slice()], parts)?;
+                push_whole(alloc, item.new, after, parts)
+            }
+        },
+        Some(before) => match &item.after {
+            None => {
+                push_all(&[b"; removed, was ".as_slice()], parts)?;
+                push_whole(alloc, item.old, before, parts)
+            }
+            Some(after) => push_changes(alloc, item, before, after, parts),
+        },
+    }
+}
+
+/// What is another of an item that both maps have, as this before and as that after.
+fn push_changes(
+    alloc: Global,
+    item: &Compared<'_>,
+    before: &Seen<'_>,
+    after: &Seen<'_>,
+    parts: &mut Vec<u8>,
+) -> Result<(), AllocError>
+    ensures { OnOk result (parts.new.items ≡ parts.old.items
+        ++ behind (changes item.now.old.now item.now.new.now (seen_data before.now)
+        (seen_data after.now) item.now.same_class_ids)) }
+{
+    push_name(&before.view, &after.view, parts)?;
+    push_type(item.old, item.new, &before.view, &after.view, parts)?;
+    push_place(alloc, before, after, parts)?;
+    push_weight(alloc, &before.view, &after.view, parts)?;
+    push_class(&before.view, &after.view, parts)?;
+    push_alg(&before.view, &after.view, parts)?;
+    push_class_ids(item.same_class_ids, parts)?;
+    Ok(())
+}
+
+/// A part of these words, behind a semicolon, where a column differs. An `Err` says that memory ran
+/// out.
+pub fn push_part(same: bool, words: &[&[u8]], parts: &mut Vec<u8>) -> Result<(), AllocError>
+    ensures { OnOk result (parts.new.items ≡ parts.old.items
+        ++ behind (part same (flat_map (λ w. w.now) words.now))) }
+{
+    if same {
+        return Ok(());
+    }
+    push_all(&[b"; ".as_slice()], parts)?;
+    push_all(words, parts)
+}
+
+/// A part that says what a column was and what it is, where it differs.
+fn push_change(
+    same: bool,
+    word: &[u8],
+    before: &[u8],
+    after: &[u8],
+    parts: &mut Vec<u8>,
+) -> Result<(), AllocError>
+    ensures { OnOk result (parts.new.items ≡ parts.old.items
+        ++ behind (change same word.now before.now after.now)) }
+{
+    push_part(same, &[word, before, b" to ".as_slice(), after], parts)
+}
+
+/// That the class ids differ.
+pub(crate) fn push_class_ids(same: bool, parts: &mut Vec<u8>) -> Result<(), AllocError>
+    ensures { OnOk result (parts.new.items ≡ parts.old.items ++ behind (class_ids_part same)) }
+{
+    push_part(same, &[b"class ids".as_slice()], parts)
+}
+
+/// The name that an item had.
+pub(crate) fn push_name(
+    before: &View<'_>,
+    after: &View<'_>,
+    parts: &mut Vec<u8>,
+) -> Result<(), AllocError>
+    ensures { OnOk result (parts.new.items ≡ parts.old.items
+        ++ behind (name_part (view_data before.now) (view_data after.now))) }
+{
+    let name = before.name.as_bytes();
+    push_part(
+        name == after.name.as_bytes(),
+        &[b"was ".as_slice(), name],
+        parts,
+    )
+}
+
+/// The types.
+pub(crate) fn push_type(
+    old: &Setting,
+    new: &Setting,
+    before: &View<'_>,
+    after: &View<'_>,
+    parts: &mut Vec<u8>,
+) -> Result<(), AllocError>
+    ensures { OnOk result (parts.new.items ≡ parts.old.items
+        ++ behind (type_part old.now new.now (view_data before.now) (view_data after.now))) }
+{
+    push_change(
+        before.kind.number() == after.kind.number(),
+        b"type ".as_slice(),
+        type_bytes(old, before.id, before.kind),
+        type_bytes(new, after.id, after.kind),
+        parts,
+    )
+}
+
+/// The places.
+fn push_place(
+    alloc: Global,
+    before: &Seen<'_>,
+    after: &Seen<'_>,
+    parts: &mut Vec<u8>,
+) -> Result<(), AllocError>
+    ensures { OnOk result (parts.new.items ≡ parts.old.items
+        ++ behind (place_part (seen_data before.now) (seen_data after.now))) }
+{
+    if same_parent(before.view.parent, after.view.parent) {
+        return Ok(());
+    }
+    let from = place_of(alloc, before)?;
+    let to = place_of(alloc, after)?;
+    push_change(
+        false,
+        b"from ".as_slice(),
+        from.as_slice(),
+        to.as_slice(),
+        parts,
+    )
+}
+
+/// The weights.
+fn push_weight(
+    alloc: Global,
+    before: &View<'_>,
+    after: &View<'_>,
+    parts: &mut Vec<u8>,
+) -> Result<(), AllocError>
+    ensures { OnOk result (parts.new.items ≡ parts.old.items
+        ++ behind (weight_part (view_data before.now) (view_data after.now))) }
+{
+    if before.weight.units() == after.weight.units() {
+        return Ok(());
+    }
+    let was = weight_of(alloc, before.weight)?;
+    let is = weight_of(alloc, after.weight)?;
+    push_change(
+        false,
+        b"weight ".as_slice(),
+        was.as_slice(),
+        is.as_slice(),
+        parts,
+    )
+}
+
+/// The classes.
+pub(crate) fn push_class(
+    before: &View<'_>,
+    after: &View<'_>,
+    parts: &mut Vec<u8>,
+) -> Result<(), AllocError>
+    ensures { OnOk result (parts.new.items ≡ parts.old.items
+        ++ behind (class_part (view_data before.now) (view_data after.now))) }
+{
+    push_change(
+        same_class(before.class, after.class),
+        b"class ".as_slice(),
+        class_bytes(before.class),
+        class_bytes(after.class),
+        parts,
+    )
+}
+
+/// The algorithms.
+pub(crate) fn push_alg(
+    before: &View<'_>,
+    after: &View<'_>,
+    parts: &mut Vec<u8>,
+) -> Result<(), AllocError>
+    ensures { OnOk result (parts.new.items ≡ parts.old.items
+        ++ behind (alg_part (view_data before.now) (view_data after.now))) }
+{
+    push_change(
+        same_algs(before.alg, after.alg),
+        b"alg ".as_slice(),
+        alg_bytes(before.alg),
+        alg_bytes(after.alg),
+        parts,
+    )
+}

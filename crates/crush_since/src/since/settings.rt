@@ -1,0 +1,156 @@
+//! In what two settings differ.
+
+ghost use Rattle.std.specs.Prelude.{◌≡◌, ◌++◌, OnOk, map as each};
+ghost use Rattle.std.specs.Cmp.Lexicographic.{pointwise};
+ghost use Rattle.crush_edits.specs.SettingSeen.{rule_data, step_data};
+ghost use Rattle.crush_since.specs.Settings.{same_tunable, same_kinds, same_step, same_rule, told_if_not, tunables_line, kinds_line, rules_line, setting_lines};
+
+use crush_map::{KeptRule, KeptStep, Setting};
+use crush_view::words::push_all;
+use std::alloc::AllocError;
+
+/// A line each where the tunables, the types and the rules of the settings differ.
+#[tactic(auto, unfolding(crate::specs::Settings::setting_lines))]
+pub(crate) fn push_settings(
+    old: &Setting,
+    new: &Setting,
+    out: &mut Vec<u8>,
+) -> Result<(), AllocError>
+    ensures { OnOk result (out.new.items ≡ out.old.items ++ setting_lines old.now new.now) }
+{
+    push_tunables(old, new, out)?;
+    push_kinds(old, new, out)?;
+    push_rules(old, new, out)
+}
+
+/// A line where the tunables differ, in order. An `Err` says that memory ran out.
+pub fn push_tunables(old: &Setting, new: &Setting, out: &mut Vec<u8>) -> Result<(), AllocError>
+    ensures { OnOk result (out.new.items ≡ out.old.items ++ tunables_line old.now new.now) }
+{
+    tell_unless(same_tunables(old, new), b"tunables differ\n", out)?;
+    Ok(())
+}
+
+/// A line where the types differ, in whatever order. An `Err` says that memory ran out.
+pub fn push_kinds(old: &Setting, new: &Setting, out: &mut Vec<u8>) -> Result<(), AllocError>
+    ensures { OnOk result (out.new.items ≡ out.old.items ++ kinds_line old.now new.now) }
+{
+    tell_unless(same_kinds(old, new), b"types differ\n", out)?;
+    Ok(())
+}
+
+/// A line where the rules differ.
+fn push_rules(old: &Setting, new: &Setting, out: &mut Vec<u8>) -> Result<(), AllocError>
+    ensures { OnOk result (out.new.items ≡ out.old.items ++ rules_line old.now new.now) }
+{
+    let same = same_rules(old.rules(), new.rules());
+    tell_unless(same, b"rules differ\n", out)?;
+    Ok(())
+}
+
+/// A line, unless both are the same. An `Err` says that memory ran out.
+pub fn tell_unless(same: bool, text: &[u8], out: &mut Vec<u8>) -> Result<(), AllocError>
+    ensures { OnOk result (out.new.items ≡ out.old.items ++ told_if_not same text.now) }
+{
+    if same {
+        return Ok(());
+    }
+    out.extend_from_slice(text)
+}
+
+/// Whether the tunables are the same, in order.
+pub fn same_tunables(old: &Setting, new: &Setting) -> bool
+    ensures { result ≡ pointwise same_tunable old.now.tunables new.now.tunables }
+{
+    old.tunables().as_slice() == new.tunables().as_slice()
+}
+
+/// Whether the types are the same, in whatever order.
+pub fn same_kinds(old: &Setting, new: &Setting) -> bool
+    ensures { result ≡ same_kinds old.now new.now }
+{
+    old.kinds() == new.kinds()
+}
+
+/// Whether the rules are the same, in order. A bucket that a step takes is compared by its id.
+pub fn same_rules(old: &[KeptRule], new: &[KeptRule]) -> bool
+    ensures { result ≡ pointwise same_rule (each rule_data old.now) (each rule_data new.now) }
+{
+    if old.len() != new.len() {
+        return false;
+    }
+    for index in 0..old.len() {
+        if !same_rule(&old[index], &new[index]) {
+            return false;
+        }
+    }
+    true
+}
+
+/// Whether both are the same rule.
+fn same_rule(old: &KeptRule, new: &KeptRule) -> bool
+    ensures { result ≡ same_rule (rule_data old.now) (rule_data new.now) }
+{
+    old.name == new.name
+        && old.id == new.id
+        && old.kind == new.kind
+        && old.min_size == new.min_size
+        && old.max_size == new.max_size
+        && same_steps(old.steps.as_slice(), new.steps.as_slice())
+}
+
+/// Whether the steps are the same, in order.
+fn same_steps(old: &[KeptStep], new: &[KeptStep]) -> bool
+    ensures { result ≡ pointwise same_step (each step_data old.now) (each step_data new.now) }
+{
+    if old.len() != new.len() {
+        return false;
+    }
+    for index in 0..old.len() {
+        if !same_step(&old[index], &new[index]) {
+            return false;
+        }
+    }
+    true
+}
+
+/// Whether both are the same step. A bucket is compared by its id.
+pub fn same_step(old: &KeptStep, new: &KeptStep) -> bool
+    ensures { result ≡ same_step (step_data old.now) (step_data new.now) }
+{
+    match old {
+        KeptStep::Take(bucket, class) => match new {
+            KeptStep::Take(other, other_class) => {
+                bucket.distance() == other.distance() && *class == *other_class
+            }
+            _ => false,
+        },
+        KeptStep::Choose {
+            leaf,
+            firstn,
+            count,
+            kind,
+        } => match new {
+            KeptStep::Choose {
+                leaf: other_leaf,
+                firstn: other_firstn,
+                count: other_count,
+                kind: other_kind,
+            } => {
+                *leaf == *other_leaf
+                    && *firstn == *other_firstn
+                    && *count == *other_count
+                    && *kind == *other_kind
+            }
+            _ => false,
+        },
+        KeptStep::Set(word, value) => match new {
+            KeptStep::Set(other, other_value) => *word == *other && *value == *other_value,
+            _ => false,
+        },
+        KeptStep::Emit => match new {
+            KeptStep::Emit => true,
+            _ => false,
+        },
+    }
+}

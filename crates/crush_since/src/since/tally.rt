@@ -1,0 +1,131 @@
+//! How many items differ, and in which way.
+
+ghost use Rattle.std.specs.Prelude.{◌≡◌, ◌+◌, ◌<◌, ◌^◌};
+ghost use Rattle.std.specs.Option.{option_map};
+ghost use Rattle.crush_table.specs.Count.{one_if};
+ghost use Rattle.crush_since.specs.SeenItem.{seen_data};
+ghost use Rattle.crush_since.specs.Tallies.{HasRoom, no_tally, tally_with, is_made, is_renamed, is_moved, is_reweighed, is_reclassed};
+
+use crate::since::columns::{same_class, same_parent};
+use crate::since::seen::Seen;
+
+/// How many items differ in which way. The last four are of those that both maps have.
+#[derive(Clone, Copy, Debug)]
+pub struct Tally {
+    /// That the new map alone has.
+    pub made: usize,
+    /// That the old map alone has.
+    pub removed: usize,
+    /// Of another name.
+    pub renamed: usize,
+    /// In another place.
+    pub moved: usize,
+    /// Of another weight.
+    pub reweighed: usize,
+    /// Of another class.
+    pub reclassed: usize,
+}
+
+impl Tally {
+    /// None differs.
+    pub(crate) fn none() -> Tally
+        ensures { result ≡ no_tally }
+    {
+        Tally {
+            made: 0,
+            removed: 0,
+            renamed: 0,
+            moved: 0,
+            reweighed: 0,
+            reclassed: 0,
+        }
+    }
+
+    /// The counts with one item more.
+    pub(crate) fn with(self, before: &Option<Seen<'_>>, after: &Option<Seen<'_>>) -> Tally
+        requires { HasRoom self }
+        ensures { result
+            ≡ tally_with self (option_map seen_data before.now) (option_map seen_data after.now) }
+    {
+        Tally {
+            made: more(self.made, is_made(before, after)),
+            removed: more(self.removed, is_made(after, before)),
+            renamed: more(self.renamed, is_renamed(before, after)),
+            moved: more(self.moved, is_moved(before, after)),
+            reweighed: more(self.reweighed, is_reweighed(before, after)),
+            reclassed: more(self.reclassed, is_reclassed(before, after)),
+        }
+    }
+}
+
+/// A count, or one more where the test holds.
+fn more(count: usize, test: bool) -> usize
+    requires { count + 1 < 2 ^ 64 }
+    ensures { result ≡ count + one_if test }
+{
+    if test { count + 1 } else { count }
+}
+
+/// Whether the second map alone has the item.
+pub fn is_made(before: &Option<Seen<'_>>, after: &Option<Seen<'_>>) -> bool
+    ensures { result
+        ≡ is_made (option_map seen_data before.now) (option_map seen_data after.now) }
+{
+    before.is_none() && after.is_some()
+}
+
+/// Whether both have the item, by another name.
+fn is_renamed(before: &Option<Seen<'_>>, after: &Option<Seen<'_>>) -> bool
+    ensures { result
+        ≡ is_renamed (option_map seen_data before.now) (option_map seen_data after.now) }
+{
+    match before {
+        Some(before) => match after {
+            Some(after) => !(before.view.name.as_bytes() == after.view.name.as_bytes()),
+            None => false,
+        },
+        None => false,
+    }
+}
+
+/// Whether both have the item, in another place.
+fn is_moved(before: &Option<Seen<'_>>, after: &Option<Seen<'_>>) -> bool
+    ensures { result
+        ≡ is_moved (option_map seen_data before.now) (option_map seen_data after.now) }
+{
+    match before {
+        Some(before) => match after {
+            Some(after) => !same_parent(before.view.parent, after.view.parent),
+            None => false,
+        },
+        None => false,
+    }
+}
+
+/// Whether both have the item, of another weight.
+pub fn is_reweighed(before: &Option<Seen<'_>>, after: &Option<Seen<'_>>) -> bool
+    ensures { result
+        ≡ is_reweighed (option_map seen_data before.now) (option_map seen_data after.now) }
+{
+    match before {
+        Some(before) => match after {
+            Some(after) => before.view.weight.units() != after.view.weight.units(),
+            None => false,
+        },
+        None => false,
+    }
+}
+
+/// Whether both have the item, of another class.
+pub fn is_reclassed(before: &Option<Seen<'_>>, after: &Option<Seen<'_>>) -> bool
+    ensures { result
+        ≡ is_reclassed (option_map seen_data before.now) (option_map seen_data after.now) }
+{
+    match before {
+        Some(before) => match after {
+            Some(after) => !same_class(before.view.class, after.view.class),
+            None => false,
+        },
+        None => false,
+    }
+}

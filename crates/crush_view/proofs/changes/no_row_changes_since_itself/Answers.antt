@@ -1,5 +1,0 @@
-use Rattle.crush_view.proofs.ChangesItself.{no_row_since_itself}
-use Rattle.crush_view.proofs.changes.no_row_changes_since_itself.Goals as goal
-
-pub returns : goal.returns
-returns c = no_row_since_itself

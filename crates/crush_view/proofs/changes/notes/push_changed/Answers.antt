@@ -1,6 +1,0 @@
-use Rattle.crush_view.proofs.PartLaws.{more_parts}
-use Rattle.crush_view.proofs.changes.notes.push_changed.Goals as goal
-
-pub returns : goal.returns
-returns c =
-    more_parts _ _ _ _ _ (more_parts _ _ _ _ _ (more_parts _ _ _ _ _ (more_parts _ _ _ _ _ c.in_ok-push_name.ensures c.in_ok-push_type.ensures) c.in_ok-push_from.ensures) c.in_ok-push_class.ensures) c.in_ok-push_alg.ensures

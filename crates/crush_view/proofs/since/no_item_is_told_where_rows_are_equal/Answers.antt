@@ -1,5 +1,0 @@
-use Rattle.crush_view.proofs.EqualItems.{no_item_where_rows_are_equal}
-use Rattle.crush_view.proofs.since.no_item_is_told_where_rows_are_equal.Goals as goal
-
-pub returns : goal.returns
-returns c = no_item_where_rows_are_equal

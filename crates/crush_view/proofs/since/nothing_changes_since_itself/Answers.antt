@@ -1,5 +1,0 @@
-use Rattle.crush_view.proofs.SinceItself.{nothing_since_itself}
-use Rattle.crush_view.proofs.since.nothing_changes_since_itself.Goals as goal
-
-pub returns : goal.returns
-returns c = nothing_since_itself

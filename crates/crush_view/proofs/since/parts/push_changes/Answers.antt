@@ -1,6 +1,0 @@
-use Rattle.crush_view.proofs.PartLaws.{more_parts}
-use Rattle.crush_view.proofs.since.parts.push_changes.Goals as goal
-
-pub returns : goal.returns
-returns c =
-    more_parts _ _ _ _ _ (more_parts _ _ _ _ _ (more_parts _ _ _ _ _ (more_parts _ _ _ _ _ (more_parts _ _ _ _ _ (more_parts _ _ _ _ _ c.in_ok-push_name.ensures c.in_ok-push_type.ensures) c.in_ok-push_place.ensures) c.in_ok-push_weight.ensures) c.in_ok-push_class.ensures) c.in_ok-push_alg.ensures) c.in_ok-push_class_ids.ensures

@@ -1,8 +1,0 @@
-use Rattle.std.proofs.Common.{◌++◌, ◌∙◌}
-use Rattle.std.specs.Prelude.{codes}
-use Rattle.crush_view.specs.Settings.{told_if_not, kinds_line}
-use Rattle.crush_view.proofs.since.settings.push_kinds.Goals as goal
-
-pub returns : goal.returns
-unfolding kinds_line
-returns c = c.in_ok-tell_unless.ensures ∙ (λ i. c.args.out.now.items ++ told_if_not (c.same_kinds.ensures i) (codes "types differ\n"))

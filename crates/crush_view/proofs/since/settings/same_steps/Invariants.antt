@@ -1,9 +1,0 @@
-use Rattle.std.proofs.Common.{◌≡◌, true, take}
-use Rattle.crush_edits.specs.SettingSeen.{step_data}
-use Rattle.crush_view.specs.Settings.{same_step}
-use Rattle.crush_view.proofs.PairLaws.{same_seen}
-use Rattle.crush_view.proofs.since.settings.same_steps.Given as goal
-
--- all pairs so far are the same
-abbrev pub invariant-loop-index : goal.invariant-loop-index
-invariant-loop-index l = same_seen same_step step_data step_data (take l.index l.old) (take l.index l.new) ≡ true
