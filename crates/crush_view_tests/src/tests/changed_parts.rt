@@ -4,8 +4,8 @@ use super::changes::MOVED;
 use super::{EXAMPLE_MAP, map_of};
 use crush_map::CrushMap;
 use crush_since::{
-    Tally, count_changes, is_changed, is_part_changed, look_up, same_kinds, same_rules,
-    same_tunables, since_part_text, told_ids,
+    Tally, count_changes, is_changed, is_part_changed, same_kinds, same_rules, same_tunables,
+    since_part_text,
 };
 use crush_units::ItemId;
 use std::alloc::Global;
@@ -120,30 +120,6 @@ fn settings_are_compared_each(rt: HostRuntime) {
     drop(old);
     drop(new);
     assert!(rt; !tunables && !kinds && rules);
-}
-
-/// Whether the ids of what is told of these maps are those of h1, h2 and osd.0, and the last was in h1.
-fn are_ids_of_the_move(rt: &(impl Abort + AllocGlobal)) -> bool {
-    let old = map_of(rt, EXAMPLE_MAP);
-    let new = map_of(rt, MOVED);
-    let ids = told_ids(rt.alloc(), &old, &new, None).expect(rt, "no ids");
-    let wanted = [
-        id_of(rt, &old, "h1"),
-        id_of(rt, &old, "h2"),
-        id_of(rt, &old, "osd.0"),
-    ];
-    let are = ids.as_slice() == wanted.as_slice();
-    let was = look_up(&old, id_of(rt, &old, "osd.0")).expect(rt, "no item");
-    let is = are && was.holder == Some("h1");
-    drop(ids);
-    drop(old);
-    drop(new);
-    is
-}
-
-#[test]
-fn the_ids_of_a_move_are_handed_out(rt: HostRuntime) {
-    assert!(rt; are_ids_of_the_move(&rt));
 }
 
 /// How many items differ between the example map and the one after the move.
