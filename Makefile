@@ -7,8 +7,8 @@
 #   make check     the merge gate: everything from nothing, the edits that must fail, the tests
 #   make install   the program, the recipe and their manual pages below PREFIX, which is /usr/local if nothing is said
 #   make dist      the same as an archive and, where dpkg-deb is there, a package of Debian, below out/
-#   make manual    writes the manual page and the completion out of the help, and the signatures out of the sources, which `make check` compares
-#   make tables    writes where must-fail edits lie, and what the last `make check` took, into docs/
+#   make manual    writes the manual page out of the help, which `make check` compares
+#   make tables    writes what the last `make check` took into docs/WORKING.md
 #   make recipe    installs below out/, and tries there the recipe for operators and what its pages show
 #   make trials    tries that program with jobs of chance, little memory and stack, and streams that fail
 #   make monitor   as root: that program, the recipe, --to and --as-ceph beside a monitor of Ceph 18, which is fetched below out/
@@ -57,11 +57,8 @@ dist: $(PROGRAM)
 
 manual:
 	python3 docs/manual.py
-	python3 docs/completion.py
-	python3 docs/signatures.py
 
 tables:
-	python3 docs/tables.py
 	test ! -e out/costs.log || python3 docs/costs.py out/costs.log
 
 recipe: $(PROGRAM)
@@ -72,6 +69,8 @@ recipe: $(PROGRAM)
 trials: $(PROGRAM)
 	python3 bench/against_reference.py $(PROGRAM) 1000
 	python3 bench/plans.py $(PROGRAM) 1000
+	python3 bench/documents.py $(PROGRAM) 1000
+	python3 bench/parts.py $(PROGRAM) 1000
 	python3 bench/at_once.py $(PROGRAM) 200
 	python3 bench/refused_memory.py $(PROGRAM)
 	python3 bench/limits.py $(PROGRAM) --fits 1024

@@ -153,28 +153,29 @@ def refusals_fault(printed, refused, scripts):
     return None
 
 
-def told_fault(told, refused, words, adjusted, text):
+def told_fault(told, refused, words, adjusted, text, files):
     """What is wrong with what a strict run at once tells, of whose history only these refused lines are known: with
     --explain a line below each has the form of its reason, which only the map at that point tells."""
     lines = told.splitlines(keepends=True)
-    below = reasons(words, None, [], adjusted, text) if "--explain" in words else ""
+    below = reasons(words, None, [], adjusted, text, files) if "--explain" in words else ""
     front, pairs = lines[0], lines[1 : len(lines) - len(below.splitlines())]
     if front != first_line(5, refused, adjusted) or told != front + "".join(pairs) + below:
         return f"at once: {told}"
     if "--explain" not in words:
         return None if pairs == refused else f"at once: {told}"
-    right = pairs[::2] == refused and len(pairs) == 2 * len(refused) and all(map(is_reason, refused, pairs[1::2]))
+    right = pairs[::2] == refused and len(pairs) == 2 * len(refused) and all(
+        is_reason(line, reason, text, files) for line, reason in zip(refused, pairs[1::2]))
     return None if right else f"at once: {told}"
 
 
-def at_once_fault(text, ran, words, since):
+def at_once_fault(text, files, ran, words, since):
     """What is wrong with a run at once of a job that has no fault. The history may be another each time: what is told
     of it has to be of its lines."""
     status, printed, told = ran
     read, adjusted, scripts = read_job(text)
     if status == 5 and "--strict" in words:
         refused = [line for line in told.splitlines(keepends=True) if line.startswith("# ") and is_refusal(line)]
-        return told_fault(told, refused, words, adjusted, text) or refusals_fault(printed, refused, scripts)
+        return told_fault(told, refused, words, adjusted, text, files) or refusals_fault(printed, refused, scripts)
     fault = fault_of(read, dict(scripts), printed, words, read_since(since) if "--since" in words else None)
     if status != 0 or fault:
         return f"at once: status {status}, {told}\n{fault}"
@@ -183,7 +184,7 @@ def at_once_fault(text, ran, words, since):
     refused = [line for _, line in made if is_refusal(line)]
     if "--strict" in words and refused:
         return f"at once: a strict run printed {printed}"
-    due = first_line(0, refused, adjusted) + reasons(words, read, made, adjusted, text)
+    due = first_line(0, refused, adjusted) + reasons(words, read, made, adjusted, text, files)
     return None if told == due else f"at once: {told}\n--- and not {due}"
 
 
@@ -274,7 +275,8 @@ def difference(program, case, due):
         got = run(program, [flag for flag in flags if flag != "--no-history"], given, folder)
     if due[0] == 1:
         return f"at once: {got}" if got != due else None
-    return at_once_fault(joined(case.text, "", case.scripts)[0], got, case.words, case.since)
+    text, files = joined(case.text, case.name if case.scripts else "", case.scripts)
+    return at_once_fault(text, files, got, case.words, case.since)
 
 
 def any_case(dice, own, text, there):

@@ -1,6 +1,7 @@
 """What `--explain` tells below the one line on standard error, by docs/FORMATS.md; the sentences are those of
 docs/RULES.md."""
 
+import collections
 import pathlib
 import re
 
@@ -8,6 +9,8 @@ from model import is_change, make, number_of, route, text_of, units_of
 
 RULES = pathlib.Path(__file__).resolve().parent.parent / "docs/RULES.md"
 MOST_SHOWN, MOST_BEFORE = 72, 40
+# For how many refused calls a name is looked for that is nearly one that isn't there.
+MOST_LOOKS = 256
 
 
 def sentences(heading, name):
@@ -105,10 +108,14 @@ def fits(slot, word, count):
             "count": lambda word: re.fullmatch("[0-9]+", word) is not None and int(word) <= 65536}[slot](word)
 
 
+def line_words(line):
+    line = line.removesuffix("\r").partition("#")[0]
+    return [word for word in re.split("[ \t]", line) if word]
+
+
 def line_reason(line):
     """What is told of a line that isn't of its form: the form, and the first word that doesn't fit."""
-    line = line.removesuffix("\r").partition("#")[0]
-    first, *rest = [word for word in re.split("[ \t]", line) if word]
+    first, *rest = line_words(line)
     if first not in FORMS:
         return "a line that begins with % is %operator NAME"
     form, slots = FORMS[first]
@@ -256,12 +263,35 @@ def flaw_told(text, kind, at, files):
     return at, f"another word is wanted here: {due}" + (f"; in {block}" if block else "")
 
 
-def line_told(line, files):
-    """A line of a text of these files as that of its own. Each file is its name, perhaps none, its first line in the
-    text, and the number of that line in the file: 0 where it was put before the file's own. A line is of the last
-    file that begins at it or above."""
+def own_line(line, files):
+    """The file and the number there of a line of a text of these files. Each file is its name, perhaps none, its first
+    line in the text, and the number of that line in the file: 0 where it was put before the file's own. A line is of
+    the last file that begins at it or above."""
     name, first, number = [file for file in files if file[1] <= line][-1]
-    return f"{name} line {line - first + number}" if name else f"line {line - first + number}"
+    return name, line - first + number
+
+
+def line_told(line, files):
+    name, number = own_line(line, files)
+    return f"{name} line {number}" if name else f"line {number}"
+
+
+def command_head(line, files):
+    """What stands before a command of a batch that was refused."""
+    name, number = own_line(line, files)
+    return f"{name}:{number}: " if name else f"line {number}: "
+
+
+def edit_lines(text):
+    """The lines of the commands of each operator, batched or not."""
+    lines, own = {}, None
+    for number, line in enumerate(text.split("\n"), 1):
+        words = line_words(line)
+        if line.startswith("%"):
+            own = lines.setdefault(words[1], [])
+        elif own is not None and words and words[0] not in ("begin", "commit"):
+            own.append(number)
+    return lines
 
 
 def place(text, at, files):
@@ -402,11 +432,12 @@ def seen_in(map, words, name, kind):
     return {"MOVED": words[1]} if kind == "Loop" else {"N": str(len(item["kids"]))} if kind == "NotEmpty" else {}
 
 
-def edit_reason(map, edit, kind):
-    """What was wanted of a command that the map refused so."""
+def edit_reason(map, edit, kind, looks):
+    """What was wanted of a command that the map refused so, where near names are looked for or not."""
     words = edit.split(" ")
     name = blamed(map, words, kind)
-    near = next((other for _, other in tree_rows(map) if is_near(name, other)), None) if kind == "NoSuchItem" else None
+    looks = looks and kind == "NoSuchItem"
+    near = next((other for _, other in tree_rows(map) if is_near(name, other)), None) if looks else None
     count = len(map.items[name]["kids"]) if kind == "NotEmpty" else 0
     seen = {"NAME": name, "NEAR": near, **seen_in(map, words, name, kind)}
     sentence = sentence_of(words, kind, name == words[1], count, near)
@@ -419,8 +450,8 @@ def after_edits(map, edits):
     return map
 
 
-def call_reason(map, call, line):
-    """What was wanted of a call that the map refused, which its history line tells."""
+def call_reason(map, call, line, heads, looks):
+    """What was wanted of a call that the map refused, which its history line tells; each of its commands has a head."""
     at, kind = re.search(r" = refused (?:at (\d+) )?(\w+) ", line).groups()
     seen, count = re.search(r" begin at (\d+) ", line), re.search(r" changes (\d+)$", line)
     told = line.split(" ", 3)[3].rpartition(" = refused ")[0]
@@ -429,27 +460,32 @@ def call_reason(map, call, line):
                 else OF_REFUSALS[kind])
     if at:
         edit = told.split(" ; ")[1 + int(at)]
-        return f"{edit}: {edit_reason(after_edits(map, call[1][: int(at)]), edit, kind)}"
-    return edit_reason(map, told, kind)
+        return f"{heads[int(at)]}{edit}: {edit_reason(after_edits(map, call[1][: int(at)]), edit, kind, looks)}"
+    return edit_reason(map, told, kind, looks)
 
 
-def refused_text(map, made):
+def refused_text(map, made, job, files):
     """Of calls that were made, the first on this map, each with its history line: the lines of what was refused, each
-    with its sentence below, by the map that refused it."""
-    text = ""
+    with its sentence below, by the map that refused it. The calls are those of the job of this text."""
+    text, refused, given, lines = "", 0, collections.Counter(), edit_lines(job)
     for call, line in made:
+        operator = line.split(" ", 3)[2]
         if " = refused " in line:
-            text += f"{line}  {call_reason(map, call, line)}\n"
+            heads = [command_head(number, files) for number in lines[operator][given[operator] :][: len(call[1])]]
+            text += f"{line}  {call_reason(map, call, line, heads, refused < MOST_LOOKS)}\n"
+            refused += 1
+        given[operator] += len(call[1])
         if is_change(line):
             map = after_edits(map, call[1])
     return text
 
 
-def is_reason(line, reason):
-    """Whether a line below a refused one has the form of its reason, whatever the map was that refused it."""
+def is_reason(line, reason, job, files):
+    """Whether a line below a refused one has the form of its reason, whatever the map was that refused it; a command of
+    a batch stands on a line of its operator in the job of this text."""
     at, kind = re.search(r" = refused (?:at (\d+) )?(\w+) ", line).groups()
     if kind == "Stale":
-        return reason == f"  {call_reason(None, None, line)}\n"
+        return reason == f"  {call_reason(None, None, line, [], True)}\n"
     told = line.split(" ", 3)[3].rpartition(" = refused ")[0]
     edit = told.split(" ; ")[1 + int(at)] if at else told
     words = edit.split(" ")
@@ -457,6 +493,7 @@ def is_reason(line, reason):
              ] + [sentence_of(words, kind, False, 2, "NEAR")]
     names = {"NoSuchItem": "NAME|NEAR", "AlreadyPlaced": "NAME|BUCKET", "WrongType": "NAME|TYPE|WANTED", "ClassBound": "NAME|CLASS",
              "InUse": "NAME|RULE", "Loop": "NAME|MOVED", "NotEmpty": "NAME|N"}.get(kind, "NAME")
-    front = f"{edit}: " if at else ""
-    return any(re.fullmatch("  " + re.escape(front) + re.sub(rf"\b({names})\b", lambda word: r"\S+", re.escape(form)) + "\n", reason)
+    heads = [command_head(number, files) for number in edit_lines(job)[line.split(" ", 3)[2]]] if at else []
+    front = f"(?:{'|'.join(map(re.escape, heads))}){re.escape(edit)}: " if at else ""
+    return any(re.fullmatch("  " + front + re.sub(rf"\b({names})\b", lambda word: r"\S+", re.escape(form)) + "\n", reason)
                for form in forms)

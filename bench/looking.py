@@ -160,11 +160,11 @@ def is_refusal(line):
     return " = refused " in line
 
 
-def reasons(words, read, made, adjusted, text):
+def reasons(words, read, made, adjusted, text, files):
     """What standard error is told below its one line, by the words of the command line: of calls that were made, the
-    first on this map, what was refused, and of the text and the weights of it that were replaced."""
+    first on this map, what was refused, and of the text of these files and the weights of it that were replaced."""
     if "--explain" in words:
-        return refused_text(read, made) + written_text(adjusted, text)
+        return refused_text(read, made, text, files) + written_text(adjusted, text)
     return "".join(line for _, line in made if is_refusal(line)) if "--strict" in words else ""
 
 
@@ -175,11 +175,11 @@ def first_line(status, refused, adjusted):
     return f"crushedit: adjusted {len(adjusted)}\n" if adjusted else ""
 
 
-def ending(words, since, read, adjusted, scripts, text):
+def ending(words, since, read, adjusted, scripts, text, files):
     """Status, standard output and standard error of a run in turn. `adjusted` are the weights of the text that were replaced."""
     map, made = run_in_turn(read, scripts)
     refused = [line for _, line in made if is_refusal(line)]
-    told = reasons(words, read, made, adjusted, text)
+    told = reasons(words, read, made, adjusted, text, files)
     if "--strict" in words and refused:
         return 5, "", first_line(5, refused, adjusted) + told
     history = "" if "--no-history" in words else "".join(line for _, line in made)

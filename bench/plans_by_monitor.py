@@ -1,6 +1,6 @@
 """Makes plans of crushedit by a monitor of Ceph, there and back, and compares its map with the wanted one.
 
-    python3 bench/plans_by_monitor.py crates/crushedit/out/crushedit FOLDER PAIRS SEED
+    python3 bench/plans_by_monitor.py crates/crushedit/out/crushedit FOLDER PAIRS SEED [--json]
 
 In FOLDER a monitor runs that `bench/monitor.sh start` has started. Of each four pairs of maps three are a random map and
 the same after a random script, which the plain model makes; the fourth has two maps that have nothing in common but names.
@@ -10,6 +10,9 @@ none, `ceph osd crush dump` has the wanted names, types, places, classes, and we
 since Ceph cuts what crushedit rounds. Then it goes back in the same way, from the map that the monitor has then. Of every
 other pair buckets are told by names (`--by-name`).
 
+With --json the plan is the document of `--to` with `--json`, each of whose commands is sent to the monitor as it stands there,
+and not by the forms that the monitor hands out, as the command `ceph` sends one.
+
 Before that the recipe makes a plan in FOLDER from end to end, and then the plan that takes it back.
 
 Told are commands by kind, and which differences stayed. The status is 1 where a command is refused, or the map is another.
@@ -17,10 +20,12 @@ Devices are called `osd.N`: a monitor gives no other one a class. What a random 
 """
 
 import collections
+import json
 import os
 import pathlib
 import re
 import shutil
+import subprocess
 import sys
 
 import chance
@@ -32,6 +37,15 @@ from reading import read_map
 # The first six are those of the maps, of which crushtool -c takes at most 100; Ceph cuts four of them otherwise than they are rounded.
 WEIGHTS = ["0", "1", "3.63869", "2.5", "1.81898", "0.333", "14.55269", "100", "1.00001", "5000", "40000"]
 SCRIPTED, UNLIKE = "pairs made by a script", "unlike pairs"
+# Sends commands, a line of JSON each, as they are.
+SENDER = """
+import json, sys, rados
+cluster = rados.Rados(conffile="/etc/ceph/ceph.conf")
+cluster.connect(timeout=20)
+for line in sys.stdin:
+    status, _, told = cluster.mon_command(line.strip(), b"", timeout=30)
+    print(json.dumps([status, told]), flush=True)
+"""
 # What a cluster's map is to become: a disk changes its host and its class, and a rack comes.
 WANTED = """%operator alice
 rm-device-class osd.2
@@ -66,28 +80,59 @@ def is_wanted(monitor, wanted):
             and rules == [wanted.with_id(number) for rule in wanted.rules for _, number in rule["lines"] if number is not None])
 
 
-def plan(program, text, wanted, identity):
-    """The commands, as Ceph's own, and the differences that are told to stay."""
-    place = pathlib.Path(wanted[0])
-    place.write_text(wanted[1])
-    lines = edited(program, text, "", "--to", str(place), "--as-ceph", *identity).splitlines()
-    commands = [line for line in lines if not line.startswith("#")]
-    if lines[0] != f"# {len(commands)} commands":
-        raise Failed(f"{lines[0]} above {len(commands)}")
-    told = re.fullmatch(r"# (\d+) differences stay", (lines[len(commands) + 1 :] or [""])[0])
-    rest = lines[len(commands) + 2 :][: int(told.group(1))] if told else []
-    return commands, [line.removeprefix("# ") for line in rest]
+class Lines:
+    """Plans of Ceph's own commands, of which the monitor is asked each by its words."""
+
+    def __init__(self, monitor):
+        self.monitor = monitor
+
+    def plan(self, edited_to):
+        """The commands, and the differences that are told to stay."""
+        lines = edited_to("--as-ceph").splitlines()
+        commands = [line for line in lines if not line.startswith("#")]
+        if lines[0] != f"# {len(commands)} commands":
+            raise Failed(f"{lines[0]} above {len(commands)}")
+        told = re.fullmatch(r"# (\d+) differences stay", (lines[len(commands) + 1 :] or [""])[0])
+        rest = lines[len(commands) + 2 :][: int(told.group(1))] if told else []
+        return commands, [line.removeprefix("# ") for line in rest]
+
+    def make(self, command):
+        """The command's word, its status, and what the monitor tells."""
+        words = command.split()[1:]
+        status, _, why = self.monitor.ask(*words)
+        return words[2], status, why
 
 
-def make_plan(program, monitor, text, wanted, identity, counts, kind):
+class Documents:
+    """Plans as documents, whose commands are sent as they stand there."""
+
+    def __init__(self, monitor):
+        self.server = subprocess.Popen(["chroot", monitor.root, "python3", "-c", SENDER], stdin=subprocess.PIPE,
+                                       stdout=subprocess.PIPE, stderr=subprocess.DEVNULL, text=True)
+
+    def plan(self, edited_to):
+        document = json.loads(edited_to("--json"))
+        return document["plan"], document["stays"]
+
+    def make(self, command):
+        self.server.stdin.write(json.dumps(command) + "\n")
+        self.server.stdin.flush()
+        line = self.server.stdout.readline()
+        if not line:
+            raise Failed(f"no answer to: {command}")
+        return (command["prefix"].split()[-1], *json.loads(line))
+
+
+def make_plan(program, monitor, text, wanted, way, identity, counts, kind):
     """The plan from the monitor's map, of this text, to the wanted text, made by the monitor: its text then."""
-    commands, told = plan(program, text, (os.path.join(monitor.root, "mon", "wanted"), wanted), identity)
-    for line in commands:
-        words = line.split()[1:]
-        status, _, why = monitor.ask(*words)
-        counts["commands"][words[2], status] += 1
+    place = pathlib.Path(monitor.root, "mon", "wanted")
+    place.write_text(wanted)
+    commands, told = way.plan(lambda form: edited(program, text, "", "--to", str(place), form, *identity))
+    for command in commands:
+        word, status, why = way.make(command)
+        counts["commands"][word, status] += 1
         if status:
-            raise Failed(f"refused: {line}: {status}, {why}")
+            raise Failed(f"refused: {command}: {status}, {why}")
     now, due = monitor.text(), read_map(wanted)[0]
     rest = stays(read_map(now)[0], due)
     if rest != told:
@@ -104,7 +149,7 @@ def monitors_text(dice):
     return re.sub(r"\bdisk\b", "osd.7", random_text(dice))
 
 
-def trial(program, monitor, pairs, seed, counts):
+def trial(program, monitor, way, pairs, seed, counts):
     """How many pairs went wrong."""
     wrong = 0
     for index in range(pairs):
@@ -115,8 +160,8 @@ def trial(program, monitor, pairs, seed, counts):
         wanted = other if kind == UNLIKE else after_script(dice, read_map(text)[0]).text()
         identity = ["--by-name"] * (index % 2)
         try:
-            now = make_plan(program, monitor, text, wanted, identity, counts["there"], kind)
-            make_plan(program, monitor, now, text, identity, counts["back"], kind)
+            now = make_plan(program, monitor, text, wanted, way, identity, counts["there"], kind)
+            make_plan(program, monitor, now, text, way, identity, counts["back"], kind)
         except Failed as fault:
             wrong += 1
             print(f"pair {index}: {fault}\n{text}--to\n{wanted}--the monitor's map\n{monitor.text()}")
@@ -155,7 +200,7 @@ def told(counts):
 
 
 def main():
-    if len(sys.argv) != 5:
+    if len(sys.argv) < 5 or sys.argv[5:] not in ([], ["--json"]):
         sys.exit(__doc__)
     program, root, pairs, seed = os.path.abspath(sys.argv[1]), os.path.realpath(sys.argv[2]), int(sys.argv[3]), sys.argv[4]
     chance.WEIGHTS[:] = WEIGHTS
@@ -163,8 +208,9 @@ def main():
               for way in ("there", "back")}
     try:
         monitor = Monitor(root)
+        way = Documents(monitor) if sys.argv[5:] else Lines(monitor)
         recipe(program, monitor)
-        wrong = trial(program, monitor, pairs, seed, counts)
+        wrong = trial(program, monitor, way, pairs, seed, counts)
     except Failed as fault:
         sys.exit(str(fault))
     told(counts)

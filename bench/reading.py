@@ -351,7 +351,7 @@ def outcome(text, words=(), since=None, name="", scripts=()):
     except Fault as fault:
         told = fault_text(since, str(fault), [("MAP", 1, 1)], "since: ") if explain else ""
         return 1, "", f"crushedit: since: {fault}\n" + told
-    return ending(words, old, read, adjusted, calls, text)
+    return ending(words, old, read, adjusted, calls, text, files)
 
 
 def read_since(text):

@@ -16,6 +16,8 @@ import tempfile
 
 TOP = pathlib.Path(__file__).resolve().parent.parent
 CRATE = "crush_editor"
+# A program that stands on it, and on as little else as any.
+PROGRAM = "crush_two_operators"
 
 # A file, the line before which the lock is tried, how it is tried, and what the compiler has to say.
 NO_FIELD = "no field `desk` on type `Dial<N>`"
@@ -53,7 +55,7 @@ def main():
         for file, line, tried, _ in TRIES:
             tried_in(source, file, line, tried)
         # Sources are read without a proof; what doesn't compile is told before anything runs.
-        run = subprocess.run(["rt", "try", "--test"], cwd=source.parent.parent / f"{CRATE}_tests", capture_output=True, text=True)
+        run = subprocess.run(["rt", "try"], cwd=source.parent.parent / PROGRAM, stdin=subprocess.DEVNULL, capture_output=True, text=True)
         taken = 0
         for file, line, tried, due in TRIES:
             text = (source / file).read_text()

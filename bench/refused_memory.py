@@ -1,6 +1,6 @@
 """Runs crushedit on each job of examples/ and refuses its requests for memory one by one.
 
-    python3 bench/refused_memory.py crates/crushedit/out/crushedit [TESTS [OF_EDITOR]] [WORD ..]
+    python3 bench/refused_memory.py crates/crushedit/out/crushedit [TESTS] [WORD ..]
 
 A library that is preloaded answers the Nth request by nothing, for N from 1 until a run asks for fewer. Each
 such run has to end with status 4, nothing on standard output and its one line on standard error, or exactly as
@@ -18,11 +18,10 @@ Then the requests are counted that the thread of an operator makes for calls whi
 as many calls that are as long and are refused by a name that isn't there. Each is copied and kept alike, so that
 there have to be as many.
 
-TESTS is the path, with a `/`, of the tests of crush_run. Of it the tests of `gate_faults` are run in the same way, each
-request refused and each thread not started: each run has to pass, whatever the job in it comes to. They look whether
-a gate is called behind each call, also one that is out of memory. OF_EDITOR is that of the tests of crush_editor. Of
-these the tests of `no_memory` are run in pairs, which make the same calls once and often: calls that take no memory, so
-that both have to ask for it as often.
+TESTS is the path, with a `/`, of the program of crush_run_tests. Of it the tests of `run::gate_faults` are run in the
+same way, each request refused and each thread not started: each run has to pass, whatever the job in it comes to. They
+look whether a gate is called behind each call, also one that is out of memory. The tests of `editor::no_memory` are run
+in pairs, which make the same calls once and often: calls that take no memory, so that both have to ask for it as often.
 
 With words only jobs whose names have one of them are run. As many are run side by side as there are processors.
 Needs a C compiler, `cc`, `gcc` or what CC names, and the /proc of Linux. Prints how many requests were refused, and
@@ -40,7 +39,7 @@ import tempfile
 
 EXAMPLES = pathlib.Path(__file__).resolve().parent.parent / "examples"
 NO_MEMORY, NO_THREAD = b"crushedit: out of memory\n", b"crushedit: no thread\n"
-OF_GATES, OF_NO_MEMORY = "tests::gate_faults::", "tests::no_memory::"
+OF_GATES, OF_NO_MEMORY = "run::gate_faults::", "editor::no_memory::"
 PASSED, FAILED = b"test result: ok", b"assertion failed: "
 # A request that no run reaches: all are counted, and none is refused.
 MANY = 2**40
@@ -420,7 +419,7 @@ def refuse_all(pool, program, library, jobs, tests):
 
 def main():
     program, words = os.path.abspath(sys.argv[1]), sys.argv[2:]
-    tests, of_editor = ([os.path.abspath(word) for word in words if "/" in word] + ["", ""])[:2]
+    tests = next((os.path.abspath(word) for word in words if "/" in word), "")
     words = [word for word in words if "/" not in word]
     jobs = [job for job in EXAMPLES.rglob("*.job") if not words or any(word in job.stem for word in words)]
     jobs.sort(key=lambda job: job.stat().st_size, reverse=True)
@@ -429,8 +428,8 @@ def main():
         try:
             refuse_all(pool, program, library, jobs, tests)
             print(f"{take_none(program, library)} kinds of call that take no memory of a map: none asks for any")
-            if of_editor:
-                print(f"{look_often(of_editor, library)} pairs of tests: 1,000 looks, and 16 closes, ask for no more "
+            if tests:
+                print(f"{look_often(tests, library)} pairs of tests: 1,000 looks, and 16 closes, ask for no more "
                       "memory than one")
         except Ending as ending:
             pool.shutdown(cancel_futures=True)

@@ -5,19 +5,18 @@ Each name in backticks has to stand in the crates: a function, a type, a definit
 must fail, or be a job of examples/; but of the pages of WORDS_OF_TEXTS, which name words of jobs and of Ceph beside
 them. Each link leads to a file, and to a heading of it. ADDING.md lists the files that an addition touches: each has to
 be there, and each file of src/, specs/ and proofs/ that names all variants of an enum of ADDED, or all words of a row
-of NAMED, has to stand in its section. Each public function is named by a page, but for those of INSIDE; and each that
-may answer one of several faults, or fails and is lent what it changes, has a clause that says which and what is left,
-by the names that PROVED.md tells, or is told there to have none. What pages tell in words and numbers told.py compares.
-The index of examples/ names each job and each folder. In the drawing of crates/README.md each crate has a place, and
-code calls downward. The version of the command line stands in VERSIONS; what the scripts of MADE_BY write is what they
-would write now; and `--version` and PROVED.md name the toolchain, where `rt` is there to tell its line. Prints what is
-missing, and ends with status 1 where anything is.
+of NAMED, has to stand in its section. Each public function that may answer one of several faults, or fails and is lent
+what it changes, has a clause that says which and what is left, by the names that PROVED.md tells, or is told there to
+have none. Each must-fail edit has a function of its crate in its name. What pages tell in words and numbers told.py
+compares. The index of examples/ names each job and each folder. In the drawing of crates/README.md each crate has a
+place, and code calls downward. The version of the command line stands in VERSIONS; what the scripts of MADE_BY write is
+what they would write now; and `--version` and PROVED.md name the toolchain, where `rt` is there to tell its line.
+Prints what is missing, and ends with status 1 where anything is.
 """
 import re
 import shutil
 import subprocess
 import sys
-from fnmatch import fnmatch
 
 sys.dont_write_bytecode = True
 from sources import COMMAND_LINE, MADE, PAGES, PROGRAMS, TOP, WORDS_OF_TEXTS  # noqa: E402
@@ -48,11 +47,9 @@ TO_COME = "To come"
 # The clauses that say which of several faults is told, and those that say what is left of what a call was lent.
 TOLD = {"refused", "fault", "flaw", "full", "none", "memory"}
 LEFT = {"unchanged", "as_before", "err", "nothing", "writes"}
-# Crates whose functions are public for the tree alone.
-INSIDE = {"crush_nodes", "crush_changes"}
 # What a function answers in the place of a Result, and the fault in it.
 ENDINGS = {"Ending": "RunFault"}
-MADE_BY = ["manual.py", "completion.py", "signatures.py", "tables.py"]
+MADE_BY = ["manual.py", "completion.py", "signatures.py"]
 
 
 def naming_all(names):
@@ -116,14 +113,14 @@ def made_faults():
         yield from told.splitlines()
 
 
-def listing_faults():
-    """Which public functions no page names, be it by a pattern as `has_*`."""
-    named = {name.split("::")[-1] for page in PAGES for name in quoted(page.read_text())}
-    patterns = {name for name in named if "*" in name}
-    for crate, name, _ in contracts():
-        last = name.split("::")[-1]
-        if crate not in INSIDE and last not in named and not any(fnmatch(last, pattern) for pattern in patterns):
-            yield f"no page names {name} of {crate}"
+def edit_faults():
+    """The must-fail edits whose names have no function of their crate, by which they are found, but for those of `{}`."""
+    for folder in sorted(TOP.glob("crates/*/must-fail")):
+        sources = "".join(path.read_text() for path in (folder.parent / "src").rglob("*.rt"))
+        functions = set(re.findall(r"\bfn (\w+)", sources))
+        for path in sorted(folder.glob("*.edit")):
+            if not path.stem.startswith("display_") and not any(f"_{name}_" in f"_{path.stem}" for name in functions):
+                yield f"the must-fail edit {path.stem} is called by no function of its crate"
 
 
 def told_of(head):
@@ -216,7 +213,7 @@ def main():
     faults += [f"ADDING.md: {fault}" for fault in adding_faults()]
     faults += [f"PROVED.md: {fault}" for fault in call_faults()]
     faults += [f"examples/README.md: {fault}" for fault in example_faults()]
-    faults += [*told_faults(), *version_faults(), *made_faults(), *listing_faults()]
+    faults += [*told_faults(), *version_faults(), *made_faults(), *edit_faults()]
     for fault in faults:
         print(fault)
     sys.exit(1 if faults else 0)

@@ -17,7 +17,7 @@ import sys
 
 TOP = pathlib.Path(__file__).resolve().parent.parent
 PROGRAMS = {"crush_examples", "crush_growths", "crush_one_edit", "crush_two_operators", "crushedit"}
-# What the library offers, whether or not the program calls it: its surface, as docs/CALLING.md and the pages of the rooms
+# What the library offers, whether or not the program calls it: its surface, as docs/CALLING.md and docs/SIGNATURES.md
 # tell it, the tests by which a caller meets what a call requires, and what contracts of others name.
 OFFERED = {
     "crush_units": {"LONGEST_SHORT_NAME"},
@@ -31,11 +31,12 @@ OFFERED = {
     "crush_map": {
         "CrushMap::blamed", "CrushMap::class_of", "CrushMap::contains", "CrushMap::kind_of", "CrushMap::weight_of_class",
     },
-    "crush_view": {"Part::whole", "Step::view", "walk", "walk_below", "walk_part", "write_tree_part"},
+    "crush_print": {"buckets", "devices"},
+    "crush_view": {"Part::whole", "Step::view", "walk", "walk_below", "walk_part", "write_tree"},
     "crush_since": {"count_changes", "is_changed", "is_part_changed", "same_kinds", "same_rules", "same_tunables", "since_part_text", "told_ids"},
     "crush_json": {"write_map_document", "write_plan_document", "write_since_document", "write_tree_document"},
     "crush_names": {"is_changed_by_name", "is_in", "stays", "write_since_by_name", "write_since_by_name_part"},
-    "crush_reasons": {"explained_job"},
+    "crush_reasons": {"explained_text"},
     "crush_plan": {"Plan::count_differences", "find_plan", "plan_text"},
     "crush_editor": {
         "Book::opening", "Dial::learn", "Dial::note", "Editor::dial", "Editor::learn", "Editor::note", "Seat::slips",

@@ -8,7 +8,7 @@ with --in-turn, since without it there may be several outputs; others are run wi
 them all, a NAME.OPERATOR.out for each operator whose script may be the first: there the job is run in turn
 with that operator's section before the others (NAME.OPERATOR.job). A job of asked/ is run with each line of
 NAME.words before its name, beside the files NAME.txt there, and NAME.status has the status where a run that is done
-ends with another than 0. Of an example of this folder or of
+ends with another than 0. What is written has the history, which is left out of it for a line with --no-history. Of an example of this folder or of
 maps/ that is no refused one, what is written is run again and gives the same map (NAME.again.job), and the
 job's map alone is printed as it is, or, where there is a NAME.map, as that (NAME.alone.job). What a run is
 summed up as is counted here from the history. Each row of a table of refused/ is a job that is refused; these
@@ -17,6 +17,7 @@ seed, with what the plain model of bench/model.py prints of them. What crush_gro
 beside that (`growths`). With --check nothing is written, and the status is 1 where a crate has other files or
 other bytes.
 """
+import json
 import pathlib
 import re
 import sys
@@ -61,15 +62,30 @@ def mode(job):
     return "--in-turn " if len(sections(job)) > 1 else ""
 
 
+def document_of(out):
+    """What is written, where it is a document, and else nothing."""
+    return json.loads(out) if out.startswith("{") else {}
+
+
 def map_of(out):
     """What is written but for the history."""
+    if document := document_of(out):
+        document.pop("history")
+        return json.dumps(document, separators=(",", ":")) + "\n"
     return lines_before(out, "# 1 (?!commands$|differences stay$)")
+
+
+def history_of(out):
+    """The lines of the history."""
+    if document := document_of(out):
+        return [f"# {entry['call']} = {entry['reply']}" for entry in document["history"]]
+    return out[len(map_of(out)) :].splitlines()
 
 
 def summary(out, err):
     """How many weights were replaced, how many calls there were, and how many of them changed the map."""
     adjusted = re.match(r"crushedit: adjusted (\d+)\n", err)
-    history = out[len(map_of(out)) :].splitlines()
+    history = history_of(out)
     changes = [re.search(r" = (?:done|dones \d+) changed (\d+) made (\d+)$", line) for line in history]
     changed = sum(counts is not None and counts.groups() != ("0", "0") for counts in changes)
     return f"adjusted {adjusted.group(1) if adjusted else 0} calls {len(history)} changes {changed}"

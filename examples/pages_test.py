@@ -5,7 +5,8 @@
 
 Of README.md and docs/OPERATING.md each block of a console is run in a folder of its own, in which map.txt is the map of
 examples/maps/class-3.job: the lines behind `$ `, and what stands below each is what it has to print. A line of two
-dots, perhaps with words behind it, stands for any lines. Blocks that call `make` aren't run. The outputs of
+dots, perhaps with words behind it, stands for any lines. A block of Python, whose first line is a comment with its
+name, is a file of that name there. Blocks that call `make` aren't run. The outputs of
 docs/FORMATS.md come of the commands of SHOWN, and README's table of statuses has the line of each command of ENDS in the
 row of its status. Then it is looked whether README's script makes its map and tells of it in one order of operators,
 maps that `crushtool` printed differ at most by the order of their buckets when they are printed here, `make try` shows
@@ -73,6 +74,11 @@ def steps_of(block):
         lines = step.splitlines(keepends=True)
         count = next(number for number, line in enumerate(lines, 1) if not line.endswith("\\\n"))
         yield "".join(lines[:count]), "".join(lines[count:])
+
+
+def scripts_of(text):
+    """The names and texts of the blocks of Python of a page."""
+    return re.findall(r"(?ms)^```python\n# (\S+)\n(.*?)^```$", text)
 
 
 def is_shown(printed, shown):
@@ -178,12 +184,14 @@ def main():
         os.symlink(program, os.path.join(folder, "crushedit"))
         environment = {**os.environ, "PATH": f"{folder}:{os.environ['PATH']}", "LC_ALL": "C.UTF-8"}
         for page in PAGES:
-            for number, block in enumerate(re.findall(r"(?ms)^```console\n(.*?)^```$", (TOP / page).read_text()), 1):
+            text = (TOP / page).read_text()
+            for number, block in enumerate(re.findall(r"(?ms)^```console\n(.*?)^```$", text), 1):
                 if "$ make " in block:
                     continue
                 here = os.path.join(folder, f"{pathlib.Path(page).stem}{number}")
                 os.mkdir(here)
-                pathlib.Path(here, "map.txt").write_text(MAP)
+                for name, own in [("map.txt", MAP), *scripts_of(text)]:
+                    pathlib.Path(here, name).write_text(own)
                 for command, shown in steps_of(block):
                     ran = run_in(here, command, environment)
                     if not is_shown(ran.stdout, shown):

@@ -4,7 +4,7 @@
 #![tactic(auto)]
 
 use crush_options::{Mode, options};
-use crush_report::report;
+use crush_report::{Words, report};
 use crush_run::{Asked, Ending, NoGate, Request, RunFault, SystemFiles, run_job, run_options};
 use std::random::RandomSource;
 use std::sync::Wait;
@@ -35,7 +35,7 @@ fn run_records(
     for (number, job) in jobs.enumerate() {
         println!(rt; "> record {number}")?;
         let ending = run_record(rt, workers, job);
-        print_end(rt, &ending, false)?;
+        print_end(rt, Words::none(), &ending)?;
     }
     Ok(())
 }
@@ -54,6 +54,7 @@ fn run_record(
             no_make: false,
             exit_code: false,
             explain: false,
+            json: false,
         },
         asked: Asked::Map,
     };
@@ -85,26 +86,25 @@ fn run_line(
     let read = options(rt.alloc(), words.as_slice());
     drop(words);
     let (mut input, mut output) = (rt.stdin(), rt.stdout());
-    let (ending, explain) = match &read {
+    let (ending, words) = match &read {
         Ok(options) => {
             let files = SystemFiles(rt);
             let ending = run_options(workers, &files, options, &mut input, &mut output);
-            (ending, options.mode.explain)
+            (ending, Words::of(options))
         }
         Err(_) => {
             let ending = Ending {
                 outcome: Err(RunFault::Read),
                 notes: Vec::new(rt.alloc()),
             };
-            (ending, false)
+            (ending, Words::none())
         }
     };
-    drop(read);
-    print_end(rt, &ending, explain)
+    print_end(rt, words, &ending)
 }
 
 /// Prints what a run comes to, what standard error is told of it, and the status.
-fn print_end(rt: &HostRuntime, ending: &Ending, explain: bool) -> io::Result<()> {
+fn print_end(rt: &HostRuntime, words: Words<'_>, ending: &Ending) -> io::Result<()> {
     match &ending.outcome {
         Ok(done) => println!(rt;
             "< adjusted {} calls {} changes {}",
@@ -113,6 +113,6 @@ fn print_end(rt: &HostRuntime, ending: &Ending, explain: bool) -> io::Result<()>
         Err(_) => println!(rt; "< not done")?,
     }
     let notes = ending.notes.as_slice();
-    let status = report(&ending.outcome, explain, notes, &mut rt.stdout()).status;
+    let status = report(words, &ending.outcome, notes, &mut rt.stdout()).status;
     println!(rt; "< status {status}")
 }

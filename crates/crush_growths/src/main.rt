@@ -9,14 +9,15 @@
 
 use anyhow::{Context, ensure};
 use crush_bytes::put;
-use crush_memory::Refusing;
 use job::{Parts, read_parts};
+use refusing::Refusing;
 use run::{Maker, run_each};
 use std::io;
 
 mod book;
 mod job;
 mod map;
+mod refusing;
 mod run;
 
 /// What stands between two jobs.

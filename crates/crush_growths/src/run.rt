@@ -3,10 +3,10 @@
 use crate::book::run_by_book;
 use crate::job::Parts;
 use crate::map::{read_again, run_on_map};
+use crate::refusing::Refusing;
 use anyhow::{bail, ensure};
 use crush_calls::Script;
 use crush_map::Hashing;
-use crush_memory::Refusing;
 use crush_script::{Job, read_job};
 use std::alloc::Global;
 

@@ -50,6 +50,8 @@ map_noted_of_all explain why name all bytes run.Thread notes input h told = told
 map_noted_of_all explain why name all bytes (run.Refused n) notes input h told = told
 map_noted_of_all explain why name all bytes (run.Made n) notes input h told = told
 map_noted_of_all explain why name all bytes (run.Differs n) notes input h told = told
+map_noted_of_all explain why name all bytes run.NoItem notes input h told = told
+map_noted_of_all explain why name all bytes run.NoType notes input h told = told
 map_noted_of_all explain why name all bytes (run.Other w f) notes input h told = other_of_all explain name all bytes f notes input h.1 told
 
 -- what is known of the bytes read is known of all bytes of a file
@@ -76,6 +78,8 @@ map_fault_of_all why all bytes run.Thread input h = absurd h
 map_fault_of_all why all bytes (run.Refused n) input h = absurd h
 map_fault_of_all why all bytes (run.Made n) input h = absurd h
 map_fault_of_all why all bytes (run.Differs n) input h = absurd h
+map_fault_of_all why all bytes run.NoItem input h = absurd h
+map_fault_of_all why all bytes run.NoType input h = absurd h
 map_fault_of_all why all bytes (run.Other w s) input h = (h.0, other_fault_of_all all bytes s input h.1)
 
 -- a file that couldn't be read is a fault of the map, whatever it has
@@ -93,6 +97,8 @@ other_map why run.Thread all h other = absurd h
 other_map why (run.Refused n) all h other = absurd h
 other_map why (run.Made n) all h other = absurd h
 other_map why (run.Differs n) all h other = absurd h
+other_map why run.NoItem all h other = absurd h
+other_map why run.NoType all h other = absurd h
 other_map why (run.Other w s) all h other = absurd h
 
 pub other_noted : (explain : Bool) (name : List ℕ) (all : Option (List ℕ)) (f : RunFault) (notes : List ℕ) → IsInputFault f → (f ≡ run.Read → ⊥) → IsFileNoted explain name f notes → IsMapNoted explain name all f notes
@@ -104,6 +110,8 @@ other_noted explain name all run.Thread notes h other told = absurd h
 other_noted explain name all (run.Refused n) notes h other told = absurd h
 other_noted explain name all (run.Made n) notes h other told = absurd h
 other_noted explain name all (run.Differs n) notes h other told = absurd h
+other_noted explain name all run.NoItem notes h other told = absurd h
+other_noted explain name all run.NoType notes h other told = absurd h
 other_noted explain name all (run.Other w s) notes h other told = absurd h
 
 -- what is noted of a job that wasn't read, or is none, is noted as asked
@@ -116,6 +124,8 @@ part_as_asked content options input run.Thread notes h told = absurd h
 part_as_asked content options input (run.Refused n) notes h told = absurd h
 part_as_asked content options input (run.Made n) notes h told = absurd h
 part_as_asked content options input (run.Differs n) notes h told = absurd h
+part_as_asked content options input run.NoItem notes h told = absurd h
+part_as_asked content options input run.NoType notes h told = absurd h
 part_as_asked content options input (run.Other w s) notes h told = absurd h
 
 pub no_job_as_asked : (content : List ℕ → Option (List ℕ)) (options : Options) (input all : Option (List ℕ)) (f : RunFault) (notes : List ℕ) → IsNoJob all f
@@ -128,4 +138,6 @@ no_job_as_asked content options input all run.Thread notes h told = absurd h
 no_job_as_asked content options input all (run.Refused n) notes h told = absurd h
 no_job_as_asked content options input all (run.Made n) notes h told = absurd h
 no_job_as_asked content options input all (run.Differs n) notes h told = absurd h
+no_job_as_asked content options input all run.NoItem notes h told = absurd h
+no_job_as_asked content options input all run.NoType notes h told = absurd h
 no_job_as_asked content options input all (run.Other w s) notes h told = absurd h

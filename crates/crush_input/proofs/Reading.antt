@@ -23,6 +23,8 @@ part_noted options name run.Thread notes named told = told
 part_noted options name (run.Refused n) notes named told = told
 part_noted options name (run.Made n) notes named told = told
 part_noted options name (run.Differs n) notes named told = told
+part_noted options name run.NoItem notes named told = told
+part_noted options name run.NoType notes named told = told
 part_noted options name (run.Other w s) notes named told = told
 
 -- where nothing is noted, that is
@@ -35,4 +37,6 @@ quiet_part options run.Thread notes none = none
 quiet_part options (run.Refused n) notes none = none
 quiet_part options (run.Made n) notes none = none
 quiet_part options (run.Differs n) notes none = none
+quiet_part options run.NoItem notes none = none
+quiet_part options run.NoType notes none = none
 quiet_part options (run.Other w s) notes none = none

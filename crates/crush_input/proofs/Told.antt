@@ -1,5 +1,5 @@
 -- What is known of the bytes of a job is known of all that there was to read.
-use Rattle.std.proofs.Common.{◌≡◌, ℕ, ◌≤◌, List, Option, Some, None, Result, Ok, Err, length, take, sym, ap, subst, ◌∙◌, arith}
+use Rattle.std.proofs.Common.{◌≡◌, ℕ, ◌≤◌, Bool, true, false, List, Option, Some, None, Result, Ok, Err, length, take, sym, ap, subst, ◌∙◌, arith}
 use Rattle.std.specs.Prelude.{IfOk, IfSome}
 use mathlib.Core.Logic.{dite}
 use native.Mathlib.Decide.{dec_le}
@@ -13,7 +13,11 @@ use Rattle.crush_input.specs.Faults.{IsRefusal}
 use Rattle.crush_input.specs.declared.fault.RunFault.TheVariants as run
 use Rattle.crush_input.specs.declared.fault.RunFault.{RunFault}
 use Rattle.crush_input.specs.Input.{IsInput}
-use Rattle.crush_input.specs.Stages.{IsInputFault, IsNoJob, IsReadFault}
+use Rattle.crush_input.specs.Stages.{IsInputFault, IsNoJob, IsReadFault, IsWeighed}
+use Rattle.crush_input.specs.Notes.{bytes_kept}
+use Rattle.crush_input.specs.declared.stopped.Weighed.{Weighed}
+use Rattle.crush_reasons.specs.Place.{OriginData}
+use Rattle.crush_input.proofs.Noted.{ComeFrom}
 
 -- what a reader gives, up to one byte too many, is all that it has, where either is no longer than a job
 input_of_take : (bytes all : List ℕ) → bytes ≡ take MOST_BYTES all → IsInput bytes all
@@ -78,6 +82,8 @@ no_job_of_all run.Thread all bytes input h = absurd h
 no_job_of_all (run.Refused n) all bytes input h = absurd h
 no_job_of_all (run.Made n) all bytes input h = absurd h
 no_job_of_all (run.Differs n) all bytes input h = absurd h
+no_job_of_all run.NoItem all bytes input h = absurd h
+no_job_of_all run.NoType all bytes input h = absurd h
 no_job_of_all (run.Other w s) all bytes input h = absurd h
 
 pub read_fault_of_input : (f : RunFault) (all : Option (List ℕ)) → IsInputFault f → IsReadFault all f
@@ -89,4 +95,19 @@ read_fault_of_input run.Thread all h = absurd h
 read_fault_of_input (run.Refused n) all h = absurd h
 read_fault_of_input (run.Made n) all h = absurd h
 read_fault_of_input (run.Differs n) all h = absurd h
+read_fault_of_input run.NoItem all h = absurd h
+read_fault_of_input run.NoType all h = absurd h
 read_fault_of_input (run.Other w s) all h = absurd h
+
+-- what is kept of the text of the bytes read is kept of all bytes, whose lines come from the same files
+pub weighed_of_all : {E : Type 0} (explain : Bool) (o p : ℕ → OriginData) (all : Option (List ℕ)) (bytes xs : List ℕ) (job : JobData) (r : Result Weighed E) → IfSome all (ComeFrom o p bytes) → all ≡ Some xs → length bytes ≤ LONGEST_JOB → bytes ≡ xs
+    → IfOk r (IsWeighed explain o bytes job) → IfOk r (IsWeighed explain p xs job)
+weighed_of_all explain o p all bytes xs job r from is_xs short same weighed =
+    let come : ComeFrom o p bytes xs = subst (λ (a : Option (List ℕ)). IfSome a (ComeFrom o p bytes)) is_xs from in
+    let origins : o ≡ p = come.1 short in
+    subst (λ (z : List ℕ). IfOk r (IsWeighed explain p z job)) same (subst (λ (q : ℕ → OriginData). IfOk r (IsWeighed explain q bytes job)) origins weighed)
+
+-- and it is no more than a job may have
+pub kept_short : (explain : Bool) (bytes : List ℕ) → length bytes ≤ LONGEST_JOB → length (bytes_kept explain bytes) ≤ LONGEST_JOB
+kept_short true bytes short = short
+kept_short false bytes short = omega arith

@@ -1,5 +1,5 @@
 -- What a command line gives a run, and what is noted of it.
-use Rattle.std.specs.Prelude.{◌≡◌, ◌⊎◌, ℕ, ◌<◌, ◌≤◌, Bool, false, List, [], Option, None, Some, Result, Err, IfSome, String, length, slice_index_or}
+use Rattle.std.specs.Prelude.{◌≡◌, ◌⊎◌, ℕ, ◌<◌, ◌≤◌, Bool, false, List, [], Option, None, Some, Result, Err, IfSome, String, length, option_map, slice_index_or}
 use Rattle.crush_table.specs.Table.{Row}
 use Rattle.crush_table.specs.Stands.{Stands}
 use Rattle.crush_map.specs.MapData.{MapData}
@@ -8,10 +8,13 @@ use Rattle.crush_text.specs.Flaw.{IsMapFlaw}
 use Rattle.crush_options.specs.declared.asked.Options.{Options}
 use Rattle.crush_options.specs.declared.asked.Printed.{Printed}
 use Rattle.crush_options.specs.declared.asked.Printed.TheVariants as printed
+use Rattle.crush_options.specs.declared.asked.Part.{Part}
+use Rattle.crush_options.specs.declared.asked.Since.{Since}
 use Rattle.crush_options.specs.declared.asked.Wanted.{Wanted}
 use Rattle.crush_units.specs.declared.limits.TheConstants.{LONGEST_JOB}
 use Rattle.crush_input.specs.declared.asked.Asked.{Asked}
 use Rattle.crush_input.specs.declared.asked.Asked.TheVariants as asked
+use Rattle.crush_input.specs.declared.asked.OldMap.{OldMap}
 use Rattle.crush_input.specs.declared.asked.WantedMap.{WantedMap}
 use Rattle.crush_input.specs.declared.fault.RunFault.{RunFault}
 use Rattle.crush_input.specs.declared.fault.RunFault.TheVariants as run
@@ -32,19 +35,40 @@ pub record IsTextOf (m : MapData) (bytes : List ℕ) : Type 0 where
   pub text : IsMapText bytes m.setting table adjusted
   pub stands : Stands m.forest table
 
+-- the text of a name, where there is one
+abbrev pub name_text : {Z : Type 0} → Option (String Z) → Option (List ℕ)
+name_text name = option_map (λ n. n.bytes.items) name
+
+-- the part has the names that the words have
+pub record IsPartOf (words part : Part) : Type 0 where
+  pub under : name_text part.under ≡ name_text words.under
+  pub down_to : name_text part.down_to ≡ name_text words.down_to
+
+-- the tree of such a part is asked for
+abbrev pub IsTreeOf : Part → Asked → Type 0
+IsTreeOf words (asked.Tree part) = IsPartOf words part
+IsTreeOf words what = ⊥
+
+-- the map is the one of which the words name the file, and told since it is what they say
+pub record IsOldOf (content : List ℕ → Option (List ℕ)) (words : Since) (old : OldMap) : Type 0 where
+  pub map : IfSome (content words.map.bytes.items) (IsTextOf old.map)
+  pub by_name : old.by_name ≡ words.by_name
+  pub under : name_text old.under ≡ name_text words.under
+
 -- the map is the wanted one of which the words name the file, and it is as they say that its commands are found and printed
 pub record IsWantedOf (content : List ℕ → Option (List ℕ)) (words : Wanted) (wanted : WantedMap) : Type 0 where
   pub map : IfSome (content words.map.bytes.items) (IsTextOf wanted.map)
   pub as_ceph : wanted.as_ceph ≡ words.as_ceph
   pub by_name : wanted.by_name ≡ words.by_name
+  pub under : name_text wanted.under ≡ name_text words.under
 
 -- what is printed where the words ask for it; of another map, what its file has is its text
 abbrev pub IsAskedOf : (List ℕ → Option (List ℕ)) → Printed → Asked → Type 0
 IsAskedOf content printed.Map what = what ≡ asked.Map
-IsAskedOf content printed.Tree what = what ≡ asked.Tree
+IsAskedOf content (printed.Tree part) what = IsTreeOf part what
 IsAskedOf content printed.AsCeph what = what ≡ asked.AsCeph
-IsAskedOf content (printed.Since name) (asked.Since m) = IfSome (content name.bytes.items) (IsTextOf m)
-IsAskedOf content (printed.Since name) what = ⊥
+IsAskedOf content (printed.Since words) (asked.Since old) = IsOldOf content words old
+IsAskedOf content (printed.Since words) what = ⊥
 IsAskedOf content (printed.Changes name) (asked.Changes m) = IfSome (content name.bytes.items) (IsTextOf m)
 IsAskedOf content (printed.Changes name) what = ⊥
 IsAskedOf content (printed.To words) (asked.To wanted) = IsWantedOf content words wanted
@@ -62,16 +86,18 @@ IsMapFault why all (run.Other which fault) = (which ≡ why) × IfSome all (λ b
 IsMapFault why all run.Memory = Unit {0}
 IsMapFault why all fault = ⊥
 
--- and while what the words ask for is made: that alone, and only where they ask for one
+-- and while what the words ask for is made: that where they ask for one, and where they have names else that memory lacks
 abbrev pub IsAskedFault : (List ℕ → Option (List ℕ)) → Printed → RunFault → Type 0
-IsAskedFault content (printed.Since name) fault = IsMapFault beside.Since (content name.bytes.items) fault
+IsAskedFault content (printed.Tree part) fault = fault ≡ run.Memory
+IsAskedFault content (printed.Since words) fault = IsMapFault beside.Since (content words.map.bytes.items) fault
 IsAskedFault content (printed.Changes name) fault = IsMapFault beside.Since (content name.bytes.items) fault
 IsAskedFault content (printed.To words) fault = IsMapFault beside.To (content words.map.bytes.items) fault
 IsAskedFault content what fault = ⊥
 
 -- what is noted of a fault of what the words ask for
 abbrev pub IsAskedNoted : (List ℕ → Option (List ℕ)) → Bool → Printed → RunFault → List ℕ → Type 0
-IsAskedNoted content explain (printed.Since name) fault notes = IsMapNoted explain name.bytes.items (content name.bytes.items) fault notes
+IsAskedNoted content explain (printed.Tree part) fault notes = notes ≡ []
+IsAskedNoted content explain (printed.Since words) fault notes = IsMapNoted explain words.map.bytes.items (content words.map.bytes.items) fault notes
 IsAskedNoted content explain (printed.Changes name) fault notes = IsMapNoted explain name.bytes.items (content name.bytes.items) fault notes
 IsAskedNoted content explain (printed.To words) fault notes = IsMapNoted explain words.map.bytes.items (content words.map.bytes.items) fault notes
 IsAskedNoted content explain what fault notes = ⊥

@@ -20,7 +20,7 @@ origin_in found (p ∷ ps) line = origin_in (if nat_le p.from line then within p
 
 -- the origin of a line, by what a run keeps of its files
 abbrev pub origin_of : Origins → ℕ → OriginData
-origin_of o line = origin_in (whole_of o.first.now) (map part_data o.parts.now) line
+origin_of o line = origin_in (whole_of o.first.now) (map part_data o.parts.items) line
 
 -- no file is told of
 abbrev pub no_origin : ℕ → OriginData

@@ -3,8 +3,9 @@ use Rattle.std.specs.Prelude.{◌≡◌, ℕ, List, Bool, true, Option}
 use Rattle.crush_script.specs.Job.{JobData, JobStands}
 use Rattle.crush_input.specs.declared.fault.RunFault.{RunFault}
 use Rattle.crush_input.specs.declared.fault.RunFault.TheVariants as run
+use Rattle.crush_reasons.specs.Place.{OriginData}
 use Rattle.crush_input.specs.declared.stopped.Weighed.{Weighed}
-use Rattle.crush_input.specs.Notes.{weight_notes}
+use Rattle.crush_input.specs.Notes.{text_data, text_of}
 use Rattle.crush_input.specs.Faults.{IsRefusal}
 
 -- what may fail while the bytes are read
@@ -34,7 +35,7 @@ abbrev pub IsMadeFault : Bool → RunFault → Type 0
 IsMadeFault no_make (run.Made n) = no_make ≡ true
 IsMadeFault no_make fault = ⊥
 
--- what was read of a job: it stands for the job, and the lines of its written weights are these of its bytes
-pub record IsWeighed (explain : Bool) (bytes : List ℕ) (job : JobData) (read : Weighed) : Type 0 where
+-- what was read of a job: it stands for the job, and what is kept of its text is that of its bytes, whose lines come from there
+pub record IsWeighed (explain : Bool) (origin : ℕ → OriginData) (bytes : List ℕ) (job : JobData) (read : Weighed) : Type 0 where
   pub stands : JobStands read.job job
-  pub weights : read.weights.items ≡ weight_notes explain bytes job.table
+  pub text : text_data read.text ≡ text_of explain origin bytes job.table

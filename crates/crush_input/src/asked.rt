@@ -1,17 +1,28 @@
 //! What a run is asked for.
 
-ghost use Rattle.std.specs.Prelude.{IfErr, IfOk};
+ghost use Rattle.std.specs.Prelude.{◌≡◌, IfErr, IfOk, []};
 ghost use Rattle.crush_input.specs.Notes.{IsMapNoted};
-ghost use Rattle.crush_input.specs.Options.{IsAskedFault, IsAskedNoted, IsAskedOf, IsMapFault, IsWantedOf};
+ghost use Rattle.crush_input.specs.Options.{IsAskedFault, IsAskedNoted, IsAskedOf, IsMapFault, IsOldOf, IsPartOf, IsTreeOf, IsWantedOf, name_text};
 
-use crate::fault::OtherMap;
+use crate::fault::{OtherMap, RunFault};
 use crate::files::Opens;
 use crate::other::read_other;
 use crate::stopped::Stopped;
 use crush_map::CrushMap;
-use crush_options::{Mode, Printed, Wanted};
-use std::alloc::Global;
+use crush_options::{Mode, Part, Printed, Since, Wanted};
+use std::alloc::{AllocError, Global};
 use std::random::RandomSource;
+
+/// The map since which changes are told, and of which items.
+#[derive(Drop)]
+pub struct OldMap {
+    /// That map.
+    pub map: CrushMap<Global>,
+    /// Whether items are told apart by their names, and not by their ids.
+    pub by_name: bool,
+    /// The name of the item that is told of with what stands or stood below it; without one all are.
+    pub under: Option<String>,
+}
 
 /// The map that commands are to lead to, and how they are found and printed.
 #[derive(Drop)]
@@ -22,6 +33,9 @@ pub struct WantedMap {
     pub as_ceph: bool,
     /// Whether a bucket is told by its name and type alone, and not by its id.
     pub by_name: bool,
+    /// The name of the item that commands are for, with what stands or shall stand below it; without
+    /// one they are for all.
+    pub under: Option<String>,
 }
 
 /// What is printed of the map after the scripts.
@@ -29,10 +43,10 @@ pub struct WantedMap {
 pub enum Asked {
     /// Its text.
     Map,
-    /// Its tree: a line for each item, from the roots downward.
-    Tree,
+    /// Its tree, or a part of it: a line for each item, from the roots downward.
+    Tree(Part),
     /// What has changed in it since this map.
-    Since(CrushMap<Global>),
+    Since(OldMap),
     /// The same as a tree.
     Changes(CrushMap<Global>),
     /// The commands that changed it, as Ceph's own.
@@ -50,6 +64,64 @@ pub struct Request {
     pub asked: Asked,
 }
 
+/// A copy of a name, where there is one.
+fn name_of(alloc: Global, name: &Option<String>) -> Result<Option<String>, AllocError>
+    ensures { IfOk result (λ copy. name_text copy ≡ name_text name.now) }
+{
+    match name {
+        Some(name) => Ok(Some(String::from_str(alloc, name.as_str())?)),
+        None => Ok(None),
+    }
+}
+
+/// A copy of the names of a part.
+fn part_of(alloc: Global, part: &Part) -> Result<Part, AllocError>
+    ensures { IfOk result (IsPartOf part.now) }
+{
+    let under = name_of(alloc, &part.under)?;
+    let down_to = name_of(alloc, &part.down_to)?;
+    Ok(Part { under, down_to })
+}
+
+/// The tree of the part that the words name.
+fn tree_of(alloc: Global, part: &Part) -> Result<Asked, Stopped>
+    ensures asked { IfOk result (IsTreeOf part.now) }
+    ensures fault { IfErr result (λ stopped. stopped.fault ≡ RunFault.Memory) }
+    ensures quiet { IfErr result (λ stopped. stopped.notes.items ≡ []) }
+{
+    match part_of(alloc, part) {
+        Ok(part) => Ok(Asked::Tree(part)),
+        Err(_) => Err(Stopped::quietly(alloc, RunFault::Memory)),
+    }
+}
+
+/// The map since which the words want changes, read of its file.
+fn old_of<H: AllocGlobal + RandomSource, F: Opens>(
+    rt: &H,
+    files: &F,
+    explain: bool,
+    since: &Since,
+) -> Result<OldMap, Stopped>
+    ensures old { IfOk result (IsOldOf (F.content files.now) since.now) }
+    ensures fault { IfErr result (λ stopped.
+        IsMapFault OtherMap.Since (F.content files.now since.now.map.bytes.items) stopped.fault) }
+    ensures noted { IfErr result (λ stopped.
+        IsMapNoted explain since.now.map.bytes.items
+        (F.content files.now since.now.map.bytes.items) stopped.fault stopped.notes.items) }
+{
+    let Ok(under) = name_of(rt.alloc(), &since.under) else {
+        return Err(Stopped::quietly(rt.alloc(), RunFault::Memory));
+    };
+    match read_other(rt, files, explain, OtherMap::Since, since.map.as_str()) {
+        Ok(map) => Ok(OldMap {
+            map,
+            by_name: since.by_name,
+            under,
+        }),
+        Err(stopped) => Err(stopped),
+    }
+}
+
 /// The map that the words want, read of its file.
 fn wanted_of<H: AllocGlobal + RandomSource, F: Opens>(
     rt: &H,
@@ -64,11 +136,15 @@ fn wanted_of<H: AllocGlobal + RandomSource, F: Opens>(
         IsMapNoted explain wanted.now.map.bytes.items
         (F.content files.now wanted.now.map.bytes.items) stopped.fault stopped.notes.items) }
 {
+    let Ok(under) = name_of(rt.alloc(), &wanted.under) else {
+        return Err(Stopped::quietly(rt.alloc(), RunFault::Memory));
+    };
     match read_other(rt, files, explain, OtherMap::To, wanted.map.as_str()) {
         Ok(map) => Ok(WantedMap {
             map,
             as_ceph: wanted.as_ceph,
             by_name: wanted.by_name,
+            under,
         }),
         Err(stopped) => Err(stopped),
     }
@@ -89,13 +165,11 @@ pub fn asked_of<H: AllocGlobal + RandomSource, F: Opens>(
 {
     match printed {
         Printed::Map => Ok(Asked::Map),
-        Printed::Tree => Ok(Asked::Tree),
-        Printed::Since(name) => {
-            match read_other(rt, files, explain, OtherMap::Since, name.as_str()) {
-                Ok(map) => Ok(Asked::Since(map)),
-                Err(stopped) => Err(stopped),
-            }
-        }
+        Printed::Tree(part) => tree_of(rt.alloc(), part),
+        Printed::Since(since) => match old_of(rt, files, explain, since) {
+            Ok(old) => Ok(Asked::Since(old)),
+            Err(stopped) => Err(stopped),
+        },
         Printed::Changes(name) => {
             match read_other(rt, files, explain, OtherMap::Since, name.as_str()) {
                 Ok(map) => Ok(Asked::Changes(map)),

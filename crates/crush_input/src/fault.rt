@@ -63,6 +63,14 @@ pub enum RunFault {
     /// wanted one. Nothing was written.
     #[error("differs {0}")]
     Differs(usize),
+    /// There is no item of the name that `--under` has, in the map after the scripts. Nothing was
+    /// written.
+    #[error("no item")]
+    NoItem,
+    /// There is no type of the name that `--down-to` has, in the map after the scripts. Nothing was
+    /// written.
+    #[error("no type")]
+    NoType,
 }
 
 impl<T: Drop> From<AllocFailed<T>> for RunFault {

@@ -5,9 +5,9 @@ ghost use Rattle.crush_script.specs.Job.{HasJob, IsJob, JobData};
 ghost use Rattle.crush_input.specs.Input.{TakesFew, job_bytes};
 ghost use Rattle.crush_input.specs.Notes.{IsFaultNoted};
 ghost use Rattle.crush_input.specs.Options.{IsNotedAsAsked};
-ghost use Rattle.crush_input.specs.Origins.{origin_of};
+ghost use Rattle.crush_input.specs.Origins.{job_origin, origin_of};
 ghost use Rattle.crush_input.specs.Stages.{IsNoJob, IsReadFault, IsWeighed};
-ghost use Rattle.crush_units.specs.declared.limits.TheConstants.{MOST_OPERATORS};
+ghost use Rattle.crush_units.specs.declared.limits.TheConstants.{LONGEST_JOB, MOST_OPERATORS};
 
 use crate::fault::RunFault;
 use crate::files::Opens;
@@ -31,47 +31,50 @@ pub(crate) fn drawn_hashing<H: RandomSource>(rt: &H) -> Hashing {
 }
 
 /// Reads the job that these bytes are, whose lines come from there.
-pub fn job_of<H: AllocGlobal + RandomSource>(
+pub fn job_of<'a, H: AllocGlobal + RandomSource>(
     rt: &H,
     explain: bool,
-    origins: Origins<'_>,
+    origins: Origins<'a>,
     bytes: Vec<u8>,
-) -> Result<Weighed, Stopped>
+) -> Result<Weighed<'a>, Stopped>
     ensures job { IfOk result (λ _. HasJob bytes.items) }
     ensures only { (job : JobData) → IsJob bytes.items job
-        → IfOk result (IsWeighed explain bytes.items job) }
-    ensures plain { IfOk result (λ read. explain ≡ false → read.weights.items ≡ []) }
+        → IfOk result (IsWeighed explain (origin_of origins.entry) bytes.items job) }
+    ensures plain { IfOk result (λ read. explain ≡ false → read.text.weights.items ≡ []) }
+    ensures short { IfOk result (λ read. length read.text.bytes.items ≤ LONGEST_JOB) }
     ensures fault { IfErr result (λ stopped. IsNoJob (Some bytes.items) stopped.fault) }
     ensures noted { IfErr result (λ stopped. IsFaultNoted explain (origin_of origins.entry)
         (Some bytes.items) stopped.fault stopped.notes.items) }
     ensures few { IfOk result (λ read. length read.job.scripts.items ≤ MOST_OPERATORS) }
 {
     let alloc = rt.alloc();
-    let bytes = bytes.as_slice();
-    let job = match read_job(alloc, drawn_hashing(rt), bytes) {
+    let text = bytes.as_slice();
+    let job = match read_job(alloc, drawn_hashing(rt), text) {
         Ok(job) => job,
-        Err(fault) => return Err(stopped_by(alloc, explain, origins, bytes, fault)),
+        Err(fault) => return Err(stopped_by(alloc, explain, &origins, text, fault)),
     };
-    match weighed(alloc, explain, bytes, job) {
+    match weighed(alloc, explain, origins, bytes, job) {
         Ok(read) => Ok(read),
         Err(_) => Err(Stopped::quietly(alloc, RunFault::Memory)),
     }
 }
 
 /// Reads the job that the options name, with the scripts of its files.
-pub fn read_whole<H: AllocGlobal + RandomSource, F: Opens, R: Read>(
+pub fn read_whole<'a, H: AllocGlobal + RandomSource, F: Opens, R: Read>(
     rt: &H,
     files: &F,
-    options: &Options,
+    options: &'a Options,
     input: &mut R,
-) -> Result<Weighed, Stopped>
+) -> Result<Weighed<'a>, Stopped>
     ensures job { IfOk result (λ _.
         IfSome (job_bytes (F.content files.now) options.now (R.remaining input.old)) HasJob) }
     ensures only { (bytes : List ℕ) (job : JobData)
         → job_bytes (F.content files.now) options.now (R.remaining input.old) ≡ Some bytes
-        → IsJob bytes job → IfOk result (IsWeighed options.now.mode.explain bytes job) }
+        → IsJob bytes job → IfOk result (IsWeighed options.now.mode.explain
+        (job_origin (F.content files.now) options.now (R.remaining input.old)) bytes job) }
     ensures plain { IfOk result (λ read. options.now.mode.explain ≡ false
-        → read.weights.items ≡ []) }
+        → read.text.weights.items ≡ []) }
+    ensures short { IfOk result (λ read. length read.text.bytes.items ≤ LONGEST_JOB) }
     ensures few { IfOk result (λ read. length read.job.scripts.items ≤ MOST_OPERATORS) }
     ensures input { options.now.file ≢ None → R.remaining input.new ≡ R.remaining input.old }
     ensures taken { TakesFew (R.remaining input.old) (R.remaining input.new) }
@@ -83,7 +86,7 @@ pub fn read_whole<H: AllocGlobal + RandomSource, F: Opens, R: Read>(
     let Joined { bytes, parts } = read_all(rt.alloc(), files, options, input)?;
     let origins = Origins {
         first: first_name(options),
-        parts: parts.as_slice(),
+        parts,
     };
     job_of(rt, options.mode.explain, origins, bytes)
 }

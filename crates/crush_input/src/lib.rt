@@ -20,7 +20,7 @@ mod other;
 mod stopped;
 mod summary;
 
-pub use asked::{Asked, Request, WantedMap, asked_of};
+pub use asked::{Asked, OldMap, Request, WantedMap, asked_of};
 pub use fault::{OtherFault, OtherMap, RunFault};
 pub use files::{Opens, SystemFiles};
 pub use input::read_bytes;
@@ -28,5 +28,5 @@ pub use job::{job_of, read_whole};
 pub use made::{check_made, made_notes};
 pub use notes::{History, check_strict, history_notes};
 pub use origins::Origins;
-pub use stopped::{Stopped, Weighed};
+pub use stopped::{Stopped, TextKept, Weighed};
 pub use summary::Summary;

@@ -9,19 +9,19 @@ ghost use Rattle.crush_calls.specs.Entries.{AreOf};
 ghost use Rattle.crush_calls.specs.HistoryText.{names_of};
 ghost use Rattle.crush_calls.specs.Script.{scripts_data};
 ghost use Rattle.crush_script.specs.Job.{IsJobFault};
-ghost use Rattle.crush_input.specs.Notes.{IsFaultNoted, IsFileNoted, IsKept, IsUnread, history_notes, place_notes, refused_notes, weight_notes, IsStrict};
-ghost use Rattle.crush_reasons.specs.Explained.{explained_text};
+ghost use Rattle.crush_input.specs.Notes.{IsFaultNoted, IsFileNoted, IsKept, IsUnread, bytes_kept, history_notes, place_notes, refused_notes, text_data, weight_notes, IsStrict};
+ghost use Rattle.crush_reasons.specs.Explained.{explained_job};
 ghost use Rattle.crush_input.specs.Origins.{origin_of};
 ghost use Rattle.crush_input.specs.Stages.{IsInputFault, IsNoJob, IsStrictFault};
 ghost use Rattle.crush_units.specs.declared.limits.TheConstants.{LONGEST_JOB, MOST_ENTRIES};
 
 use crate::fault::RunFault;
 use crate::origins::Origins;
-use crate::stopped::{Stopped, Weighed};
+use crate::stopped::{Stopped, TextKept, Weighed};
 use crush_calls::{Entry, Script, count_refused, refused_text};
 use crush_map::CrushMap;
 use crush_options::Mode;
-use crush_reasons::{explained_text, fault_line, fault_text, written_text};
+use crush_reasons::{JobText, Locates, explained_job, fault_line, fault_text, written_text};
 use crush_script::{Job, JobFault, map_part};
 use crush_units::limits::LONGEST_JOB;
 use std::alloc::{AllocError, Global};
@@ -59,34 +59,41 @@ pub fn history_notes(
     alloc: Global,
     mode: Mode,
     history: History<'_>,
-    weights: &[u8],
+    text: &TextKept<'_>,
 ) -> Result<Vec<u8>, AllocError>
+    requires short { length text.now.bytes.items ≤ LONGEST_JOB }
     requires few { length history.entries.now ≤ MOST_ENTRIES }
     requires operators { AreOf (length history.scripts.now) history.entries.now }
     requires kept { mode.explain ≡ true → is_some history.opening.now ≡ true }
     ensures { IfOk result (λ lines. (s : SettingData) (t : List Row)
         → (mode.explain ≡ true → IsKept history.entry.opening.now s t) → lines.items
-        ≡ history_notes mode weights.now s t (names_of (scripts_data history.entry.scripts.now))
-        history.entry.entries.now) }
+        ≡ history_notes mode (text_data text.now) s t
+        (names_of (scripts_data history.entry.scripts.now)) history.entry.entries.now) }
 {
-    let mut lines = refused_notes(alloc, mode, history)?;
-    lines.extend_from_slice(weights)?;
+    let mut lines = refused_notes(alloc, mode, history, text)?;
+    lines.extend_from_slice(text.weights.as_slice())?;
     Ok(lines)
 }
 
 /// The lines of the calls that were refused: with reasons where those are asked for, and without in
 /// another strict run.
-fn refused_notes(alloc: Global, mode: Mode, history: History<'_>) -> Result<Vec<u8>, AllocError>
+fn refused_notes(
+    alloc: Global,
+    mode: Mode,
+    history: History<'_>,
+    text: &TextKept<'_>,
+) -> Result<Vec<u8>, AllocError>
+    requires short { length text.now.bytes.items ≤ LONGEST_JOB }
     requires few { length history.entries.now ≤ MOST_ENTRIES }
     requires operators { AreOf (length history.scripts.now) history.entries.now }
     requires kept { mode.explain ≡ true → is_some history.opening.now ≡ true }
     ensures { IfOk result (λ lines. (s : SettingData) (t : List Row)
         → (mode.explain ≡ true → IsKept history.entry.opening.now s t) → lines.items
-        ≡ refused_notes mode s t (names_of (scripts_data history.entry.scripts.now))
-        history.entry.entries.now) }
+        ≡ refused_notes mode (text_data text.now) s t
+        (names_of (scripts_data history.entry.scripts.now)) history.entry.entries.now) }
 {
     if mode.explain {
-        return reasons_of(alloc, history);
+        return reasons_of(alloc, history, text);
     }
     if mode.strict {
         return refused_text(alloc, history.scripts, history.entries);
@@ -94,21 +101,31 @@ fn refused_notes(alloc: Global, mode: Mode, history: History<'_>) -> Result<Vec<
     Ok(Vec::new(alloc))
 }
 
-/// The lines of the calls that were refused, each with its reason, by a copy of the map before them.
-fn reasons_of(alloc: Global, history: History<'_>) -> Result<Vec<u8>, AllocError>
+/// The lines of the calls that were refused, each with its reason, by a copy of the map before them and
+/// by the text from which they come.
+fn reasons_of(
+    alloc: Global,
+    history: History<'_>,
+    text: &TextKept<'_>,
+) -> Result<Vec<u8>, AllocError>
+    requires short { length text.now.bytes.items ≤ LONGEST_JOB }
     requires few { length history.entries.now ≤ MOST_ENTRIES }
     requires operators { AreOf (length history.scripts.now) history.entries.now }
     requires kept { is_some history.opening.now ≡ true }
     ensures { IfOk result (λ lines. (s : SettingData) (t : List Row)
         → IsKept history.entry.opening.now s t → lines.items
-        ≡ explained_text s t (names_of (scripts_data history.entry.scripts.now)) 1
-        history.entry.entries.now) }
+        ≡ explained_job (origin_of text.now.origins) text.now.bytes.items s t
+        (names_of (scripts_data history.entry.scripts.now)) history.entry.entries.now) }
 {
     let Some(opening) = history.opening else {
         unreachable!()
     };
     let opening = opening.try_copy()?;
-    explained_text(alloc, opening, history.scripts, history.entries)
+    let job = JobText {
+        bytes: text.bytes.as_slice(),
+        origins: &text.origins,
+    };
+    explained_job(alloc, job, opening, history.scripts, history.entries)
 }
 
 /// The lines of the weights that are written in a job's text and aren't the sums in its map, where
@@ -129,20 +146,38 @@ fn weight_notes(
     Ok(Vec::new(alloc))
 }
 
-/// A job that was read of these bytes, with what is noted of its text.
-pub(crate) fn weighed(
+/// The bytes of a job, where reasons are asked for.
+fn bytes_kept(alloc: Global, explain: bool, bytes: Vec<u8>) -> Vec<u8>
+    ensures { result.items ≡ bytes_kept explain bytes.items }
+{
+    if explain {
+        return bytes;
+    }
+    Vec::new(alloc)
+}
+
+/// A job that was read of these bytes, whose lines come from there, with what is kept of its text.
+pub(crate) fn weighed<'a>(
     alloc: Global,
     explain: bool,
-    bytes: &[u8],
+    origins: Origins<'a>,
+    bytes: Vec<u8>,
     job: Job,
-) -> Result<Weighed, AllocError>
+) -> Result<Weighed<'a>, AllocError>
     ensures job { IfOk result (λ read. read.job ≡ job) }
+    ensures bytes { IfOk result (λ read. read.text.bytes.items ≡ bytes_kept explain bytes.items) }
+    ensures origins { IfOk result (λ read. read.text.origins ≡ origins.entry) }
     ensures weights { IfOk result (λ read. (t : List Row) → Stands job.map.forest t
-        → read.weights.items ≡ weight_notes explain bytes.now t) }
-    ensures plain { IfOk result (λ read. explain ≡ false → read.weights.items ≡ []) }
+        → read.text.weights.items ≡ weight_notes explain bytes.items t) }
+    ensures plain { IfOk result (λ read. explain ≡ false → read.text.weights.items ≡ []) }
 {
-    let weights = weight_notes(alloc, explain, bytes, &job.map)?;
-    Ok(Weighed { job, weights })
+    let weights = weight_notes(alloc, explain, bytes.as_slice(), &job.map)?;
+    let text = TextKept {
+        bytes: bytes_kept(alloc, explain, bytes),
+        origins,
+        weights,
+    };
+    Ok(Weighed { job, text })
 }
 
 /// The line of a file that can't be opened or read: its name, and the reason that the system gives.
@@ -205,13 +240,13 @@ fn job_prefix(bytes: &[u8]) -> &[u8]
 fn place_notes(
     alloc: Global,
     explain: bool,
-    origins: Origins<'_>,
+    origins: &Origins<'_>,
     bytes: &[u8],
     fault: JobFault,
 ) -> Result<Vec<u8>, AllocError>
     requires { IsJobFault bytes.now fault }
     ensures { IfOk result (λ text. text.items
-        ≡ place_notes explain (origin_of origins.entry) bytes.now fault) }
+        ≡ place_notes explain (origin_of origins.now) bytes.now fault) }
 {
     if explain {
         let bytes = job_prefix(bytes);
@@ -225,13 +260,13 @@ fn place_notes(
 pub(crate) fn stopped_by(
     alloc: Global,
     explain: bool,
-    origins: Origins<'_>,
+    origins: &Origins<'_>,
     bytes: &[u8],
     fault: JobFault,
 ) -> Stopped
     requires { IsJobFault bytes.now fault }
     ensures fault { IsNoJob (Some bytes.now) result.fault }
-    ensures noted { IsFaultNoted explain (origin_of origins.entry) (Some bytes.now) result.fault
+    ensures noted { IsFaultNoted explain (origin_of origins.now) (Some bytes.now) result.fault
         result.notes.items }
 {
     if fault.lacks_memory() {

@@ -1,50 +1,61 @@
 //! Which file each line of a job comes from.
 
-ghost use Rattle.std.specs.Prelude.{◌≡◌};
+ghost use Rattle.std.specs.Prelude.{◌≡◌, map as each};
 ghost use Rattle.crush_reasons.specs.Place.{origin_data};
 ghost use Rattle.crush_input.specs.Joined.{part_data};
-ghost use Rattle.crush_input.specs.Origins.{first_name, no_origin, origin_of, within};
+ghost use Rattle.crush_input.specs.Origins.{first_name, no_origin, origin_in, origin_of, whole_of, within};
 
 use crate::joined::Part;
 use crush_options::Options;
-use crush_reasons::Origin;
+use crush_reasons::{Locates, Origin};
+use std::alloc::Global;
 
 /// Where the lines of a job come from: of its first file, and of scripts behind it.
-#[derive(Clone, Copy)]
+#[derive(Drop)]
 pub struct Origins<'a> {
     /// The name of the first file, empty where none is told.
     pub(crate) first: &'a [u8],
     /// Where the scripts stand, in order.
-    pub(crate) parts: &'a [Part<'a>],
+    pub(crate) parts: Vec<Part<'a>>,
 }
 
-impl<'a> Origins<'a> {
+impl Origins<'_> {
     /// Those of a job of which no file is told.
-    pub fn none() -> Origins<'static>
+    pub fn none(alloc: Global) -> Origins<'static>
         ensures { origin_of result ≡ no_origin }
     {
         Origins {
             first: b"",
-            parts: &[],
+            parts: Vec::new(alloc),
         }
     }
+}
 
-    /// Where a line comes from. Lines count from 1.
-    pub(crate) fn at(self, line: usize) -> Origin<'a>
-        ensures { origin_data result ≡ origin_of self.entry line }
-    {
-        let mut origin = Origin {
-            name: self.first,
-            before: 0,
-        };
-        let parts = self.parts;
-        for part in parts {
-            if part.from <= line {
-                origin = part.origin();
-            }
-        }
-        origin
+impl Locates for Origins<'_> {
+    ghost use Rattle.crush_input.specs.Origins.{origin_of};
+
+    ghost origin = { λ origins line. origin_of origins line };
+
+    fn at(&self, line: usize) -> Origin<'_> {
+        origin_in(self.first, self.parts.as_slice(), line)
     }
+}
+
+/// Where a line of a job comes from whose first file has this name, and whose scripts stand there.
+fn origin_in<'a>(first: &'a [u8], parts: &[Part<'a>], line: usize) -> Origin<'a>
+    ensures { origin_data result
+        ≡ origin_in (whole_of first.now) (each part_data parts.now) line }
+{
+    let mut origin = Origin {
+        name: first,
+        before: 0,
+    };
+    for part in parts {
+        if part.from <= line {
+            origin = part.origin();
+        }
+    }
+    origin
 }
 
 impl<'a> Part<'a> {

@@ -6,7 +6,7 @@ use Rattle.std.proofs.lemmas.List.Folds.{flat_map-map}
 use Rattle.crush_units.specs.declared.id.ItemId.{ItemId}
 use Rattle.crush_units.specs.declared.id.ItemId.TheVariants.{Device as DeviceItem, Bucket as BucketItem}
 use Rattle.crush_table.specs.Forest.{ForestData, all_items, rows_of, join}
-use Rattle.crush_table.specs.ItemRows.{rows, device_row, bucket_row}
+use Rattle.crush_table.specs.ItemRows.{rows}
 use Rattle.crush_table.specs.Items.{BucketData, Items, none, device, bucket}
 use Rattle.crush_table.specs.Stands.{Stands}
 use Rattle.crush_table.specs.Table.{Row, bucket_ids}

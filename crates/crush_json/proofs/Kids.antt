@@ -1,5 +1,5 @@
 -- A bucket that isn't there has no items.
-use Rattle.std.proofs.Common.{◌≡◌, ℕ, Bool, true, false, List, [], ◌∷◌, map, ap, sym, subst, ◌∙◌, refl, ⊎_elim}
+use Rattle.std.proofs.Common.{◌≡◌, ℕ, true, false, List, [], ◌∷◌, map, ap, sym, subst, ◌∙◌, refl, ⊎_elim}
 use Rattle.std.specs.Prelude.{All, IfSome, Option, None, Some, if◌then◌else◌, filter}
 use Rattle.std.proofs.lemmas.Bool.Decides.{eqb_tells}
 use Rattle.std.proofs.lemmas.List.Elements.{All-head, All-tail}

@@ -5,7 +5,7 @@ use Rattle.std.specs.BTreeMap.{insert_entry}
 use Rattle.std.specs.Ordering.{match_ordering}
 use Rattle.json.specs.Token.{Token, end_object}
 use Rattle.json.specs.Tree.{members_tokens}
-use Rattle.serde_json.specs.Data.{Members, member, put}
+use Rattle.serde_json.specs.Data.{put}
 use Rattle.serde_json.specs.Written.{members_outline}
 use Rattle.crush_json.specs.Seen.{number_members}
 use Rattle.crush_json.specs.Tokens.{member_tokens}

@@ -1,6 +1,5 @@
 -- What is told of an item that was looked up.
 use Rattle.std.proofs.Common.{◌≡◌, ℕ, ◌+◌, ◌<◌, List, [], ◌∷◌, ◌++◌, length, get_or, take, map, Option, Some, None, refl, sym, ap, ◌∙◌, append_assoc, append-nil, arith}
-use Rattle.std.specs.Prelude.{flat_map}
 use Rattle.std.specs.Option.{option_map_or}
 use Rattle.std.proofs.lemmas.List.{take_more, map_push, length-take-le, length-map}
 use Rattle.std.proofs.lemmas.List.Concat.{flat_map-append}

@@ -1,10 +1,10 @@
 -- A weight's text is a number of JSON.
-use Rattle.std.proofs.Common.{◌≡◌, ℕ, zero, suc, ◌/◌, ◌+◌, ◌<◌, ◌^◌, true, false, List, [], ◌∷◌, ◌++◌, length, refl, ap, arith}
+use Rattle.std.proofs.Common.{◌≡◌, ℕ, zero, suc, ◌/◌, ◌<◌, ◌^◌, true, false, [], ◌∷◌, ◌++◌, length, refl, ap, arith}
 use Rattle.std.proofs.lemmas.Fmt.{decimal_is_IsNumeral, decimal_digit, first_decimal}
 use Rattle.std.proofs.lemmas.Str.{digit_value_digit}
 use Rattle.std.specs.Char.{digit_value}
 use Rattle.std.specs.Prelude.{decimal, slice_index}
-use Rattle.std.specs.Float.Numeral.{Parts, text_of}
+use Rattle.std.specs.Float.Numeral.{Parts}
 use Rattle.ryu.specs.Plain.{IsPlain}
 use Rattle.json.specs.Print.{IsNumber}
 use Rattle.json.proofs.Printed.Floats.{IsNumber-plain}

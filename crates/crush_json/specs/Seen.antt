@@ -1,5 +1,5 @@
 -- How what documents are made of is seen as plain data.
-use Rattle.std.specs.Prelude.{ℕ, ◌<◌, ◌^◌, List, String, map, length, string_bytes}
+use Rattle.std.specs.Prelude.{ℕ, ◌<◌, ◌^◌, List, String, map, length}
 use Rattle.std.specs.declared.alloc.Global.{Global}
 use Rattle.serde_json.specs.Data.{Data, Members}
 use Rattle.serde_json.specs.View.{members_of}

@@ -1,16 +1,15 @@
 -- With its types in order a setting prints the same.
-use Rattle.std.proofs.Common.{◌≡◌, ℕ, zero, suc, List, [], ◌∷◌, ◌++◌, length, refl, sym, ap, ◌∙◌}
+use Rattle.std.proofs.Common.{◌≡◌, ℕ, List, [], ◌∷◌, ◌++◌, refl, sym, ap, ◌∙◌}
 use Rattle.std.specs.Prelude.{map, flat_map, codes, unwrap_or, ◌==◌}
 use Rattle.std.specs.Option.{option_map}
-use Rattle.crush_units.specs.declared.id.ItemId.{ItemId}
-use Rattle.crush_units.specs.declared.id.ItemId.TheVariants.{Device, Bucket}
-use Rattle.crush_table.specs.Table.{Row, kids, sum_below}
+use Rattle.crush_units.specs.declared.id.ItemId.TheVariants.{Bucket}
+use Rattle.crush_table.specs.Table.{Row, sum_below}
 use Rattle.crush_table.proofs.Reorder.{reordered-find}
 use Rattle.crush_table.proofs.Same.{Same-sym}
 use Rattle.crush_edits.specs.Setting.{KindData, SettingData}
 use Rattle.crush_edits.specs.Fits.{IsSetting}
 use Rattle.crush_print.specs.Lines.{kind_line, bucket_lines}
-use Rattle.crush_print.specs.MapText.{ascending, kind_numbers, kind_text, root_numbers, of_row, kids_lines, bucket_text, bucket_texts, root_texts, tunable_section, device_section, kind_section, bucket_section, rule_section, map_text}
+use Rattle.crush_print.specs.MapText.{ascending, kind_numbers, kind_text, of_row, kids_lines, bucket_text, bucket_numbers, root_texts, tunable_section, device_section, kind_section, bucket_section, rule_section, map_text}
 use Rattle.crush_print.proofs.SameText.{map_text-same}
 use Rattle.crush_print.proofs.Sorting.{ascending_same, times-ascending}
 use Rattle.crush_laws.specs.ReadingBack.{printed_kind, in_order, ReadBackPrintsAlike}
@@ -39,15 +38,9 @@ module _ (s : SettingData) (f : IsSetting s) where
   unfolding bucket_text
   bucket_again t b = λ i. of_row t (Bucket b) (λ (r : Row). bucket_lines (text_again r.kind i) r (sum_below t b) (kids_lines t b))
 
-  buckets_again : (t : List Row) (n : ℕ) (i : ItemId) → bucket_texts (in_order s) t n i ≡ bucket_texts s t n i
-  unfolding bucket_texts
-  buckets_again t n (Device d) = refl
-  buckets_again t zero (Bucket b) = refl
-  buckets_again t (suc n) (Bucket b) = λ k. flat_map (λ i. buckets_again t n i k) (kids t b) ++ bucket_again t b k
-
   bucket_section_again : (t : List Row) → bucket_section (in_order s) t ≡ bucket_section s t
   unfolding bucket_section root_texts
-  bucket_section_again t = λ k. codes "\n# buckets\n" ++ flat_map (λ b. buckets_again t (length t) (Bucket b) k) (root_numbers t)
+  bucket_section_again t = λ k. codes "\n# buckets\n" ++ flat_map (λ b. bucket_again t b k) (bucket_numbers t)
 
   tunables_again : tunable_section (in_order s) ≡ tunable_section s
   unfolding tunable_section

@@ -3,6 +3,7 @@ pub mod CountLaws
 pub mod LineLaws
 pub mod NamedLaws
 pub mod PairLaws
+pub mod SideLaws
 pub mod SinceItself
 pub mod TreeLaws
 pub mod WrittenLaws

@@ -8,7 +8,7 @@ use Rattle.crush_units.specs.declared.id.ItemId.{ItemId}
 use Rattle.crush_units.specs.declared.id.ItemId.TheVariants.{Device, Bucket}
 use Rattle.crush_units.specs.Id.{same_id}
 use Rattle.crush_units.proofs.Ids.{same_id_refl}
-use Rattle.crush_table.specs.Table.{Row, id_named, is_parent, is_there, row_of}
+use Rattle.crush_table.specs.Table.{Row, id_named, is_there, row_of}
 use Rattle.crush_table.proofs.Found.{Distinct}
 use Rattle.crush_table.proofs.Moved.{row_id}
 use Rattle.crush_table.proofs.NameColumn.{name_of-found}
@@ -17,7 +17,7 @@ use Rattle.crush_since.specs.ItemParts.{same_class_id}
 use Rattle.crush_names.specs.Aside.{has_other_id, has_other_class_ids}
 use Rattle.crush_names.specs.declared.named.Devices.{Devices}
 use Rattle.crush_names.specs.declared.named.Devices.TheVariants.{ById}
-use Rattle.crush_names.specs.Named.{HasItsHolder, are_one, counterpart, if_one}
+use Rattle.crush_names.specs.Named.{are_one, counterpart, if_one}
 
 -- the id of a name is there
 named_there : (t : List Row) (n : List ℕ) (i : ItemId) → Distinct t → id_named t n ≡ Some i → is_there t i ≡ true
@@ -41,27 +41,6 @@ has_one by t x j d e = ap (λ (o : Option ItemId). is_some (option_and_then (if_
 pub has_none : (by : Devices) (t : List Row) (x : ItemData) → id_named t x.view.name ≡ None → is_some (counterpart by t x) ≡ false
 unfolding counterpart
 has_none by t x e = ap (λ (o : Option ItemId). is_some (option_and_then (if_one by t x.view.id) o)) e
-
--- and it has the name of the bucket that holds it
-pub counterpart_holder : (by : Devices) (t : List Row) (x : ItemData) → HasItsHolder t (counterpart by t x)
-unfolding counterpart
-counterpart_holder by t x = by_id (id_named t x.view.name) where
-  by_row : (o : Option Row) → HasItsHolder t (option_map (row_item t) o)
-  by_row None = tt
-  by_row (Some r) = refl
-
-  by_test : (b : Bool) (j : ItemId) → HasItsHolder t (if b then option_map (row_item t) (row_of t j) else None)
-  by_test true j = by_row (row_of t j)
-  by_test false j = tt
-
-  by_id : (o : Option ItemId) → HasItsHolder t (option_and_then (if_one by t x.view.id) o)
-  by_id None = tt
-  by_id (Some j) = by_test (are_one by x.view.id j) j
-
--- the bucket that holds an item, by the test
-pub parent_is : (b : ℕ) (p : Option ℕ) → is_parent b p ≡ true → p ≡ Some b
-parent_is b None h = absurd cc
-parent_is b (Some p) h = ⊎_elim (λ q. ap Some q.1) (λ q. absurd (let no_way : true ≡ false = sym h ∙ q.0 in cc)) (eqb_tells p b)
 
 -- DEVICES are one by their ids: none has another, nor class ids
 module _ (t : List Row) (d : ℕ) where

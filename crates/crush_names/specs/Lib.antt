@@ -5,6 +5,7 @@ pub mod Named
 pub mod NamedRules
 pub mod PairLines
 pub mod Pairs
+pub mod Sides
 pub mod SinceLaws
 pub mod SinceNames
 pub mod Stays

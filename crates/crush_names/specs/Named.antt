@@ -1,10 +1,10 @@
 -- Items of two maps that are told apart by their names.
-use Rattle.std.specs.Prelude.{◌≡◌, ℕ, ◌==◌, Bool, true, false, ◌||◌, List, Option, None, Some, if◌then◌else◌, option_and_then}
+use Rattle.std.specs.Prelude.{ℕ, ◌==◌, Bool, true, false, ◌||◌, List, Option, None, Some, if◌then◌else◌, option_and_then}
 use Rattle.std.specs.Option.{option_map_or}
 use Rattle.crush_units.specs.declared.id.ItemId.{ItemId}
 use Rattle.crush_units.specs.declared.id.ItemId.TheVariants.{Device, Bucket}
 use Rattle.crush_units.specs.Id.{same_id}
-use Rattle.crush_table.specs.Table.{Row, id_named, is_below, name_of}
+use Rattle.crush_table.specs.Table.{Row, id_named, is_below}
 use Rattle.crush_since.specs.ItemData.{ItemData, item_of}
 use Rattle.crush_names.specs.declared.named.Devices.{Devices}
 use Rattle.crush_names.specs.declared.named.Devices.TheVariants.{ById, ByName}
@@ -26,11 +26,6 @@ if_one by t i j = if are_one by i j then item_of t j else None
 -- COUNTERPART: of an item of another map the one of its name here, if the two are one
 unfoldable pub counterpart : Devices → List Row → ItemData → Option ItemData
 counterpart by t x = option_and_then (if_one by t x.view.id) (id_named t x.view.name)
-
--- an item that was looked at has the name of the bucket that holds it
-abbrev pub HasItsHolder : List Row → Option ItemData → Type 0
-HasItsHolder t None = Unit {0}
-HasItsHolder t (Some x) = x.holder ≡ option_and_then (λ p. name_of t (Bucket p)) x.view.parent
 
 -- PART of a map: the item of a name and what is below it, or without a name everything
 abbrev pub is_at : List Row → ItemId → ItemId → Bool

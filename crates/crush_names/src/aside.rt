@@ -1,6 +1,6 @@
 //! What differs and is no difference: ids, which no command sets.
 
-ghost use Rattle.std.specs.Prelude.{◌≡◌, ◌+◌, ◌^◌, ◌<◌, ◌≤◌, ◌++◌, List, OnOk, IfOk};
+ghost use Rattle.std.specs.Prelude.{◌≡◌, ◌+◌, ◌^◌, ◌<◌, ◌≤◌, ◌++◌, ℕ, List, Option, OnOk, IfOk};
 ghost use Rattle.std.specs.List.{count_by};
 ghost use Rattle.crush_table.specs.Count.{one_if};
 ghost use Rattle.crush_table.specs.Stands.{Stands};
@@ -10,14 +10,16 @@ ghost use Rattle.crush_since.specs.SeenItem.{seen_data};
 ghost use Rattle.crush_names.specs.Aside.{CountsAsideOf, aside_line, aside_text, has_other_class_ids, has_other_id, is_aside, other_class_ids, other_id};
 ghost use Rattle.crush_names.specs.Named.{counterpart};
 ghost use Rattle.crush_names.specs.Pairs.{is_of_part, step_item};
+ghost use Rattle.crush_names.specs.Sides.{IsSide};
 ghost use Rattle.crush_names.specs.declared.named.Devices.TheVariants.{ById};
 ghost use Rattle.std.specs.Option.{option_map};
 
 use crate::named::{Devices, counterpart};
 use crate::pairs::{Comparison, Telling, is_of_part};
+use crate::sides::Side;
 use crush_bytes::put_all;
 use crush_map::CrushMap;
-use crush_since::{Seen, class_ids_of, same_class_ids, step_seen};
+use crush_since::{Seen, same_class_ids};
 use crush_tree::Node;
 use crush_view::{Step, walk};
 use itoa::Buffer;
@@ -44,12 +46,13 @@ pub fn count_aside<A: Allocator, B: Allocator>(
         → Stands map.now.forest t → Stands wanted.now.forest u
         → CountsAsideOf (option_map (λ n. n.now) under.entry) t u counts) }
 {
+    let old = Side::of(alloc, map, under)?;
+    let new = Side::of(alloc, wanted, under)?;
     let maps = Comparison {
         telling: Telling::Stays,
         devices: Devices::ById,
-        under,
-        old: map,
-        new: wanted,
+        old,
+        new,
     };
     let steps = walk(alloc, wanted)?;
     Ok(Counts {
@@ -72,10 +75,9 @@ fn count_ids<A: Allocator, B: Allocator>(
     maps: &Comparison<'_, A, B>,
     steps: &[Step<'_, B>],
 ) -> usize
-    ensures { (t u : List Row) → Stands maps.now.old.now.forest t
-        → Stands maps.now.new.now.forest u
-        → result ≡ count_by (λ s. is_aside other_id (option_map (λ n. n.now) maps.now.under)
-        t u (step_data s)) steps.now }
+    ensures { (n : Option (List ℕ)) (t u : List Row) → IsSide n t maps.now.old
+        → IsSide n u maps.now.new → result
+        ≡ count_by (λ s. is_aside other_id n t u (step_data s)) steps.now }
 {
     let mut count: usize = 0;
     for step in steps {
@@ -89,10 +91,9 @@ fn count_class_ids<A: Allocator, B: Allocator>(
     maps: &Comparison<'_, A, B>,
     steps: &[Step<'_, B>],
 ) -> usize
-    ensures { (t u : List Row) → Stands maps.now.old.now.forest t
-        → Stands maps.now.new.now.forest u
-        → result ≡ count_by (λ s. is_aside other_class_ids
-        (option_map (λ n. n.now) maps.now.under) t u (step_data s)) steps.now }
+    ensures { (n : Option (List ℕ)) (t u : List Row) → IsSide n t maps.now.old
+        → IsSide n u maps.now.new → result
+        ≡ count_by (λ s. is_aside other_class_ids n t u (step_data s)) steps.now }
 {
     let mut count: usize = 0;
     for step in steps {
@@ -103,11 +104,11 @@ fn count_class_ids<A: Allocator, B: Allocator>(
 
 /// Whether the map has an item of this one's name with another id, and either stands in the part.
 fn has_aside_id<A: Allocator, B: Allocator>(maps: &Comparison<'_, A, B>, step: &Step<'_, B>) -> bool
-    ensures { (t u : List Row) → Stands maps.now.old.now.forest t
-        → Stands maps.now.new.now.forest u → result
-        ≡ is_aside other_id (option_map (λ n. n.now) maps.now.under) t u (step_data step.now) }
+    ensures { (n : Option (List ℕ)) (t u : List Row) → IsSide n t maps.now.old
+        → IsSide n u maps.now.new → result
+        ≡ is_aside other_id n t u (step_data step.now) }
 {
-    has_other_id(maps.old, maps.new, step) && stands_in_part(maps, step)
+    has_other_id(maps, step) && stands_in_part(maps, step)
 }
 
 /// Whether the map has an item of this one's name with other class ids, and either stands in the part.
@@ -115,11 +116,11 @@ fn has_aside_class_ids<A: Allocator, B: Allocator>(
     maps: &Comparison<'_, A, B>,
     step: &Step<'_, B>,
 ) -> bool
-    ensures { (t u : List Row) → Stands maps.now.old.now.forest t
-        → Stands maps.now.new.now.forest u → result
-        ≡ is_aside other_class_ids (option_map (λ n. n.now) maps.now.under) t u (step_data step.now) }
+    ensures { (n : Option (List ℕ)) (t u : List Row) → IsSide n t maps.now.old
+        → IsSide n u maps.now.new → result
+        ≡ is_aside other_class_ids n t u (step_data step.now) }
 {
-    has_other_class_ids(maps.old, maps.new, step) && stands_in_part(maps, step)
+    has_other_class_ids(maps, step) && stands_in_part(maps, step)
 }
 
 /// Whether an item of the wanted map stands in the part in either map.
@@ -127,38 +128,33 @@ fn stands_in_part<A: Allocator, B: Allocator>(
     maps: &Comparison<'_, A, B>,
     step: &Step<'_, B>,
 ) -> bool
-    ensures { (t u : List Row) → Stands maps.now.old.now.forest t
-        → Stands maps.now.new.now.forest u → result
-        ≡ is_of_part ById (option_map (λ n. n.now) maps.now.under) t u
-        (step_item u (step_data step.now)) }
+    ensures { (n : Option (List ℕ)) (t u : List Row) → IsSide n t maps.now.old
+        → IsSide n u maps.now.new → result
+        ≡ is_of_part ById n t u (step_item u (step_data step.now)) }
 {
-    let there = step_seen(maps.new, step);
-    let here = counterpart(Devices::ById, maps.old, &there);
+    let there = maps.new.step_seen(step);
+    let here = counterpart(Devices::ById, &maps.old, &there);
     is_of_part(maps, &here, &there)
 }
 
 /// Whether the map has an item of this one's name with another id. Two devices are one by their ids,
 /// so that no device has.
-fn has_other_id<A: Allocator, B: Allocator>(
-    map: &CrushMap<A>,
-    wanted: &CrushMap<B>,
-    step: &Step<'_, B>,
-) -> bool
-    ensures { (t u : List Row) → Stands map.now.forest t → Stands wanted.now.forest u
-        → result ≡ other_id t u (step_data step.now) }
+fn has_other_id<A: Allocator, B: Allocator>(maps: &Comparison<'_, A, B>, step: &Step<'_, B>) -> bool
+    ensures { (n : Option (List ℕ)) (t u : List Row) → IsSide n t maps.now.old
+        → IsSide n u maps.now.new → result ≡ other_id t u (step_data step.now) }
 {
     match step.node {
         Node::Device(_) => false,
-        Node::Bucket(_) => has_another_id(map, &step_seen(wanted, step)),
+        Node::Bucket(_) => has_another_id(&maps.old, &maps.new.step_seen(step)),
     }
 }
 
 /// Whether the map has an item of this one's name with another id.
-fn has_another_id<A: Allocator>(map: &CrushMap<A>, there: &Seen<'_>) -> bool
-    ensures { (t : List Row) → Stands map.now.forest t
+fn has_another_id<A: Allocator>(side: &Side<'_, A>, there: &Seen<'_>) -> bool
+    ensures { (n : Option (List ℕ)) (t : List Row) → IsSide n t side.now
         → result ≡ has_other_id (counterpart ById t (seen_data there.now)) (seen_data there.now) }
 {
-    match counterpart(Devices::ById, map, there) {
+    match counterpart(Devices::ById, side, there) {
         Some(here) => !here.view.id.is_same(there.view.id),
         None => false,
     }
@@ -166,33 +162,32 @@ fn has_another_id<A: Allocator>(map: &CrushMap<A>, there: &Seen<'_>) -> bool
 
 /// Whether the map has an item of this one's name with other class ids, which no device has.
 fn has_other_class_ids<A: Allocator, B: Allocator>(
-    map: &CrushMap<A>,
-    wanted: &CrushMap<B>,
+    maps: &Comparison<'_, A, B>,
     step: &Step<'_, B>,
 ) -> bool
-    ensures { (t u : List Row) → Stands map.now.forest t → Stands wanted.now.forest u
-        → result ≡ other_class_ids t u (step_data step.now) }
+    ensures { (n : Option (List ℕ)) (t u : List Row) → IsSide n t maps.now.old
+        → IsSide n u maps.now.new → result ≡ other_class_ids t u (step_data step.now) }
 {
     match step.node {
         Node::Device(_) => false,
-        Node::Bucket(_) => has_another_class_id(map, wanted, &step_seen(wanted, step)),
+        Node::Bucket(_) => has_another_class_id(maps, &maps.new.step_seen(step)),
     }
 }
 
 /// Whether the map has an item of this one's name with other class ids.
 fn has_another_class_id<A: Allocator, B: Allocator>(
-    map: &CrushMap<A>,
-    wanted: &CrushMap<B>,
+    maps: &Comparison<'_, A, B>,
     there: &Seen<'_>,
 ) -> bool
-    ensures { (t u : List Row) → Stands map.now.forest t → Stands wanted.now.forest u
-        → result ≡ has_other_class_ids t u (counterpart ById t (seen_data there.now))
+    ensures { (n : Option (List ℕ)) (t u : List Row) → IsSide n t maps.now.old
+        → IsSide n u maps.now.new → result
+        ≡ has_other_class_ids t u (counterpart ById t (seen_data there.now))
         (seen_data there.now) }
 {
-    match counterpart(Devices::ById, map, there) {
+    match counterpart(Devices::ById, &maps.old, there) {
         Some(here) => !same_class_ids(
-            class_ids_of(map, here.view.id),
-            class_ids_of(wanted, there.view.id),
+            maps.old.class_ids_of(here.view.id),
+            maps.new.class_ids_of(there.view.id),
         ),
         None => false,
     }

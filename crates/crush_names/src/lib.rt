@@ -10,6 +10,7 @@ mod aside;
 mod law;
 mod named;
 mod pairs;
+mod sides;
 mod since;
 mod staying;
 

@@ -1,20 +1,21 @@
 //! What two maps have of each name, and what is told of it.
 
-ghost use Rattle.std.specs.Prelude.{◌≡◌, ◌||◌, [], ◌++◌, List, None, OnOk, flat_map, if◌then◌else◌};
+ghost use Rattle.std.specs.Prelude.{◌≡◌, ◌||◌, [], ◌++◌, ℕ, List, None, Option, OnOk, flat_map, if◌then◌else◌};
 ghost use Rattle.std.specs.Option.{option_map};
-ghost use Rattle.crush_table.specs.Stands.{Stands};
 ghost use Rattle.crush_table.specs.Table.{Row};
 ghost use Rattle.crush_since.specs.SeenItem.{seen_data};
 ghost use Rattle.crush_view.specs.SeenStep.{step_data};
 ghost use Rattle.crush_names.specs.Named.{is_in};
 ghost use Rattle.crush_names.specs.PairLines.{pair_line};
 ghost use Rattle.crush_names.specs.Pairs.{is_found_in, is_gone, new_pair, new_pairs, old_pair, old_pairs, pairs, step_item};
+ghost use Rattle.crush_names.specs.Sides.{IsSide};
 ghost use Rattle.crush_names.specs.Stays.{pair_name};
 
-use crate::named::{Devices, counterpart_next, has_counterpart, is_in, seen_next};
+use crate::named::{Devices, counterpart, has_counterpart};
+use crate::sides::Side;
 use crate::since::parts::push_changed_pair;
 use crate::staying::push_stay_pair;
-use crush_map::{CrushMap, Setting};
+use crush_map::Setting;
 use crush_since::Seen;
 use crush_view::{Step, walk};
 use std::alloc::{AllocError, Allocator, Global};
@@ -35,13 +36,10 @@ pub(crate) struct Comparison<'a, A: Allocator, B: Allocator> {
     pub telling: Telling,
     /// By what two devices of one name are one.
     pub devices: Devices,
-    /// Of what is told: the items that stand or stood at or below the one of this name. Of
-    /// everything, where there is none.
-    pub under: Option<&'a str>,
     /// The map before.
-    pub old: &'a CrushMap<A>,
+    pub old: Side<'a, A>,
     /// The map after.
-    pub new: &'a CrushMap<B>,
+    pub new: Side<'a, B>,
 }
 
 /// What there is to tell of each name: of each item of the new map, in the order of its tree, with the
@@ -52,10 +50,11 @@ pub(crate) fn push_told<A: Allocator, B: Allocator>(
     maps: &Comparison<'_, A, B>,
     lines: &mut Vec<u8>,
 ) -> Result<(), AllocError>
-    ensures { (t u : List Row) → Stands maps.now.old.now.forest t
-        → Stands maps.now.new.now.forest u → OnOk result (lines.new.items ≡ lines.old.items
-        ++ flat_map (pair_line maps.now.telling maps.now.old.now.setting maps.now.new.now.setting)
-        (pairs maps.now.devices (option_map (λ n. n.now) maps.now.under) t u)) }
+    ensures { (n : Option (List ℕ)) (t u : List Row) → IsSide n t maps.now.old
+        → IsSide n u maps.now.new → OnOk result (lines.new.items ≡ lines.old.items
+        ++ flat_map
+        (pair_line maps.now.telling maps.now.old.map.now.setting maps.now.new.map.now.setting)
+        (pairs maps.now.devices n t u)) }
 {
     push_new(alloc, maps, lines)?;
     push_old(alloc, maps, lines)
@@ -67,12 +66,13 @@ fn push_new<A: Allocator, B: Allocator>(
     maps: &Comparison<'_, A, B>,
     lines: &mut Vec<u8>,
 ) -> Result<(), AllocError>
-    ensures { (t u : List Row) → Stands maps.now.old.now.forest t
-        → Stands maps.now.new.now.forest u → OnOk result (lines.new.items ≡ lines.old.items
-        ++ flat_map (pair_line maps.now.telling maps.now.old.now.setting maps.now.new.now.setting)
-        (new_pairs maps.now.devices (option_map (λ n. n.now) maps.now.under) t u)) }
+    ensures { (n : Option (List ℕ)) (t u : List Row) → IsSide n t maps.now.old
+        → IsSide n u maps.now.new → OnOk result (lines.new.items ≡ lines.old.items
+        ++ flat_map
+        (pair_line maps.now.telling maps.now.old.map.now.setting maps.now.new.map.now.setting)
+        (new_pairs maps.now.devices n t u)) }
 {
-    let steps = walk(alloc, maps.new)?;
+    let steps = walk(alloc, maps.new.map)?;
     push_each_new(alloc, maps, steps.as_slice(), lines)
 }
 
@@ -83,22 +83,17 @@ fn push_each_new<'a, A: Allocator, B: Allocator>(
     steps: &[Step<'a, B>],
     lines: &mut Vec<u8>,
 ) -> Result<(), AllocError>
-    ensures { (t u : List Row) → Stands maps.now.old.now.forest t
-        → Stands maps.now.new.now.forest u → OnOk result (lines.new.items ≡ lines.old.items
+    ensures { (n : Option (List ℕ)) (t u : List Row) → IsSide n t maps.now.old
+        → IsSide n u maps.now.new → OnOk result (lines.new.items ≡ lines.old.items
         ++ flat_map (λ s. flat_map
-        (pair_line maps.now.telling maps.now.old.now.setting maps.now.new.now.setting)
-        (new_pair maps.now.devices (option_map (λ n. n.now) maps.now.under) t u
-        (step_item u (step_data s)))) steps.now) }
+        (pair_line maps.now.telling maps.now.old.map.now.setting maps.now.new.map.now.setting)
+        (new_pair maps.now.devices n t u (step_item u (step_data s)))) steps.now) }
 {
-    let mut last_before = None;
-    let mut last_after = None;
     for step in steps {
-        let after = seen_next(maps.new, &last_after, step);
-        let before = counterpart_next(maps.devices, maps.old, &last_before, &after);
+        let after = maps.new.step_seen(step);
+        let before = counterpart(maps.devices, &maps.old, &after);
         let is_told = is_of_part(maps, &before, &after);
-        last_before = before;
-        last_after = Some(after);
-        push_if(alloc, is_told, maps, &last_before, &last_after, lines)?;
+        push_if(alloc, is_told, maps, &before, &Some(after), lines)?;
     }
     Ok(())
 }
@@ -109,27 +104,21 @@ pub(crate) fn is_of_part<A: Allocator, B: Allocator>(
     before: &Option<Seen<'_>>,
     after: &Seen<'_>,
 ) -> bool
-    ensures { (t u : List Row) → Stands maps.now.old.now.forest t
-        → Stands maps.now.new.now.forest u → result
-        ≡ (is_in (option_map (λ n. n.now) maps.now.under) u (seen_data after.now).view.id
-        || is_found_in (option_map (λ n. n.now) maps.now.under) t
-        (option_map seen_data before.now)) }
+    ensures { (n : Option (List ℕ)) (t u : List Row) → IsSide n t maps.now.old
+        → IsSide n u maps.now.new → result
+        ≡ (is_in n u (seen_data after.now).view.id
+        || is_found_in n t (option_map seen_data before.now)) }
 {
-    is_in(maps.new, maps.under, after.view.id) || is_found_in(maps.old, maps.under, before)
+    maps.new.has(after.view.id) || is_found_in(&maps.old, before)
 }
 
 /// Whether an item that was found is of the part.
-fn is_found_in<A: Allocator>(
-    map: &CrushMap<A>,
-    under: Option<&str>,
-    item: &Option<Seen<'_>>,
-) -> bool
-    ensures { (t : List Row) → Stands map.now.forest t
-        → result ≡ is_found_in (option_map (λ n. n.now) under.entry) t
-        (option_map seen_data item.now) }
+fn is_found_in<A: Allocator>(side: &Side<'_, A>, item: &Option<Seen<'_>>) -> bool
+    ensures { (n : Option (List ℕ)) (t : List Row) → IsSide n t side.now
+        → result ≡ is_found_in n t (option_map seen_data item.now) }
 {
     match item {
-        Some(item) => is_in(map, under, item.view.id),
+        Some(item) => side.has(item.view.id),
         None => false,
     }
 }
@@ -140,12 +129,13 @@ fn push_old<A: Allocator, B: Allocator>(
     maps: &Comparison<'_, A, B>,
     lines: &mut Vec<u8>,
 ) -> Result<(), AllocError>
-    ensures { (t u : List Row) → Stands maps.now.old.now.forest t
-        → Stands maps.now.new.now.forest u → OnOk result (lines.new.items ≡ lines.old.items
-        ++ flat_map (pair_line maps.now.telling maps.now.old.now.setting maps.now.new.now.setting)
-        (old_pairs maps.now.devices (option_map (λ n. n.now) maps.now.under) t u)) }
+    ensures { (n : Option (List ℕ)) (t u : List Row) → IsSide n t maps.now.old
+        → IsSide n u maps.now.new → OnOk result (lines.new.items ≡ lines.old.items
+        ++ flat_map
+        (pair_line maps.now.telling maps.now.old.map.now.setting maps.now.new.map.now.setting)
+        (old_pairs maps.now.devices n t u)) }
 {
-    let steps = walk(alloc, maps.old)?;
+    let steps = walk(alloc, maps.old.map)?;
     push_each_old(alloc, maps, steps.as_slice(), lines)
 }
 
@@ -156,48 +146,28 @@ fn push_each_old<'a, A: Allocator, B: Allocator>(
     steps: &[Step<'a, A>],
     lines: &mut Vec<u8>,
 ) -> Result<(), AllocError>
-    ensures { (t u : List Row) → Stands maps.now.old.now.forest t
-        → Stands maps.now.new.now.forest u → OnOk result (lines.new.items ≡ lines.old.items
+    ensures { (n : Option (List ℕ)) (t u : List Row) → IsSide n t maps.now.old
+        → IsSide n u maps.now.new → OnOk result (lines.new.items ≡ lines.old.items
         ++ flat_map (λ s. flat_map
-        (pair_line maps.now.telling maps.now.old.now.setting maps.now.new.now.setting)
-        (old_pair maps.now.devices (option_map (λ n. n.now) maps.now.under) t u
-        (step_item t (step_data s)))) steps.now) }
+        (pair_line maps.now.telling maps.now.old.map.now.setting maps.now.new.map.now.setting)
+        (old_pair maps.now.devices n t u (step_item t (step_data s)))) steps.now) }
 {
-    let mut last = None;
     for step in steps {
-        let before = seen_next(maps.old, &last, step);
+        let before = maps.old.step_seen(step);
         let is_told = is_gone(maps, &before);
-        last = Some(before);
-        push_gone_if(alloc, is_told, maps, &last, lines)?;
+        push_if(alloc, is_told, maps, &Some(before), &None, lines)?;
     }
     Ok(())
 }
 
 /// Whether an item of the old map is of the part, and the new map has it no longer.
 fn is_gone<A: Allocator, B: Allocator>(maps: &Comparison<'_, A, B>, item: &Seen<'_>) -> bool
-    ensures { (t u : List Row) → Stands maps.now.old.now.forest t
-        → Stands maps.now.new.now.forest u → result
-        ≡ is_gone maps.now.devices (option_map (λ n. n.now) maps.now.under) t u
+    ensures { (n : Option (List ℕ)) (t u : List Row) → IsSide n t maps.now.old
+        → IsSide n u maps.now.new → result
+        ≡ is_gone maps.now.devices n t u
         (seen_data item.now) }
 {
-    is_in(maps.old, maps.under, item.view.id)
-        && !has_counterpart(maps.devices, maps.new, &item.view)
-}
-
-/// What there is to tell of an item that the old map alone has, if it is told.
-fn push_gone_if<A: Allocator, B: Allocator>(
-    alloc: Global,
-    is_told: bool,
-    maps: &Comparison<'_, A, B>,
-    before: &Option<Seen<'_>>,
-    lines: &mut Vec<u8>,
-) -> Result<(), AllocError>
-    ensures { OnOk result (lines.new.items ≡ lines.old.items ++ (if is_told then
-        pair_line maps.now.telling maps.now.old.now.setting maps.now.new.now.setting
-        (record { before = option_map seen_data before.now; after = None }) else [])) }
-{
-    let none = None;
-    push_if(alloc, is_told, maps, before, &none, lines)
+    maps.old.has(item.view.id) && !has_counterpart(maps.devices, &maps.new, &item.view)
 }
 
 /// What there is to tell of an item, if it is told.
@@ -210,7 +180,7 @@ fn push_if<A: Allocator, B: Allocator>(
     lines: &mut Vec<u8>,
 ) -> Result<(), AllocError>
     ensures { OnOk result (lines.new.items ≡ lines.old.items ++ (if is_told then
-        pair_line maps.now.telling maps.now.old.now.setting maps.now.new.now.setting
+        pair_line maps.now.telling maps.now.old.map.now.setting maps.now.new.map.now.setting
         (record {
           before = option_map seen_data before.now;
           after = option_map seen_data after.now;
@@ -219,7 +189,7 @@ fn push_if<A: Allocator, B: Allocator>(
     if !is_told {
         return Ok(());
     }
-    let (old, new) = (maps.old.setting(), maps.new.setting());
+    let (old, new) = (maps.old.map.setting(), maps.new.map.setting());
     push_pair(alloc, maps.telling, old, new, before, after, lines)
 }
 

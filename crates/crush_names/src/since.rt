@@ -15,6 +15,7 @@ pub(crate) mod parts;
 
 use crate::named::Devices;
 use crate::pairs::{Comparison, Telling, push_told};
+use crate::sides::Side;
 use crate::staying::push_beside;
 use counting::tally_of;
 use crush_bytes::{WriteFault, put};
@@ -142,12 +143,13 @@ fn push_items<A: Allocator, B: Allocator>(
         ++ changed_lines (option_map (λ n. n.now) under.entry) (told old.now.setting t)
         (told new.now.setting u)) }
 {
+    let before = Side::of(alloc, old, under)?;
+    let after = Side::of(alloc, new, under)?;
     let maps = Comparison {
         telling: Telling::Changes,
         devices: Devices::ByName,
-        under,
-        old,
-        new,
+        old: before,
+        new: after,
     };
     push_told(alloc, &maps, out)
 }

@@ -14,6 +14,7 @@ mod rules;
 
 use crate::named::Devices;
 use crate::pairs::{Comparison, Telling, pair_name, push_told};
+use crate::sides::Side;
 pub use columns::are_near;
 use columns::{push_alg, push_class, push_far_weight, push_lacking, push_place, push_type};
 use crush_bytes::put_all;
@@ -73,12 +74,13 @@ fn push_lines<A: Allocator, B: Allocator>(
         ++ stay_lines (option_map (λ n. n.now) under.entry) (told map.now.setting t)
         (told wanted.now.setting u)) }
 {
+    let old = Side::of(alloc, map, under)?;
+    let new = Side::of(alloc, wanted, under)?;
     let maps = Comparison {
         telling: Telling::Stays,
         devices: Devices::ById,
-        under,
-        old: map,
-        new: wanted,
+        old,
+        new,
     };
     push_told(alloc, &maps, lines)
 }

@@ -1,11 +1,13 @@
 -- What is read of the words that were matched, and what a refusal of them says.
-use Rattle.std.proofs.Common.{◌≡◌, [], List, Option, Some, None, ap, inr, sym, subst, ◌∙◌}
+use Rattle.std.proofs.Common.{◌≡◌, Bool, [], List, Option, Some, None, ap, inl, inr, sym, subst, ◌∙◌}
 use Rattle.std.specs.Borrow.{Bor}
 use Rattle.std.specs.Prelude.{option_map}
 use Rattle.clap.specs.Words.{Row, Text, fault_of, matches_of}
+use Rattle.crush_options.specs.declared.asked.Printed.{Printed}
 use Rattle.crush_options.specs.declared.asked.OptionsFault.{OptionsFault}
 use Rattle.crush_options.specs.declared.asked.OptionsFault.TheVariants.{Help, Refused, Memory}
-use Rattle.crush_options.specs.Options.{AsksTooMuch, IsFaultIn, IsRefusedFor, IsTooMuch, program}
+use Rattle.crush_options.specs.Options.{AsksTooMuch, IsFaultIn, IsRefusedFor, IsRefusedIf, IsTooMuch, program}
+use Rattle.crush_options.specs.Printed.{AreSaid, IsPrinted, SaidData, complaint, said_by}
 
 -- a value that isn't there
 pub none_read : (r : Option (Bor Text)) (x y : Option Text) → r ≡ None → option_map (λ s. s.now) r ≡ x → x ≡ y → y ≡ None
@@ -18,11 +20,22 @@ some_read r s x y copy is same e f = sym f ∙ sym e ∙ ap (option_map (λ (z :
 -- too many words are a fault of the words
 pub much_is_fault : (words : List Text) (rows : List Row) (fault : OptionsFault) → fault_of program words ≡ [] → rows ≡ matches_of program words → AsksTooMuch rows fault → IsFaultIn words fault
 much_is_fault words rows (Help text) right is much = absurd much
-much_is_fault words rows (Refused text) right is much = inr (record { right = right; much = subst IsTooMuch is much })
+much_is_fault words rows (Refused text) right is much = inr (record { right = right; much = subst (λ z. IsTooMuch z text.bytes.items) is much })
 much_is_fault words rows Memory right is much = tt
 
 -- a refusal of too many words
-pub refused_much : (rows : List Row) (why : Text) (fault : OptionsFault) → IsTooMuch rows → IsRefusedFor why fault → AsksTooMuch rows fault
+pub refused_much : (rows : List Row) (why : Text) (fault : OptionsFault) → IsTooMuch rows why → IsRefusedFor why fault → AsksTooMuch rows fault
 refused_much rows why (Help text) much told = told
-refused_much rows why (Refused text) much told = much
+refused_much rows why (Refused text) much told = subst (IsTooMuch rows) (sym told) much
 refused_much rows why Memory much told = tt
+
+-- one of words that don't go together
+pub apart_much : (rows : List Row) (said : SaidData) (why : Option Text) (fault : OptionsFault) → AreSaid rows said → why ≡ complaint said → IsRefusedIf why fault → AsksTooMuch rows fault
+apart_much rows said (Some text) fault are is told = refused_much rows text fault (inl (record { said = said; are = are; apart = sym is })) told
+apart_much rows said None fault are is told = subst (AsksTooMuch rows) (sym told) tt
+
+-- what is printed by words that go together, as a document where they say so
+pub printed_is : (rows : List Row) (said : SaidData) (json : Bool) (printed : Printed) → AreSaid rows said → json ≡ said.json → said_by said.json printed ≡ said → complaint said ≡ None → IsPrinted rows json printed
+printed_is rows said json printed are same is fits =
+    let by : said_by json printed ≡ said = ap (λ j. said_by j printed) same ∙ is in
+    record { said = subst (AreSaid rows) (sym by) are; together = ap complaint by ∙ fits }

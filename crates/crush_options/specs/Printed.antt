@@ -1,8 +1,7 @@
 -- Which words say what is printed, and which of them go together.
-use Rattle.std.specs.Prelude.{◌≡◌, ◌⊎◌, ◌+◌, ◌<◌, ℕ, Bool, true, false, ◌||◌, List, Option, Some, None, codes, if◌then◌else◌, is_some, option_map}
+use Rattle.std.specs.Prelude.{◌≡◌, Bool, true, false, not, ◌&&◌, ◌||◌, Option, Some, None, String, codes, if◌then◌else◌, is_some, option_map}
 use Rattle.clap.specs.Words.{Row, Text, first_of, one_of}
-use Rattle.crush_options.specs.declared.asked.OptionsFault.{OptionsFault}
-use Rattle.crush_options.specs.declared.asked.OptionsFault.TheVariants.{Help, Refused, Memory}
+use Rattle.std.specs.Prelude.{List}
 use Rattle.crush_options.specs.declared.asked.Printed.{Printed}
 use Rattle.crush_options.specs.declared.asked.Printed.TheVariants.{Map, Tree, Since, Changes, AsCeph, To}
 use Rattle.crush_options.specs.declared.command_line.Said.{Said}
@@ -13,13 +12,16 @@ pub record IsFlag (text : Option Text) (flag : Bool) : Type 0 where
   pub absent : text ≡ Some (codes "false") → flag ≡ false
   pub none : text ≡ None → flag ≡ false
 
--- whether `--tree`, `--as-ceph` and `--by-name` are there, and the values of `--since` and `--to`
+-- which flags are there of `--tree`, `--as-ceph`, `--by-name` and `--json`, and the values of `--since`, `--to`, `--under` and `--down-to`
 pub record SaidData : Type 0 where
   pub tree : Bool
   pub since : Option Text
   pub as_ceph : Bool
   pub to : Option Text
   pub by_name : Bool
+  pub json : Bool
+  pub under : Option Text
+  pub down_to : Option Text
 
 pub record AreSaid (rows : List Row) (said : SaidData) : Type 0 where
   pub tree : IsFlag (one_of (codes "tree") rows) said.tree
@@ -27,42 +29,82 @@ pub record AreSaid (rows : List Row) (said : SaidData) : Type 0 where
   pub as_ceph : IsFlag (one_of (codes "as-ceph") rows) said.as_ceph
   pub to : first_of (codes "to") rows ≡ said.to
   pub by_name : IsFlag (one_of (codes "by-name") rows) said.by_name
+  pub json : IsFlag (one_of (codes "json") rows) said.json
+  pub under : first_of (codes "under") rows ≡ said.under
+  pub down_to : first_of (codes "down-to") rows ≡ said.down_to
+
+-- the text of a name, where there is one
+abbrev pub name_text : {Z : Type 0} → Option (String Z) → Option Text
+name_text name = option_map (λ n. n.bytes.items) name
 
 abbrev pub said_data : Said → SaidData
-said_data s = record { tree = s.tree; since = option_map (λ name. name.now) s.since; as_ceph = s.as_ceph; to = option_map (λ name. name.now) s.to; by_name = s.by_name }
+said_data s = record {
+  tree = s.tree;
+  since = option_map (λ name. name.now) s.since;
+  as_ceph = s.as_ceph;
+  to = option_map (λ name. name.now) s.to;
+  by_name = s.by_name;
+  json = s.json;
+  under = option_map (λ name. name.now) s.under;
+  down_to = option_map (λ name. name.now) s.down_to;
+}
 
--- the words by which something is printed in the place of the map, and no others
-abbrev pub said_by : Printed → SaidData
-said_by Map = record { tree = false; since = None; as_ceph = false; to = None; by_name = false }
-said_by Tree = record { tree = true; since = None; as_ceph = false; to = None; by_name = false }
-said_by (Since name) = record { tree = false; since = Some name.bytes.items; as_ceph = false; to = None; by_name = false }
-said_by (Changes name) = record { tree = true; since = Some name.bytes.items; as_ceph = false; to = None; by_name = false }
-said_by AsCeph = record { tree = false; since = None; as_ceph = true; to = None; by_name = false }
-said_by (To wanted) = record { tree = false; since = None; as_ceph = wanted.as_ceph; to = Some wanted.map.bytes.items; by_name = wanted.by_name }
+-- no word but `--json`, which is there or not
+abbrev pub said_nothing : Bool → SaidData
+said_nothing json = record { tree = false; since = None; as_ceph = false; to = None; by_name = false; json = json; under = None; down_to = None }
 
--- WHAT IS PRINTED: the words are those by which it is
-abbrev pub IsPrinted : List Row → Printed → Type 0
-IsPrinted rows printed = AreSaid rows (said_by printed)
+-- the words by which something is printed in the place of the map, as a document or not, and no others
+abbrev pub said_by : Bool → Printed → SaidData
+said_by json Map = said_nothing json
+said_by json (Tree part) = record (said_nothing json) { tree = true; under = name_text part.under; down_to = name_text part.down_to }
+said_by json (Since since) = record (said_nothing json) { since = Some since.map.bytes.items; by_name = since.by_name; under = name_text since.under }
+said_by json (Changes name) = record (said_nothing json) { tree = true; since = Some name.bytes.items }
+said_by json AsCeph = record (said_nothing json) { as_ceph = true }
+said_by json (To wanted) = record (said_nothing json) { as_ceph = wanted.as_ceph; to = Some wanted.map.bytes.items; by_name = wanted.by_name; under = name_text wanted.under }
 
--- how many things the words ask for, of which `--tree` and `--since` together are one, and `--to` and `--as-ceph`
-abbrev pub one_where : Bool → ℕ
-one_where there = if there then 1 else 0
+-- two things are asked for, of which `--tree` and `--since` together are one, and `--as-ceph` and `--to`
+abbrev pub ask_for_two : SaidData → Bool
+ask_for_two said = (said.tree || is_some said.since) && (said.as_ceph || is_some said.to)
 
-abbrev pub count_said : SaidData → ℕ
-count_said said = one_where (said.tree || is_some said.since) + one_where (said.as_ceph || is_some said.to)
+-- a tree of changes, but not of all
+abbrev pub ask_for_some_changes : SaidData → Bool
+ask_for_some_changes said = said.tree && is_some said.since && (said.by_name || is_some said.under || is_some said.down_to)
 
--- words that don't go together: for two things, or `--by-name` without `--to`
-abbrev pub AreApart : SaidData → Type 0
-AreApart said = (1 < count_said said) ⊎ ((said.by_name ≡ true) × (said.to ≡ None))
+-- `--by-name` where there is no other map, `--under` where nothing is printed of which there are parts, `--down-to` where no tree is
+abbrev pub have_names_alone : SaidData → Bool
+have_names_alone said = said.by_name && not (is_some said.since) && not (is_some said.to)
 
--- a refusal of such words; memory may lack for its text
-abbrev pub IsApartFault : SaidData → OptionsFault → Type 0
-IsApartFault said (Help text) = ⊥
-IsApartFault said (Refused text) = AreApart said
-IsApartFault said Memory = Unit {0}
+abbrev pub have_part_alone : SaidData → Bool
+have_part_alone said = is_some said.under && not said.tree && not (is_some said.since) && not (is_some said.to)
 
--- the words don't go together
-pub record SayTooMuch (rows : List Row) : Type 0 where
+abbrev pub have_type_alone : SaidData → Bool
+have_type_alone said = is_some said.down_to && not said.tree
+
+-- lines for a shell are no document, and there is none of what has changed by names
+abbrev pub json_of_lines : SaidData → Bool
+json_of_lines said = said.json && said.as_ceph
+
+abbrev pub json_of_names : SaidData → Bool
+json_of_names said = said.json && is_some said.since && said.by_name
+
+-- WORDS THAT DON'T GO TOGETHER: the first of these that is so of them, as a line; nothing where they go together
+abbrev pub complaint : SaidData → Option Text
+complaint said =
+    if ask_for_two said then Some (codes "error: at most one of --tree, --since, --as-ceph and --to, but --tree with --since and --to with --as-ceph\n") else (
+    if ask_for_some_changes said then Some (codes "error: --tree with --since goes with none of --by-name, --under and --down-to\n") else (
+    if have_names_alone said then Some (codes "error: --by-name goes with --since and --to\n") else (
+    if have_part_alone said then Some (codes "error: --under goes with --tree, --since and --to\n") else (
+    if have_type_alone said then Some (codes "error: --down-to goes with --tree\n") else (
+    if json_of_lines said then Some (codes "error: --json doesn't go with --as-ceph\n") else (
+    if json_of_names said then Some (codes "error: --json and --since don't go with --by-name\n") else None))))))
+
+-- WHAT IS PRINTED: the words are those by which it is, and they go together
+pub record IsPrinted (rows : List Row) (json : Bool) (printed : Printed) : Type 0 where
+  pub said : AreSaid rows (said_by json printed)
+  pub together : complaint (said_by json printed) ≡ None
+
+-- the words don't go together, as this line says
+pub record AreApart (rows : List Row) (why : Text) : Type 0 where
   pub said : SaidData
   pub are : AreSaid rows said
-  pub apart : AreApart said
+  pub apart : complaint said ≡ Some why

@@ -19,6 +19,28 @@ pub struct Mode {
     pub exit_code: bool,
     /// Whether standard error tells where and why, below its one line.
     pub explain: bool,
+    /// Whether one JSON document stands in the place of all of standard output.
+    pub json: bool,
+}
+
+/// The part of a tree that is printed: without either name the whole.
+#[derive(Debug, Drop)]
+pub struct Part {
+    /// The name of the item that is printed with what is below it.
+    pub under: Option<String>,
+    /// The name of the type of buckets below which nothing is printed.
+    pub down_to: Option<String>,
+}
+
+/// The map since which changes are told, and of which items.
+#[derive(Debug, Drop)]
+pub struct Since {
+    /// The name of its file.
+    pub map: String,
+    /// Whether items are told apart by their names, and not by their ids.
+    pub by_name: bool,
+    /// The name of the item that is told of with what stands or stood below it; without one all are.
+    pub under: Option<String>,
 }
 
 /// The map that commands are to lead to, and how they are found and printed.
@@ -30,6 +52,9 @@ pub struct Wanted {
     pub as_ceph: bool,
     /// Whether a bucket is told by its name and type alone, and not by its id.
     pub by_name: bool,
+    /// The name of the item that commands are for, with what stands or shall stand below it; without
+    /// one they are for all.
+    pub under: Option<String>,
 }
 
 /// What is printed of the map after the scripts.
@@ -38,10 +63,10 @@ pub enum Printed {
     /// Its text.
     Map,
     /// Its tree, a line for each item.
-    Tree,
-    /// What has changed in it since the map that the file of this name has.
-    Since(String),
-    /// The same as a tree.
+    Tree(Part),
+    /// What has changed in it since another map.
+    Since(Since),
+    /// The same as a tree, since the map that the file of this name has.
     Changes(String),
     /// The commands that changed it, as Ceph's own.
     AsCeph,

@@ -1,11 +1,11 @@
 //! The command line.
 
-ghost use Rattle.std.specs.Prelude.{◌≡◌, ◌≤◌, IfErr, IfOk, None, Some, codes, false, length, map, option_map};
+ghost use Rattle.std.specs.Prelude.{◌≡◌, ◌≤◌, IfErr, IfOk, None, Some, codes, false, length, map, option_map, true};
 ghost use Rattle.clap.specs.Words.{all_of, app_of, fault_of, first_of, found_of, kind_of, one_of, rows_of, rule_of, with_rule};
-ghost use Rattle.crush_options.specs.Options.{AreRead, AsksTooMuch, IsAsked, IsFaultIn, IsFaultOf, IsRefusedFor, all_named, file, flag, names_text, option, program, scripts, with_modes, with_printed, with_wanted};
-ghost use Rattle.crush_options.specs.Printed.{AreSaid, IsApartFault, IsFlag, IsPrinted, said_by, said_data};
+ghost use Rattle.crush_options.specs.Options.{AreRead, AsksTooMuch, IsAsked, IsFaultIn, IsFaultOf, IsModeOf, IsRefusedFor, IsRefusedIf, all_named, file, flag, names_text, option, program, scripts, with_modes, with_parts, with_printed};
+ghost use Rattle.crush_options.specs.Printed.{AreSaid, IsFlag, ask_for_some_changes, ask_for_two, complaint, have_names_alone, have_part_alone, have_type_alone, name_text, said_by, said_data};
 
-use crate::asked::{Mode, Options, OptionsFault, Printed, Wanted};
+use crate::asked::{Mode, Options, OptionsFault, Part, Printed, Since, Wanted};
 use clap::error::ErrorKind;
 use clap::{Arg, ArgAction, ArgMatches, Command, Error};
 use std::alloc::{AllocError, Global};
@@ -76,9 +76,14 @@ since the map of a file, `--as-ceph` the commands that changed it, as lines for
 a shell, and `--to MAP` the commands that lead from it to the map of a file, and
 what differs then, which no command changes; at most one of the four, but
 `--tree` with `--since`, a tree of what has changed, and `--to` with
-`--as-ceph`. `--since` compares by ids, so that the maps of two clusters tell
-nothing that is of use; `--to` does so first, and with `--by-name` it takes
-buckets for those of their names alone.
+`--as-ceph`. `--since` compares by ids, and `--to` does so first: for the maps
+of two clusters `--by-name` has both tell items by their names alone.
+
+Of `--tree`, `--since` or `--to`, `--under NAME` prints what is of the item NAME
+and of those below it, and of `--tree`, `--down-to TYPE` nothing that is below a
+bucket of this type; but a tree of what has changed is printed as a whole, and
+by ids. With `--json` standard output gets one JSON document in the place of all
+else, with Ceph's keys, but not with `--as-ceph`, nor with `--since` by names.
 
 Standard error gets `crushedit: adjusted N` where N buckets were written with
 another weight than the sum of their devices, and got the sum. With `--strict`
@@ -86,9 +91,11 @@ it gets `crushedit: refused N` where N commands or batches were refused, and
 their lines, or `crushedit: differs N` where N differences to the map of `--to`
 stay, and their lines. With `--no-make` it gets `crushedit: made N` where N
 commands or batches made more buckets than their `add-bucket`s, as a location
-does in which a name is mistyped, and their lines. With `--explain` it tells
-more below: where a fault of the input stands and what was wanted there, and of
-each refused command or batch its line and what was wanted.
+does in which a name is mistyped, and their lines. Where the map after the
+scripts has no such NAME or TYPE it gets `crushedit: no item NAME` or
+`crushedit: no type TYPE`. With `--explain` it tells more below: where a fault
+of the input stands and what was wanted there, and of each refused command or
+batch its line and what was wanted.
 
 With `--exit-code` the status is 6 in place of 0 where a command changed the map
 that was read, with `--since` where an item or a setting is told, and with
@@ -96,7 +103,7 @@ that was read, with `--since` where an item or a setting is told, and with
 
 Exit status:
     0    the run was done, also where commands were refused, without --strict
-    1    the input is no job, or MAP no map; nothing was written
+    1    the input is no job, or MAP, NAME or TYPE none; nothing was written
     2    the command line is refused
     3    a file can't be opened, or reading or writing failed
     4    out of memory, or no thread could be started; nothing was written
@@ -108,8 +115,24 @@ Exit status:
 const TWO_PRINTED: &str =
     "error: at most one of --tree, --since, --as-ceph and --to, but --tree with --since and --to with --as-ceph\n";
 
-/// What is told where buckets are to be told by their names, and no map is wanted.
-const NAMES_ALONE: &str = "error: --by-name goes with --to\n";
+/// What is told where a tree of changes is asked for by a word that it doesn't take.
+const WHOLE_CHANGES: &str =
+    "error: --tree with --since goes with none of --by-name, --under and --down-to\n";
+
+/// What is told where items are to be told by their names, and there is no other map.
+const NAMES_ALONE: &str = "error: --by-name goes with --since and --to\n";
+
+/// What is told where an item is named, and nothing is printed of which it is a part.
+const PART_ALONE: &str = "error: --under goes with --tree, --since and --to\n";
+
+/// What is told where a type is named, and no tree is printed.
+const TYPE_ALONE: &str = "error: --down-to goes with --tree\n";
+
+/// What is told where lines for a shell are to be a document.
+const JSON_LINES: &str = "error: --json doesn't go with --as-ceph\n";
+
+/// What is told where a document is to tell what has changed by names.
+const JSON_NAMES: &str = "error: --json and --since don't go with --by-name\n";
 
 /// How many files of scripts there can be: a job has as many operators.
 const MOST_SCRIPTS: usize = 16;
@@ -189,21 +212,27 @@ fn with_printed<'a>(alloc: Global) -> Result<Command<'a>, AllocError>
     let tree = "Print the map's tree in its place";
     let since = "Print what has changed since the map of this file";
     let as_ceph = "Print the commands that changed the map, as Ceph's own";
+    let to = "Print the commands that lead to the map of this file";
     with_modes(alloc)?
         .arg(flag(alloc, "tree", tree))?
         .arg(option(alloc, "since", "MAP", since))?
-        .arg(flag(alloc, "as-ceph", as_ceph))
+        .arg(flag(alloc, "as-ceph", as_ceph))?
+        .arg(option(alloc, "to", "MAP", to))
 }
 
-/// The command with the words that ask for a plan, too.
-fn with_wanted<'a>(alloc: Global) -> Result<Command<'a>, AllocError>
-    ensures { IfOk result (λ command. app_of command ≡ with_wanted) }
+/// The command with the words that say how and of what it is printed, too.
+fn with_parts<'a>(alloc: Global) -> Result<Command<'a>, AllocError>
+    ensures { IfOk result (λ command. app_of command ≡ with_parts) }
 {
-    let to = "Print the commands that lead to the map of this file";
-    let by_name = "With --to: tell buckets by their names alone";
+    let by_name = "With --since or --to: tell items by their names alone";
+    let json = "Print all as one JSON document, for programs";
+    let under = "Print of this item and of what is below it alone";
+    let down_to = "With --tree: print nothing below buckets of this type";
     with_printed(alloc)?
-        .arg(option(alloc, "to", "MAP", to))?
-        .arg(flag(alloc, "by-name", by_name))
+        .arg(flag(alloc, "by-name", by_name))?
+        .arg(flag(alloc, "json", json))?
+        .arg(option(alloc, "under", "NAME", under))?
+        .arg(option(alloc, "down-to", "TYPE", down_to))
 }
 
 /// All words that the program takes.
@@ -212,7 +241,7 @@ fn command<'a>(alloc: Global) -> Result<Command<'a>, AllocError>
 {
     let exit_code = "End with status 6 where there is something to tell";
     let explain = "Tell where and why below the line on standard error";
-    with_wanted(alloc)?
+    with_parts(alloc)?
         .arg(flag(alloc, "exit-code", exit_code))?
         .arg(flag(alloc, "explain", explain))?
         .arg(scripts(alloc))?
@@ -244,6 +273,9 @@ struct Said<'a> {
     as_ceph: bool,
     to: Option<&'a str>,
     by_name: bool,
+    json: bool,
+    under: Option<&'a str>,
+    down_to: Option<&'a str>,
 }
 
 /// What the words say of what is printed.
@@ -256,57 +288,148 @@ fn said_of<'a>(matches: &'a ArgMatches<'_>) -> Said<'a>
         as_ceph: is_set(matches, "as-ceph"),
         to: matches.get_str("to"),
         by_name: is_set(matches, "by-name"),
+        json: is_set(matches, "json"),
+        under: matches.get_str("under"),
+        down_to: matches.get_str("down-to"),
     }
 }
 
-/// What is printed where no map is wanted.
-fn printed_without_to(alloc: Global, said: Said<'_>) -> Result<Printed, OptionsFault>
-    ensures asked { said.entry.to ≡ None
-        → IfOk result (λ printed. said_by printed ≡ said_data said.entry) }
-    ensures fault { said.entry.to ≡ None → IfErr result (IsApartFault (said_data said.entry)) }
+/// Whether the words ask for two things to be printed.
+fn ask_for_two(said: Said<'_>) -> bool
+    ensures { result ≡ ask_for_two (said_data said.entry) }
 {
-    match said.since {
-        _ if said.by_name => Err(refused(alloc, NAMES_ALONE)),
-        None if said.tree && said.as_ceph => Err(refused(alloc, TWO_PRINTED)),
-        None if said.tree => Ok(Printed::Tree),
-        None if said.as_ceph => Ok(Printed::AsCeph),
-        None => Ok(Printed::Map),
-        Some(_) if said.as_ceph => Err(refused(alloc, TWO_PRINTED)),
-        Some(name) if said.tree => Ok(Printed::Changes(String::from_str(alloc, name)?)),
-        Some(name) => Ok(Printed::Since(String::from_str(alloc, name)?)),
+    (said.tree || said.since.is_some()) && (said.as_ceph || said.to.is_some())
+}
+
+/// Whether the words ask for a tree of changes, but not of all.
+fn ask_for_some_changes(said: Said<'_>) -> bool
+    ensures { result ≡ ask_for_some_changes (said_data said.entry) }
+{
+    said.tree
+        && said.since.is_some()
+        && (said.by_name || said.under.is_some() || said.down_to.is_some())
+}
+
+/// Whether the words have `--by-name` where there is no other map.
+fn have_names_alone(said: Said<'_>) -> bool
+    ensures { result ≡ have_names_alone (said_data said.entry) }
+{
+    said.by_name && said.since.is_none() && said.to.is_none()
+}
+
+/// Whether the words have `--under` where nothing is printed of which there are parts.
+fn have_part_alone(said: Said<'_>) -> bool
+    ensures { result ≡ have_part_alone (said_data said.entry) }
+{
+    said.under.is_some() && !said.tree && said.since.is_none() && said.to.is_none()
+}
+
+/// Whether the words have `--down-to` where no tree is printed.
+fn have_type_alone(said: Said<'_>) -> bool
+    ensures { result ≡ have_type_alone (said_data said.entry) }
+{
+    said.down_to.is_some() && !said.tree
+}
+
+/// Why the words of what is printed don't go together, in a line; nothing where they do.
+fn complaint(said: Said<'_>) -> Option<&'static str>
+    ensures { option_map (λ text. text.now) result ≡ complaint (said_data said.entry) }
+{
+    if ask_for_two(said) {
+        Some(TWO_PRINTED)
+    } else if ask_for_some_changes(said) {
+        Some(WHOLE_CHANGES)
+    } else if have_names_alone(said) {
+        Some(NAMES_ALONE)
+    } else if have_part_alone(said) {
+        Some(PART_ALONE)
+    } else if have_type_alone(said) {
+        Some(TYPE_ALONE)
+    } else if said.json && said.as_ceph {
+        Some(JSON_LINES)
+    } else if said.json && said.since.is_some() && said.by_name {
+        Some(JSON_NAMES)
+    } else {
+        None
     }
+}
+
+/// A copy of a name, where there is one.
+fn copy_of(alloc: Global, name: Option<&str>) -> Result<Option<String>, AllocError>
+    ensures { IfOk result (λ copy. name_text copy ≡ option_map (λ name. name.now) name.entry) }
+{
+    match name {
+        Some(name) => Ok(Some(String::from_str(alloc, name)?)),
+        None => Ok(None),
+    }
+}
+
+/// What is printed of a tree.
+fn tree_by(alloc: Global, said: Said<'_>) -> Result<Printed, AllocError>
+    requires together { complaint (said_data said) ≡ None }
+    requires alone { (said.to ≡ None) × (said.since ≡ None) × (said.tree ≡ true) }
+    ensures { IfOk result (λ printed. said_by said.entry.json printed ≡ said_data said.entry) }
+{
+    let under = copy_of(alloc, said.under)?;
+    let down_to = copy_of(alloc, said.down_to)?;
+    Ok(Printed::Tree(Part { under, down_to }))
+}
+
+/// What is printed since the map of a file of this name.
+fn since_by(alloc: Global, said: Said<'_>, name: &str) -> Result<Printed, AllocError>
+    requires together { complaint (said_data said) ≡ None }
+    requires alone { (said.to ≡ None) × (said.since ≡ Some name) × (said.tree ≡ false) }
+    ensures { IfOk result (λ printed. said_by said.entry.json printed ≡ said_data said.entry) }
+{
+    let map = String::from_str(alloc, name)?;
+    let under = copy_of(alloc, said.under)?;
+    Ok(Printed::Since(Since {
+        map,
+        by_name: said.by_name,
+        under,
+    }))
 }
 
 /// What is printed where the map of a file of this name is wanted.
-fn printed_to(alloc: Global, said: Said<'_>, name: &str) -> Result<Printed, OptionsFault>
-    ensures asked { option_map (λ name. name.now) said.entry.to ≡ Some name.now
-        → IfOk result (λ printed. said_by printed ≡ said_data said.entry) }
-    ensures fault { option_map (λ name. name.now) said.entry.to ≡ Some name.now
-        → IfErr result (IsApartFault (said_data said.entry)) }
+fn wanted_by(alloc: Global, said: Said<'_>, name: &str) -> Result<Printed, AllocError>
+    requires together { complaint (said_data said) ≡ None }
+    requires wanted { said.to ≡ Some name }
+    ensures { IfOk result (λ printed. said_by said.entry.json printed ≡ said_data said.entry) }
 {
-    match said.since {
-        None if said.tree => Err(refused(alloc, TWO_PRINTED)),
-        None => {
-            let map = String::from_str(alloc, name)?;
-            Ok(Printed::To(Wanted {
-                map,
-                as_ceph: said.as_ceph,
-                by_name: said.by_name,
-            }))
-        }
-        Some(_) => Err(refused(alloc, TWO_PRINTED)),
+    let map = String::from_str(alloc, name)?;
+    let under = copy_of(alloc, said.under)?;
+    Ok(Printed::To(Wanted {
+        map,
+        as_ceph: said.as_ceph,
+        by_name: said.by_name,
+        under,
+    }))
+}
+
+/// What is printed by words that go together.
+fn printed_by(alloc: Global, said: Said<'_>) -> Result<Printed, AllocError>
+    requires { complaint (said_data said) ≡ None }
+    ensures { IfOk result (λ printed. said_by said.entry.json printed ≡ said_data said.entry) }
+{
+    match (said.to, said.since) {
+        (Some(name), _) => wanted_by(alloc, said, name),
+        (None, Some(name)) if said.tree => Ok(Printed::Changes(String::from_str(alloc, name)?)),
+        (None, Some(name)) => since_by(alloc, said, name),
+        (None, None) if said.tree => tree_by(alloc, said),
+        (None, None) if said.as_ceph => Ok(Printed::AsCeph),
+        (None, None) => Ok(Printed::Map),
     }
 }
 
-/// What the words ask to be printed.
-fn printed_of(alloc: Global, matches: &ArgMatches<'_>) -> Result<Printed, OptionsFault>
-    ensures asked { IfOk result (IsPrinted (rows_of (found_of matches.now))) }
-    ensures fault { IfErr result (AsksTooMuch (rows_of (found_of matches.now))) }
+/// What the words ask to be printed, where they go together.
+fn printed_of(alloc: Global, said: Said<'_>) -> Result<Printed, OptionsFault>
+    ensures asked { IfOk result (λ printed. said_by said.entry.json printed ≡ said_data said.entry) }
+    ensures together { IfOk result (λ _. complaint (said_data said.entry) ≡ None) }
+    ensures fault { IfErr result (IsRefusedIf (complaint (said_data said.entry))) }
 {
-    let said = said_of(matches);
-    match said.to {
-        None => printed_without_to(alloc, said),
-        Some(name) => printed_to(alloc, said, name),
+    match complaint(said) {
+        Some(text) => Err(refused(alloc, text)),
+        None => Ok(printed_by(alloc, said)?),
     }
 }
 
@@ -338,12 +461,26 @@ fn scripts_of(alloc: Global, matches: &ArgMatches<'_>) -> Result<Vec<String>, Op
 
 /// The file that the words name.
 fn file_of(alloc: Global, matches: &ArgMatches<'_>) -> Result<Option<String>, AllocError>
-    ensures { IfOk result (λ file. option_map (λ name. name.bytes.items) file
+    ensures { IfOk result (λ file. name_text file
         ≡ first_of (codes "FILE") (rows_of (found_of matches.now))) }
 {
-    match matches.get_str("FILE") {
-        Some(name) => Ok(Some(String::from_str(alloc, name)?)),
-        None => Ok(None),
+    copy_of(alloc, matches.get_str("FILE"))
+}
+
+/// How a job is run by a parsed command line, which asks for a document or not.
+fn mode_of(matches: &ArgMatches<'_>, json: bool) -> Mode
+    requires { IsFlag (one_of (codes "json") (rows_of (found_of matches.now))) json }
+    ensures mode { IsModeOf (rows_of (found_of matches.now)) result }
+    ensures json { result.json ≡ json }
+{
+    Mode {
+        in_turn: is_set(matches, "in-turn"),
+        history: !is_set(matches, "no-history"),
+        strict: is_set(matches, "strict"),
+        no_make: is_set(matches, "no-make"),
+        exit_code: is_set(matches, "exit-code"),
+        explain: is_set(matches, "explain"),
+        json,
     }
 }
 
@@ -352,15 +489,9 @@ fn options_of(alloc: Global, matches: &ArgMatches<'_>) -> Result<Options, Option
     ensures read { IfOk result (AreRead (rows_of (found_of matches.now))) }
     ensures fault { IfErr result (AsksTooMuch (rows_of (found_of matches.now))) }
 {
-    let mode = Mode {
-        in_turn: is_set(matches, "in-turn"),
-        history: !is_set(matches, "no-history"),
-        strict: is_set(matches, "strict"),
-        no_make: is_set(matches, "no-make"),
-        exit_code: is_set(matches, "exit-code"),
-        explain: is_set(matches, "explain"),
-    };
-    let printed = printed_of(alloc, matches)?;
+    let said = said_of(matches);
+    let mode = mode_of(matches, said.json);
+    let printed = printed_of(alloc, said)?;
     let scripts = scripts_of(alloc, matches)?;
     let file = file_of(alloc, matches)?;
     Ok(Options {
@@ -386,9 +517,12 @@ fn fault_of(alloc: Global, error: &Error) -> OptionsFault
 }
 
 /// Reads the words of a command line behind the program's name: `[--in-turn] [--no-history]
-/// [--strict] [--no-make] [--tree | [--tree] --since MAP | --as-ceph | --to MAP [--as-ceph] [--by-name]]
-/// [--exit-code] [--explain] [-s SCRIPT].. [FILE]`, in any order, with up to 16 scripts. Each word is
-/// one of these or refused: none is ignored.
+/// [--strict] [--no-make] [--tree] [--since MAP] [--as-ceph] [--to MAP] [--by-name] [--json]
+/// [--under NAME] [--down-to TYPE] [--exit-code] [--explain] [-s SCRIPT].. [FILE]`, in any order, with
+/// up to 16 scripts. Of what is printed `--tree` goes with `--since` and `--to` with `--as-ceph`, and no
+/// other two; `--by-name` goes with `--since` and `--to`, `--under` with these and `--tree`, `--down-to`
+/// with `--tree`, but none of the three with `--tree` and `--since`; and `--json` goes with all but
+/// `--as-ceph`, and `--since` with `--by-name`. Each word is one of these or refused: none is ignored.
 pub fn options<S: AsStr>(alloc: Global, words: &[S]) -> Result<Options, OptionsFault>
     ensures asked { IfOk result (IsAsked (map S.text words.now)) }
     ensures fault { IfErr result (IsFaultIn (map S.text words.now)) }

@@ -7,5 +7,5 @@
 mod asked;
 mod command_line;
 
-pub use asked::{Mode, Options, OptionsFault, Printed, Wanted};
+pub use asked::{Mode, Options, OptionsFault, Part, Printed, Since, Wanted};
 pub use command_line::options;

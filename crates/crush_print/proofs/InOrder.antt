@@ -1,11 +1,13 @@
 -- The sections of a map that are printed in the order of ids.
 use Rattle.std.proofs.Common.{◌≡◌, ℕ, ◌≤◌, List, [], ◌∷◌, ◌++◌, length, map, refl, ap, sym, ◌∙◌, arith, append-nil, append_assoc, subst}
-use Rattle.std.specs.Prelude.{flat_map, All, None, Result, Ok, Err, OnOk, is_ok, if◌then◌else◌}
+use Rattle.std.specs.Prelude.{flat_map, All, None, Option, Result, Ok, Err, OnOk, is_ok, if◌then◌else◌}
 use Rattle.std.specs.List.Sorted.{IsPermutation, IsNonDecreasingBy}
 use Rattle.std.proofs.lemmas.List.Folds.{flat_map-map}
-use Rattle.std.proofs.lemmas.List.Elements.{All-nil, All-cons, All-head, All-tail}
+use Rattle.std.proofs.lemmas.List.{map-append}
+use Rattle.std.proofs.lemmas.List.Sorted.{All-permutation}
+use Rattle.std.proofs.lemmas.List.Elements.{All-nil, All-cons, All-head, All-tail, All-append}
 use Rattle.crush_units.specs.declared.id.ItemId.TheVariants.{Device as DeviceItem, Bucket as BucketItem}
-use Rattle.crush_table.specs.Items.{LeafData, Items, none, bucket, size_of}
+use Rattle.crush_table.specs.Items.{LeafData, BucketData, Items, none, bucket, size_of}
 use Rattle.crush_table.specs.Forest.{ForestData, rows_of, all_items, OnlyBuckets, IsSound}
 use Rattle.crush_table.specs.ItemRows.{device_row}
 use Rattle.crush_table.specs.Stands.{Stands}
@@ -16,11 +18,11 @@ use Rattle.crush_nodes.specs.Seen.{items_of, node_id}
 use Rattle.crush_nodes.specs.declared.node.Node.{Node}
 use Rattle.crush_nodes.specs.declared.node.Node.TheVariants.{Device, Bucket}
 use Rattle.crush_print.specs.Lines.{device_line}
-use Rattle.crush_print.specs.ItemsText.{id_number, leaves, texts_of_buckets}
-use Rattle.crush_print.specs.MapText.{ascending, device_number, root_number, device_numbers, root_numbers, of_row, bucket_texts, device_lines, root_texts}
-use Rattle.crush_print.proofs.Sorting.{lines_in_order, lines_of_rising, ascending-reordered}
+use Rattle.crush_print.specs.ItemsText.{id_number, own_text, buckets_among, leaves}
+use Rattle.crush_print.specs.MapText.{ascending, device_number, root_number, device_numbers, root_numbers, of_row, bucket_text, bucket_numbers_at, bucket_numbers, device_lines, root_texts}
+use Rattle.crush_print.proofs.Sorting.{sorted_is_ascending, lines_by_number, lines_in_order, lines_of_rising, ascending-reordered}
 use Rattle.crush_print.proofs.ItemLines.{leaves-join}
-use Rattle.crush_print.proofs.Told.{Told, leaves_print, leaf_numbers, root_ids, root_numbers_are, root_ids-join, size_le_rows, size_of-join, told_join, texts_print, stands_told}
+use Rattle.crush_print.proofs.Told.{Told, IsTold, buckets_print, bucket_id, buckets_numbered, leaves_print, leaf_numbers, root_ids, root_numbers_are, root_ids-join, size_le_rows, size_of-join, told_join, stands_told}
 
 -- what is seen of what is seen is seen at once
 map-map : {X Y : Type 0} (f : Y → ℕ) (g : X → Y) (xs : List X) → map (λ x. f (g x)) xs ≡ map f (map g xs)
@@ -59,6 +61,15 @@ devices_print see f t found sorted are same up s =
     ∙ ap (λ (l : List ℕ). flat_map line (ascending l)) (sym (leaf_numbers None (all_items f)))
     ∙ ap (flat_map line) (ascending-reordered (λ (r : Row). device_number r.id) (rows_of f) t s.same.rows)
 
+-- and their ids are the numbers of the table's devices
+pub devices_numbered : {X : Type 0} (see : X → LeafData) (f : ForestData) (t : List Row) (found sorted : List X) → map see found ≡ leaves (all_items f) → IsPermutation found sorted → IsNonDecreasingBy (λ x. (see x).id) sorted → Stands f t
+    → map (λ x. (see x).id) sorted ≡ device_numbers t
+unfolding device_numbers
+devices_numbered see f t found sorted are same up s =
+    sorted_is_ascending (λ x. (see x).id) found sorted same up
+    ∙ ap ascending (numbers_seen (λ (d : LeafData). d.id) see found (leaves (all_items f)) are ∙ sym (leaf_numbers None (all_items f)))
+    ∙ ascending-reordered (λ (r : Row). device_number r.id) (rows_of f) t s.same.rows
+
 -- the devices found among the unplaced ones and then among the roots are those of the forest
 pub found_all : (f : ForestData) (start one two : List LeafData) (u r : Items) → start ≡ [] → one ≡ start ++ leaves u → two ≡ one ++ leaves r → u ≡ f.unplaced → r ≡ f.roots → two ≡ leaves (all_items f)
 found_all f start one two u r nothing first second is_u is_r =
@@ -73,16 +84,19 @@ pub section_pushed : {X E : Type 0} (r : Result X E) (old start out heading line
 section_pushed (Ok x) old start out heading lines text begun ended are = section_done old start out heading lines text begun ended are
 section_pushed (Err e) old start out heading lines text begun ended are = tt
 
--- THE ROOTS: each prints what the table says of the bucket of its number
-root_prints : {A : _} (s : SettingData) (t : List Row) (ns : List (Node A)) → Told t None (items_of ns) → OnlyBuckets (items_of ns) → size_of (items_of ns) ≤ length t
-    → All (λ node. bucket_texts s t (length t) (BucketItem (id_number (node_id node))) ≡ texts_of_buckets s (items_of (node ∷ []))) ns
-root_prints s t [] told only le = All-nil (λ node. bucket_texts s t (length t) (BucketItem (id_number (node_id node))) ≡ texts_of_buckets s (items_of (node ∷ [])))
-root_prints s t (Device l ∷ ns) told only le = absurd only
-root_prints s t (Bucket b ∷ ns) told only le =
-    All-cons (λ node. bucket_texts s t (length t) (BucketItem (id_number (node_id node))) ≡ texts_of_buckets s (items_of (node ∷ []))) (Bucket b) ns
-    (sym (append-nil (bucket_texts s t (length t) (BucketItem b.value.header.id)))
-    ∙ texts_print s t (length t) None (bucket b.value.header b.value.weight b.value.capacity b.value.kids none) (omega arith) (told.0, told.1, told.2, told.3, tt))
-    (root_prints s t ns told.4 only (omega arith))
+-- THE ROOTS: each has the numbers that the table has of the bucket of its number
+abbrev pub numbers_of : Items → List ℕ
+numbers_of n = map bucket_id (buckets_among n)
+
+root_numbered : {A : _} (t : List Row) (ns : List (Node A)) → Told t None (items_of ns) → OnlyBuckets (items_of ns) → size_of (items_of ns) ≤ length t
+    → All (λ node. bucket_numbers_at t (length t) (BucketItem (id_number (node_id node))) ≡ numbers_of (items_of (node ∷ []))) ns
+root_numbered t [] told only le = All-nil (λ node. bucket_numbers_at t (length t) (BucketItem (id_number (node_id node))) ≡ numbers_of (items_of (node ∷ [])))
+root_numbered t (Device l ∷ ns) told only le = absurd only
+root_numbered t (Bucket b ∷ ns) told only le =
+    All-cons (λ node. bucket_numbers_at t (length t) (BucketItem (id_number (node_id node))) ≡ numbers_of (items_of (node ∷ []))) (Bucket b) ns
+    (sym (append-nil (bucket_numbers_at t (length t) (BucketItem b.value.header.id)))
+    ∙ buckets_numbered t (length t) None (bucket b.value.header b.value.weight b.value.capacity b.value.kids none) (omega arith) (told.0, told.1, told.2, told.3, tt))
+    (root_numbered t ns told.4 only (omega arith))
 
 -- the numbers of nodes that are buckets are those of their items' roots
 root_node_numbers : {A : _} (ns : List (Node A)) → OnlyBuckets (items_of ns) → map (λ node. id_number (node_id node)) ns ≡ root_ids (items_of ns)
@@ -90,22 +104,59 @@ root_node_numbers [] only = refl
 root_node_numbers (Device l ∷ ns) only = absurd only
 root_node_numbers (Bucket b ∷ ns) only = ap (λ (l : List ℕ). b.value.header.id ∷ l) (root_node_numbers ns only)
 
--- each root prints the buckets below it and itself, as the table tells them
-pub roots_print : {A : _} (s : SettingData) (f : ForestData) (t : List Row) (ns : List (Node A)) → items_of ns ≡ f.roots → IsSound f → Stands f t
-    → All (λ node. bucket_texts s t (length t) (BucketItem (id_number (node_id node))) ≡ texts_of_buckets s (items_of (node ∷ []))) ns
-roots_print s f t ns are sound stands =
-    let told : Told t None f.roots = told_join t None f.unplaced f.roots (stands_told f t stands) in
-    root_prints s t ns (subst (Told t None) (sym are) told) (subst OnlyBuckets (sym are) sound.roots)
-    (omega (arith, ap size_of are, size_of-join f.unplaced f.roots, size_le_rows None (all_items f), reordered-length stands.same.rows))
+-- what the table tells of the roots
+roots_told : {A : _} (f : ForestData) (t : List Row) (ns : List (Node A)) → items_of ns ≡ f.roots → Stands f t → Told t None (items_of ns)
+roots_told f t ns are stands = subst (Told t None) (sym are) (told_join t None f.unplaced f.roots (stands_told f t stands))
 
--- and the roots in ascending order print the table's roots
-pub roots_in_order : {A : _} (s : SettingData) (f : ForestData) (t : List Row) (ns : List (Node A)) → items_of ns ≡ f.roots → IsSound f → Stands f t
-    → flat_map (λ b. bucket_texts s t (length t) (BucketItem b)) (ascending (map (λ node. id_number (node_id node)) ns)) ≡ root_texts s t
-unfolding root_texts root_numbers
-roots_in_order s f t ns are sound stands =
-    let text : ℕ → List ℕ = λ b. bucket_texts s t (length t) (BucketItem b) in
-    ap (λ (l : List ℕ). flat_map text (ascending l)) (root_node_numbers ns (subst OnlyBuckets (sym are) sound.roots) ∙ ap root_ids are ∙ sym (root_ids-join f.unplaced f.roots sound.unplaced) ∙ sym (root_numbers_are (all_items f)))
-    ∙ ap (flat_map text) (ascending-reordered root_number (rows_of f) t stands.same.rows)
+-- and the roots in ascending order have the numbers of the table's buckets
+roots_in_order : {A : _} (f : ForestData) (t : List Row) (ns : List (Node A)) → items_of ns ≡ f.roots → IsSound f → Stands f t
+    → flat_map (λ b. bucket_numbers_at t (length t) (BucketItem b)) (ascending (map (λ node. id_number (node_id node)) ns)) ≡ bucket_numbers t
+unfolding bucket_numbers root_numbers
+roots_in_order f t ns are sound stands =
+    let numbers : ℕ → List ℕ = λ b. bucket_numbers_at t (length t) (BucketItem b) in
+    ap (λ (l : List ℕ). flat_map numbers (ascending l)) (root_node_numbers ns (subst OnlyBuckets (sym are) sound.roots) ∙ ap root_ids are ∙ sym (root_ids-join f.unplaced f.roots sound.unplaced) ∙ sym (root_numbers_are (all_items f)))
+    ∙ ap (flat_map numbers) (ascending-reordered root_number (rows_of f) t stands.same.rows)
+
+-- what is read off the elements of lists side by side
+map-flat_map : {X Y : Type 0} (f : Y → ℕ) (g : X → List Y) (xs : List X) → map f (flat_map g xs) ≡ flat_map (λ x. map f (g x)) xs
+map-flat_map f g [] = refl
+map-flat_map f g (x ∷ xs) = map-append f (g x) (flat_map g xs) ∙ ap (λ (l : List ℕ). map f (g x) ++ l) (map-flat_map f g xs)
+
+-- what holds of all of each list holds of all of them
+All-flat_map : {X Y : Type 0} (P : Y → Type 0) (g : X → List Y) (xs : List X) → All (λ x. All P (g x)) xs → All P (flat_map g xs)
+All-flat_map P g [] h = All-nil P
+All-flat_map P g (x ∷ xs) h = All-append P (g x) (flat_map g xs) (All-head (λ y. All P (g y)) x xs h) (All-flat_map P g xs (All-tail (λ y. All P (g y)) x xs h))
+
+-- THE BUCKETS: those of the roots in ascending order, each behind those among its items, have the numbers of the table's buckets
+pub buckets_numbered_in_order : {A : _} {X Y : Type 0} (see : X → Node A) (look : Y → BucketData) (f : ForestData) (t : List Row) (ns : List (Node A)) (refs : List X) (found : List Y)
+    → items_of ns ≡ f.roots → IsSound f → Stands f t → IsPermutation ns (map see refs) → map (λ r. id_number (node_id (see r))) refs ≡ ascending (map (λ node. id_number (node_id node)) ns)
+    → map look found ≡ flat_map (λ r. buckets_among (items_of (see r ∷ []))) refs → map (λ b. bucket_id (look b)) found ≡ bucket_numbers t
+buckets_numbered_in_order see look f t ns refs found are sound stands same rising below =
+    numbers_seen bucket_id look found _ below
+    ∙ map-flat_map bucket_id (λ r. buckets_among (items_of (see r ∷ []))) refs
+    ∙ refs_that_rise see (λ n. id_number (node_id n)) (λ n. numbers_of (items_of (n ∷ []))) (λ b. bucket_numbers_at t (length t) (BucketItem b)) ns refs same rising
+    (root_numbered t ns (roots_told f t ns are stands) (subst OnlyBuckets (sym are) sound.roots)
+    (omega (arith, ap size_of are, size_of-join f.unplaced f.roots, size_le_rows None (all_items f), reordered-length stands.same.rows)))
+    ∙ roots_in_order f t ns are sound stands
+
+-- each of the buckets below a node prints what the table says of it
+nodes_print : {A : _} (s : SettingData) (t : List Row) (p : Option ℕ) (ns : List (Node A)) → Told t p (items_of ns) → All (λ node. All (IsTold s t) (buckets_among (items_of (node ∷ [])))) ns
+nodes_print s t p [] told = All-nil (λ node. All (IsTold s t) (buckets_among (items_of (node ∷ []))))
+nodes_print s t p (Device l ∷ ns) told = All-cons (λ node. All (IsTold s t) (buckets_among (items_of (node ∷ [])))) (Device l) ns (All-nil (IsTold s t)) (nodes_print s t p ns told.1)
+nodes_print s t p (Bucket b ∷ ns) told = All-cons (λ node. All (IsTold s t) (buckets_among (items_of (node ∷ [])))) (Bucket b) ns
+    (buckets_print s t p (bucket b.value.header b.value.weight b.value.capacity b.value.kids none) (told.0, told.1, told.2, told.3, tt)) (nodes_print s t p ns told.4)
+
+-- and so they print the table's buckets
+pub buckets_print_in_order : {A : _} {X Y : Type 0} (see : X → Node A) (look : Y → BucketData) (s : SettingData) (f : ForestData) (t : List Row) (ns : List (Node A)) (refs : List X) (found : List Y)
+    → items_of ns ≡ f.roots → Stands f t → IsPermutation ns (map see refs) → map look found ≡ flat_map (λ r. buckets_among (items_of (see r ∷ []))) refs → map (λ b. bucket_id (look b)) found ≡ bucket_numbers t
+    → flat_map (λ b. own_text s (look b)) found ≡ root_texts s t
+unfolding root_texts
+buckets_print_in_order see look s f t ns refs found are stands same below numbered =
+    let each = nodes_print s t None ns (roots_told f t ns are stands) in
+    let of_refs = All-unmap (λ node. All (IsTold s t) (buckets_among (items_of (node ∷ [])))) see refs (All-permutation (λ node. All (IsTold s t) (buckets_among (items_of (node ∷ [])))) ns (map see refs) same each) in
+    let all : All (IsTold s t) (map look found) = subst (All (IsTold s t)) (sym below) (All-flat_map (IsTold s t) (λ r. buckets_among (items_of (see r ∷ []))) refs of_refs) in
+    sym (flat_map-map (own_text s) look found) ∙ lines_by_number bucket_id (own_text s) (bucket_text s t) (map look found) all
+    ∙ ap (flat_map (bucket_text s t)) (sym (map-map bucket_id look found) ∙ numbered)
 
 -- the whole text, section by section; the last line may fail
 pub map_done : {X E : Type 0} (r : Result X E) (old one two three four five out tunables devices kinds buckets rules end : List ℕ) → one ≡ old ++ tunables → two ≡ one ++ devices → three ≡ two ++ kinds → four ≡ three ++ buckets → five ≡ four ++ rules

@@ -7,13 +7,12 @@ use Rattle.std.proofs.lemmas.List.Folds.{flat_map-map}
 use Rattle.crush_units.specs.declared.id.ItemId.TheVariants.{Bucket as BucketItem}
 use Rattle.crush_table.specs.Items.{LeafData, BucketData, Items, none, device, bucket, size_of}
 use Rattle.crush_table.specs.Forest.{join}
-use Rattle.crush_edits.specs.Setting.{SettingData}
 use Rattle.crush_nodes.specs.Seen.{items_of, leaf_data}
 use Rattle.crush_nodes.specs.declared.node.Node.{Node}
 use Rattle.crush_nodes.specs.declared.node.Node.TheVariants.{Device, Bucket}
 use Rattle.crush_nodes.proofs.Steps.{items_of-taken, kids_smaller}
 use Rattle.crush_print.specs.Lines.{item_line, bucket_head}
-use Rattle.crush_print.specs.ItemsText.{item_lines, own_text, texts_of_buckets, leaves}
+use Rattle.crush_print.specs.ItemsText.{item_lines, buckets_among, leaves}
 
 -- of the items of both
 pub item_lines-join : (a b : Items) → item_lines (join a b) ≡ item_lines a ++ item_lines b
@@ -22,10 +21,12 @@ item_lines-join (device d rest) b = ap (λ (l : List ℕ). item_line d.name d.we
 item_lines-join (bucket h w m kids rest) b = ap (λ (l : List ℕ). item_line h.name w ++ l) (item_lines-join rest b) ∙ sym (append_assoc (item_line h.name w) _ _)
 
 -- the buckets among the items of both
-pub texts-join : (s : SettingData) (a b : Items) → texts_of_buckets s (join a b) ≡ texts_of_buckets s a ++ texts_of_buckets s b
-texts-join s none b = refl
-texts-join s (device d rest) b = texts-join s rest b
-texts-join s (bucket h w m kids rest) b = ap (λ (l : List ℕ). (texts_of_buckets s kids ++ own_text s h w kids) ++ l) (texts-join s rest b) ∙ sym (append_assoc (texts_of_buckets s kids ++ own_text s h w kids) _ _)
+pub buckets-join : (a b : Items) → buckets_among (join a b) ≡ buckets_among a ++ buckets_among b
+buckets-join none b = refl
+buckets-join (device d rest) b = buckets-join rest b
+buckets-join (bucket h w m kids rest) b =
+    let own : List BucketData = (record { header = h; weight = w; capacity = m; kids = kids }) ∷ [] in
+    ap (λ (l : List BucketData). (buckets_among kids ++ own) ++ l) (buckets-join rest b) ∙ sym (append_assoc (buckets_among kids ++ own) _ _)
 
 -- one item more
 pub item_lines-more : {A : _} (ns : List (Node A)) (i : ℕ) (x : Node A) → i < length ns → x ≡ get_or ns i x
@@ -33,9 +34,9 @@ pub item_lines-more : {A : _} (ns : List (Node A)) (i : ℕ) (x : Node A) → i 
 item_lines-more ns i x lt is = ap item_lines (items_of-taken ns i x lt is) ∙ item_lines-join (items_of (take i ns)) (items_of (x ∷ []))
 
 -- the buckets among one item more
-pub texts-more : {A : _} (s : SettingData) (ns : List (Node A)) (i : ℕ) (x : Node A) → i < length ns → x ≡ get_or ns i x
-    → texts_of_buckets s (items_of (take (i + 1) ns)) ≡ texts_of_buckets s (items_of (take i ns)) ++ texts_of_buckets s (items_of (x ∷ []))
-texts-more s ns i x lt is = ap (texts_of_buckets s) (items_of-taken ns i x lt is) ∙ texts-join s (items_of (take i ns)) (items_of (x ∷ []))
+pub buckets-more : {A : _} (ns : List (Node A)) (i : ℕ) (x : Node A) → i < length ns → x ≡ get_or ns i x
+    → buckets_among (items_of (take (i + 1) ns)) ≡ buckets_among (items_of (take i ns)) ++ buckets_among (items_of (x ∷ []))
+buckets-more ns i x lt is = ap buckets_among (items_of-taken ns i x lt is) ∙ buckets-join (items_of (take i ns)) (items_of (x ∷ []))
 
 -- the devices among the items of both
 pub leaves-join : (a b : Items) → leaves (join a b) ≡ leaves a ++ leaves b
@@ -49,14 +50,14 @@ pub leaves-more : {A : _} (ns : List (Node A)) (i : ℕ) (x : Node A) → i < le
 leaves-more ns i x lt is = ap leaves (items_of-taken ns i x lt is) ∙ leaves-join (items_of (take i ns)) (items_of (x ∷ []))
 
 -- what is behind the lines so far
-pub one_more : (old now new first next all : List ℕ) → now ≡ old ++ first → new ≡ now ++ next → all ≡ first ++ next → new ≡ old ++ all
-one_more old now new first next all before after is = after ∙ ap (λ (l : List ℕ). l ++ next) before ∙ append_assoc old first next ∙ ap (λ (l : List ℕ). old ++ l) (sym is)
+pub one_more : {X : Type 0} (old now new first next all : List X) → now ≡ old ++ first → new ≡ now ++ next → all ≡ first ++ next → new ≡ old ++ all
+one_more old now new first next all before after is = after ∙ ap (λ l. l ++ next) before ∙ append_assoc old first next ∙ ap (λ l. old ++ l) (sym is)
 
 -- what one more of them prints
-pub prints_more : {X : Type 0} (line : X → List ℕ) (xs : List X) (i : ℕ) (x : X) → i < length xs → x ≡ get_or xs i x → flat_map line (take (i + 1) xs) ≡ flat_map line (take i xs) ++ line x
+pub prints_more : {X Y : Type 0} (line : X → List Y) (xs : List X) (i : ℕ) (x : X) → i < length xs → x ≡ get_or xs i x → flat_map line (take (i + 1) xs) ≡ flat_map line (take i xs) ++ line x
 prints_more line xs i x lt is =
     ap (flat_map line) (take_more xs i x lt ∙ ap (λ y. take i xs ++ y ∷ []) (sym is)) ∙ flat_map-append line (take i xs) (x ∷ [])
-    ∙ ap (λ (l : List ℕ). flat_map line (take i xs) ++ l) (append-nil (line x))
+    ∙ ap (λ l. flat_map line (take i xs) ++ l) (append-nil (line x))
 
 -- the same of what is seen of them
 pub lines_more : {X Y : Type 0} (line : Y → List ℕ) (see : X → Y) (xs : List X) (i : ℕ) (x : X) → i < length xs → x ≡ get_or xs i x
@@ -98,3 +99,11 @@ found_below ns i x b d kids old now new lt is at same kid_same before after =
     after ∙ ap (λ (r : List LeafData). r ++ leaves kids) before ∙ append_assoc old (leaves (items_of (take i ns))) (leaves kids)
     ∙ ap (λ (r : List LeafData). old ++ (leaves (items_of (take i ns)) ++ r)) (ap leaves (kid_same ∙ ap (λ (d : BucketData). d.kids) same) ∙ sym (append-nil (leaves b.value.kids)))
     ∙ ap (λ (r : List LeafData). old ++ r) (sym (leaves-more ns i x lt is ∙ ap (λ y. leaves (items_of (take i ns)) ++ leaves (items_of (y ∷ []))) at))
+
+-- a bucket is found behind those below it
+pub found_bucket : {A : _} (x : Node A) (b : _) (d : BucketData) (kids : Items) (old now new : List BucketData) → x ≡ Bucket b → d ≡ b.value → kids ≡ d.kids → now ≡ old ++ buckets_among kids → new ≡ now ++ d ∷ []
+    → new ≡ old ++ buckets_among (items_of (x ∷ []))
+found_bucket x b d kids old now new at same kid_same before after =
+    after ∙ ap (λ (l : List BucketData). l ++ d ∷ []) before ∙ append_assoc old (buckets_among kids) (d ∷ [])
+    ∙ (λ i. old ++ (buckets_among ((kid_same ∙ ap (λ (e : BucketData). e.kids) same) i) ++ same i ∷ []))
+    ∙ ap (λ (l : List BucketData). old ++ l) (sym (append-nil (buckets_among b.value.kids ++ b.value ∷ [])) ∙ ap (λ y. buckets_among (items_of (y ∷ []))) (sym at))

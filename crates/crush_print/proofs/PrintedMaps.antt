@@ -9,7 +9,7 @@ use Rattle.crush_edits.specs.Setting.{KindData, SettingData, RuleData, take, cho
 use Rattle.crush_table.specs.Table.{Row}
 use Rattle.crush_print.specs.Lines.{tunable_line, device_line, kind_line, item_line, class_id_line, bucket_head, bucket_choice, bucket_lines}
 use Rattle.crush_print.specs.RuleLines.{bucket_name, take_line, choice_text, choose_line, set_line, rule_head, size_line, rule_lines}
-use Rattle.crush_print.specs.MapText.{device_numbers, kind_numbers, root_numbers, device_lines, root_texts, of_row, kind_text, kids_lines, bucket_text, bucket_texts, tunable_section, device_section, kind_section, bucket_section, rule_section, map_text}
+use Rattle.crush_print.specs.MapText.{device_numbers, kind_numbers, root_numbers, device_lines, root_texts, of_row, kind_text, kids_lines, bucket_text, bucket_numbers, tunable_section, device_section, kind_section, bucket_section, rule_section, map_text}
 
 -- a device without class
 abbrev leaf : ℕ → List ℕ → ℕ → LeafData
@@ -40,7 +40,7 @@ setting = record { kinds = type 0 (codes "osd") ∷ (type 1 (codes "host") ∷ (
 
 -- the map without anything
 empty_map : map_text (record { kinds = []; tunables = []; rules = [] }) [] ≡ codes "# begin crush map\n\n# devices\n\n# types\n\n# buckets\n\n# rules\n\n# end crush map\n"
-unfolding map_text tunable_section device_section kind_section bucket_section rule_section device_lines root_texts device_numbers kind_numbers root_numbers
+unfolding map_text tunable_section device_section kind_section bucket_section rule_section device_lines root_texts bucket_numbers device_numbers kind_numbers root_numbers
 empty_map = refl
 
 -- the sections of the plain example map, and the whole of it
@@ -70,7 +70,7 @@ example_root = refl
 
 -- all of it
 example_map : map_text setting example ≡ codes "# begin crush map\n\n# devices\ndevice 0 osd.0\ndevice 1 osd.1\ndevice 2 osd.2\n\n# types\ntype 0 osd\ntype 1 host\ntype 3 rack\ntype 11 root\n\n# buckets\nhost h1 {\n\tid -2\t\t# do not change unnecessarily\n\t# weight 2.00000\n\talg straw2\n\thash 0\t# rjenkins1\n\titem osd.0 weight 1.00000\n\titem osd.1 weight 1.00000\n}\nhost h2 {\n\tid -3\t\t# do not change unnecessarily\n\t# weight 0.50000\n\talg straw2\n\thash 0\t# rjenkins1\n\titem osd.2 weight 0.50000\n}\nroot default {\n\tid -1\t\t# do not change unnecessarily\n\t# weight 2.50000\n\talg straw2\n\thash 0\t# rjenkins1\n\titem h1 weight 2.00000\n\titem h2 weight 0.50000\n}\n\n# rules\n\n# end crush map\n"
-unfolding map_text tunable_section device_section kind_section bucket_section rule_section device_lines root_texts device_numbers kind_numbers root_numbers bucket_texts bucket_text of_row kids_lines device_line kind_line item_line bucket_head bucket_choice bucket_lines kind_text digits
+unfolding map_text tunable_section device_section kind_section bucket_section rule_section device_lines root_texts device_numbers kind_numbers root_numbers bucket_numbers bucket_text of_row kids_lines device_line kind_line item_line bucket_head bucket_choice bucket_lines kind_text digits
 example_map = refl
 
 -- two roots, the later one with class ids and a device that has a class, and a device that no bucket holds
@@ -95,7 +95,7 @@ two_roots_devices = refl
 
 -- the roots, from -1 downward
 two_roots_buckets : bucket_section setting two_roots ≡ codes "\n# buckets\nroot spare {\n\tid -4\t\t# do not change unnecessarily\n\t# weight 0.00000\n\talg straw2\n\thash 0\t# rjenkins1\n}\nhost h9 {\n\tid -9\t\t# do not change unnecessarily\n\tid -10 class ssd\t\t# do not change unnecessarily\n\t# weight 0.00002\n\talg straw\n\thash 0\t# rjenkins1\n\titem osd.12 weight 0.00002\n}\n"
-unfolding bucket_section root_texts root_numbers bucket_texts bucket_text of_row kids_lines item_line class_id_line bucket_head bucket_choice bucket_lines kind_text digits
+unfolding bucket_section root_texts root_numbers bucket_numbers bucket_text of_row kids_lines item_line class_id_line bucket_head bucket_choice bucket_lines kind_text digits
 two_roots_buckets = refl
 
 -- the example map with a tunable and a rule

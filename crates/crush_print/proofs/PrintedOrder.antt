@@ -17,9 +17,9 @@ use Rattle.crush_table.proofs.Found.{times as rows_of_id, times-cons}
 use Rattle.crush_table.proofs.Climbs.{above-parent, times_in, member-times_in, parent_there, climb_there, sum_by-plus, sum_by-zero, sum_by-most, met_rows, times_in_once, above_once}
 use Rattle.crush_table.proofs.KidSums.{sum_by-agree, over_kids-kids, climb_kids}
 use Rattle.crush_table.proofs.Relocated.{All-kids}
-use Rattle.crush_print.specs.MapText.{root_number, root_numbers}
+use Rattle.crush_print.specs.MapText.{root_number, root_numbers, bucket_numbers_at, bucket_numbers}
 use Rattle.crush_print.proofs.Sorting.{times, times-ascending}
-use Rattle.crush_print.proofs.PrintedTexts.{order, root_order}
+use Rattle.crush_print.proofs.PrintedTexts.{root_order}
 
 -- no device is above an item
 device_never : (d : ℕ) (xs : List ℕ) → times_in (Device d) xs ≡ 0
@@ -31,27 +31,27 @@ one_time j b = sum_by-cons (λ x. one_if (x == j)) b [] ∙ omega arith
 
 -- HOW OFTEN a bucket stands in the order of another: once, if it is that or below it
 module _ (t : List Row) (l : Lawful t) (j : ℕ) where
-  no_order : (i : ItemId) → times j (order t zero i) ≡ 0
+  no_order : (i : ItemId) → times j (bucket_numbers_at t zero i) ≡ 0
   no_order (Device d) = refl
   no_order (Bucket b) = refl
 
-  pub order_times : (m : ℕ) (i : ItemId) → times j (order t (suc m) i) ≡ one_if (same_id i (Bucket j)) + times_in i (climb t m (Bucket j))
+  pub order_times : (m : ℕ) (i : ItemId) → times j (bucket_numbers_at t (suc m) i) ≡ one_if (same_id i (Bucket j)) + times_in i (climb t m (Bucket j))
   order_times m (Device d) = omega (arith, device_never d (climb t m (Bucket j)))
   order_times zero (Bucket b) =
-      let none : times j (flat_map (order t zero) (kids t b)) ≡ 0 = sum_by-flat_map (λ x. one_if (x == j)) (order t zero) (kids t b) ∙ sum_by-zero (λ i. times j (order t zero i)) no_order (kids t b) in
-      omega (arith, none, one_time j b, sum_by-append (λ x. one_if (x == j)) (flat_map (order t zero) (kids t b)) (b ∷ []))
+      let none : times j (flat_map (bucket_numbers_at t zero) (kids t b)) ≡ 0 = sum_by-flat_map (λ x. one_if (x == j)) (bucket_numbers_at t zero) (kids t b) ∙ sum_by-zero (λ i. times j (bucket_numbers_at t zero i)) no_order (kids t b) in
+      omega (arith, none, one_time j b, sum_by-append (λ x. one_if (x == j)) (flat_map (bucket_numbers_at t zero) (kids t b)) (b ∷ []))
   order_times (suc m) (Bucket b) =
-      let below : times j (flat_map (order t (suc m)) (kids t b)) ≡ times_in (Bucket b) (climb t (suc m) (Bucket j)) =
-      sum_by-flat_map (λ x. one_if (x == j)) (order t (suc m)) (kids t b)
-      ∙ sum_by-agree (λ i. times j (order t (suc m) i)) (λ i. one_if (same_id i (Bucket j)) + times_in i (climb t m (Bucket j))) (order_times m) (kids t b)
+      let below : times j (flat_map (bucket_numbers_at t (suc m)) (kids t b)) ≡ times_in (Bucket b) (climb t (suc m) (Bucket j)) =
+      sum_by-flat_map (λ x. one_if (x == j)) (bucket_numbers_at t (suc m)) (kids t b)
+      ∙ sum_by-agree (λ i. times j (bucket_numbers_at t (suc m) i)) (λ i. one_if (same_id i (Bucket j)) + times_in i (climb t m (Bucket j))) (order_times m) (kids t b)
       ∙ sym (over_kids-kids t b (λ k. one_if (same_id k (Bucket j)) + times_in k (climb t m (Bucket j)))) ∙ climb_kids t b l.ids m (Bucket j) in
-      omega (arith, below, one_time j b, sum_by-append (λ x. one_if (x == j)) (flat_map (order t (suc m)) (kids t b)) (b ∷ []))
+      omega (arith, below, one_time j b, sum_by-append (λ x. one_if (x == j)) (flat_map (bucket_numbers_at t (suc m)) (kids t b)) (b ∷ []))
 
   -- behind its items, where there is room to climb to one
-  pub below_times : (m b : ℕ) → times j (flat_map (order t (suc m)) (kids t b)) ≡ times_in (Bucket b) (climb t (suc m) (Bucket j))
+  pub below_times : (m b : ℕ) → times j (flat_map (bucket_numbers_at t (suc m)) (kids t b)) ≡ times_in (Bucket b) (climb t (suc m) (Bucket j))
   below_times m b =
-      sum_by-flat_map (λ x. one_if (x == j)) (order t (suc m)) (kids t b)
-      ∙ sum_by-agree (λ i. times j (order t (suc m) i)) (λ i. one_if (same_id i (Bucket j)) + times_in i (climb t m (Bucket j))) (order_times m) (kids t b)
+      sum_by-flat_map (λ x. one_if (x == j)) (bucket_numbers_at t (suc m)) (kids t b)
+      ∙ sum_by-agree (λ i. times j (bucket_numbers_at t (suc m) i)) (λ i. one_if (same_id i (Bucket j)) + times_in i (climb t m (Bucket j))) (order_times m) (kids t b)
       ∙ sym (over_kids-kids t b (λ k. one_if (same_id k (Bucket j)) + times_in k (climb t m (Bucket j)))) ∙ climb_kids t b l.ids m (Bucket j)
 
 -- ROOTS
@@ -187,15 +187,16 @@ module _ (t : List Row) (l : Lawful t) where
       by_table (r ∷ u) h = absurd (omega (arith, h))
 
   pub root_order-times : (j : ℕ) → times j (root_order t) ≡ one_if (is_there t (Bucket j))
+  unfolding bucket_numbers
   root_order-times j = by_length (length t) refl
     where
       by_length : (n : ℕ) → length t ≡ n → times j (root_order t) ≡ one_if (is_there t (Bucket j))
       by_length zero e =
-          sum_by-flat_map (λ x. one_if (x == j)) (λ b. order t (length t) (Bucket b)) (root_numbers t)
-          ∙ sum_by-zero (λ b. times j (order t (length t) (Bucket b))) (λ b. ap (λ n. times j (order t n (Bucket b))) e) (root_numbers t) ∙ sym (ap one_if (no_rows j e))
+          sum_by-flat_map (λ x. one_if (x == j)) (λ b. bucket_numbers_at t (length t) (Bucket b)) (root_numbers t)
+          ∙ sum_by-zero (λ b. times j (bucket_numbers_at t (length t) (Bucket b))) (λ b. ap (λ n. times j (bucket_numbers_at t n (Bucket b))) e) (root_numbers t) ∙ sym (ap one_if (no_rows j e))
       by_length (suc m) e =
-          sum_by-flat_map (λ x. one_if (x == j)) (λ b. order t (length t) (Bucket b)) (root_numbers t)
-          ∙ sum_by-agree (λ b. times j (order t (length t) (Bucket b))) (λ b. one_if (b == j) + times_in (Bucket b) (climb t m (Bucket j))) (λ b. ap (λ n. times j (order t n (Bucket b))) e ∙ order_times t l j m (Bucket b)) (root_numbers t)
+          sum_by-flat_map (λ x. one_if (x == j)) (λ b. bucket_numbers_at t (length t) (Bucket b)) (root_numbers t)
+          ∙ sum_by-agree (λ b. times j (bucket_numbers_at t (length t) (Bucket b))) (λ b. one_if (b == j) + times_in (Bucket b) (climb t m (Bucket j))) (λ b. ap (λ n. times j (bucket_numbers_at t n (Bucket b))) e ∙ order_times t l j m (Bucket b)) (root_numbers t)
           ∙ comes_down m j (climb_short m j e)
 
 -- BEHIND ITS ITEMS: of each bucket, the buckets among its items were seen before
@@ -234,15 +235,15 @@ ready_both t seen [] ys h k = k
 ready_both t seen (b ∷ xs) ys h k = (h.0, ready_both t (add seen b) xs ys h.1 k)
 
 module _ (t : List Row) (l : Lawful t) where
-  flat_ready : (n b : ℕ) (ks : List ItemId) → All (λ (k : ItemId). parent_of t k ≡ Some b) ks → (seen : ℕ → Bool) → ((k : ItemId) → parent_of t k ≡ Some b → (s : ℕ → Bool) → Ready t s (order t n k)) → Ready t seen (flat_map (order t n) ks)
+  flat_ready : (n b : ℕ) (ks : List ItemId) → All (λ (k : ItemId). parent_of t k ≡ Some b) ks → (seen : ℕ → Bool) → ((k : ItemId) → parent_of t k ≡ Some b → (s : ℕ → Bool) → Ready t s (bucket_numbers_at t n k)) → Ready t seen (flat_map (bucket_numbers_at t n) ks)
   flat_ready n b [] a seen each = tt
-  flat_ready n b (k ∷ ks) a seen each = ready_both t seen (order t n k) (flat_map (order t n) ks) (each k (All-head (λ (j : ItemId). parent_of t j ≡ Some b) k ks a) seen)
-      (flat_ready n b ks (All-tail (λ (j : ItemId). parent_of t j ≡ Some b) k ks a) (after seen (order t n k)) each)
+  flat_ready n b (k ∷ ks) a seen each = ready_both t seen (bucket_numbers_at t n k) (flat_map (bucket_numbers_at t n) ks) (each k (All-head (λ (j : ItemId). parent_of t j ≡ Some b) k ks a) seen)
+      (flat_ready n b ks (All-tail (λ (j : ItemId). parent_of t j ≡ Some b) k ks a) (after seen (bucket_numbers_at t n k)) each)
 
   above_kid : (k : ItemId) (b : ℕ) → parent_of t k ≡ Some b → above t k ≡ b ∷ above t (Bucket b)
   above_kid k b e = above-parent t l k ∙ ap (λ o. then_up o (λ p. above t (Bucket p))) e
 
-  seen_kid : (n b : ℕ) → length t ≤ length (above t (Bucket b)) + suc n → (seen : ℕ → Bool) (j : ℕ) → parent_of t (Bucket j) ≡ Some b → after seen (flat_map (order t n) (kids t b)) j ≡ true
+  seen_kid : (n b : ℕ) → length t ≤ length (above t (Bucket b)) + suc n → (seen : ℕ → Bool) (j : ℕ) → parent_of t (Bucket j) ≡ Some b → after seen (flat_map (bucket_numbers_at t n) (kids t b)) j ≡ true
   seen_kid zero b fuel seen j e =
       let there = root_gone t l (row_of t (Bucket j)) b e in
       absurd (omega (arith, above_short t l j there.1, ap length (above_kid (Bucket j) b e), fuel))
@@ -250,20 +251,21 @@ module _ (t : List Row) (l : Lawful t) where
       let up : climb t (suc m) (Bucket j) ≡ b ∷ climb t m (Bucket b) = ap (λ o. then_up o (λ p. climb t m (Bucket p))) e in
       let own : one_if (b == b) ≡ 1 = ap one_if (eq-eqb b b refl) in
       let met : times_in (Bucket b) (climb t (suc m) (Bucket j)) ≡ one_if (b == b) + times_in (Bucket b) (climb t m (Bucket b)) = ap (times_in (Bucket b)) up ∙ omega arith in
-      after_member seen (flat_map (order t (suc m)) (kids t b)) j (omega (arith, below_times t l j m b, met, own))
+      after_member seen (flat_map (bucket_numbers_at t (suc m)) (kids t b)) j (omega (arith, below_times t l j m b, met, own))
 
-  pub order_ready : (n : ℕ) (i : ItemId) (seen : ℕ → Bool) → length t ≤ length (above t i) + n → Ready t seen (order t n i)
+  pub order_ready : (n : ℕ) (i : ItemId) (seen : ℕ → Bool) → length t ≤ length (above t i) + n → Ready t seen (bucket_numbers_at t n i)
   order_ready n (Device d) seen fuel = tt
   order_ready zero (Bucket b) seen fuel = tt
   order_ready (suc n) (Bucket b) seen fuel =
-      ready_both t seen (flat_map (order t n) (kids t b)) (b ∷ [])
+      ready_both t seen (flat_map (bucket_numbers_at t n) (kids t b)) (b ∷ [])
       (flat_ready n b (kids t b) (All-kids t l b) seen (λ k e s. order_ready n k s (omega (arith, fuel, ap length (above_kid k b e)))))
       (seen_kid n b fuel seen, tt)
 
-  roots_ready : (rs : List ℕ) (seen : ℕ → Bool) → Ready t seen (flat_map (λ b. order t (length t) (Bucket b)) rs)
+  roots_ready : (rs : List ℕ) (seen : ℕ → Bool) → Ready t seen (flat_map (λ b. bucket_numbers_at t (length t) (Bucket b)) rs)
   roots_ready [] seen = tt
-  roots_ready (b ∷ rs) seen = ready_both t seen (order t (length t) (Bucket b)) (flat_map (λ c. order t (length t) (Bucket c)) rs) (order_ready (length t) (Bucket b) seen (omega arith)) (roots_ready rs (after seen (order t (length t) (Bucket b))))
+  roots_ready (b ∷ rs) seen = ready_both t seen (bucket_numbers_at t (length t) (Bucket b)) (flat_map (λ c. bucket_numbers_at t (length t) (Bucket c)) rs) (order_ready (length t) (Bucket b) seen (omega arith)) (roots_ready rs (after seen (bucket_numbers_at t (length t) (Bucket b))))
 
   -- EACH BUCKET stands behind those among its items
   pub root_order-ready : Ready t (λ _. false) (root_order t)
+  unfolding bucket_numbers
   root_order-ready = roots_ready (root_numbers t) (λ _. false)

@@ -1,8 +1,7 @@
 -- The words of a whole printed map.
-use Rattle.std.proofs.Common.{◌≡◌, ℕ, zero, suc, ◌<◌, ◌^◌, Bool, true, false, List, [], ◌∷◌, ◌++◌, Option, Some, None, refl, sym, ap, subst, ◌∙◌, append-nil, arith, eq-eqb}
+use Rattle.std.proofs.Common.{◌≡◌, ℕ, ◌<◌, ◌^◌, Bool, true, false, List, [], ◌∷◌, ◌++◌, Option, Some, None, refl, sym, ap, subst, append-nil, arith, eq-eqb}
 use Rattle.std.proofs.lemmas.List.Elements.{All-nil, All-cons, All-head, All-tail, All-weaker}
-use Rattle.std.proofs.lemmas.List.Concat.{flat_map-append}
-use Rattle.std.specs.Prelude.{All, flat_map, map, length, codes, find, nat_le, ◌==◌, ◌||◌, is_some, unwrap_or, bytes_eq, if◌then◌else◌}
+use Rattle.std.specs.Prelude.{All, flat_map, map, codes, find, nat_le, ◌==◌, ◌||◌, is_some, unwrap_or, bytes_eq, if◌then◌else◌}
 use Rattle.std.specs.List.{list_any}
 use Rattle.std.specs.Option.{option_map, option_map_or}
 use Rattle.crush_units.specs.Name.{IsName}
@@ -18,41 +17,14 @@ use Rattle.crush_edits.specs.Fits.{Fits, IsSetting, IsTunable, IsKind, IsStep, I
 use Rattle.crush_bytes.proofs.Printed.{Holds}
 use Rattle.crush_print.specs.Lines.{tunable_line, device_line, kind_line}
 use Rattle.crush_print.specs.RuleLines.{bucket_name, rule_lines}
-use Rattle.crush_print.specs.MapText.{put_in, ascending, device_numbers, kind_numbers, root_numbers, of_row, kind_text, kids_lines, bucket_text, bucket_texts, device_lines, root_texts, tunable_section, device_section, kind_section, bucket_section, rule_section, map_text}
+use Rattle.crush_print.specs.MapText.{put_in, ascending, device_numbers, kind_numbers, of_row, kind_text, kids_lines, bucket_text, bucket_numbers, device_lines, root_texts, tunable_section, device_section, kind_section, bucket_section, rule_section, map_text}
 use Rattle.crush_print.proofs.TakenNames.{named}
 use Rattle.crush_print.proofs.PrintedWords.{Spells, spells_nothing, spells_both, spells_blank, spells_comment, spells_all, spells_each}
 use Rattle.crush_print.proofs.PrintedLines.{tunable_words, device_words, kind_words, item_words, bucket_words, rule_words, words_of, kid_words, whole_words, NamesOfStep, tunable_spells, device_spells, kind_spells, item_spells, bucket_spells, rule_spells}
 
 -- THE ORDER of the printed buckets: each behind the buckets among its items
-abbrev pub order : List Row → ℕ → ItemId → List ℕ
-order t n (Device d) = []
-order t zero (Bucket b) = []
-order t (suc n) (Bucket b) = flat_map (order t n) (kids t b) ++ b ∷ []
-
 abbrev pub root_order : List Row → List ℕ
-root_order t = flat_map (λ b. order t (length t) (Bucket b)) (root_numbers t)
-
-flat_twice : {X Y : Type 0} (f : Y → List ℕ) (g : X → List Y) (xs : List X) → flat_map f (flat_map g xs) ≡ flat_map (λ x. flat_map f (g x)) xs
-flat_twice f g [] = refl
-flat_twice f g (x ∷ xs) = flat_map-append f (g x) (flat_map g xs) ∙ ap (λ l. flat_map f (g x) ++ l) (flat_twice f g xs)
-
-flat_same : {X : Type 0} (f g : X → List ℕ) (xs : List X) → ((x : X) → f x ≡ g x) → flat_map f xs ≡ flat_map g xs
-flat_same f g xs h = λ k. flat_map (λ x. h x k) xs
-
-bucket_texts-order : (s : SettingData) (t : List Row) (n : ℕ) (i : ItemId) → bucket_texts s t n i ≡ flat_map (bucket_text s t) (order t n i)
-unfolding bucket_texts
-bucket_texts-order s t n (Device d) = refl
-bucket_texts-order s t zero (Bucket b) = refl
-bucket_texts-order s t (suc n) (Bucket b) =
-    (λ k. flat_same (bucket_texts s t n) (λ i. flat_map (bucket_text s t) (order t n i)) (kids t b) (bucket_texts-order s t n) k ++ sym (append-nil (bucket_text s t b)) k)
-    ∙ (λ k. sym (flat_twice (bucket_text s t) (order t n) (kids t b)) k ++ (bucket_text s t b ++ []))
-    ∙ sym (flat_map-append (bucket_text s t) (flat_map (order t n) (kids t b)) (b ∷ []))
-
-root_texts-order : (s : SettingData) (t : List Row) → root_texts s t ≡ flat_map (bucket_text s t) (root_order t)
-unfolding root_texts
-root_texts-order s t =
-    flat_same (λ b. bucket_texts s t (length t) (Bucket b)) (λ b. flat_map (bucket_text s t) (order t (length t) (Bucket b))) (root_numbers t) (λ b. bucket_texts-order s t (length t) (Bucket b))
-    ∙ sym (flat_twice (bucket_text s t) (λ b. order t (length t) (Bucket b)) (root_numbers t))
+root_order t = bucket_numbers t
 
 -- THE TYPE of a number
 pub record KindOf (s : SettingData) (n : ℕ) : Type 0 where
@@ -199,9 +171,8 @@ module _ (s : SettingData) (t : List Row) (l : Lawful t) (f : Fits s t) where
       by_kind n k = let v = k.form.number in let e = k.number in kind_spells n (kind_text s n) (omega (arith, v, e)) (kind_text-name s n k)
 
   pub buckets_spell : Spells (bucket_section s t) (flat_map (whole_words s t) (root_order t))
-  unfolding bucket_section
-  buckets_spell = subst (λ l. Spells (codes "\n# buckets\n" ++ l) (flat_map (whole_words s t) (root_order t))) (sym (root_texts-order s t))
-      (spells_blank 10 _ _ refl refl (spells_comment (codes " buckets") _ _ refl (spells_each (bucket_text s t) (whole_words s t) (root_order t) whole_spells)))
+  unfolding bucket_section root_texts
+  buckets_spell = spells_blank 10 _ _ refl refl (spells_comment (codes " buckets") _ _ refl (spells_each (bucket_text s t) (whole_words s t) (root_order t) whole_spells))
 
   pub rules_section_spell : Spells (rule_section s t) (flat_map (rule_words t) s.rules)
   unfolding rule_section

@@ -1,5 +1,5 @@
 -- Tables that are the same, but for the order of their rows, print the same text.
-use Rattle.std.proofs.Common.{◌≡◌, ◌<◌, ℕ, zero, suc, arith, List, [], ◌++◌, refl, ap, ◌∙◌}
+use Rattle.std.proofs.Common.{◌≡◌, ◌<◌, ℕ, zero, suc, arith, List, [], ◌∷◌, ◌++◌, refl, ap, ◌∙◌}
 use Rattle.std.specs.Prelude.{flat_map, length, codes, unwrap_or}
 use Rattle.std.specs.Option.{option_map, option_map_or}
 use Rattle.crush_units.specs.declared.id.ItemId.{ItemId}
@@ -13,7 +13,7 @@ use Rattle.crush_table.proofs.Reorder.{reordered-length}
 use Rattle.crush_table.proofs.Same.{sum_below-same, item_weight-same}
 use Rattle.crush_print.specs.Lines.{device_line, item_line, bucket_lines}
 use Rattle.crush_print.specs.RuleLines.{bucket_name, take_line, step_line, rule_head, size_line, rule_lines}
-use Rattle.crush_print.specs.MapText.{device_number, root_number, device_numbers, root_numbers, of_row, kind_text, kids_lines, bucket_text, bucket_texts, device_lines, root_texts, tunable_section, device_section, kind_section, bucket_section, rule_section, map_text, SameTablesPrintAlike}
+use Rattle.crush_print.specs.MapText.{device_number, root_number, device_numbers, root_numbers, of_row, kind_text, kids_lines, bucket_text, bucket_numbers_at, bucket_numbers, device_lines, root_texts, tunable_section, device_section, kind_section, bucket_section, rule_section, map_text, SameTablesPrintAlike}
 use Rattle.crush_print.proofs.Sorting.{ascending-reordered}
 
 module _ (s : SettingData) (t u : List Row) (l : Lawful t) (same : Same t u) where
@@ -36,20 +36,25 @@ module _ (s : SettingData) (t u : List Row) (l : Lawful t) (same : Same t u) whe
   unfolding bucket_text
   bucket_text-same b = of_row-same (Bucket b) _ ∙ (λ k. of_row u (Bucket b) (λ (r : Row). bucket_lines (kind_text s r.kind) r (sum_below-same t u same.rows l.ids b k) (kids_lines-same b k)))
 
-  -- and of the buckets below it
-  bucket_texts-same : (n : ℕ) (i : ItemId) → bucket_texts s t n i ≡ bucket_texts s u n i
-  unfolding bucket_texts
-  bucket_texts-same n (Device d) = refl
-  bucket_texts-same zero (Bucket b) = refl
-  bucket_texts-same (suc n) (Bucket b) = λ k. flat_map (λ i. bucket_texts-same n i k) (same.kids b k) ++ bucket_text-same b k
+  -- the numbers of it and of the buckets below it
+  bucket_numbers_at-same : (n : ℕ) (i : ItemId) → bucket_numbers_at t n i ≡ bucket_numbers_at u n i
+  bucket_numbers_at-same n (Device d) = refl
+  bucket_numbers_at-same zero (Bucket b) = refl
+  bucket_numbers_at-same (suc n) (Bucket b) = λ k. flat_map (λ i. bucket_numbers_at-same n i k) (same.kids b k) ++ b ∷ []
+
+  -- and those of all buckets
+  bucket_numbers-same : bucket_numbers t ≡ bucket_numbers u
+  unfolding bucket_numbers root_numbers
+  bucket_numbers-same =
+      ap (λ n. flat_map (λ b. bucket_numbers_at t n (Bucket b)) (root_numbers t)) (reordered-length same.rows) ∙ (λ k. flat_map (λ b. bucket_numbers_at-same (length u) (Bucket b) k) (ascending-reordered root_number t u same.rows k))
 
   device_lines-same : device_lines t ≡ device_lines u
   unfolding device_lines device_numbers
   device_lines-same = λ k. flat_map (λ d. of_row-same (Device d) device_line k) (ascending-reordered (λ (r : Row). device_number r.id) t u same.rows k)
 
   root_texts-same : root_texts s t ≡ root_texts s u
-  unfolding root_texts root_numbers
-  root_texts-same = ap (λ n. flat_map (λ b. bucket_texts s t n (Bucket b)) (root_numbers t)) (reordered-length same.rows) ∙ (λ k. flat_map (λ b. bucket_texts-same (length u) (Bucket b) k) (ascending-reordered root_number t u same.rows k))
+  unfolding root_texts
+  root_texts-same = λ k. flat_map (λ b. bucket_text-same b k) (bucket_numbers-same k)
 
   -- of a taken bucket its name
   bucket_name-same : (b : ℕ) → bucket_name t b ≡ bucket_name u b

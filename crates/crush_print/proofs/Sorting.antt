@@ -135,7 +135,7 @@ sorted_is_ascending number xs ys same up = rising_same (map number ys) (ascendin
     (λ k. times-map number k ys ∙ sum_by-IsPermutation (λ x. one_if (number x == k)) xs ys same ∙ sym (times-map number k xs) ∙ sym (times-ascending k (map number xs)))
 
 -- each element's line is that of its number
-lines_by_number : {X : Type 0} (number : X → ℕ) (line : X → List ℕ) (text : ℕ → List ℕ) (xs : List X) → All (λ x. text (number x) ≡ line x) xs → flat_map line xs ≡ flat_map text (map number xs)
+pub lines_by_number : {X : Type 0} (number : X → ℕ) (line : X → List ℕ) (text : ℕ → List ℕ) (xs : List X) → All (λ x. text (number x) ≡ line x) xs → flat_map line xs ≡ flat_map text (map number xs)
 lines_by_number number line text [] h = refl
 lines_by_number number line text (x ∷ xs) h =
     ap (λ (l : List ℕ). l ++ flat_map line xs) (sym (All-head (λ x. text (number x) ≡ line x) x xs h)) ∙ ap (λ (l : List ℕ). text (number x) ++ l) (lines_by_number number line text xs (All-tail (λ x. text (number x) ≡ line x) x xs h))

@@ -8,7 +8,7 @@ use Rattle.std.proofs.lemmas.List.Elements.{All-nil, All-cons, All-head, All-tai
 use Rattle.std.proofs.lemmas.List.{map-append}
 use Rattle.crush_units.specs.declared.id.ItemId.{ItemId}
 use Rattle.crush_units.specs.declared.id.ItemId.TheVariants.{Device, Bucket}
-use Rattle.crush_table.specs.Items.{LeafData, HeaderData, Items, none, device, bucket, size_of}
+use Rattle.crush_table.specs.Items.{LeafData, HeaderData, BucketData, Items, none, device, bucket, size_of}
 use Rattle.crush_table.specs.Forest.{ForestData, rows_of, all_items, join, OnlyDevices}
 use Rattle.crush_table.specs.ItemRows.{rows, device_row, bucket_row}
 use Rattle.crush_table.specs.Stands.{Stands}
@@ -23,8 +23,8 @@ use Rattle.crush_table.proofs.Weighs.{All-found}
 use Rattle.crush_nodes.specs.Search.{kids_in}
 use Rattle.crush_tree.proofs.ReadLemmas.Items.{ids_of, kids_in-kids}
 use Rattle.crush_print.specs.Lines.{device_line, item_line, bucket_choice, bucket_lines}
-use Rattle.crush_print.specs.ItemsText.{item_lines, own_text, texts_of_buckets, leaves}
-use Rattle.crush_print.specs.MapText.{of_row, kids_lines, bucket_text, bucket_texts, device_number, root_number, kind_text}
+use Rattle.crush_print.specs.ItemsText.{item_lines, own_text, buckets_among, leaves}
+use Rattle.crush_print.specs.MapText.{of_row, kids_lines, bucket_text, bucket_numbers_at, device_number, root_number, kind_text}
 
 -- each item has its row, and each bucket its items and its stored weight as its sum
 abbrev pub Told : List Row → Option ℕ → Items → Type 0
@@ -53,22 +53,38 @@ unfolding kids_lines
 kids_print t p b n are told = ap (flat_map (λ i. of_row t i (λ (r : Row). item_line r.name (item_weight t i r.weight)))) are ∙ ids_lines t p n told
 
 -- A BUCKET
-own_prints : (s : SettingData) (t : List Row) (p : Option ℕ) (h : HeaderData) (w : ℕ) (k : Items) → row_of t (Bucket h.id) ≡ Some (bucket_row p h) → kids t h.id ≡ ids_of k → sum_below t h.id ≡ w → Told t (Some h.id) k → bucket_text s t h.id ≡ own_text s h w k
+own_prints : (s : SettingData) (t : List Row) (p : Option ℕ) (h : HeaderData) (w : ℕ) (k : Items) → row_of t (Bucket h.id) ≡ Some (bucket_row p h) → kids t h.id ≡ ids_of k → sum_below t h.id ≡ w → Told t (Some h.id) k → bucket_text s t h.id ≡ bucket_lines (kind_text s h.kind) (bucket_row None h) w (item_lines k)
 unfolding bucket_text bucket_lines bucket_choice
 own_prints s t p h w k row are sum told =
     row_prints t (Bucket h.id) (bucket_row p h) (λ (r : Row). bucket_lines (kind_text s r.kind) r (sum_below t h.id) (kids_lines t h.id)) row
     ∙ ap (λ n. bucket_lines (kind_text s h.kind) (bucket_row p h) n (kids_lines t h.id)) sum ∙ ap (bucket_lines (kind_text s h.kind) (bucket_row p h) w) (kids_print t (Some h.id) h.id k are told)
 
+-- so does each bucket of the items
+abbrev pub IsTold : SettingData → List Row → BucketData → Type 0
+IsTold s t b = bucket_text s t b.header.id ≡ own_text s b
+
+pub buckets_print : (s : SettingData) (t : List Row) (p : Option ℕ) (n : Items) → Told t p n → All (IsTold s t) (buckets_among n)
+buckets_print s t p none told = All-nil (IsTold s t)
+buckets_print s t p (device d rest) told = buckets_print s t p rest told.1
+buckets_print s t p (bucket h w m k rest) told =
+    let own : BucketData = record { header = h; weight = w; capacity = m; kids = k } in
+    All-append (IsTold s t) (buckets_among k ++ own ∷ []) (buckets_among rest)
+    (All-append (IsTold s t) (buckets_among k) (own ∷ []) (buckets_print s t (Some h.id) k told.3) (All-cons (IsTold s t) own [] (own_prints s t p h w k told.0 told.1 told.2 told.3) (All-nil (IsTold s t))))
+    (buckets_print s t p rest told.4)
+
 -- THE BUCKETS, AS DEEP AS THEY ARE
-pub texts_print : (s : SettingData) (t : List Row) (fuel : ℕ) (p : Option ℕ) (n : Items) → size_of n ≤ fuel → Told t p n → flat_map (bucket_texts s t fuel) (ids_of n) ≡ texts_of_buckets s n
-unfolding bucket_texts
-texts_print s t fuel p none le told = refl
-texts_print s t fuel p (device d rest) le told = texts_print s t fuel p rest le told.1
-texts_print s t zero p (bucket h w m k rest) le told = absurd (omega arith)
-texts_print s t (suc fuel) p (bucket h w m k rest) le told =
-    let below : flat_map (bucket_texts s t fuel) (kids t h.id) ≡ texts_of_buckets s k = ap (flat_map (bucket_texts s t fuel)) told.1 ∙ texts_print s t fuel (Some h.id) k (omega arith) told.3 in
-    let own : bucket_text s t h.id ≡ own_text s h w k = own_prints s t p h w k told.0 told.1 told.2 told.3 in
-    (λ i. (below i ++ own i) ++ flat_map (bucket_texts s t (suc fuel)) (ids_of rest)) ∙ ap (λ (l : List ℕ). (texts_of_buckets s k ++ own_text s h w k) ++ l) (texts_print s t (suc fuel) p rest (omega arith) told.4)
+abbrev pub bucket_id : BucketData → ℕ
+bucket_id b = b.header.id
+
+pub buckets_numbered : (t : List Row) (fuel : ℕ) (p : Option ℕ) (n : Items) → size_of n ≤ fuel → Told t p n → flat_map (bucket_numbers_at t fuel) (ids_of n) ≡ map bucket_id (buckets_among n)
+buckets_numbered t fuel p none le told = refl
+buckets_numbered t fuel p (device d rest) le told = buckets_numbered t fuel p rest le told.1
+buckets_numbered t zero p (bucket h w m k rest) le told = absurd (omega arith)
+buckets_numbered t (suc fuel) p (bucket h w m k rest) le told =
+    let own : List BucketData = (record { header = h; weight = w; capacity = m; kids = k }) ∷ [] in
+    let below : flat_map (bucket_numbers_at t fuel) (kids t h.id) ≡ map bucket_id (buckets_among k) = ap (flat_map (bucket_numbers_at t fuel)) told.1 ∙ buckets_numbered t fuel (Some h.id) k (omega arith) told.3 in
+    let after : flat_map (bucket_numbers_at t (suc fuel)) (ids_of rest) ≡ map bucket_id (buckets_among rest) = buckets_numbered t (suc fuel) p rest (omega arith) told.4 in
+    (λ i. (below i ++ h.id ∷ []) ++ after i) ∙ (λ i. sym (map-append bucket_id (buckets_among k) own) i ++ map bucket_id (buckets_among rest)) ∙ sym (map-append bucket_id (buckets_among k ++ own) (buckets_among rest))
 
 -- THE DEVICES
 same_line : (p : Option ℕ) (d : LeafData) → device_line (device_row p d) ≡ device_line (device_row None d)

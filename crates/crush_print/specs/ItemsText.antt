@@ -2,7 +2,7 @@
 use Rattle.std.specs.Prelude.{ℕ, List, [], ◌∷◌, ◌++◌, None}
 use Rattle.crush_units.specs.declared.id.ItemId.{ItemId}
 use Rattle.crush_units.specs.declared.id.ItemId.TheVariants.{Device, Bucket}
-use Rattle.crush_table.specs.Items.{LeafData, HeaderData, Items, none, device, bucket}
+use Rattle.crush_table.specs.Items.{LeafData, BucketData, Items, none, device, bucket}
 use Rattle.crush_table.specs.ItemRows.{bucket_row}
 use Rattle.crush_edits.specs.Setting.{SettingData}
 use Rattle.crush_print.specs.Lines.{item_line, bucket_lines}
@@ -15,14 +15,14 @@ item_lines (device d rest) = item_line d.name d.weight ++ item_lines rest
 item_lines (bucket h w m kids rest) = item_line h.name w ++ item_lines rest
 
 -- a bucket by itself
-abbrev pub own_text : SettingData → HeaderData → ℕ → Items → List ℕ
-own_text s h w kids = bucket_lines (kind_text s h.kind) (bucket_row None h) w (item_lines kids)
+abbrev pub own_text : SettingData → BucketData → List ℕ
+own_text s b = bucket_lines (kind_text s b.header.kind) (bucket_row None b.header) b.weight (item_lines b.kids)
 
 -- the buckets among items and below them, each behind those among its items
-abbrev pub texts_of_buckets : SettingData → Items → List ℕ
-texts_of_buckets s none = []
-texts_of_buckets s (device d rest) = texts_of_buckets s rest
-texts_of_buckets s (bucket h w m kids rest) = (texts_of_buckets s kids ++ own_text s h w kids) ++ texts_of_buckets s rest
+abbrev pub buckets_among : Items → List BucketData
+buckets_among none = []
+buckets_among (device d rest) = buckets_among rest
+buckets_among (bucket h w m kids rest) = (buckets_among kids ++ (record { header = h; weight = w; capacity = m; kids = kids }) ∷ []) ++ buckets_among rest
 
 -- the devices among items and below them
 abbrev pub leaves : Items → List LeafData

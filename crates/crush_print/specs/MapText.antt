@@ -58,19 +58,23 @@ kids_lines t b = flat_map (λ i. of_row t i (λ (r : Row). item_line r.name (ite
 unfoldable pub bucket_text : SettingData → List Row → ℕ → List ℕ
 bucket_text s t b = of_row t (Bucket b) (λ (r : Row). bucket_lines (kind_text s r.kind) r (sum_below t b) (kids_lines t b))
 
--- an item and the buckets below it, n deep at most: a bucket stands behind the buckets among its items, and these in their order
-unfoldable pub bucket_texts : SettingData → List Row → ℕ → ItemId → List ℕ
-bucket_texts s t n (Device d) = []
-bucket_texts s t zero (Bucket b) = []
-bucket_texts s t (suc n) (Bucket b) = flat_map (bucket_texts s t n) (kids t b) ++ bucket_text s t b
+-- the numbers of an item and of the buckets below it, n deep at most: a bucket stands behind the buckets among its items, and these in their order
+abbrev pub bucket_numbers_at : List Row → ℕ → ItemId → List ℕ
+bucket_numbers_at t n (Device d) = []
+bucket_numbers_at t zero (Bucket b) = []
+bucket_numbers_at t (suc n) (Bucket b) = flat_map (bucket_numbers_at t n) (kids t b) ++ b ∷ []
+
+-- the buckets as they are printed, root by root: a root is at most as deep as there are rows
+unfoldable pub bucket_numbers : List Row → List ℕ
+bucket_numbers t = flat_map (λ b. bucket_numbers_at t (length t) (Bucket b)) (root_numbers t)
 
 -- the devices, each with its line
 unfoldable pub device_lines : List Row → List ℕ
 device_lines t = flat_map (λ d. of_row t (Device d) device_line) (device_numbers t)
 
--- the buckets, root by root: a root is at most as deep as there are rows
+-- the buckets, each with its text
 unfoldable pub root_texts : SettingData → List Row → List ℕ
-root_texts s t = flat_map (λ b. bucket_texts s t (length t) (Bucket b)) (root_numbers t)
+root_texts s t = flat_map (bucket_text s t) (bucket_numbers t)
 
 -- the sections, each with its heading: tunables, in the order in which they were declared
 unfoldable pub tunable_section : SettingData → List ℕ

@@ -13,7 +13,6 @@ mod kinds;
 mod rules;
 mod tunables;
 
-pub use buckets::nodes_in_order;
 use buckets::push_roots;
 use crush_bytes::{WriteFault, put};
 use crush_map::CrushMap;

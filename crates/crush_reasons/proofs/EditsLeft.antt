@@ -8,7 +8,7 @@ use Rattle.std.specs.Prelude.{Option, None, Some, set, slice_get, slice_index_or
 use Rattle.crush_calls.specs.declared.entry.Entry.{Entry}
 use Rattle.crush_calls.specs.History.{EntryData}
 use Rattle.crush_reasons.specs.EditLines.{line_in}
-use Rattle.crush_reasons.specs.EditsLeft.{AreLeft, edits_given, entry_head, head_in, head_left, left_behind, line_place, refused_index}
+use Rattle.crush_reasons.specs.EditsLeft.{AreLeft, edits_given, entry_place, head_in, head_left, left_behind, line_place, refused_index}
 use Rattle.crush_reasons.specs.Place.{OriginData}
 use Rattle.crush_reasons.specs.Replay.{edits_of}
 
@@ -77,7 +77,7 @@ get-drop (suc n) k (x ∷ xs) = get-drop n k xs ∙ next (omega arith) where
   next : {m : ℕ} → suc (n + k) ≡ m → slice_get xs (n + k) ≡ slice_get (x ∷ xs) m
   next e = ap (slice_get (x ∷ xs)) e
 
-pub head_is : (origin : ℕ → OriginData) (sections left : List (List ℕ)) (h : List EntryData) (e : EntryData) → AreLeft sections left h → head_left origin left e ≡ entry_head (head_in origin sections) h e
+pub head_is : (origin : ℕ → OriginData) (sections left : List (List ℕ)) (h : List EntryData) (e : EntryData) → AreLeft sections left h → head_left origin left e ≡ entry_place (head_in origin sections) h e
 head_is origin sections left h e are = by_index (refused_index e.reply) where
   by_index : (o : Option ℕ) → option_map_or (λ i. line_place origin (line_in left e.operator i)) o [] ≡ option_map_or (λ i. head_in origin sections e.operator (edits_given e.operator h + i)) o []
   by_index None = refl

@@ -106,31 +106,35 @@ far : (is_near (codes "h9") (codes "h12") ≡ false) × (is_near (codes "ab") (c
 far = (refl, refl, refl)
 
 -- the first in the order of the tree
-two_near : edit_reason setting example (Remove (codes "h9")) NoSuchItem ≡ codes "h9 isn't there: is it h1?"
+two_near : edit_reason true setting example (Remove (codes "h9")) NoSuchItem ≡ codes "h9 isn't there: is it h1?"
 unfolding tree_rows step_at steps_at root_numbers unplaced_numbers
 two_near = refl
 
-none_near : edit_reason setting example (Remove (codes "rack1")) NoSuchItem ≡ codes "rack1 isn't there"
+none_near : edit_reason true setting example (Remove (codes "rack1")) NoSuchItem ≡ codes "rack1 isn't there"
 unfolding tree_rows step_at steps_at root_numbers unplaced_numbers
 none_near = refl
 
+-- none is looked for
+not_looked : edit_reason false setting example (Remove (codes "h9")) NoSuchItem ≡ codes "h9 isn't there"
+not_looked = refl
+
 -- what is in the way
-taken : edit_reason ruled example (Remove (codes "default")) InUse ≡ codes "the rule fast takes default"
+taken : edit_reason true ruled example (Remove (codes "default")) InUse ≡ codes "the rule fast takes default"
 taken = refl
 
-placed : edit_reason setting example (Insert 0 (codes "osd.0") 65536 (pair (codes "host") (codes "h2") ∷ [])) AlreadyPlaced ≡ codes "osd.0 stands in h1: set and create-or-move put it into another"
+placed : edit_reason true setting example (Insert 0 (codes "osd.0") 65536 (pair (codes "host") (codes "h2") ∷ [])) AlreadyPlaced ≡ codes "osd.0 stands in h1: set and create-or-move put it into another"
 placed = refl
 
-below : edit_reason setting example (Move (codes "default") (pair (codes "host") (codes "h1") ∷ [])) Loop ≡ codes "h1 stands below default: a bucket cannot come below itself"
+below : edit_reason true setting example (Move (codes "default") (pair (codes "host") (codes "h1") ∷ [])) Loop ≡ codes "h1 stands below default: a bucket cannot come below itself"
 below = refl
 
-itself : edit_reason setting example (Move (codes "h1") (pair (codes "host") (codes "h1") ∷ [])) Loop ≡ codes "h1 cannot come into itself"
+itself : edit_reason true setting example (Move (codes "h1") (pair (codes "host") (codes "h1") ∷ [])) Loop ≡ codes "h1 cannot come into itself"
 itself = refl
 
-other_type : edit_reason setting example (Move (codes "h1") (pair (codes "rack") (codes "default") ∷ [])) WrongType ≡ codes "default is of type root, not rack"
+other_type : edit_reason true setting example (Move (codes "h1") (pair (codes "rack") (codes "default") ∷ [])) WrongType ≡ codes "default is of type root, not rack"
 other_type = refl
 
-twice : edit_reason setting example (Move (codes "h1") (pair (codes "host") (codes "h2") ∷ pair (codes "host") (codes "h3") ∷ [])) BadLocation
+twice : edit_reason true setting example (Move (codes "h1") (pair (codes "host") (codes "h2") ∷ pair (codes "host") (codes "h3") ∷ [])) BadLocation
     ≡ codes "host: a location names each type and each bucket once, and not the type of devices"
 twice = refl
 

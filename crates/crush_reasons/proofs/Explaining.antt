@@ -9,7 +9,7 @@ use Rattle.crush_edits.specs.Setting.{SettingData}
 use Rattle.crush_calls.specs.declared.entry.Entry.{Entry}
 use Rattle.crush_calls.specs.History.{EntryData}
 use Rattle.crush_reasons.specs.Explained.{AreExplained, explained_behind, explained_line}
-use Rattle.crush_reasons.specs.EditsLeft.{entry_head}
+use Rattle.crush_reasons.specs.EditsLeft.{HeadData, entry_head}
 use Rattle.crush_reasons.specs.Replay.{changing_edits, history_edits, table_after_edits, table_after_entry}
 use Rattle.crush_reasons.proofs.Lines.{two_pushed}
 use Rattle.crush_reasons.proofs.Replays.{edits-take, none-made, table-append}
@@ -64,7 +64,7 @@ none_explained head names m x = record {
 }
 
 -- ONE MORE is explained by the map before it, and made
-pub more_explained : (head : Heads) (names : List (List ℕ)) (old mid new : MapData) (x y z : List ℕ) (entries : List Entry) (i : ℕ) (e : Entry) (name place : List ℕ)
+pub more_explained : (head : Heads) (names : List (List ℕ)) (old mid new : MapData) (x y z : List ℕ) (entries : List Entry) (i : ℕ) (e : Entry) (name : List ℕ) (place : HeadData)
     → AreExplained head names old mid x y (take i entries)
     → new.setting ≡ mid.setting
     → ((t : List Row) → Stands mid.forest t → Stands new.forest (table_after_entry mid.setting t e))
@@ -86,7 +86,7 @@ more_explained head names old mid new x y z entries i e name place so_far same m
           let line = told (before t) (so_far.stands t st)
           ∙ ap (λ (k : SettingData). y ++ explained_line k (before t) (i + 1) name place e) so_far.setting
           ∙ ap (λ (n : List ℕ). y ++ explained_line s (before t) (i + 1) n place e) called
-          ∙ ap (λ (p : List ℕ). y ++ explained_line s (before t) (i + 1) (slice_index_or names e.operator []) p e) placed in
+          ∙ ap (λ (p : HeadData). y ++ explained_line s (before t) (i + 1) (slice_index_or names e.operator []) p e) placed in
           two_pushed x (explained_behind head s t names 1 [] (take i entries)) (explained_line s (before t) (i + 1) (slice_index_or names e.operator []) (entry_head head (take i entries) e) e) y z (so_far.lines t st) line
           ∙ ap (λ (l : List ℕ). x ++ l) (sym (explained-take head s t names entries i e h is));
     }

@@ -1,12 +1,15 @@
 -- Where the edits of a job stand that were refused in their batches.
-use Rattle.std.specs.Prelude.{◌≡◌, ℕ, ◌+◌, ◌==◌, List, [], Option, None, Some, drop, if◌then◌else◌, length, map, set, slice_index_or}
+use Rattle.std.specs.Prelude.{◌≡◌, ℕ, ◌+◌, ◌==◌, Bool, List, [], Option, None, Some, drop, if◌then◌else◌, length, map, nat_lt, set, slice_index_or}
 use Rattle.std.specs.List.{sum_by}
 use Rattle.std.specs.Option.{option_map_or}
 use Rattle.crush_calls.specs.declared.call.Reply.{Reply}
 use Rattle.crush_calls.specs.declared.call.Reply.TheVariants.{BatchRefused}
 use Rattle.crush_calls.specs.History.{EntryData}
+use Rattle.crush_calls.specs.Refused.{refusals}
 use Rattle.crush_reasons.specs.declared.edits_left.EditPlace.{EditPlace}
 use Rattle.crush_reasons.specs.declared.edits_left.EditsLeft.{EditsLeft}
+use Rattle.crush_reasons.specs.declared.explained.EntryHead.{EntryHead}
+use Rattle.crush_reasons.specs.declared.near.TheConstants.{MOST_LOOKS}
 use Rattle.crush_reasons.specs.EditLines.{line_in}
 use Rattle.crush_reasons.specs.Place.{OriginData, command_head, origin_data}
 use Rattle.crush_reasons.specs.Replay.{edits_of}
@@ -21,8 +24,20 @@ refused_index (BatchRefused index r) = Some index
 refused_index reply = None
 
 -- where it stands, behind these entries: of its operator's edits it is so many behind those of the entries
-abbrev pub entry_head : (ℕ → ℕ → List ℕ) → List EntryData → EntryData → List ℕ
-entry_head head before e = option_map_or (λ index. head e.operator (edits_given e.operator before + index)) (refused_index e.reply) []
+abbrev pub entry_place : (ℕ → ℕ → List ℕ) → List EntryData → EntryData → List ℕ
+entry_place head before e = option_map_or (λ index. head e.operator (edits_given e.operator before + index)) (refused_index e.reply) []
+
+-- whether near names are looked for behind these entries: for the first entries that were refused, since each look is at all names
+abbrev pub looks_behind : List EntryData → Bool
+looks_behind before = nat_lt (refusals before) MOST_LOOKS
+
+-- HEAD of an entry behind these
+pub record HeadData : Type 0 where
+  pub place : List ℕ
+  pub looks : Bool
+
+abbrev pub entry_head : (ℕ → ℕ → List ℕ) → List EntryData → EntryData → HeadData
+entry_head head before e = record { place = entry_place head before e; looks = looks_behind before }
 
 -- of the edits of a job where it stands of an operator's edit: in the file of its line, that line
 abbrev pub line_place : (ℕ → OriginData) → Option ℕ → List ℕ
@@ -50,3 +65,6 @@ left_behind left e = set left e.operator (drop (length (edits_of e.call)) (slice
 abbrev pub told_place : Option EditPlace → List ℕ
 told_place None = []
 told_place (Some p) = command_head (origin_data p.origin) p.line
+
+abbrev pub head_data : EntryHead → HeadData
+head_data h = record { place = told_place h.place; looks = h.looks }

@@ -1,5 +1,5 @@
 -- The lines of the entries that were refused, with reasons.
-use Rattle.std.specs.Prelude.{◌≡◌, ℕ, ◌+◌, List, [], ◌∷◌, ◌++◌, codes, decimal, drop, if◌then◌else◌, nat_lt, slice_index_or, take}
+use Rattle.std.specs.Prelude.{◌≡◌, ℕ, ◌+◌, Bool, List, [], ◌∷◌, ◌++◌, codes, decimal, drop, if◌then◌else◌, nat_lt, slice_index_or, take}
 use Rattle.crush_table.specs.Stands.{Stands}
 use Rattle.crush_table.specs.Table.{Row}
 use Rattle.crush_map.specs.MapData.{MapData}
@@ -14,7 +14,7 @@ use Rattle.crush_calls.specs.History.{EntryData}
 use Rattle.crush_calls.specs.HistoryText.{edit_text, entry_text}
 use Rattle.crush_calls.specs.Refused.{is_refused}
 use Rattle.crush_reasons.specs.EditLines.{job_edits}
-use Rattle.crush_reasons.specs.EditsLeft.{entry_head, head_in}
+use Rattle.crush_reasons.specs.EditsLeft.{HeadData, entry_head, head_in}
 use Rattle.crush_reasons.specs.Named.{edit_reason}
 use Rattle.crush_reasons.specs.Place.{OriginData}
 use Rattle.crush_reasons.specs.Replay.{history_edits, table_after_edits, table_after_entry}
@@ -22,15 +22,15 @@ use Rattle.crush_reasons.specs.Shown.{reason_line}
 use Rattle.crush_reasons.specs.Sentences.{refusal_sentence, reply_sentence, stale_sentence}
 
 -- of an edit that was refused in a batch, where it stands and its command before what was wanted of it
-abbrev pub refused_reason : SettingData → List Row → Edit → Refusal → List ℕ
-refused_reason s t e r = edit_text e ++ codes ": " ++ edit_reason s t e r
+abbrev pub refused_reason : Bool → SettingData → List Row → Edit → Refusal → List ℕ
+refused_reason looks s t e r = edit_text e ++ codes ": " ++ edit_reason looks s t e r
 
-abbrev pub first_reason : SettingData → List Row → List ℕ → List Edit → Refusal → List ℕ
+abbrev pub first_reason : SettingData → List Row → HeadData → List Edit → Refusal → List ℕ
 first_reason s t head [] r = refusal_sentence r
-first_reason s t head (e ∷ es) r = head ++ refused_reason s t e r
+first_reason s t head (e ∷ es) r = head.place ++ refused_reason head.looks s t e r
 
 -- it was refused by the table that the edits before it made
-abbrev pub batched_reason : SettingData → List Row → List ℕ → List Edit → ℕ → Refusal → List ℕ
+abbrev pub batched_reason : SettingData → List Row → HeadData → List Edit → ℕ → Refusal → List ℕ
 batched_reason s t head es index r = first_reason s (table_after_edits s t (take index es)) head (drop index es) r
 
 -- of a guarded batch that names more changes than there were what the number is, and of another how to go on
@@ -43,16 +43,16 @@ too_high seen count = decimal seen ++ so_far count
 abbrev pub stale_reason : ℕ → ℕ → List ℕ
 stale_reason seen count = if nat_lt count seen then too_high seen count else stale_sentence
 
--- REASON of a call that was refused by this setting and table; an edit of a batch stands there
-abbrev pub call_reason : SettingData → List Row → List ℕ → Call → Reply → List ℕ
-call_reason s t head (One e) (Refused r) = edit_reason s t e r
+-- REASON of a call that was refused by this setting and table, with this head
+abbrev pub call_reason : SettingData → List Row → HeadData → Call → Reply → List ℕ
+call_reason s t head (One e) (Refused r) = edit_reason head.looks s t e r
 call_reason s t head (Batch es) (BatchRefused index r) = batched_reason s t head es index r
 call_reason s t head (Guarded seen es) (BatchRefused index r) = batched_reason s t head es index r
 call_reason s t head (Guarded seen es) (Stale count) = stale_reason seen count
 call_reason s t head call reply = reply_sentence reply
 
 -- the line of an entry that was refused, and below it the reason; of another entry nothing
-abbrev pub explained_line : SettingData → List Row → ℕ → List ℕ → List ℕ → EntryData → List ℕ
+abbrev pub explained_line : SettingData → List Row → ℕ → List ℕ → HeadData → EntryData → List ℕ
 explained_line s t number operator head e =
     if is_refused e.reply then entry_text number operator e ++ reason_line (call_reason s t head e.call e.reply) else []
 

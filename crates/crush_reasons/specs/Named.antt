@@ -1,5 +1,5 @@
 -- What is told of a refused edit: the name that was in its way on the map that refused it, and what was wanted of it.
-use Rattle.std.specs.Prelude.{List, ◌++◌, ℕ, Option, None, Some, codes, option_and_then}
+use Rattle.std.specs.Prelude.{Bool, List, ◌++◌, ℕ, Option, None, Some, codes, option_and_then}
 use Rattle.crush_table.specs.Table.{Row}
 use Rattle.crush_edits.specs.declared.edit.Edit.{Edit}
 use Rattle.crush_edits.specs.declared.edit.Edit.TheVariants.{SetClass, RemoveClass}
@@ -41,16 +41,16 @@ abbrev pub named_or : List ℕ → Option (List ℕ) → List ℕ → List ℕ
 named_or n None sentence = sentence
 named_or n (Some said) sentence = n ++ said
 
--- REASON of an edit that was refused by this setting and table, where the refusal is about this name
-abbrev pub reason_of : SettingData → List Row → Edit → List ℕ → Refusal → List ℕ
-reason_of s t e n refusal.NoSuchItem = absent_reason t n
-reason_of s t e n refusal.NotEmpty = n ++ held_said (held_count t n)
-reason_of s t e n refusal.InUse = taken_reason n (option_and_then (taking_rule s) (bucket_named t n))
-reason_of s t e n refusal.AlreadyPlaced = n ++ placed_said (holder_name t n)
-reason_of s t e n refusal.ClassBound = n ++ bound_said (class_named t n)
-reason_of s t e n refusal.Loop = loop_reason (moved_name e) n
-reason_of s t e n refusal.WrongType = type_reason s t (location_of e) n
-reason_of s t e n r = named_or n (said_by e r) (refusal_sentence r)
+-- REASON of an edit that was refused by this setting and table, where the refusal is about this name, and near names are looked for or not
+abbrev pub reason_of : Bool → SettingData → List Row → Edit → List ℕ → Refusal → List ℕ
+reason_of looks s t e n refusal.NoSuchItem = absent_reason looks t n
+reason_of looks s t e n refusal.NotEmpty = n ++ held_said (held_count t n)
+reason_of looks s t e n refusal.InUse = taken_reason n (option_and_then (taking_rule s) (bucket_named t n))
+reason_of looks s t e n refusal.AlreadyPlaced = n ++ placed_said (holder_name t n)
+reason_of looks s t e n refusal.ClassBound = n ++ bound_said (class_named t n)
+reason_of looks s t e n refusal.Loop = loop_reason (moved_name e) n
+reason_of looks s t e n refusal.WrongType = type_reason s t (location_of e) n
+reason_of looks s t e n r = named_or n (said_by e r) (refusal_sentence r)
 
-abbrev pub edit_reason : SettingData → List Row → Edit → Refusal → List ℕ
-edit_reason s t e r = reason_of s t e (blamed s t e r) r
+abbrev pub edit_reason : Bool → SettingData → List Row → Edit → Refusal → List ℕ
+edit_reason looks s t e r = reason_of looks s t e (blamed s t e r) r

@@ -1,5 +1,5 @@
 -- Names that are nearly one another.
-use Rattle.std.specs.Prelude.{ℕ, ◌+◌, ◌==◌, ◌||◌, List, [], ◌∷◌, Option, Bool, false, bytes_eq, drop, find, if◌then◌else◌}
+use Rattle.std.specs.Prelude.{ℕ, ◌+◌, ◌==◌, ◌||◌, List, [], ◌∷◌, Option, None, Bool, false, bytes_eq, drop, find, if◌then◌else◌}
 use Rattle.std.specs.Option.{option_map}
 use Rattle.std.specs.Str.{str_eq_ignore_ascii_case}
 use Rattle.crush_table.specs.Table.{Row}
@@ -34,3 +34,7 @@ first_near n steps = option_map (λ (s : StepData). s.item.name) (find (λ (s : 
 -- of a table, in the order of its tree
 abbrev pub near_name : List Row → List ℕ → Option (List ℕ)
 near_name t n = first_near n (tree_rows t)
+
+-- where it is looked for
+abbrev pub near_if : Bool → List Row → List ℕ → Option (List ℕ)
+near_if looks t n = if looks then near_name t n else None

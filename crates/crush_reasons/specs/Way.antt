@@ -9,9 +9,9 @@ use Rattle.crush_edits.specs.declared.edit.Edit.TheVariants.{Insert, CreateOrMov
 use Rattle.crush_edits.specs.declared.location.Pair.{Pair}
 use Rattle.crush_edits.specs.Setting.{RuleData, SettingData, StepData, bucket_taken, kind_name}
 use Rattle.crush_edits.specs.Stops.{bucket_named}
-use Rattle.crush_reasons.specs.Near.{near_name}
+use Rattle.crush_reasons.specs.Near.{near_if}
 
--- a name that isn't there may be near one that is
+-- a name that isn't there may be near one that is, where that is looked for
 abbrev pub near_asked : Option (List ℕ) → List ℕ
 near_asked None = []
 near_asked (Some near) = codes ": is it " ++ near ++ codes "?"
@@ -19,8 +19,8 @@ near_asked (Some near) = codes ": is it " ++ near ++ codes "?"
 abbrev pub asked_reason : List ℕ → Option (List ℕ) → List ℕ
 asked_reason n near = n ++ codes " isn't there" ++ near_asked near
 
-abbrev pub absent_reason : List Row → List ℕ → List ℕ
-absent_reason t n = asked_reason n (near_name t n)
+abbrev pub absent_reason : Bool → List Row → List ℕ → List ℕ
+absent_reason looks t n = asked_reason n (near_if looks t n)
 
 -- how many items a bucket holds
 abbrev pub held_count : List Row → List ℕ → ℕ

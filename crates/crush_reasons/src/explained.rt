@@ -8,7 +8,7 @@ ghost use Rattle.crush_calls.specs.HistoryText.{names_of, line_text};
 ghost use Rattle.crush_calls.specs.Script.{scripts_data};
 ghost use Rattle.crush_calls.specs.HistoryText.{edit_text};
 ghost use Rattle.crush_reasons.specs.Explained.{AreExplained, batched_reason, call_reason, explained_behind, explained_job, explained_line, explained_text, first_reason, refused_reason, so_far, stale_reason, too_high};
-ghost use Rattle.crush_reasons.specs.EditsLeft.{head_in, told_place};
+ghost use Rattle.crush_reasons.specs.EditsLeft.{head_data, head_in};
 ghost use Rattle.crush_reasons.specs.Shown.{reason_line};
 ghost use Rattle.crush_reasons.specs.Replay.{table_after_entry};
 
@@ -16,6 +16,7 @@ use crate::edit_lines::job_edits;
 use crate::edits_left::{EditPlace, EditsLeft, push_place, refused_place};
 use crate::locates::{JobText, Locates, Nowhere};
 use crate::named::push_edit_reason;
+use crate::near::MOST_LOOKS;
 use crate::replay::{make_edits, make_entry};
 use crate::sentences::{STALE, refusal_sentence, reply_sentence};
 use crate::words::push_all;
@@ -67,47 +68,50 @@ fn before_edit(index: usize, edits: &[Edit]) -> &[Edit]
     }
 }
 
-/// An entry's number in its history, its operator's name, and where its refused edit stands.
+/// An entry's number in its history, its operator's name, where its refused edit stands, and whether
+/// near names are looked for.
 #[derive(Clone, Copy)]
 struct EntryHead<'a> {
     number: u32,
     operator: &'a [u8],
     place: Option<EditPlace<'a>>,
+    looks: bool,
 }
 
 /// What was wanted of an edit by the map, behind its command.
 fn push_refused(
     alloc: Global,
+    looks: bool,
     map: &CrushMap<Global>,
     edit: &Edit,
     refusal: Refusal,
     text: &mut Vec<u8>,
 ) -> Result<(), AllocError>
     ensures { OnOk result ((t : List Row) → Stands map.now.forest t → text.new.items
-        ≡ text.old.items ++ refused_reason map.now.setting t edit.now refusal) }
+        ≡ text.old.items ++ refused_reason looks map.now.setting t edit.now refusal) }
 {
     push_edit(edit, text)?;
     text.extend_from_slice(b": ")?;
-    push_edit_reason(alloc, map, edit, refusal, text)
+    push_edit_reason(alloc, looks, map, edit, refusal, text)
 }
 
 /// The same of the first of these edits, behind where it stands.
 fn push_first(
     alloc: Global,
     map: &CrushMap<Global>,
-    place: &Option<EditPlace<'_>>,
+    head: &EntryHead<'_>,
     edits: &[Edit],
     refusal: Refusal,
     text: &mut Vec<u8>,
 ) -> Result<(), AllocError>
     ensures { OnOk result ((t : List Row) → Stands map.now.forest t → text.new.items
-        ≡ text.old.items ++ first_reason map.now.setting t (told_place place.now) edits.now refusal) }
+        ≡ text.old.items ++ first_reason map.now.setting t (head_data head.now) edits.now refusal) }
 {
     match edits {
         [] => text.extend_from_slice(refusal_sentence(refusal).as_bytes()),
         [edit, ..] => {
-            push_place(place, text)?;
-            push_refused(alloc, map, edit, refusal, text)
+            push_place(&head.place, text)?;
+            push_refused(alloc, head.looks, map, edit, refusal, text)
         }
     }
 }
@@ -117,19 +121,19 @@ fn push_first(
 fn push_batched(
     alloc: Global,
     map: &CrushMap<Global>,
-    place: &Option<EditPlace<'_>>,
+    head: &EntryHead<'_>,
     edits: &[Edit],
     index: u32,
     refusal: Refusal,
     text: &mut Vec<u8>,
 ) -> Result<(), AllocError>
     ensures { OnOk result ((t : List Row) → Stands map.now.forest t → text.new.items
-        ≡ text.old.items ++ batched_reason map.now.setting t (told_place place.now) edits.now index refusal) }
+        ≡ text.old.items ++ batched_reason map.now.setting t (head_data head.now) edits.now index refusal) }
 {
     let index = index as usize;
     let mut copy = map.try_copy()?;
     make_edits(&mut copy, before_edit(index, edits))?;
-    push_first(alloc, &copy, place, from_edit(index, edits), refusal, text)
+    push_first(alloc, &copy, head, from_edit(index, edits), refusal, text)
 }
 
 /// How many changes there were.
@@ -171,21 +175,21 @@ fn push_stale(seen: u32, count: u32, text: &mut Vec<u8>) -> Result<(), AllocErro
 fn push_call_reason(
     alloc: Global,
     map: &CrushMap<Global>,
-    place: &Option<EditPlace<'_>>,
+    head: &EntryHead<'_>,
     call: &Call,
     reply: Reply,
     text: &mut Vec<u8>,
 ) -> Result<(), AllocError>
     ensures { OnOk result ((t : List Row) → Stands map.now.forest t
-        → text.new.items ≡ text.old.items ++ call_reason map.now.setting t (told_place place.now) call.now reply) }
+        → text.new.items ≡ text.old.items ++ call_reason map.now.setting t (head_data head.now) call.now reply) }
 {
     match (call, reply) {
         (Call::One(edit), Reply::Refused(refusal)) => {
-            push_edit_reason(alloc, map, edit, refusal, text)
+            push_edit_reason(alloc, head.looks, map, edit, refusal, text)
         }
         (Call::Batch(edits), Reply::BatchRefused(index, refusal))
         | (Call::Guarded { edits, .. }, Reply::BatchRefused(index, refusal)) => {
-            push_batched(alloc, map, place, edits.as_slice(), index, refusal, text)
+            push_batched(alloc, map, head, edits.as_slice(), index, refusal, text)
         }
         (Call::Guarded { seen, .. }, Reply::Stale(count)) => push_stale(*seen, count, text),
         _ => text.extend_from_slice(reply_sentence(reply).as_bytes()),
@@ -196,16 +200,16 @@ fn push_call_reason(
 fn push_reply(
     alloc: Global,
     map: &CrushMap<Global>,
-    place: &Option<EditPlace<'_>>,
+    head: &EntryHead<'_>,
     call: &Call,
     reply: Reply,
     text: &mut Vec<u8>,
 ) -> Result<(), AllocError>
     ensures { OnOk result ((t : List Row) → Stands map.now.forest t → text.new.items
-        ≡ text.old.items ++ reason_line (call_reason map.now.setting t (told_place place.now) call.now reply)) }
+        ≡ text.old.items ++ reason_line (call_reason map.now.setting t (head_data head.now) call.now reply)) }
 {
     text.extend_from_slice(b"  ")?;
-    push_call_reason(alloc, map, place, call, reply, text)?;
+    push_call_reason(alloc, map, head, call, reply, text)?;
     text.extend_from_slice(b"\n")
 }
 
@@ -219,13 +223,13 @@ fn push_explained(
 ) -> Result<(), AllocError>
     ensures { OnOk result ((t : List Row) → Stands map.now.forest t → text.new.items
         ≡ text.old.items ++ explained_line map.now.setting t head.now.number head.now.operator.now
-        (told_place head.now.place) entry.now) }
+        (head_data head.now) entry.now) }
 {
     if !is_refused(entry.reply) {
         return Ok(());
     }
     push_entry(head.number, head.operator, entry, text)?;
-    push_reply(alloc, map, &head.place, &entry.call, entry.reply, text)
+    push_reply(alloc, map, head, &entry.call, entry.reply, text)
 }
 
 /// The lines of an entry that the map refused; one that changed it is made once more.
@@ -241,7 +245,7 @@ fn push_made(
     ensures setting { map.new.setting ≡ map.old.setting }
     ensures lines { OnOk result ((t : List Row) → Stands map.old.forest t → text.new.items
         ≡ text.old.items ++ explained_line map.old.setting t head.now.number head.now.operator.now
-        (told_place head.now.place) entry.now) }
+        (head_data head.now) entry.now) }
 {
     push_explained(alloc, map, head, entry, text)?;
     make_entry(map, entry)
@@ -264,14 +268,19 @@ fn push_entries<O: Locates>(
         text.old.items text.new.items entries.now) }
 {
     let mut left = EditsLeft::new(alloc, told.sections)?;
+    let mut refused = 0;
     for (place, entry) in entries.iter().enumerate() {
         let head = EntryHead {
             number: place as u32 + 1,
             operator: operator_name(told.scripts, entry.operator),
             place: refused_place(told.origins, &left, entry),
+            looks: refused < MOST_LOOKS,
         };
         push_made(alloc, map, &head, entry, text)?;
         left.pass(entry);
+        if is_refused(entry.reply) {
+            refused += 1;
+        }
     }
     Ok(())
 }
@@ -292,7 +301,7 @@ struct ToldOf<'a, O> {
 /// The text is that of the job whose scripts the calls come from, in the order of its sections. The
 /// commands that changed the map are made once more, on the map as it was before the first of them,
 /// which is used up; a batch that was refused is made on a copy up to its refused edit. Where a name
-/// isn't there, each name of the map is looked at. There are fewer than 2^32 entries, so that each has
+/// isn't there, each name of the map is looked at, for the first 256 refused entries. There are fewer than 2^32 entries, so that each has
 /// a number; a job's are at most 65,536. An `Err` says that memory ran out.
 pub fn explained_job<O: Locates>(
     alloc: Global,

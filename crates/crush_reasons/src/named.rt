@@ -83,6 +83,7 @@ fn push_said(
 /// What the map says of the name that a refusal is about.
 fn push_reason_of(
     alloc: Global,
+    looks: bool,
     map: &CrushMap<Global>,
     edit: &Edit,
     name: &Name<Global>,
@@ -90,11 +91,11 @@ fn push_reason_of(
     text: &mut Vec<u8>,
 ) -> Result<(), AllocError>
     ensures { OnOk result ((t : List Row) → Stands map.now.forest t → text.new.items
-        ≡ text.old.items ++ reason_of map.now.setting t edit.now name.now refusal) }
+        ≡ text.old.items ++ reason_of looks map.now.setting t edit.now name.now refusal) }
 {
     let bytes = name.as_bytes();
     match refusal {
-        Refusal::NoSuchItem => push_absent(alloc, map, name, text),
+        Refusal::NoSuchItem => push_absent(alloc, looks, map, name, text),
         Refusal::NotEmpty => push_holding(map, name, text),
         Refusal::InUse => push_taken(bytes, taking_rule(map, name), text),
         Refusal::AlreadyPlaced => push_placed(bytes, holder_name(map, name), text),
@@ -105,16 +106,18 @@ fn push_reason_of(
     }
 }
 
-/// What was wanted where an edit was refused by this map.
+/// What was wanted where an edit was refused by this map. Near names are looked for or not.
 pub(crate) fn push_edit_reason(
     alloc: Global,
+    looks: bool,
     map: &CrushMap<Global>,
     edit: &Edit,
     refusal: Refusal,
     text: &mut Vec<u8>,
 ) -> Result<(), AllocError>
     ensures { OnOk result ((t : List Row) → Stands map.now.forest t → text.new.items
-        ≡ text.old.items ++ edit_reason map.now.setting t edit.now refusal) }
+        ≡ text.old.items ++ edit_reason looks map.now.setting t edit.now refusal) }
 {
-    push_reason_of(alloc, map, edit, map.blamed(edit, refusal), refusal, text)
+    let name = map.blamed(edit, refusal);
+    push_reason_of(alloc, looks, map, edit, name, refusal, text)
 }

@@ -6,12 +6,16 @@ ghost use Rattle.std.specs.Str.{str_eq_ignore_ascii_case};
 ghost use Rattle.crush_table.specs.Stands.{Stands};
 ghost use Rattle.crush_table.specs.Table.{Row};
 ghost use Rattle.crush_view.specs.SeenStep.{step_data};
-ghost use Rattle.crush_reasons.specs.Near.{first_near, is_near, is_one_off, near_name, same_heads, shared};
+ghost use Rattle.crush_reasons.specs.Near.{first_near, is_near, is_one_off, near_if, near_name, same_heads, shared};
 
 use crate::words::from_place;
 use crush_map::CrushMap;
 use crush_view::{Step, walk};
 use std::alloc::{AllocError, Global};
+
+/// For how many refused entries of a history near names are looked for: each look is at all names of
+/// the map, and there are up to 65,536 such entries.
+pub(crate) const MOST_LOOKS: usize = 256;
 
 /// Whether two names have the same byte at a place.
 fn same_at(a: &[u8], b: &[u8], place: usize) -> bool
@@ -79,7 +83,7 @@ fn first_near<'a>(steps: &[Step<'a, Global>], name: &str) -> Option<&'a str>
 
 /// The first name in the order of the map's tree that is near this one: with one letter more, less
 /// or other, or in another case. Each item of the map is looked at. An `Err` says that memory ran out.
-pub(crate) fn near_name<'a>(
+fn near_name<'a>(
     alloc: Global,
     map: &'a CrushMap<Global>,
     name: &str,
@@ -89,4 +93,20 @@ pub(crate) fn near_name<'a>(
 {
     let steps = walk(alloc, map)?;
     Ok(first_near(steps.as_slice(), name))
+}
+
+/// That name, where it is looked for.
+pub(crate) fn near_if<'a>(
+    alloc: Global,
+    looks: bool,
+    map: &'a CrushMap<Global>,
+    name: &str,
+) -> Result<Option<&'a str>, AllocError>
+    ensures { IfOk result (λ near. (t : List Row) → Stands map.now.forest t
+        → option_map (λ near. near.now) near ≡ near_if looks t name.now) }
+{
+    if looks {
+        return near_name(alloc, map, name);
+    }
+    Ok(None)
 }

@@ -10,7 +10,7 @@ ghost use Rattle.crush_edits.specs.SettingSeen.{rule_data, step_data};
 ghost use Rattle.crush_edits.specs.Stops.{bucket_named};
 ghost use Rattle.crush_reasons.specs.Way.{absent_reason, asked_reason, below_reason, bound_said, class_named, end_reason, held_count, held_said, holder_name, items_said, kind_reason, location_of, loop_reason, moved_name, near_asked, placed_said, taken_reason, takes_it, taking_rule, type_of_item, type_of_pair, type_reason, types_reason};
 
-use crate::near::near_name;
+use crate::near::near_if;
 use crate::words::{push_all, push_bytes};
 use crush_edits::{Edit, KeptRule, KeptStep, Location};
 use crush_map::CrushMap;
@@ -42,17 +42,18 @@ fn push_asked(name: &[u8], near: Option<&str>, text: &mut Vec<u8>) -> Result<(),
     push_near(near, text)
 }
 
-/// Of a name that no item has.
+/// Of a name that no item has, and one that is near, where that is looked for.
 pub(crate) fn push_absent(
     alloc: Global,
+    looks: bool,
     map: &CrushMap<Global>,
     name: &Name<Global>,
     text: &mut Vec<u8>,
 ) -> Result<(), AllocError>
     ensures { OnOk result ((t : List Row) → Stands map.now.forest t
-        → text.new.items ≡ text.old.items ++ absent_reason t name.now) }
+        → text.new.items ≡ text.old.items ++ absent_reason looks t name.now) }
 {
-    let near = near_name(alloc, map, name.as_str())?;
+    let near = near_if(alloc, looks, map, name.as_str())?;
     push_asked(name.as_bytes(), near, text)
 }
 

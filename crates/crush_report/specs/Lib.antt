@@ -1,2 +1,3 @@
 pub mod OptionsReport
 pub mod Report
+pub mod Words

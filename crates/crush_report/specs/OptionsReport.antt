@@ -5,6 +5,7 @@ use Rattle.crush_bytes.specs.Writes.{AppendsLess}
 use Rattle.crush_options.specs.declared.asked.OptionsFault.{OptionsFault}
 use Rattle.crush_options.specs.declared.asked.OptionsFault.TheVariants.{Help, Refused, Memory}
 use Rattle.crush_report.specs.Report.{run_fault}
+use Rattle.crush_report.specs.Words.{no_words}
 use Rattle.crush_input.specs.declared.fault.RunFault.TheVariants as run
 
 -- the status: help may not be written
@@ -21,9 +22,9 @@ options_output Memory = []
 
 -- what standard error gets
 abbrev pub options_error : OptionsFault → List ℕ
-options_error (Help text) = run_fault run.Write
+options_error (Help text) = run_fault no_words run.Write
 options_error (Refused text) = text.bytes.items
-options_error Memory = run_fault run.Memory
+options_error Memory = run_fault no_words run.Memory
 
 -- help that ends with status 0 stands on standard output as a whole, and nothing on standard error; with status 3 its whole
 -- doesn't stand there

@@ -12,6 +12,7 @@ use Rattle.crush_input.specs.declared.fault.OtherFault.TheVariants as unread
 use Rattle.crush_input.specs.declared.fault.OtherMap.{OtherMap}
 use Rattle.crush_input.specs.declared.fault.OtherMap.TheVariants as beside
 use Rattle.crush_input.specs.declared.summary.Summary.{Summary}
+use Rattle.crush_report.specs.Words.{WordsData}
 
 -- out of memory, wherever it was
 abbrev pub out_of_memory : List ℕ
@@ -68,22 +69,28 @@ other_fault which (unread.Text f) = if is_out_of_memory f.kind then out_of_memor
 other_fault which unread.TooLong = codes "crushedit: " ++ map_word which ++ codes ": TooLong\n"
 other_fault which unread.Read = codes "crushedit: " ++ map_word which ++ codes ": read fault\n"
 
+-- what the map lacks, by its name in the words
+abbrev pub lacking_line : List ℕ → List ℕ → List ℕ
+lacking_line what name = codes "crushedit: no " ++ what ++ name ++ codes "\n"
+
 -- a run that was not done
-abbrev pub run_fault : RunFault → List ℕ
-run_fault (run.Job f) = if lacks_memory f then out_of_memory else job_fault f
-run_fault run.Read = codes "crushedit: read fault\n"
-run_fault run.Write = codes "crushedit: write fault\n"
-run_fault run.Memory = out_of_memory
-run_fault run.Thread = codes "crushedit: no thread\n"
-run_fault (run.Refused count) = refused_line count
-run_fault (run.Made count) = made_line count
-run_fault (run.Differs count) = differs_line count
-run_fault (run.Other which f) = other_fault which f
+abbrev pub run_fault : WordsData → RunFault → List ℕ
+run_fault w (run.Job f) = if lacks_memory f then out_of_memory else job_fault f
+run_fault w run.Read = codes "crushedit: read fault\n"
+run_fault w run.Write = codes "crushedit: write fault\n"
+run_fault w run.Memory = out_of_memory
+run_fault w run.Thread = codes "crushedit: no thread\n"
+run_fault w (run.Refused count) = refused_line count
+run_fault w (run.Made count) = made_line count
+run_fault w (run.Differs count) = differs_line count
+run_fault w run.NoItem = lacking_line (codes "item ") w.under
+run_fault w run.NoType = lacking_line (codes "type ") w.down_to
+run_fault w (run.Other which f) = other_fault which f
 
 -- one line, or nothing where all is well and no weight was replaced
-abbrev pub report_line : Result Summary RunFault → List ℕ
-report_line (Ok s) = if s.adjusted == 0 then [] else adjusted_line s.adjusted
-report_line (Err f) = run_fault f
+abbrev pub report_line : WordsData → Result Summary RunFault → List ℕ
+report_line w (Ok s) = if s.adjusted == 0 then [] else adjusted_line s.adjusted
+report_line w (Err f) = run_fault w f
 
 -- what is told of a fault of another map, and of a run that was not done: what was wanted, unless the run notes it
 abbrev pub memory_reason : List ℕ
@@ -105,12 +112,14 @@ other_reason which unread.Read = unread_reason which
 abbrev pub fault_reason : RunFault → List ℕ
 fault_reason (run.Job f) = if lacks_memory f then memory_reason else []
 fault_reason run.Read = codes "  each file, or standard input, is to be there, and to be read to its end\n"
-fault_reason run.Write = codes "  standard output took less than the whole: what stands there is no map\n"
+fault_reason run.Write = codes "  standard output took less than the whole, or did not store it: what stands there isn't to be used\n"
 fault_reason run.Memory = memory_reason
 fault_reason run.Thread = codes "  the system started no thread for an operator: --in-turn wants none\n"
 fault_reason (run.Refused count) = []
 fault_reason (run.Made count) = []
 fault_reason (run.Differs count) = []
+fault_reason run.NoItem = codes "  --under wants the name of an item of the map after the scripts\n"
+fault_reason run.NoType = codes "  --down-to wants the name of a type of the map\n"
 fault_reason (run.Other which f) = other_reason which f
 
 abbrev pub outcome_reason : Result Summary RunFault → List ℕ
@@ -118,12 +127,12 @@ outcome_reason (Ok s) = []
 outcome_reason (Err f) = fault_reason f
 
 -- the line, and below it what was wanted, where that is asked for
-abbrev pub report_lines : Bool → Result Summary RunFault → List ℕ
-report_lines explain outcome = report_line outcome ++ (if explain then outcome_reason outcome else [])
+abbrev pub report_lines : WordsData → Result Summary RunFault → List ℕ
+report_lines w outcome = report_line w outcome ++ (if w.explain then outcome_reason outcome else [])
 
 -- and behind them what the run notes
-abbrev pub report_text : Bool → Result Summary RunFault → List ℕ → List ℕ
-report_text explain outcome notes = report_lines explain outcome ++ notes
+abbrev pub report_text : WordsData → Result Summary RunFault → List ℕ → List ℕ
+report_text w outcome notes = report_lines w outcome ++ notes
 
 abbrev pub other_status : OtherFault → ℕ
 other_status (unread.Text f) = if is_out_of_memory f.kind then 4 else 1
@@ -139,10 +148,12 @@ fault_status run.Thread = 4
 fault_status (run.Refused count) = 5
 fault_status (run.Made count) = 5
 fault_status (run.Differs count) = 5
+fault_status run.NoItem = 1
+fault_status run.NoType = 1
 fault_status (run.Other which f) = other_status f
 
--- STATUS: 0 where the run was done, and 6 where there is something to tell that the status is to tell; 1 for what is no job or no map, 3
--- where reading or writing failed, 4 out of memory or without a thread, 5 where calls of a strict run were refused, or differences stay
+-- STATUS: 0 where the run was done, and 6 where there is something to tell that the status is to tell; 1 for what is no job or no map, and
+-- for names that the map doesn't have, 3 where reading or writing failed, 4 out of memory or without a thread, 5 where calls of a strict run were refused, or differences stay
 -- behind its plan, or where buckets were made that were not to be
 abbrev pub status : Result Summary RunFault → ℕ
 status (Ok s) = if s.differs then 6 else 0

@@ -4,8 +4,10 @@ ghost use Rattle.std.specs.Prelude.{◌≡◌, ◌++◌, [], codes, if◌then◌
 ghost use Rattle.crush_bytes.specs.Writes.{Writes, AppendsPrefix};
 ghost use Rattle.crush_report.specs.OptionsReport.{IsHelpWhole, IsOptionsStatus, options_error, options_output};
 ghost use Rattle.crush_report.specs.Report.{adjusted_line, fault_reason, line_fault, text_fault, job_fault, made_line, outcome_reason, run_fault, refused_line, report_line, report_lines, report_text, status};
-ghost use Rattle.crush_report.specs.Report.{differs_line, long_reason, map_word, other_fault, other_reason, other_status, other_text_fault, unread_reason};
+ghost use Rattle.crush_report.specs.Words.{no_words, words_data};
+ghost use Rattle.crush_report.specs.Report.{differs_line, lacking_line, long_reason, map_word, other_fault, other_reason, other_status, other_text_fault, unread_reason};
 
+use crate::words::Words;
 use crush_bytes::{WriteFault, put, put_all};
 use crush_input::{OtherFault, OtherMap, RunFault, Summary};
 use crush_options::OptionsFault;
@@ -19,6 +21,10 @@ const OUT_OF_MEMORY: &[u8] = b"crushedit: out of memory\n";
 
 /// What is told of it where reasons are asked for.
 const MEMORY_REASON: &[u8] = b"  there is less memory than the job wants\n";
+
+/// What is told of a write that failed, or of output that couldn't be stored.
+const WRITE_REASON: &[u8] =
+    b"  standard output took less than the whole, or did not store it: what stands there isn't to be used\n";
 
 /// Writes the line of a fault in a line of the job.
 fn write_line_fault<E: Write>(number: usize, name: &str, err: &mut E) -> Result<(), WriteFault>
@@ -140,9 +146,30 @@ fn write_other_fault<E: Write>(
     }
 }
 
+/// Writes the line of what the map lacks, by its name.
+fn write_lacking<E: Write>(what: &'static [u8], name: &str, err: &mut E) -> Result<(), WriteFault>
+    ensures { Writes result (E.contents err.old) (E.contents err.new)
+        (lacking_line what.now name.now) }
+{
+    put_all(
+        err,
+        &[
+            b"crushedit: no ".as_slice(),
+            what,
+            name.as_bytes(),
+            b"\n".as_slice(),
+        ],
+    )
+}
+
 /// Writes the line of a run that was not done.
-fn write_run_fault<E: Write>(fault: RunFault, err: &mut E) -> Result<(), WriteFault>
-    ensures { Writes result (E.contents err.old) (E.contents err.new) (run_fault fault) }
+fn write_run_fault<E: Write>(
+    words: Words<'_>,
+    fault: RunFault,
+    err: &mut E,
+) -> Result<(), WriteFault>
+    ensures { Writes result (E.contents err.old) (E.contents err.new)
+        (run_fault (words_data words.entry) fault) }
 {
     match fault {
         RunFault::Job(fault) if fault.lacks_memory() => put(err, OUT_OF_MEMORY),
@@ -154,6 +181,8 @@ fn write_run_fault<E: Write>(fault: RunFault, err: &mut E) -> Result<(), WriteFa
         RunFault::Refused(count) => write_refused(count, err),
         RunFault::Made(count) => write_made(count, err),
         RunFault::Differs(count) => write_differs(count, err),
+        RunFault::NoItem => write_lacking(b"item ", words.under, err),
+        RunFault::NoType => write_lacking(b"type ", words.down_to, err),
         RunFault::Other(which, fault) => write_other_fault(which, fault, err),
     }
 }
@@ -216,25 +245,26 @@ fn write_adjusted<E: Write>(adjusted: u32, err: &mut E) -> Result<(), WriteFault
 
 /// Writes the one line, or nothing.
 fn write_report<E: Write>(
+    words: Words<'_>,
     outcome: &Result<Summary, RunFault>,
     err: &mut E,
 ) -> Result<(), WriteFault>
     ensures { Writes result (E.contents err.old) (E.contents err.new)
-        (report_line outcome.now) }
+        (report_line (words_data words.entry) outcome.now) }
 {
     match outcome {
         Ok(summary) if summary.adjusted == 0 => put(err, b""),
         Ok(summary) => write_adjusted(summary.adjusted, err),
-        Err(fault) => write_run_fault(*fault, err),
+        Err(fault) => write_run_fault(words, *fault, err),
     }
 }
 
-/// Puts the one line, or what of it standard error takes.
-fn put_report<E: Write>(outcome: &Result<Summary, RunFault>, err: &mut E)
+/// Puts the line of a fault, or what of it standard error takes.
+fn put_fault<E: Write>(fault: RunFault, err: &mut E)
     ensures { AppendsPrefix (E.contents err.old) (E.contents err.new)
-        (report_line outcome.now) }
+        (run_fault no_words fault) }
 {
-    let _ = write_report(outcome, err);
+    let _ = write_run_fault(Words::none(), fault, err);
 }
 
 /// What was wanted of another map that is too long.
@@ -279,12 +309,13 @@ fn fault_reason(fault: RunFault) -> &'static [u8]
         RunFault::Read => {
             b"  each file, or standard input, is to be there, and to be read to its end\n"
         }
-        RunFault::Write =>
-            b"  standard output took less than the whole: what stands there is no map\n",
+        RunFault::Write => WRITE_REASON,
         RunFault::Memory => MEMORY_REASON,
         RunFault::Thread =>
             b"  the system started no thread for an operator: --in-turn wants none\n",
         RunFault::Refused(_) | RunFault::Made(_) | RunFault::Differs(_) => b"",
+        RunFault::NoItem => b"  --under wants the name of an item of the map after the scripts\n",
+        RunFault::NoType => b"  --down-to wants the name of a type of the map\n",
         RunFault::Other(which, fault) => other_reason(which, fault),
     }
 }
@@ -300,10 +331,10 @@ fn outcome_reason(outcome: &Result<Summary, RunFault>) -> &'static [u8]
 }
 
 /// What was wanted, where that is asked for.
-fn reason_asked(explain: bool, outcome: &Result<Summary, RunFault>) -> &'static [u8]
-    ensures { result.now ≡ (if explain then outcome_reason outcome.now else []) }
+fn reason_asked(words: Words<'_>, outcome: &Result<Summary, RunFault>) -> &'static [u8]
+    ensures { result.now ≡ (if words.entry.explain then outcome_reason outcome.now else []) }
 {
-    if explain {
+    if words.explain {
         outcome_reason(outcome)
     } else {
         b""
@@ -312,28 +343,28 @@ fn reason_asked(explain: bool, outcome: &Result<Summary, RunFault>) -> &'static 
 
 /// Writes the one line, or nothing, and below it what was wanted, where that is asked for.
 fn write_lines<E: Write>(
+    words: Words<'_>,
     outcome: &Result<Summary, RunFault>,
-    explain: bool,
     err: &mut E,
 ) -> Result<(), WriteFault>
     ensures { Writes result (E.contents err.old) (E.contents err.new)
-        (report_lines explain outcome.now) }
+        (report_lines (words_data words.entry) outcome.now) }
 {
-    write_report(outcome, err)?;
-    put(err, reason_asked(explain, outcome))
+    write_report(words, outcome, err)?;
+    put(err, reason_asked(words, outcome))
 }
 
 /// Writes those, and behind them the notes.
 fn write_told<E: Write>(
+    words: Words<'_>,
     outcome: &Result<Summary, RunFault>,
-    explain: bool,
     notes: &[u8],
     err: &mut E,
 ) -> Result<(), WriteFault>
     ensures { Writes result (E.contents err.old) (E.contents err.new)
-        (report_text explain outcome.now notes.now) }
+        (report_text (words_data words.entry) outcome.now notes.now) }
 {
-    write_lines(outcome, explain, err)?;
+    write_lines(words, outcome, err)?;
     put(err, notes)
 }
 
@@ -365,7 +396,7 @@ fn status_of(outcome: &Result<Summary, RunFault>) -> u8
         Err(RunFault::Memory | RunFault::Thread) => 4,
         Err(RunFault::Refused(_) | RunFault::Made(_) | RunFault::Differs(_)) => 5,
         Err(RunFault::Job(fault)) if fault.lacks_memory() => 4,
-        Err(RunFault::Job(_)) => 1,
+        Err(RunFault::Job(_) | RunFault::NoItem | RunFault::NoType) => 1,
         Err(RunFault::Other(_, fault)) => other_status(*fault),
         Err(RunFault::Read | RunFault::Write) => 3,
     }
@@ -389,6 +420,7 @@ pub struct Told {
 /// | 6 | the same, and there is something to tell, where the status is to tell it | the same |
 /// | 1 | the input is no job | `crushedit: line L: NAME`, `crushedit: byte P: NAME` or `crushedit: TooLong` |
 /// | 1 | the map of `--since` or `--to` is none | the same behind `crushedit: since: ` or `crushedit: to: ` |
+/// | 1 | there is no item of the name of `--under`, or no type of that of `--down-to` | `crushedit: no item NAME`, `crushedit: no type NAME` |
 /// | 3 | reading or writing failed | `crushedit: read fault`, `crushedit: since: read fault`, `crushedit: to: read fault`, `crushedit: write fault` |
 /// | 4 | a growth was refused, whatever the fault that says so | `crushedit: out of memory` |
 /// | 4 | a worker couldn't be started | `crushedit: no thread` |
@@ -399,16 +431,16 @@ pub struct Told {
 /// Where writing fails, the answer says so: a prefix of all that stands there, never the whole, and the
 /// status is the same.
 pub fn report<E: Write>(
+    words: Words<'_>,
     outcome: &Result<Summary, RunFault>,
-    explain: bool,
     notes: &[u8],
     err: &mut E,
 ) -> Told
     ensures status { result.status ≡ status outcome.now }
     ensures text { Writes result.written (E.contents err.old) (E.contents err.new)
-        (report_text explain outcome.now notes.now) }
+        (report_text (words_data words.entry) outcome.now notes.now) }
 {
-    let written = write_told(outcome, explain, notes, err);
+    let written = write_told(words, outcome, notes, err);
     Told {
         status: status_of(outcome),
         written,
@@ -431,7 +463,7 @@ pub fn tell<W: Write, E: Write>(fault: &OptionsFault, out: &mut W, err: &mut E) 
         OptionsFault::Help(text) => match put(out, text.as_bytes()) {
             Ok(()) => 0,
             Err(_) => {
-                put_report(&Err(RunFault::Write), err);
+                put_fault(RunFault::Write, err);
                 3
             }
         },
@@ -440,7 +472,7 @@ pub fn tell<W: Write, E: Write>(fault: &OptionsFault, out: &mut W, err: &mut E) 
             2
         }
         OptionsFault::Memory => {
-            put_report(&Err(RunFault::Memory), err);
+            put_fault(RunFault::Memory, err);
             4
         }
     }

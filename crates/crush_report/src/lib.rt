@@ -6,5 +6,7 @@
 #![tactic(auto)]
 
 mod ending;
+mod words;
 
 pub use ending::{Told, report, tell};
+pub use words::Words;

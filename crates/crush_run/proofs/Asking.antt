@@ -1,5 +1,5 @@
 -- How a run ends that a command line asks for.
-use Rattle.std.proofs.Common.{◌≡◌, ℕ, Bool, List, Option, Result, Ok, Err, subst}
+use Rattle.std.proofs.Common.{◌≡◌, ℕ, Bool, List, [], Option, None, Result, Ok, Err, subst}
 use Rattle.std.specs.Prelude.{IfOk, IfErr, IfSome}
 use Rattle.crush_script.specs.Job.{HasJob, JobData}
 use Rattle.crush_options.specs.declared.asked.Options.{Options}
@@ -14,7 +14,8 @@ use Rattle.crush_input.specs.declared.summary.Summary.{Summary}
 use Rattle.crush_input.specs.Input.{job_bytes}
 use Rattle.crush_run.specs.Options.{EndsAsAsked, IsOptionsFault}
 use Rattle.crush_input.specs.Options.{IsAskedFault, IsAskedNoted, IsAskedOf, IsMapFault, IsNotedAsAsked}
-use Rattle.crush_input.specs.Notes.{IsMapNoted, IsNoted, weight_notes}
+use Rattle.crush_input.specs.Notes.{IsMapNoted, IsNoted, TextData, text_of}
+use Rattle.crush_reasons.specs.Place.{OriginData}
 use Rattle.crush_input.specs.Origins.{job_origin}
 use Rattle.crush_run.specs.Run.{Ends}
 use Rattle.crush_run.specs.Stages.{IsEarlyFault, IsOutcomeFault}
@@ -30,50 +31,56 @@ early_of_map why all run.Thread h = absurd h
 early_of_map why all (run.Refused n) h = absurd h
 early_of_map why all (run.Made n) h = absurd h
 early_of_map why all (run.Differs n) h = absurd h
+early_of_map why all run.NoItem h = absurd h
+early_of_map why all run.NoType h = absurd h
 early_of_map why all (run.Other w s) h = tt
 
 pub early_of_asked : (content : List ℕ → Option (List ℕ)) (what : Printed) (f : RunFault) → IsAskedFault content what f → IsEarlyFault f
 early_of_asked content printed.Map f h = absurd h
-early_of_asked content printed.Tree f h = absurd h
-early_of_asked content (printed.Since name) f h = early_of_map beside.Since (content name.bytes.items) f h
+early_of_asked content (printed.Tree part) f h = rw h tt
+early_of_asked content (printed.Since words) f h = early_of_map beside.Since (content words.map.bytes.items) f h
 early_of_asked content (printed.Changes name) f h = early_of_map beside.Since (content name.bytes.items) f h
 early_of_asked content printed.AsCeph f h = absurd h
 early_of_asked content (printed.To words) f h = early_of_map beside.To (content words.map.bytes.items) f h
 
 -- a run that ended early came to no output
-ended_before : (content : List ℕ → Option (List ℕ)) (options : Options) (bytes : List ℕ) (job : JobData) (f : RunFault) (old new : Option (List ℕ)) (notes : List ℕ) → IsEarlyFault f → EndsAsAsked content options bytes job (Err f) old new notes
-ended_before content options bytes job (run.Job j) old new notes early = tt
-ended_before content options bytes job run.Read old new notes early = tt
-ended_before content options bytes job run.Write old new notes early = absurd early
-ended_before content options bytes job run.Memory old new notes early = tt
-ended_before content options bytes job run.Thread old new notes early = tt
-ended_before content options bytes job (run.Refused n) old new notes early = absurd early
-ended_before content options bytes job (run.Made n) old new notes early = absurd early
-ended_before content options bytes job (run.Differs n) old new notes early = absurd early
-ended_before content options bytes job (run.Other w s) old new notes early = tt
+ended_before : (content : List ℕ → Option (List ℕ)) (options : Options) (origin : ℕ → OriginData) (bytes : List ℕ) (job : JobData) (f : RunFault) (old new : Option (List ℕ)) (notes : List ℕ) → IsEarlyFault f → EndsAsAsked content options origin bytes job (Err f) old new notes
+ended_before content options origin bytes job (run.Job j) old new notes early = tt
+ended_before content options origin bytes job run.Read old new notes early = tt
+ended_before content options origin bytes job run.Write old new notes early = absurd early
+ended_before content options origin bytes job run.Memory old new notes early = tt
+ended_before content options origin bytes job run.Thread old new notes early = tt
+ended_before content options origin bytes job (run.Refused n) old new notes early = absurd early
+ended_before content options origin bytes job (run.Made n) old new notes early = absurd early
+ended_before content options origin bytes job (run.Differs n) old new notes early = absurd early
+ended_before content options origin bytes job run.NoItem old new notes early = absurd early
+ended_before content options origin bytes job run.NoType old new notes early = absurd early
+ended_before content options origin bytes job (run.Other w s) old new notes early = tt
 
-pub ended_before_output : (content : List ℕ → Option (List ℕ)) (options : Options) (bytes : List ℕ) (job : JobData) (r : Result Summary RunFault) (f : RunFault) (old new : Option (List ℕ)) (notes : List ℕ) → r ≡ Err f → IsEarlyFault f
-    → EndsAsAsked content options bytes job r old new notes
-ended_before_output content options bytes job r f old new notes is early = rw is (ended_before content options bytes job f old new notes early)
+pub ended_before_output : (content : List ℕ → Option (List ℕ)) (options : Options) (origin : ℕ → OriginData) (bytes : List ℕ) (job : JobData) (r : Result Summary RunFault) (f : RunFault) (old new : Option (List ℕ)) (notes : List ℕ) → r ≡ Err f → IsEarlyFault f
+    → EndsAsAsked content options origin bytes job r old new notes
+ended_before_output content options origin bytes job r f old new notes is early = rw is (ended_before content options origin bytes job f old new notes early)
 
 -- a run with what is asked for ends as asked
-ended : (content : List ℕ → Option (List ℕ)) (options : Options) (what : Asked) (bytes : List ℕ) (job : JobData) (r : Result Summary RunFault) (old new : Option (List ℕ)) (notes : List ℕ) → IsAskedOf content options.printed what
-    → Ends options.mode what job (weight_notes options.mode.explain bytes job.table) r old new notes → EndsAsAsked content options bytes job r old new notes
-ended content options what bytes job (Ok s) old new notes is ends = record { what = what; asked = is; ends = ends }
-ended content options what bytes job (Err (run.Job j)) old new notes is ends = tt
-ended content options what bytes job (Err run.Read) old new notes is ends = tt
-ended content options what bytes job (Err run.Write) old new notes is ends = record { what = what; asked = is; ends = ends }
-ended content options what bytes job (Err run.Memory) old new notes is ends = tt
-ended content options what bytes job (Err run.Thread) old new notes is ends = tt
-ended content options what bytes job (Err (run.Refused n)) old new notes is ends = record { what = what; asked = is; ends = ends }
-ended content options what bytes job (Err (run.Made n)) old new notes is ends = record { what = what; asked = is; ends = ends }
-ended content options what bytes job (Err (run.Differs n)) old new notes is ends = record { what = what; asked = is; ends = ends }
-ended content options what bytes job (Err (run.Other w s)) old new notes is ends = tt
+ended : (content : List ℕ → Option (List ℕ)) (options : Options) (what : Asked) (origin : ℕ → OriginData) (bytes : List ℕ) (job : JobData) (r : Result Summary RunFault) (old new : Option (List ℕ)) (notes : List ℕ) → IsAskedOf content options.printed what
+    → Ends options.mode what job (text_of options.mode.explain origin bytes job.table) r old new notes → EndsAsAsked content options origin bytes job r old new notes
+ended content options what origin bytes job (Ok s) old new notes is ends = record { what = what; asked = is; ends = ends }
+ended content options what origin bytes job (Err (run.Job j)) old new notes is ends = tt
+ended content options what origin bytes job (Err run.Read) old new notes is ends = tt
+ended content options what origin bytes job (Err run.Write) old new notes is ends = record { what = what; asked = is; ends = ends }
+ended content options what origin bytes job (Err run.Memory) old new notes is ends = tt
+ended content options what origin bytes job (Err run.Thread) old new notes is ends = tt
+ended content options what origin bytes job (Err (run.Refused n)) old new notes is ends = record { what = what; asked = is; ends = ends }
+ended content options what origin bytes job (Err (run.Made n)) old new notes is ends = record { what = what; asked = is; ends = ends }
+ended content options what origin bytes job (Err (run.Differs n)) old new notes is ends = record { what = what; asked = is; ends = ends }
+ended content options what origin bytes job (Err run.NoItem) old new notes is ends = record { what = what; asked = is; ends = ends }
+ended content options what origin bytes job (Err run.NoType) old new notes is ends = record { what = what; asked = is; ends = ends }
+ended content options what origin bytes job (Err (run.Other w s)) old new notes is ends = tt
 
-pub ended_as_asked : (content : List ℕ → Option (List ℕ)) (options : Options) (what : Asked) (bytes : List ℕ) (job : JobData) (weights : List ℕ) (r : Result Summary RunFault) (old new : Option (List ℕ)) (notes : List ℕ) → IsAskedOf content options.printed what
-    → weights ≡ weight_notes options.mode.explain bytes job.table → Ends options.mode what job weights r old new notes → EndsAsAsked content options bytes job r old new notes
-ended_as_asked content options what bytes job weights r old new notes is same ends =
-    ended content options what bytes job r old new notes is (subst (λ (w : List ℕ). Ends options.mode what job w r old new notes) same ends)
+pub ended_as_asked : (content : List ℕ → Option (List ℕ)) (options : Options) (what : Asked) (origin : ℕ → OriginData) (bytes : List ℕ) (job : JobData) (text : TextData) (r : Result Summary RunFault) (old new : Option (List ℕ)) (notes : List ℕ) → IsAskedOf content options.printed what
+    → text ≡ text_of options.mode.explain origin bytes job.table → Ends options.mode what job text r old new notes → EndsAsAsked content options origin bytes job r old new notes
+ended_as_asked content options what origin bytes job text r old new notes is same ends =
+    ended content options what origin bytes job r old new notes is (subst (λ (w : TextData). Ends options.mode what job w r old new notes) same ends)
 
 -- when the faults of the stages are told
 pub options_fault_of_read : (content : List ℕ → Option (List ℕ)) (options : Options) (all : Option (List ℕ)) (f : RunFault) → IsReadFault all f → IsOptionsFault content options all f
@@ -85,6 +92,8 @@ options_fault_of_read content options all run.Thread h = absurd h
 options_fault_of_read content options all (run.Refused n) h = absurd h
 options_fault_of_read content options all (run.Made n) h = absurd h
 options_fault_of_read content options all (run.Differs n) h = absurd h
+options_fault_of_read content options all run.NoItem h = absurd h
+options_fault_of_read content options all run.NoType h = absurd h
 options_fault_of_read content options all (run.Other w s) h = absurd h
 
 fault_of_map : (content : List ℕ → Option (List ℕ)) (options : Options) (why : OtherMap) (all own : Option (List ℕ)) (f : RunFault) → IfSome all HasJob → IsAskedFault content options.printed f → IsMapFault why own f → IsOptionsFault content options all f
@@ -96,13 +105,15 @@ fault_of_map content options why all own run.Thread has asked h = absurd h
 fault_of_map content options why all own (run.Refused n) has asked h = absurd h
 fault_of_map content options why all own (run.Made n) has asked h = absurd h
 fault_of_map content options why all own (run.Differs n) has asked h = absurd h
+fault_of_map content options why all own run.NoItem has asked h = absurd h
+fault_of_map content options why all own run.NoType has asked h = absurd h
 fault_of_map content options why all own (run.Other w s) has asked h = (has, asked)
 
--- a fault of what is asked for is one of another map
+-- a fault of what is asked for is one of another map, or may be
 asked_is_map : (content : List ℕ → Option (List ℕ)) (what : Printed) (f : RunFault) → IsAskedFault content what f → (why : OtherMap) × (own : Option (List ℕ)) × IsMapFault why own f
 asked_is_map content printed.Map f h = absurd h
-asked_is_map content printed.Tree f h = absurd h
-asked_is_map content (printed.Since name) f h = (beside.Since, content name.bytes.items, h)
+asked_is_map content (printed.Tree part) f h = (beside.Since, None, rw h tt)
+asked_is_map content (printed.Since words) f h = (beside.Since, content words.map.bytes.items, h)
 asked_is_map content (printed.Changes name) f h = (beside.Since, content name.bytes.items, h)
 asked_is_map content printed.AsCeph f h = absurd h
 asked_is_map content (printed.To words) f h = (beside.To, content words.map.bytes.items, h)
@@ -123,6 +134,8 @@ options_fault_of_outcome content options all (Err run.Thread) has h = (h, has)
 options_fault_of_outcome content options all (Err (run.Refused n)) has h = (h, has)
 options_fault_of_outcome content options all (Err (run.Made n)) has h = (h, has)
 options_fault_of_outcome content options all (Err (run.Differs n)) has h = (h, has)
+options_fault_of_outcome content options all (Err run.NoItem) has h = has
+options_fault_of_outcome content options all (Err run.NoType) has h = has
 options_fault_of_outcome content options all (Err (run.Other w s)) has h = absurd h
 
 -- where what was read is a job, it is one
@@ -142,6 +155,8 @@ ending_as_asked content options input (Err run.Thread) notes h told = told
 ending_as_asked content options input (Err (run.Refused n)) notes h told = told
 ending_as_asked content options input (Err (run.Made n)) notes h told = told
 ending_as_asked content options input (Err (run.Differs n)) notes h told = told
+ending_as_asked content options input (Err run.NoItem) notes h told = told
+ending_as_asked content options input (Err run.NoType) notes h told = told
 ending_as_asked content options input (Err (run.Other w s)) notes h told = absurd h
 
 -- what is noted of a fault of what the words ask for, which is another map alone, is noted as asked
@@ -155,13 +170,15 @@ noted_of_map content options why input own name run.Thread notes may told asked 
 noted_of_map content options why input own name (run.Refused n) notes may told asked = absurd may
 noted_of_map content options why input own name (run.Made n) notes may told asked = absurd may
 noted_of_map content options why input own name (run.Differs n) notes may told asked = absurd may
+noted_of_map content options why input own name run.NoItem notes may told asked = absurd may
+noted_of_map content options why input own name run.NoType notes may told asked = absurd may
 noted_of_map content options why input own name (run.Other w s) notes may told asked = asked
 
 asked_is_noted : (content : List ℕ → Option (List ℕ)) (explain : Bool) (what : Printed) (f : RunFault) (notes : List ℕ) → IsAskedFault content what f → IsAskedNoted content explain what f notes
     → (why : OtherMap) × (own : Option (List ℕ)) × (name : List ℕ) × IsMapFault why own f × IsMapNoted explain name own f notes
 asked_is_noted content explain printed.Map f notes h told = absurd h
-asked_is_noted content explain printed.Tree f notes h told = absurd h
-asked_is_noted content explain (printed.Since name) f notes h told = (beside.Since, content name.bytes.items, name.bytes.items, h, told)
+asked_is_noted content explain (printed.Tree part) f notes h told = (beside.Since, None, [], rw h tt, rw h told)
+asked_is_noted content explain (printed.Since words) f notes h told = (beside.Since, content words.map.bytes.items, words.map.bytes.items, h, told)
 asked_is_noted content explain (printed.Changes name) f notes h told = (beside.Since, content name.bytes.items, name.bytes.items, h, told)
 asked_is_noted content explain printed.AsCeph f notes h told = absurd h
 asked_is_noted content explain (printed.To words) f notes h told = (beside.To, content words.map.bytes.items, words.map.bytes.items, h, told)

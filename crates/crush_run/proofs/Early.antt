@@ -4,10 +4,12 @@ use Rattle.crush_table.specs.Table.{Row}
 use Rattle.crush_edits.specs.Setting.{SettingData}
 use Rattle.crush_calls.specs.History.{EntryData}
 use Rattle.crush_options.specs.declared.asked.Mode.{Mode}
+use Rattle.crush_input.specs.declared.asked.Asked.{Asked}
 use Rattle.crush_input.specs.declared.fault.RunFault.{RunFault}
 use Rattle.crush_input.specs.declared.fault.RunFault.TheVariants as run
-use Rattle.crush_input.specs.Notes.{HistoryNoted, IsFaultNoted, IsNoMake, IsNoted, IsStrict}
+use Rattle.crush_input.specs.Notes.{HistoryNoted, IsFaultNoted, IsNoMake, IsNoted, IsStrict, TextData}
 use Rattle.crush_reasons.specs.Place.{OriginData}
+use Rattle.crush_run.specs.Found.{IsFound}
 use Rattle.crush_run.specs.Planned.{IsWhole}
 use Rattle.crush_run.specs.Stages.{IsEarlyFault, IsScriptsFault}
 use Rattle.crush_input.specs.Stages.{IsInputFault, IsNoJob, IsReadFault}
@@ -22,6 +24,8 @@ strict_of_early X strict h run.Thread early = tt
 strict_of_early X strict h (run.Refused n) early = absurd early
 strict_of_early X strict h (run.Made n) early = absurd early
 strict_of_early X strict h (run.Differs n) early = absurd early
+strict_of_early X strict h run.NoItem early = absurd early
+strict_of_early X strict h run.NoType early = absurd early
 strict_of_early X strict h (run.Other w s) early = tt
 
 pub early_strict : {X : Type 0} (strict : Bool) (h : List EntryData) (r : Result X RunFault) (f : RunFault) → r ≡ Err f → IsEarlyFault f → IsStrict strict h r
@@ -37,10 +41,29 @@ make_of_early X no_make h run.Thread early = tt
 make_of_early X no_make h (run.Refused n) early = absurd early
 make_of_early X no_make h (run.Made n) early = absurd early
 make_of_early X no_make h (run.Differs n) early = absurd early
+make_of_early X no_make h run.NoItem early = absurd early
+make_of_early X no_make h run.NoType early = absurd early
 make_of_early X no_make h (run.Other w s) early = tt
 
 pub early_make : {X : Type 0} (no_make : Bool) (h : List EntryData) (r : Result X RunFault) (f : RunFault) → r ≡ Err f → IsEarlyFault f → IsNoMake no_make h r
 early_make {X = X} no_make h r f is early = rw is (make_of_early X no_make h f early)
+
+-- nor is one of names that the map doesn't have
+found_of_early : (X : Type 0) (what : Asked) (s : SettingData) (t : List Row) (f : RunFault) → IsEarlyFault f → IsFound {X = X} what s t (Err f)
+found_of_early X what s t (run.Job j) early = tt
+found_of_early X what s t run.Read early = tt
+found_of_early X what s t run.Write early = absurd early
+found_of_early X what s t run.Memory early = tt
+found_of_early X what s t run.Thread early = tt
+found_of_early X what s t (run.Refused n) early = absurd early
+found_of_early X what s t (run.Made n) early = absurd early
+found_of_early X what s t (run.Differs n) early = absurd early
+found_of_early X what s t run.NoItem early = absurd early
+found_of_early X what s t run.NoType early = absurd early
+found_of_early X what s t (run.Other w o) early = tt
+
+pub early_found : {X : Type 0} (what : Asked) (s : SettingData) (t : List Row) (r : Result X RunFault) (f : RunFault) → r ≡ Err f → IsEarlyFault f → IsFound what s t r
+early_found {X = X} what s t r f is early = rw is (found_of_early X what s t f early)
 
 -- nor is one of what stays behind a plan
 whole_of_early : (X : Type 0) (strict : Bool) (rest : List ℕ) (f : RunFault) → IsEarlyFault f → IsWhole {X = X} strict rest (Err f)
@@ -52,25 +75,29 @@ whole_of_early X strict rest run.Thread early = tt
 whole_of_early X strict rest (run.Refused n) early = absurd early
 whole_of_early X strict rest (run.Made n) early = absurd early
 whole_of_early X strict rest (run.Differs n) early = absurd early
+whole_of_early X strict rest run.NoItem early = absurd early
+whole_of_early X strict rest run.NoType early = absurd early
 whole_of_early X strict rest (run.Other w s) early = tt
 
 pub early_whole : {X : Type 0} (strict : Bool) (rest : List ℕ) (r : Result X RunFault) (f : RunFault) → r ≡ Err f → IsEarlyFault f → IsWhole strict rest r
 early_whole {X = X} strict rest r f is early = rw is (whole_of_early X strict rest f early)
 
 -- nor is anything of a history noted
-told_of_early : (X : Type 0) (mode : Mode) (weights : List ℕ) (s : SettingData) (t : List Row) (names : List (List ℕ)) (h : List EntryData) (rest : List ℕ) (f : RunFault) (notes : List ℕ) → IsEarlyFault f → HistoryNoted {X = X} mode weights s t names h rest (Err f) notes
-told_of_early X mode weights s t names h rest (run.Job j) notes early = tt
-told_of_early X mode weights s t names h rest run.Read notes early = tt
-told_of_early X mode weights s t names h rest run.Write notes early = absurd early
-told_of_early X mode weights s t names h rest run.Memory notes early = tt
-told_of_early X mode weights s t names h rest run.Thread notes early = tt
-told_of_early X mode weights s t names h rest (run.Refused n) notes early = absurd early
-told_of_early X mode weights s t names h rest (run.Made n) notes early = absurd early
-told_of_early X mode weights s t names h rest (run.Differs n) notes early = absurd early
-told_of_early X mode weights s t names h rest (run.Other w o) notes early = tt
+told_of_early : (X : Type 0) (mode : Mode) (text : TextData) (s : SettingData) (t : List Row) (names : List (List ℕ)) (h : List EntryData) (rest : List ℕ) (f : RunFault) (notes : List ℕ) → IsEarlyFault f → HistoryNoted {X = X} mode text s t names h rest (Err f) notes
+told_of_early X mode text s t names h rest (run.Job j) notes early = tt
+told_of_early X mode text s t names h rest run.Read notes early = tt
+told_of_early X mode text s t names h rest run.Write notes early = absurd early
+told_of_early X mode text s t names h rest run.Memory notes early = tt
+told_of_early X mode text s t names h rest run.Thread notes early = tt
+told_of_early X mode text s t names h rest (run.Refused n) notes early = absurd early
+told_of_early X mode text s t names h rest (run.Made n) notes early = absurd early
+told_of_early X mode text s t names h rest (run.Differs n) notes early = absurd early
+told_of_early X mode text s t names h rest run.NoItem notes early = absurd early
+told_of_early X mode text s t names h rest run.NoType notes early = absurd early
+told_of_early X mode text s t names h rest (run.Other w o) notes early = tt
 
-pub early_told : {X : Type 0} (mode : Mode) (weights : List ℕ) (s : SettingData) (t : List Row) (names : List (List ℕ)) (h : List EntryData) (rest : List ℕ) (r : Result X RunFault) (f : RunFault) (notes : List ℕ) → r ≡ Err f → IsEarlyFault f → HistoryNoted mode weights s t names h rest r notes
-early_told {X = X} mode weights s t names h rest r f notes is early = rw is (told_of_early X mode weights s t names h rest f notes early)
+pub early_told : {X : Type 0} (mode : Mode) (text : TextData) (s : SettingData) (t : List Row) (names : List (List ℕ)) (h : List EntryData) (rest : List ℕ) (r : Result X RunFault) (f : RunFault) (notes : List ℕ) → r ≡ Err f → IsEarlyFault f → HistoryNoted mode text s t names h rest r notes
+early_told {X = X} mode text s t names h rest r f notes is early = rw is (told_of_early X mode text s t names h rest f notes early)
 
 -- of a reader's fault, and of the scripts', nothing is noted
 noted_of_input : (explain : Bool) (origin : ℕ → OriginData) (all : Option (List ℕ)) (f : RunFault) (notes : List ℕ) → IsInputFault f → notes ≡ [] → IsFaultNoted explain origin all f notes
@@ -82,6 +109,8 @@ noted_of_input explain origin all run.Thread notes h none = absurd h
 noted_of_input explain origin all (run.Refused n) notes h none = absurd h
 noted_of_input explain origin all (run.Made n) notes h none = absurd h
 noted_of_input explain origin all (run.Differs n) notes h none = absurd h
+noted_of_input explain origin all run.NoItem notes h none = absurd h
+noted_of_input explain origin all run.NoType notes h none = absurd h
 noted_of_input explain origin all (run.Other w s) notes h none = absurd h
 
 pub input_noted : {X : Type 0} (explain : Bool) (origin : ℕ → OriginData) (all : Option (List ℕ)) (r : Result X RunFault) (f : RunFault) (notes : List ℕ) → r ≡ Err f → IsInputFault f → notes ≡ [] → IsNoted explain origin all r notes
@@ -96,6 +125,8 @@ noted_of_scripts explain in_turn origin all run.Thread notes h none = none
 noted_of_scripts explain in_turn origin all (run.Refused n) notes h none = absurd h
 noted_of_scripts explain in_turn origin all (run.Made n) notes h none = absurd h
 noted_of_scripts explain in_turn origin all (run.Differs n) notes h none = absurd h
+noted_of_scripts explain in_turn origin all run.NoItem notes h none = absurd h
+noted_of_scripts explain in_turn origin all run.NoType notes h none = absurd h
 noted_of_scripts explain in_turn origin all (run.Other w s) notes h none = absurd h
 
 pub scripts_noted : {X : Type 0} (explain in_turn : Bool) (origin : ℕ → OriginData) (all : Option (List ℕ)) (r : Result X RunFault) (f : RunFault) (notes : List ℕ) → r ≡ Err f → IsScriptsFault in_turn f → notes ≡ [] → IsNoted explain origin all r notes
@@ -111,6 +142,8 @@ early_of_input run.Thread h = absurd h
 early_of_input (run.Refused n) h = absurd h
 early_of_input (run.Made n) h = absurd h
 early_of_input (run.Differs n) h = absurd h
+early_of_input run.NoItem h = absurd h
+early_of_input run.NoType h = absurd h
 early_of_input (run.Other w s) h = absurd h
 
 pub early_of_scripts : (in_turn : Bool) (f : RunFault) → IsScriptsFault in_turn f → IsEarlyFault f
@@ -122,6 +155,8 @@ early_of_scripts in_turn run.Thread h = tt
 early_of_scripts in_turn (run.Refused n) h = absurd h
 early_of_scripts in_turn (run.Made n) h = absurd h
 early_of_scripts in_turn (run.Differs n) h = absurd h
+early_of_scripts in_turn run.NoItem h = absurd h
+early_of_scripts in_turn run.NoType h = absurd h
 early_of_scripts in_turn (run.Other w s) h = absurd h
 
 pub early_of_no_job : (all : Option (List ℕ)) (f : RunFault) → IsNoJob all f → IsEarlyFault f
@@ -133,6 +168,8 @@ early_of_no_job all run.Thread h = absurd h
 early_of_no_job all (run.Refused n) h = absurd h
 early_of_no_job all (run.Made n) h = absurd h
 early_of_no_job all (run.Differs n) h = absurd h
+early_of_no_job all run.NoItem h = absurd h
+early_of_no_job all run.NoType h = absurd h
 early_of_no_job all (run.Other w s) h = absurd h
 
 pub early_of_read : (all : Option (List ℕ)) (f : RunFault) → IsReadFault all f → IsEarlyFault f
@@ -144,4 +181,6 @@ early_of_read all run.Thread h = absurd h
 early_of_read all (run.Refused n) h = absurd h
 early_of_read all (run.Made n) h = absurd h
 early_of_read all (run.Differs n) h = absurd h
+early_of_read all run.NoItem h = absurd h
+early_of_read all run.NoType h = absurd h
 early_of_read all (run.Other w s) h = absurd h

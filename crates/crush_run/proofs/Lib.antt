@@ -8,3 +8,4 @@ pub mod Noted
 pub mod Plans
 pub mod Runs
 pub mod Told
+pub mod Written

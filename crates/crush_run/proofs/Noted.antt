@@ -1,15 +1,13 @@
 -- What is noted of an ending, and of a history.
 use Rattle.std.proofs.Common.{◌≡◌, ℕ, ◌+◌, Bool, true, false, cond, List, [], ◌∷◌, ◌++◌, Option, Some, None, Result, Ok, Err, refl, sym, ap, subst, ◌∙◌, arith}
 use Rattle.std.specs.Prelude.{IfErr, IfSome, slice_index_or}
-use Rattle.std.specs.Io.KnownBytes.{Keeps}
-use Rattle.crush_bytes.proofs.Appending.{less_of_both, nothing_is_less}
 use Rattle.crush_map.specs.MapData.{MapData}
 use Rattle.crush_table.specs.Table.{Row}
 use Rattle.crush_edits.specs.Setting.{SettingData}
 use Rattle.crush_calls.specs.History.{EntryData}
 use Rattle.crush_calls.specs.HistoryText.{entry_text}
 use Rattle.crush_calls.specs.Refused.{is_refused, refusals, refused_text}
-use Rattle.crush_reasons.specs.Explained.{explained_text}
+use Rattle.crush_reasons.specs.Explained.{explained_job}
 use Rattle.crush_reasons.specs.Place.{OriginData}
 use Rattle.crush_options.specs.declared.asked.Mode.{Mode}
 use Rattle.crush_input.specs.declared.asked.Asked.{Asked}
@@ -18,14 +16,14 @@ use Rattle.crush_input.specs.declared.fault.RunFault.{RunFault}
 use Rattle.crush_input.specs.declared.fault.RunFault.TheVariants as run
 use Rattle.crush_input.specs.declared.summary.Summary.{Summary}
 use Rattle.crush_input.specs.Input.{IsInput}
-use Rattle.crush_input.specs.Notes.{HistoryNoted, IsNoMake, IsNoted, history_notes, refused_notes, IsStrict}
+use Rattle.crush_input.specs.Notes.{HistoryNoted, IsNoMake, IsNoted, TextData, history_notes, refused_notes, IsStrict}
 use Rattle.crush_run.specs.declared.outcome.Noted.{Noted}
 use Rattle.crush_run.specs.Run.{IsRunFault}
 use Rattle.crush_plan.specs.Plan.{PlanData}
 use Rattle.crush_run.specs.Planned.{IsWhole}
 use Rattle.crush_run.specs.Stages.{AreNoted, EndsLeft, IsWritingFault, needs_opening, told_of}
 use Rattle.crush_input.proofs.Noted.{from_same, place_of_all}
-use Rattle.crush_run.proofs.Runs.{main_text_is_some}
+use Rattle.crush_run.proofs.Written.{keeps_same}
 
 -- what is noted of an ending of the bytes read is noted of one of all bytes
 pub ending_of_all : (mode : Mode) (o : ℕ → OriginData) (all : Option (List ℕ)) (bytes : List ℕ) (r : Result Summary RunFault) (notes : List ℕ) → IfSome all (IsInput bytes) → IfErr r (IsRunFault mode (Some bytes))
@@ -39,6 +37,8 @@ ending_of_all mode o all bytes (Err run.Thread) notes input h told = told
 ending_of_all mode o all bytes (Err (run.Refused n)) notes input h told = told
 ending_of_all mode o all bytes (Err (run.Made n)) notes input h told = told
 ending_of_all mode o all bytes (Err (run.Differs n)) notes input h told = told
+ending_of_all mode o all bytes (Err run.NoItem) notes input h told = told
+ending_of_all mode o all bytes (Err run.NoType) notes input h told = told
 ending_of_all mode o all bytes (Err (run.Other w s)) notes input h told = absurd h
 
 -- where no entry was refused there are no lines
@@ -52,33 +52,30 @@ none_refused names n (e ∷ h) none = at (is_refused e.reply) (none_refused name
     at false others rest = others (omega (arith, rest))
 
 -- so nothing is noted of a run that comes to its output, where no reasons are asked for
-quiet_refused : (mode : Mode) (s : SettingData) (t : List Row) (names : List (List ℕ)) (h : List EntryData) → (mode.strict ≡ true → refusals h ≡ 0) → mode.explain ≡ false → refused_notes mode s t names h ≡ []
-quiet_refused mode s t names h none quiet =
-    subst (λ (e : Bool). cond e (explained_text s t names 1 h) (cond mode.strict (refused_text names 1 h) []) ≡ []) (sym quiet) (by_strict mode.strict refl)
+quiet_refused : (mode : Mode) (text : TextData) (s : SettingData) (t : List Row) (names : List (List ℕ)) (h : List EntryData) → (mode.strict ≡ true → refusals h ≡ 0) → mode.explain ≡ false → refused_notes mode text s t names h ≡ []
+quiet_refused mode text s t names h none quiet =
+    subst (λ (e : Bool). cond e (explained_job text.origin text.bytes s t names h) (cond mode.strict (refused_text names 1 h) []) ≡ []) (sym quiet) (by_strict mode.strict refl)
   where
     by_strict : (b : Bool) → mode.strict ≡ b → cond b (refused_text names 1 h) [] ≡ []
     by_strict true strict = none_refused names 1 h (none strict)
     by_strict false plain = refl
 
-quiet_notes : (mode : Mode) (weights : List ℕ) (s : SettingData) (t : List Row) (names : List (List ℕ)) (h : List EntryData) (notes : List ℕ) → (mode.explain ≡ false → weights ≡ []) → (mode.strict ≡ true → refusals h ≡ 0)
-    → (mode.explain ≡ false → notes ≡ history_notes mode weights s t names h)
+quiet_notes : (mode : Mode) (text : TextData) (s : SettingData) (t : List Row) (names : List (List ℕ)) (h : List EntryData) (notes : List ℕ) → (mode.explain ≡ false → text.weights ≡ []) → (mode.strict ≡ true → refusals h ≡ 0)
+    → (mode.explain ≡ false → notes ≡ history_notes mode text s t names h)
     → mode.explain ≡ false → notes ≡ []
-quiet_notes mode weights s t names h notes plain none is quiet = is quiet ∙ (λ i. quiet_refused mode s t names h none quiet i ++ plain quiet i)
-
-pub keeps_same : (old : Option (List ℕ)) → Keeps old old
-keeps_same None = tt
-keeps_same (Some xs) = refl
+quiet_notes mode text s t names h notes plain none is quiet = is quiet ∙ (λ i. quiet_refused mode text s t names h none quiet i ++ plain quiet i)
 
 -- a run that was out of memory before anything was written
-pub memory_ends : (mode : Mode) (what : Asked) (plan : PlanData) (adjusted : ℕ) (kept : Option MapData) (m : MapData) (weights : List ℕ) (names : List (List ℕ)) (h : List EntryData) (r : Result Summary RunFault) (old : Option (List ℕ)) (notes : List ℕ) → r ≡ Err run.Memory → notes ≡ []
-    → EndsLeft mode what plan adjusted kept m weights names h r old old notes
-memory_ends mode what plan adjusted kept m weights names h r old notes is none = record {
-  writes = λ o t opening stands. rw is (less_of_both old old _ _ (nothing_is_less old _ (main_text_is_some what plan m.setting o t h)));
+pub memory_ends : (mode : Mode) (what : Asked) (plan : PlanData) (adjusted : ℕ) (kept : Option MapData) (m : MapData) (text : TextData) (names : List (List ℕ)) (h : List EntryData) (r : Result Summary RunFault) (old : Option (List ℕ)) (notes : List ℕ) → r ≡ Err run.Memory → notes ≡ []
+    → EndsLeft mode what plan adjusted kept m text names h r old old notes
+memory_ends mode what plan adjusted kept m text names h r old notes is none = record {
+  writes = λ o t opening stands. rw is (keeps_same old);
   summary = rw is tt;
   nothing = rw is (λ other. keeps_same old);
   fault = rw is tt;
   strict = rw is tt;
   no_make = rw is tt;
+  found = λ t stands. rw is tt;
   whole = rw is tt;
   told = λ o opening. rw is tt;
   noted = λ origin all. rw is none;
@@ -87,36 +84,40 @@ memory_ends mode what plan adjusted kept m weights names h r old notes is none =
 -- a run with reasons needs the map as it was read
 pub explained_needs : (mode : Mode) (what : Asked) → mode.explain ≡ true → needs_opening mode what ≡ true
 explained_needs mode asked.Map on = on
-explained_needs mode asked.Tree on = on
-explained_needs mode (asked.Since m) on = on
+explained_needs mode (asked.Tree part) on = on
+explained_needs mode (asked.Since old) on = on
 explained_needs mode (asked.Changes m) on = on
 explained_needs mode asked.AsCeph on = refl
 explained_needs mode (asked.To w) on = on
 
 -- what is told of a run is that of its history
-pub told_of_end : (mode : Mode) (weights : List ℕ) (s : SettingData) (t : List Row) (names : List (List ℕ)) (h : List EntryData) (rest : List ℕ) (r : Result Summary RunFault) (noted : Noted) (notes : List ℕ) → AreNoted mode weights s t names h rest noted
-    → IsNoMake mode.no_make h r → IsWhole mode.strict rest r → notes ≡ told_of r noted → HistoryNoted mode weights s t names h rest r notes
-told_of_end mode weights s t names h rest (Ok x) noted notes are made whole is = is ∙ are.calls
-told_of_end mode weights s t names h rest (Err (run.Job j)) noted notes are made whole is = tt
-told_of_end mode weights s t names h rest (Err run.Read) noted notes are made whole is = tt
-told_of_end mode weights s t names h rest (Err run.Write) noted notes are made whole is = is ∙ are.calls
-told_of_end mode weights s t names h rest (Err run.Memory) noted notes are made whole is = tt
-told_of_end mode weights s t names h rest (Err run.Thread) noted notes are made whole is = tt
-told_of_end mode weights s t names h rest (Err (run.Refused n)) noted notes are made whole is = is ∙ are.calls
-told_of_end mode weights s t names h rest (Err (run.Made n)) noted notes are made whole is = is ∙ are.made made.0
-told_of_end mode weights s t names h rest (Err (run.Differs n)) noted notes are made whole is = is ∙ are.whole whole.0
-told_of_end mode weights s t names h rest (Err (run.Other w o)) noted notes are made whole is = tt
+pub told_of_end : (mode : Mode) (text : TextData) (s : SettingData) (t : List Row) (names : List (List ℕ)) (h : List EntryData) (rest : List ℕ) (r : Result Summary RunFault) (noted : Noted) (notes : List ℕ) → AreNoted mode text s t names h rest noted
+    → IsNoMake mode.no_make h r → IsWhole mode.strict rest r → notes ≡ told_of r noted → HistoryNoted mode text s t names h rest r notes
+told_of_end mode text s t names h rest (Ok x) noted notes are made whole is = is ∙ are.calls
+told_of_end mode text s t names h rest (Err (run.Job j)) noted notes are made whole is = tt
+told_of_end mode text s t names h rest (Err run.Read) noted notes are made whole is = tt
+told_of_end mode text s t names h rest (Err run.Write) noted notes are made whole is = is ∙ are.calls
+told_of_end mode text s t names h rest (Err run.Memory) noted notes are made whole is = tt
+told_of_end mode text s t names h rest (Err run.Thread) noted notes are made whole is = tt
+told_of_end mode text s t names h rest (Err (run.Refused n)) noted notes are made whole is = is ∙ are.calls
+told_of_end mode text s t names h rest (Err (run.Made n)) noted notes are made whole is = is ∙ are.made made.0
+told_of_end mode text s t names h rest (Err (run.Differs n)) noted notes are made whole is = is ∙ are.whole whole.0
+told_of_end mode text s t names h rest (Err run.NoItem) noted notes are made whole is = is ∙ are.calls
+told_of_end mode text s t names h rest (Err run.NoType) noted notes are made whole is = is ∙ are.calls
+told_of_end mode text s t names h rest (Err (run.Other w o)) noted notes are made whole is = tt
 
 -- and nothing where no reasons are asked for, but of what ends it
-pub noted_of_end : (mode : Mode) (weights : List ℕ) (s : SettingData) (t : List Row) (names : List (List ℕ)) (h : List EntryData) (rest : List ℕ) (r : Result Summary RunFault) (noted : Noted) (notes : List ℕ) (origin : ℕ → OriginData) (all : Option (List ℕ))
-    → (mode.explain ≡ false → AreNoted mode weights s t names h rest noted) → IfErr r (IsWritingFault mode) → IsStrict mode.strict h r → (mode.explain ≡ false → weights ≡ []) → notes ≡ told_of r noted → IsNoted mode.explain origin all r notes
-noted_of_end mode weights s t names h rest (Ok x) noted notes origin all are may strict plain is = quiet_notes mode weights s t names h notes plain strict (λ quiet. is ∙ (are quiet).calls)
-noted_of_end mode weights s t names h rest (Err (run.Job j)) noted notes origin all are may strict plain is = absurd may
-noted_of_end mode weights s t names h rest (Err run.Read) noted notes origin all are may strict plain is = absurd may
-noted_of_end mode weights s t names h rest (Err run.Write) noted notes origin all are may strict plain is = quiet_notes mode weights s t names h notes plain strict (λ quiet. is ∙ (are quiet).calls)
-noted_of_end mode weights s t names h rest (Err run.Memory) noted notes origin all are may strict plain is = is
-noted_of_end mode weights s t names h rest (Err run.Thread) noted notes origin all are may strict plain is = absurd may
-noted_of_end mode weights s t names h rest (Err (run.Refused n)) noted notes origin all are may strict plain is = tt
-noted_of_end mode weights s t names h rest (Err (run.Made n)) noted notes origin all are may strict plain is = tt
-noted_of_end mode weights s t names h rest (Err (run.Differs n)) noted notes origin all are may strict plain is = tt
-noted_of_end mode weights s t names h rest (Err (run.Other w o)) noted notes origin all are may strict plain is = absurd may
+pub noted_of_end : (mode : Mode) (text : TextData) (s : SettingData) (t : List Row) (names : List (List ℕ)) (h : List EntryData) (rest : List ℕ) (r : Result Summary RunFault) (noted : Noted) (notes : List ℕ) (origin : ℕ → OriginData) (all : Option (List ℕ))
+    → (mode.explain ≡ false → AreNoted mode text s t names h rest noted) → IfErr r (IsWritingFault mode) → IsStrict mode.strict h r → (mode.explain ≡ false → text.weights ≡ []) → notes ≡ told_of r noted → IsNoted mode.explain origin all r notes
+noted_of_end mode text s t names h rest (Ok x) noted notes origin all are may strict plain is = quiet_notes mode text s t names h notes plain strict (λ quiet. is ∙ (are quiet).calls)
+noted_of_end mode text s t names h rest (Err (run.Job j)) noted notes origin all are may strict plain is = absurd may
+noted_of_end mode text s t names h rest (Err run.Read) noted notes origin all are may strict plain is = absurd may
+noted_of_end mode text s t names h rest (Err run.Write) noted notes origin all are may strict plain is = quiet_notes mode text s t names h notes plain strict (λ quiet. is ∙ (are quiet).calls)
+noted_of_end mode text s t names h rest (Err run.Memory) noted notes origin all are may strict plain is = is
+noted_of_end mode text s t names h rest (Err run.Thread) noted notes origin all are may strict plain is = absurd may
+noted_of_end mode text s t names h rest (Err (run.Refused n)) noted notes origin all are may strict plain is = tt
+noted_of_end mode text s t names h rest (Err (run.Made n)) noted notes origin all are may strict plain is = tt
+noted_of_end mode text s t names h rest (Err (run.Differs n)) noted notes origin all are may strict plain is = tt
+noted_of_end mode text s t names h rest (Err run.NoItem) noted notes origin all are may strict plain is = quiet_notes mode text s t names h notes plain strict (λ quiet. is ∙ (are quiet).calls)
+noted_of_end mode text s t names h rest (Err run.NoType) noted notes origin all are may strict plain is = quiet_notes mode text s t names h notes plain strict (λ quiet. is ∙ (are quiet).calls)
+noted_of_end mode text s t names h rest (Err (run.Other w o)) noted notes origin all are may strict plain is = absurd may

@@ -4,8 +4,6 @@ use Rattle.std.proofs.lemmas.List.{length-append, length-map}
 use Rattle.std.proofs.lemmas.List.Elements.{All-nil, All-cons}
 use Rattle.std.proofs.lemmas.Result.{IfOk-weaker}
 use Rattle.std.specs.Prelude.{IfOk, IfSome, is_some}
-use Rattle.crush_bytes.specs.Writes.{Writes}
-use Rattle.crush_table.specs.Forest.{rows_of}
 use Rattle.crush_table.specs.Stands.{Stands}
 use Rattle.crush_table.specs.Table.{Row}
 use Rattle.crush_edits.specs.Setting.{SettingData}
@@ -17,27 +15,23 @@ use Rattle.crush_calls.specs.Script.{ScriptData, script_data, scripts_data}
 use Rattle.crush_calls.specs.History.{EntryData, of_operator, table_after, turns}
 use Rattle.crush_calls.specs.Turns.{calls_at, calls_of}
 use Rattle.crush_calls.specs.HistoryText.{names_of}
-use Rattle.crush_print.proofs.SameText.{map_text_is_some}
-use Rattle.crush_reasons.specs.Ceph.{ceph_heading, ceph_text}
-use Rattle.crush_since.specs.Since.{told}
-use Rattle.crush_since.proofs.ChangeTextLaws.{changes_text_is_some}
-use Rattle.crush_since.proofs.PartLaws.{since_text_is_some}
-use Rattle.crush_view.proofs.WalkLaws.{tree_text_is_some}
 use Rattle.crush_calls.proofs.Histories.{turns_are_history}
 use Rattle.crush_editor.specs.Book.{MakesAll}
 use Rattle.crush_input.specs.declared.asked.Asked.{Asked}
-use Rattle.crush_input.specs.declared.asked.Asked.TheVariants as asked
 use Rattle.crush_input.specs.declared.fault.RunFault.{RunFault}
 use Rattle.crush_input.specs.declared.summary.Summary.{Summary}
 use Rattle.crush_script.specs.Job.{JobData}
 use Rattle.crush_plan.specs.Plan.{PlanData}
-use Rattle.crush_run.specs.Planned.{IsPlanned, plan_words}
-use Rattle.crush_run.specs.Run.{Ends, IsRunOf, differs_of, lines_asked, main_text, output_of, summed}
-use Rattle.crush_input.specs.Notes.{HistoryNoted, weight_notes}
+use Rattle.crush_run.specs.Found.{IsFound}
+use Rattle.crush_run.specs.Output.{IsWritten, written_text}
+use Rattle.crush_run.specs.Planned.{IsPlanned}
+use Rattle.crush_run.specs.Run.{Ends, IsRunOf, differs_of, output_of, summed}
+use Rattle.crush_input.specs.Notes.{HistoryNoted, TextData, text_of}
+use Rattle.crush_reasons.specs.Place.{OriginData}
 use Rattle.crush_run.specs.Stages.{EndsLeft, HaveRun, IsEarlyFault, IsOpening, RunsScripts, needs_opening}
-use Rattle.crush_run.proofs.Early.{early_make, early_strict, early_told, early_whole}
-use Rattle.crush_run.proofs.Plans.{plan_text_is_some, some_plan, some_plan_is}
-use Rattle.crush_run.proofs.Told.{nothing_written}
+use Rattle.crush_run.proofs.Early.{early_found, early_make, early_strict, early_told, early_whole}
+use Rattle.crush_run.proofs.Plans.{some_plan, some_plan_is}
+use Rattle.crush_run.proofs.Written.{nothing_written}
 
 -- a copy of a map stands for what the map stands for
 pub copy_stands : {E : Type 0} (m : MapData) (r : Result MapData E) → IfOk r (λ copy. copy.setting ≡ m.setting) → IfOk r (λ copy. (t : List Row) → Stands m.forest t → Stands copy.forest t)
@@ -114,30 +108,10 @@ entries_below n (e ∷ h) none =
 pub entries_of_scripts : (scripts : List Script) (h : List EntryData) → ((k : ℕ) → calls_of (of_operator k h) ≡ calls_at (scripts_data scripts) k) → AreOf (length scripts) h
 entries_of_scripts scripts h calls = entries_below (length scripts) h (λ k past. calls k ∙ no_calls (scripts_data scripts) k (omega (arith, past, length-map scripts script_data)))
 
--- the commands of a history have a heading
-pub ceph_text_is_some : (s : SettingData) (t : List Row) (h : List EntryData) → 0 < length (ceph_text s t h)
-unfolding ceph_text ceph_heading
-ceph_text_is_some s t h = omega arith
-
--- whatever is asked for, its text isn't empty
-pub main_text_is_some : (asked : Asked) (plan : PlanData) (s : SettingData) (o t : List Row) (h : List EntryData) → 0 < length (main_text asked plan s o t h)
-main_text_is_some asked.Map plan s o t h = map_text_is_some s t
-main_text_is_some asked.Tree plan s o t h = tree_text_is_some s t
-main_text_is_some (asked.Since m) plan s o t h = since_text_is_some (told m.setting (rows_of m.forest)) (told s t)
-main_text_is_some (asked.Changes m) plan s o t h = changes_text_is_some (told m.setting (rows_of m.forest)) (told s t)
-main_text_is_some asked.AsCeph plan s o t h = ceph_text_is_some s o h
-main_text_is_some (asked.To w) plan s o t h = plan_text_is_some (plan_words w.as_ceph) plan
-
--- so no output is empty
-output_is_some : (asked : Asked) (plan : PlanData) (history : Bool) (job : JobData) (h : List EntryData) → 0 < length (output_of asked plan history job h)
-output_is_some asked plan history job h =
-    let some = main_text_is_some asked plan job.setting job.table (table_after job.setting job.table h) h in
-    simp length-append (omega (arith, some))
-
--- where nothing was written of a job, nothing is a prefix of what its turns would have had written
-pub ended_early : (mode : Mode) (asked : Asked) (job : JobData) (weights : List ℕ) (r : Result Summary RunFault) (f : RunFault) (old : Option (List ℕ)) (notes : List ℕ) → r ≡ Err f → IsEarlyFault f
-    → Ends mode asked job weights r old old notes
-ended_early mode asked job weights r f old notes is early =
+-- where nothing was written of a job, it is told of its turns
+pub ended_early : (mode : Mode) (asked : Asked) (job : JobData) (text : TextData) (r : Result Summary RunFault) (f : RunFault) (old : Option (List ℕ)) (notes : List ℕ) → r ≡ Err f → IsEarlyFault f
+    → Ends mode asked job text r old old notes
+ended_early mode asked job text r f old notes is early =
     let h = turns job.setting job.table job.scripts in
     let plan = some_plan asked job.setting (table_after job.setting job.table h) in
     record {
@@ -145,36 +119,37 @@ ended_early mode asked job weights r f old notes is early =
       run = turns_run mode.in_turn job;
       plan = plan;
       planned = some_plan_is asked job.setting (table_after job.setting job.table h);
-      writes = nothing_written r f old (output_of asked plan mode.history job h) (output_is_some asked plan mode.history job h) is;
+      writes = nothing_written r f old (output_of mode asked plan job h) is early;
       summary = rw is tt;
       strict = early_strict mode.strict h r f is early;
       no_make = early_make mode.no_make h r f is early;
+      found = early_found asked job.setting (table_after job.setting job.table h) r f is early;
       whole = early_whole mode.strict plan.rest r f is early;
-      noted = early_told mode weights job.setting job.table (names_of job.scripts) h plan.rest r f notes is early;
+      noted = early_told mode text job.setting job.table (names_of job.scripts) h plan.rest r f notes is early;
     }
 
 -- a run that left a map and a history ends with it
-pub left_ends : (mode : Mode) (what : Asked) (plan : PlanData) (job : JobData) (adjusted : ℕ) (kept : Option MapData) (m : MapData) (lines weights : List ℕ) (names : List (List ℕ)) (h es : List EntryData) (r : Result Summary RunFault) (old new : Option (List ℕ)) (notes : List ℕ)
-    → EndsLeft mode what plan adjusted kept m lines names es r old new notes → ((t : List Row) → Stands m.forest t → IsPlanned what m.setting t plan) → IsOpening mode what kept job.setting job.table → HaveRun mode.in_turn job m h → names ≡ names_of job.scripts → es ≡ h → adjusted ≡ job.adjusted → lines ≡ weights → Ends mode what job weights r old new notes
-left_ends mode what plan job adjusted kept m lines weights names h es r old new notes left planned opening ran same entries replaced written =
-    let own = subst (λ (e : List EntryData). EndsLeft mode what plan adjusted kept m lines names e r old new notes) entries left in
-    let named = subst (λ (n : List (List ℕ)). EndsLeft mode what plan adjusted kept m lines n h r old new notes) same own in
-    let counted = subst (λ (a : ℕ). EndsLeft mode what plan a kept m lines (names_of job.scripts) h r old new notes) replaced named in
-    let ends = subst (λ (w : List ℕ). EndsLeft mode what plan job.adjusted kept m w (names_of job.scripts) h r old new notes) written counted in
+pub left_ends : (mode : Mode) (what : Asked) (plan : PlanData) (job : JobData) (adjusted : ℕ) (kept : Option MapData) (m : MapData) (text : TextData) (names : List (List ℕ)) (h es : List EntryData) (r : Result Summary RunFault) (old new : Option (List ℕ)) (notes : List ℕ)
+    → EndsLeft mode what plan adjusted kept m text names es r old new notes → ((t : List Row) → Stands m.forest t → IsPlanned what m.setting t plan) → IsOpening mode what kept job.setting job.table → HaveRun mode.in_turn job m h → names ≡ names_of job.scripts → es ≡ h → adjusted ≡ job.adjusted → Ends mode what job text r old new notes
+left_ends mode what plan job adjusted kept m text names h es r old new notes left planned opening ran same entries replaced =
+    let own = subst (λ (e : List EntryData). EndsLeft mode what plan adjusted kept m text names e r old new notes) entries left in
+    let named = subst (λ (n : List (List ℕ)). EndsLeft mode what plan adjusted kept m text n h r old new notes) same own in
+    let ends = subst (λ (a : ℕ). EndsLeft mode what plan a kept m text (names_of job.scripts) h r old new notes) replaced named in
     let before = subst (λ (s : SettingData). IsOpening mode what kept s job.table) (sym ran.stands.setting) opening in
     record {
       history = h;
       run = ran.run;
       plan = plan;
       planned = subst (λ (s : SettingData). IsPlanned what s (table_after job.setting job.table h) plan) ran.stands.setting (planned _ ran.stands.forest);
-      writes = subst (λ (s : SettingData). Writes r old new (main_text what plan s job.table (table_after job.setting job.table h) h ++ lines_asked mode.history (names_of job.scripts) h)) ran.stands.setting (ends.writes _ _ before ran.stands.forest);
+      writes = subst (λ (s : SettingData). IsWritten r old new (written_text mode what plan s job.table (table_after job.setting job.table h) (names_of job.scripts) h)) ran.stands.setting (ends.writes _ _ before ran.stands.forest);
       summary = subst
           (λ (s : SettingData). IfOk r (λ (x : Summary). x ≡ summed job.adjusted (mode.exit_code && differs_of what plan s (table_after job.setting job.table h) h) h))
           ran.stands.setting (IfOk-weaker r _ _ (λ x is. is _ ran.stands.forest) ends.summary);
       strict = ends.strict;
       no_make = ends.no_make;
+      found = subst (λ (s : SettingData). IsFound what s (table_after job.setting job.table h) r) ran.stands.setting (ends.found _ ran.stands.forest);
       whole = ends.whole;
-      noted = subst (λ (s : SettingData). HistoryNoted mode weights s job.table (names_of job.scripts) h plan.rest r notes) ran.stands.setting (ends.told _ before);
+      noted = subst (λ (s : SettingData). HistoryNoted mode text s job.table (names_of job.scripts) h plan.rest r notes) ran.stands.setting (ends.told _ before);
     }
 
 -- a map of which a copy is kept where it is needed
@@ -182,7 +157,7 @@ pub kept_opening : (mode : Mode) (what : Asked) (kept : Option MapData) (s : Set
 kept_opening mode what None s t is stands needs = let none = is needs in absurd cc
 kept_opening mode what (Some m) s t is stands needs = stands
 
--- what is noted of weights in bytes is noted of them in the same bytes
-pub weighed_of_all : (mode : Mode) (what : Asked) (job : JobData) (bytes xs : List ℕ) (r : Result Summary RunFault) (old new : Option (List ℕ)) (notes : List ℕ) → bytes ≡ xs
-    → Ends mode what job (weight_notes mode.explain bytes job.table) r old new notes → Ends mode what job (weight_notes mode.explain xs job.table) r old new notes
-weighed_of_all mode what job bytes xs r old new notes same ends = subst (λ (z : List ℕ). Ends mode what job (weight_notes mode.explain z job.table) r old new notes) same ends
+-- what is noted by the text of bytes is noted by that of the same bytes
+pub weighed_of_all : (mode : Mode) (what : Asked) (job : JobData) (origin : ℕ → OriginData) (bytes xs : List ℕ) (r : Result Summary RunFault) (old new : Option (List ℕ)) (notes : List ℕ) → bytes ≡ xs
+    → Ends mode what job (text_of mode.explain origin bytes job.table) r old new notes → Ends mode what job (text_of mode.explain origin xs job.table) r old new notes
+weighed_of_all mode what job origin bytes xs r old new notes same ends = subst (λ (z : List ℕ). Ends mode what job (text_of mode.explain origin z job.table) r old new notes) same ends

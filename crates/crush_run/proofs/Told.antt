@@ -1,8 +1,6 @@
 -- Faults of a run, of the bytes read and of all that there was to read.
-use Rattle.std.proofs.Common.{◌≡◌, ℕ, ◌<◌, List, Option, Some, Result, Ok, Err, length}
+use Rattle.std.proofs.Common.{◌≡◌, ℕ, List, Option, Some, Result, Ok, Err}
 use Rattle.std.specs.Prelude.{IfOk, IfErr, IfSome}
-use Rattle.crush_bytes.specs.Writes.{Writes}
-use Rattle.crush_bytes.proofs.Appending.{nothing_is_less}
 use Rattle.crush_script.specs.Job.{HasJob}
 use Rattle.crush_options.specs.declared.asked.Mode.{Mode}
 use Rattle.crush_input.specs.declared.fault.RunFault.TheVariants as run
@@ -25,6 +23,8 @@ run_fault_of_all mode (Err run.Thread) all bytes input h = (h.0, has_job all byt
 run_fault_of_all mode (Err (run.Refused n)) all bytes input h = (h.0, has_job all bytes input h.1)
 run_fault_of_all mode (Err (run.Made n)) all bytes input h = (h.0, has_job all bytes input h.1)
 run_fault_of_all mode (Err (run.Differs n)) all bytes input h = (h.0, has_job all bytes input h.1)
+run_fault_of_all mode (Err run.NoItem) all bytes input h = has_job all bytes input h
+run_fault_of_all mode (Err run.NoType) all bytes input h = has_job all bytes input h
 run_fault_of_all mode (Err (run.Other w s)) all bytes input h = absurd h
 
 -- where a job was read, there is one
@@ -43,6 +43,8 @@ run_fault_of_job mode (Err run.Thread) all has h = (h, has)
 run_fault_of_job mode (Err (run.Refused n)) all has h = (h, has)
 run_fault_of_job mode (Err (run.Made n)) all has h = (h, has)
 run_fault_of_job mode (Err (run.Differs n)) all has h = (h, has)
+run_fault_of_job mode (Err run.NoItem) all has h = has
+run_fault_of_job mode (Err run.NoType) all has h = has
 run_fault_of_job mode (Err (run.Other w s)) all has h = absurd h
 
 -- a fault of the scripts is one of the outcome
@@ -55,6 +57,8 @@ outcome_fault_of_scripts mode run.Thread h = h
 outcome_fault_of_scripts mode (run.Refused n) h = absurd h
 outcome_fault_of_scripts mode (run.Made n) h = absurd h
 outcome_fault_of_scripts mode (run.Differs n) h = absurd h
+outcome_fault_of_scripts mode run.NoItem h = absurd h
+outcome_fault_of_scripts mode run.NoType h = absurd h
 outcome_fault_of_scripts mode (run.Other w s) h = h
 
 -- and so is one of what is written
@@ -68,11 +72,9 @@ outcome_fault_of_writing mode (Err run.Thread) h = absurd h
 outcome_fault_of_writing mode (Err (run.Refused n)) h = h
 outcome_fault_of_writing mode (Err (run.Made n)) h = h
 outcome_fault_of_writing mode (Err (run.Differs n)) h = h
+outcome_fault_of_writing mode (Err run.NoItem) h = h
+outcome_fault_of_writing mode (Err run.NoType) h = h
 outcome_fault_of_writing mode (Err (run.Other w s)) h = h
-
--- after a fault before anything was written, nothing is a prefix of the output, which isn't empty
-pub nothing_written : (r : Result Summary RunFault) (f : RunFault) (old : Option (List ℕ)) (text : List ℕ) → 0 < length text → r ≡ Err f → Writes r old old text
-nothing_written r f old text some e = rw e (nothing_is_less old text some)
 
 -- no fault of reading is one of the bytes
 pub run_fault_of_input : (mode : Mode) (f : RunFault) (all : Option (List ℕ)) → IsInputFault f → IsRunFault mode all f
@@ -84,6 +86,8 @@ run_fault_of_input mode run.Thread all h = absurd h
 run_fault_of_input mode (run.Refused n) all h = absurd h
 run_fault_of_input mode (run.Made n) all h = absurd h
 run_fault_of_input mode (run.Differs n) all h = absurd h
+run_fault_of_input mode run.NoItem all h = absurd h
+run_fault_of_input mode run.NoType all h = absurd h
 run_fault_of_input mode (run.Other w s) all h = absurd h
 
 -- bytes that are no job have a fault of the run
@@ -96,4 +100,6 @@ run_fault_of_no_job mode run.Thread all h = absurd h
 run_fault_of_no_job mode (run.Refused n) all h = absurd h
 run_fault_of_no_job mode (run.Made n) all h = absurd h
 run_fault_of_no_job mode (run.Differs n) all h = absurd h
+run_fault_of_no_job mode run.NoItem all h = absurd h
+run_fault_of_no_job mode run.NoType all h = absurd h
 run_fault_of_no_job mode (run.Other w s) all h = absurd h

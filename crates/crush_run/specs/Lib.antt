@@ -1,4 +1,6 @@
+pub mod Found
 pub mod Options
+pub mod Output
 pub mod Planned
 pub mod Run
 pub mod Script

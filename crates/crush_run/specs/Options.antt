@@ -6,7 +6,8 @@ use Rattle.crush_input.specs.declared.asked.Asked.{Asked}
 use Rattle.crush_input.specs.declared.fault.RunFault.{RunFault}
 use Rattle.crush_input.specs.declared.fault.RunFault.TheVariants as run
 use Rattle.crush_input.specs.declared.summary.Summary.{Summary}
-use Rattle.crush_input.specs.Notes.{weight_notes}
+use Rattle.crush_reasons.specs.Place.{OriginData}
+use Rattle.crush_input.specs.Notes.{text_of}
 use Rattle.crush_run.specs.Run.{Ends, IsRunFault}
 use Rattle.crush_input.specs.Options.{IsAskedFault, IsAskedOf}
 
@@ -15,18 +16,20 @@ abbrev pub IsOptionsFault : (List ℕ → Option (List ℕ)) → Options → Opt
 IsOptionsFault content options all (run.Other which fault) = IfSome all HasJob × IsAskedFault content options.printed (run.Other which fault)
 IsOptionsFault content options all fault = IsRunFault options.mode all fault
 
--- what the words ask for was there, and the run is one with it, of which the weights written in these bytes are noted
-pub record EndsAsked (content : List ℕ → Option (List ℕ)) (options : Options) (bytes : List ℕ) (job : JobData) (result : Result Summary RunFault) (old new : Option (List ℕ)) (notes : List ℕ) : Type 0 where
+-- what the words ask for was there, and the run is one with it, noted by the text of these bytes, whose lines come from there
+pub record EndsAsked (content : List ℕ → Option (List ℕ)) (options : Options) (origin : ℕ → OriginData) (bytes : List ℕ) (job : JobData) (result : Result Summary RunFault) (old new : Option (List ℕ)) (notes : List ℕ) : Type 0 where
   pub what : Asked
   pub asked : IsAskedOf content options.printed what
-  pub ends : Ends options.mode what job (weight_notes options.mode.explain bytes job.table) result old new notes
+  pub ends : Ends options.mode what job (text_of options.mode.explain origin bytes job.table) result old new notes
 
--- ENDS AS ASKED: said of a run that was done, that failed to write, that was strict and met refusals or differences, or that was to
--- make no buckets and did; any other came to no output
-abbrev pub EndsAsAsked : (List ℕ → Option (List ℕ)) → Options → List ℕ → JobData → Result Summary RunFault → Option (List ℕ) → Option (List ℕ) → List ℕ → Type 0
-EndsAsAsked content options bytes job (Ok s) old new notes = EndsAsked content options bytes job (Ok s) old new notes
-EndsAsAsked content options bytes job (Err run.Write) old new notes = EndsAsked content options bytes job (Err run.Write) old new notes
-EndsAsAsked content options bytes job (Err (run.Refused n)) old new notes = EndsAsked content options bytes job (Err (run.Refused n)) old new notes
-EndsAsAsked content options bytes job (Err (run.Made n)) old new notes = EndsAsked content options bytes job (Err (run.Made n)) old new notes
-EndsAsAsked content options bytes job (Err (run.Differs n)) old new notes = EndsAsked content options bytes job (Err (run.Differs n)) old new notes
-EndsAsAsked content options bytes job (Err fault) old new notes = Unit {0}
+-- ENDS AS ASKED: said of a run that was done, that failed to write, that was strict and met refusals or differences, that was to
+-- make no buckets and did, or whose map lacks an item or a type that the words name; any other came to no output
+abbrev pub EndsAsAsked : (List ℕ → Option (List ℕ)) → Options → (ℕ → OriginData) → List ℕ → JobData → Result Summary RunFault → Option (List ℕ) → Option (List ℕ) → List ℕ → Type 0
+EndsAsAsked content options origin bytes job (Ok s) old new notes = EndsAsked content options origin bytes job (Ok s) old new notes
+EndsAsAsked content options origin bytes job (Err run.Write) old new notes = EndsAsked content options origin bytes job (Err run.Write) old new notes
+EndsAsAsked content options origin bytes job (Err (run.Refused n)) old new notes = EndsAsked content options origin bytes job (Err (run.Refused n)) old new notes
+EndsAsAsked content options origin bytes job (Err (run.Made n)) old new notes = EndsAsked content options origin bytes job (Err (run.Made n)) old new notes
+EndsAsAsked content options origin bytes job (Err (run.Differs n)) old new notes = EndsAsked content options origin bytes job (Err (run.Differs n)) old new notes
+EndsAsAsked content options origin bytes job (Err run.NoItem) old new notes = EndsAsked content options origin bytes job (Err run.NoItem) old new notes
+EndsAsAsked content options origin bytes job (Err run.NoType) old new notes = EndsAsked content options origin bytes job (Err run.NoType) old new notes
+EndsAsAsked content options origin bytes job (Err fault) old new notes = Unit {0}

@@ -1,7 +1,6 @@
 -- The stages of a run of a job: what comes of each, and which faults may come at which.
 use Rattle.std.specs.Prelude.{◌≡◌, ◌≢◌, ℕ, List, [], ◌++◌, Bool, false, true, ◌&&◌, Option, Result, Ok, Err, IfOk, IfErr}
 use Rattle.std.specs.Io.KnownBytes.{Keeps}
-use Rattle.crush_bytes.specs.Writes.{Writes}
 use Rattle.crush_table.specs.Stands.{Stands}
 use Rattle.crush_table.specs.Table.{Row}
 use Rattle.crush_edits.specs.Setting.{SettingData}
@@ -18,10 +17,12 @@ use Rattle.crush_input.specs.declared.asked.Asked.TheVariants as asked
 use Rattle.crush_input.specs.declared.summary.Summary.{Summary}
 use Rattle.crush_reasons.specs.Place.{OriginData}
 use Rattle.crush_input.specs.Made.{made_text}
-use Rattle.crush_input.specs.Notes.{HistoryNoted, IsKept, IsNoMake, IsNoted, IsStrict, history_notes}
+use Rattle.crush_input.specs.Notes.{HistoryNoted, IsKept, IsNoMake, IsNoted, IsStrict, TextData, history_notes}
 use Rattle.crush_run.specs.declared.outcome.Noted.{Noted}
+use Rattle.crush_run.specs.Found.{IsFound}
+use Rattle.crush_run.specs.Output.{IsWritten, written_text}
 use Rattle.crush_run.specs.Planned.{IsWhole}
-use Rattle.crush_run.specs.Run.{IsRunOf, differs_of, lines_asked, main_text, summed}
+use Rattle.crush_run.specs.Run.{IsRunOf, differs_of, summed}
 
 -- what may fail while operators are at work at once
 abbrev pub IsAtOnceFault : RunFault → Type 0
@@ -43,6 +44,8 @@ IsOutcomeFault mode run.Thread = mode.in_turn ≡ false
 IsOutcomeFault mode (run.Refused n) = mode.strict ≡ true
 IsOutcomeFault mode (run.Made n) = mode.no_make ≡ true
 IsOutcomeFault mode (run.Differs n) = mode.strict ≡ true
+IsOutcomeFault mode run.NoItem = Unit {0}
+IsOutcomeFault mode run.NoType = Unit {0}
 IsOutcomeFault mode fault = ⊥
 
 -- what may fail before there is a history
@@ -51,7 +54,18 @@ IsEarlyFault run.Write = ⊥
 IsEarlyFault (run.Refused n) = ⊥
 IsEarlyFault (run.Made n) = ⊥
 IsEarlyFault (run.Differs n) = ⊥
+IsEarlyFault run.NoItem = ⊥
+IsEarlyFault run.NoType = ⊥
 IsEarlyFault fault = Unit {0}
+
+-- what may end a run that has a history before anything is written
+abbrev pub IsCheckFault : Mode → RunFault → Type 0
+IsCheckFault mode (run.Refused n) = mode.strict ≡ true
+IsCheckFault mode (run.Made n) = mode.no_make ≡ true
+IsCheckFault mode (run.Differs n) = mode.strict ≡ true
+IsCheckFault mode run.NoItem = Unit {0}
+IsCheckFault mode run.NoType = Unit {0}
+IsCheckFault mode fault = ⊥
 
 -- what may fail once there is a history
 abbrev pub IsWritingFault : Mode → RunFault → Type 0
@@ -60,6 +74,8 @@ IsWritingFault mode run.Memory = Unit {0}
 IsWritingFault mode (run.Refused n) = mode.strict ≡ true
 IsWritingFault mode (run.Made n) = mode.no_make ≡ true
 IsWritingFault mode (run.Differs n) = mode.strict ≡ true
+IsWritingFault mode run.NoItem = Unit {0}
+IsWritingFault mode run.NoType = Unit {0}
 IsWritingFault mode fault = ⊥
 
 -- what scripts leave of a map, whatever job they and the map stand for: a run of the job, and the map after its history
@@ -81,10 +97,10 @@ IsOpening mode what kept s t = needs_opening mode what ≡ true → IsKept kept 
 
 -- what may be told of a run, of which this setting and this table were before the first call: of its history; where it is to make no
 -- buckets, before that the calls that made some unasked; where it is strict, behind it what stays behind a plan
-pub record AreNoted (mode : Mode) (weights : List ℕ) (s : SettingData) (t : List Row) (names : List (List ℕ)) (h : List EntryData) (rest : List ℕ) (noted : Noted) : Type 0 where
-  pub calls : noted.calls.items ≡ history_notes mode weights s t names h
-  pub made : mode.no_make ≡ true → noted.made.items ≡ made_text names 1 h ++ history_notes mode weights s t names h
-  pub whole : mode.strict ≡ true → noted.whole.items ≡ history_notes mode weights s t names h ++ rest
+pub record AreNoted (mode : Mode) (text : TextData) (s : SettingData) (t : List Row) (names : List (List ℕ)) (h : List EntryData) (rest : List ℕ) (noted : Noted) : Type 0 where
+  pub calls : noted.calls.items ≡ history_notes mode text s t names h
+  pub made : mode.no_make ≡ true → noted.made.items ≡ made_text names 1 h ++ history_notes mode text s t names h
+  pub whole : mode.strict ≡ true → noted.whole.items ≡ history_notes mode text s t names h ++ rest
 
 -- and which of it is told, by how the run ends
 abbrev pub told_by : RunFault → Noted → List ℕ
@@ -92,6 +108,8 @@ told_by run.Write noted = noted.calls.items
 told_by (run.Refused n) noted = noted.calls.items
 told_by (run.Made n) noted = noted.made.items
 told_by (run.Differs n) noted = noted.whole.items
+told_by run.NoItem noted = noted.calls.items
+told_by run.NoType noted = noted.calls.items
 told_by fault noted = []
 
 abbrev pub told_of : Result Summary RunFault → Noted → List ℕ
@@ -99,15 +117,16 @@ told_of (Ok s) noted = noted.calls.items
 told_of (Err fault) noted = told_by fault noted
 
 -- how a run ends that left a map, a history and a plan: what is asked for is written, or a prefix of it, the summary is of the
--- history, its refused entries, or what stays behind the plan, end it where it is strict, and buckets made unasked where it is to make
--- none, and are noted, with these lines of written weights
-pub record EndsLeft (mode : Mode) (what : Asked) (plan : PlanData) (adjusted : ℕ) (kept : Option MapData) (m : MapData) (weights : List ℕ) (names : List (List ℕ)) (h : List EntryData) (result : Result Summary RunFault) (old new : Option (List ℕ)) (notes : List ℕ) : Type 0 where
-  pub writes : (o t : List Row) → IsOpening mode what kept m.setting o → Stands m.forest t → Writes result old new (main_text what plan m.setting o t h ++ lines_asked mode.history names h)
+-- history, its refused entries, or what stays behind the plan, end it where it is strict, buckets made unasked where it is to make
+-- none, and names that its map doesn't have, and are noted by this text
+pub record EndsLeft (mode : Mode) (what : Asked) (plan : PlanData) (adjusted : ℕ) (kept : Option MapData) (m : MapData) (text : TextData) (names : List (List ℕ)) (h : List EntryData) (result : Result Summary RunFault) (old new : Option (List ℕ)) (notes : List ℕ) : Type 0 where
+  pub writes : (o t : List Row) → IsOpening mode what kept m.setting o → Stands m.forest t → IsWritten result old new (written_text mode what plan m.setting o t names h)
   pub summary : IfOk result (λ (s : Summary). (t : List Row) → Stands m.forest t → s ≡ summed adjusted (mode.exit_code && differs_of what plan m.setting t h) h)
   pub nothing : IfErr result (λ fault. fault ≢ run.Write → Keeps old new)
   pub fault : IfErr result (IsWritingFault mode)
   pub strict : IsStrict mode.strict h result
   pub no_make : IsNoMake mode.no_make h result
+  pub found : (t : List Row) → Stands m.forest t → IsFound what m.setting t result
   pub whole : IsWhole mode.strict plan.rest result
-  pub told : (o : List Row) → IsOpening mode what kept m.setting o → HistoryNoted mode weights m.setting o names h plan.rest result notes
+  pub told : (o : List Row) → IsOpening mode what kept m.setting o → HistoryNoted mode text m.setting o names h plan.rest result notes
   pub noted : (origin : ℕ → OriginData) (all : Option (List ℕ)) → IsNoted mode.explain origin all result notes

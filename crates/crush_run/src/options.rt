@@ -5,6 +5,7 @@ ghost use Rattle.std.specs.Io.KnownBytes.{Keeps};
 ghost use Rattle.crush_script.specs.Job.{HasJob, IsJob, JobData};
 ghost use Rattle.crush_input.specs.Input.{TakesFew, job_bytes};
 ghost use Rattle.crush_input.specs.Options.{IsNotedAsAsked};
+ghost use Rattle.crush_input.specs.Origins.{job_origin};
 ghost use Rattle.crush_run.specs.Options.{EndsAsAsked, IsOptionsFault};
 
 use crate::ending::Ending;
@@ -52,7 +53,8 @@ where
     ensures output { (bytes : List ℕ) (job : JobData)
         → job_bytes (F.content files.now) options.now (R.remaining input.old) ≡ Some bytes
         → IsJob bytes job
-        → EndsAsAsked (F.content files.now) options.now bytes job result.outcome
+        → EndsAsAsked (F.content files.now) options.now
+        (job_origin (F.content files.now) options.now (R.remaining input.old)) bytes job result.outcome
         (W.contents output.old) (W.contents output.new) result.notes.items }
     ensures fault { IfErr result.outcome (IsOptionsFault (F.content files.now) options.now
         (job_bytes (F.content files.now) options.now (R.remaining input.old))) }

@@ -4,11 +4,12 @@ ghost use Rattle.std.specs.Prelude.{◌≡◌, ◌++◌, [], Err, IfErr, IfOk, L
 ghost use Rattle.std.specs.Io.KnownBytes.{Keeps};
 ghost use Rattle.crush_table.specs.Stands.{Stands};
 ghost use Rattle.crush_table.specs.Table.{Row};
-ghost use Rattle.crush_bytes.specs.Writes.{Writes};
 ghost use Rattle.crush_plan.specs.Plan.{plan_data};
 ghost use Rattle.crush_plan.specs.PlanText.{plan_text};
+ghost use Rattle.crush_run.specs.Output.{IsPut};
 ghost use Rattle.crush_run.specs.Planned.{IsDiffersFault, IsPlanned, IsWhole, plan_words};
 
+use crate::finding::name_of;
 use crush_bytes::{WriteFault, put};
 use crush_input::{Asked, RunFault, WantedMap};
 use crush_map::CrushMap;
@@ -63,7 +64,8 @@ pub(crate) fn plan_asked(
     match asked {
         Asked::To(wanted) => {
             wanted.map.forest().recall_invariant();
-            find_plan(alloc, identity_of(wanted), None, map, &wanted.map)
+            let under = name_of(&wanted.under);
+            find_plan(alloc, identity_of(wanted), under, map, &wanted.map)
         }
         _ => Ok(no_plan(alloc)),
     }
@@ -106,7 +108,7 @@ pub(crate) fn write_plan<W: Write>(
     plan: &Plan,
     writer: &mut W,
 ) -> Result<(), WriteFault>
-    ensures writes { Writes result (W.contents writer.old) (W.contents writer.new)
+    ensures writes { IsPut result (W.contents writer.old) (W.contents writer.new)
         (plan_text (plan_words as_ceph) (plan_data plan.now)) }
     ensures none { result ≡ Err WriteFault.OutOfMemory
         → Keeps (W.contents writer.old) (W.contents writer.new) }

@@ -11,17 +11,18 @@ ghost use Rattle.crush_script.specs.Job.{HasJob, IsJob, JobData, JobStands};
 ghost use Rattle.crush_calls.specs.Script.{scripts_data};
 ghost use Rattle.crush_reasons.specs.Place.{OriginData};
 ghost use Rattle.crush_input.specs.Input.{TakesFew};
-ghost use Rattle.crush_input.specs.Notes.{IsNoted, weight_notes};
+ghost use Rattle.crush_input.specs.Notes.{IsNoted, text_data, text_of};
 ghost use Rattle.crush_input.specs.Origins.{no_origin};
 ghost use Rattle.crush_run.specs.Run.{Ends, IsRunFault};
 ghost use Rattle.crush_run.specs.Stages.{IsOutcomeFault, IsScriptsFault, RunsScripts, needs_opening};
-ghost use Rattle.crush_units.specs.declared.limits.TheConstants.{MOST_ENTRIES, MOST_OPERATORS};
+ghost use Rattle.crush_units.specs.declared.limits.TheConstants.{LONGEST_JOB, MOST_ENTRIES, MOST_OPERATORS};
 
 use crate::at_once::run_at_once;
 use crate::ending::Ending;
 use crate::gate::Gate;
 use crate::in_turn::run_in_turn;
-use crate::outcome::{Left, end_run};
+use crate::left::Left;
+use crate::outcome::end_run;
 use crate::planned::plan_asked;
 use crush_calls::Script;
 use crush_editor::{Closed, Unkept};
@@ -103,13 +104,15 @@ pub(crate) fn run_read<H: AllocGlobal + Threads + Wait + Sync, G: Gate + Sync, W
     rt: &H,
     gate: &G,
     request: &Request,
-    weighed: Weighed,
+    weighed: Weighed<'_>,
     writer: &mut W,
 ) -> Ending
     requires few { length weighed.job.scripts.items ≤ MOST_OPERATORS }
-    requires plain { request.now.mode.explain ≡ false → weighed.weights.items ≡ [] }
-    ensures ends { (read : JobData) → JobStands weighed.job read
-        → Ends request.now.mode request.now.asked read weighed.weights.items result.outcome
+    requires plain { request.now.mode.explain ≡ false → weighed.text.weights.items ≡ [] }
+    requires short { length weighed.text.bytes.items ≤ LONGEST_JOB }
+    ensures ends { (read : JobData) → JobStands weighed.entry.job read
+        → Ends request.now.mode request.now.asked read (text_data weighed.entry.text)
+        result.outcome
         (W.contents writer.old) (W.contents writer.new) result.notes.items }
     ensures nothing { IfErr result.outcome (λ fault. fault ≢ RunFault.Write
         → Keeps (W.contents writer.old) (W.contents writer.new)) }
@@ -118,7 +121,7 @@ pub(crate) fn run_read<H: AllocGlobal + Threads + Wait + Sync, G: Gate + Sync, W
         → IsNoted request.now.mode.explain origin all result.outcome result.notes.items }
 {
     let alloc = rt.alloc();
-    let Weighed { job, weights } = weighed;
+    let Weighed { job, text } = weighed;
     let Job {
         map,
         adjusted,
@@ -150,7 +153,7 @@ pub(crate) fn run_read<H: AllocGlobal + Threads + Wait + Sync, G: Gate + Sync, W
         plan: &plan,
         scripts: named.as_slice(),
         entries,
-        weights: weights.as_slice(),
+        text: &text,
     };
     end_run(alloc, request, &left, writer)
 }
@@ -164,7 +167,7 @@ where
     ensures job { IfOk result.outcome (λ _. HasJob bytes.items) }
     ensures output { (job : JobData) → IsJob bytes.items job
         → Ends request.now.mode request.now.asked job
-        (weight_notes request.now.mode.explain bytes.items job.table) result.outcome
+        (text_of request.now.mode.explain no_origin bytes.items job.table) result.outcome
         (W.contents writer.old) (W.contents writer.new) result.notes.items }
     ensures noted { IsNoted request.now.mode.explain no_origin (Some bytes.items)
         result.outcome result.notes.items }
@@ -172,7 +175,7 @@ where
         → Keeps (W.contents writer.old) (W.contents writer.new)) }
     ensures fault { IfErr result.outcome (IsRunFault request.now.mode (Some bytes.items)) }
 {
-    match job_of(rt, request.mode.explain, Origins::none(), bytes) {
+    match job_of(rt, request.mode.explain, Origins::none(rt.alloc()), bytes) {
         Ok(job) => run_read(rt, gate, request, job, writer),
         Err(stopped) => Ending::of_stopped(stopped),
     }
@@ -226,7 +229,7 @@ where
     ensures output { (bytes : List ℕ) (job : JobData) → R.remaining reader.old ≡ Some bytes
         → IsJob bytes job
         → Ends request.now.mode request.now.asked job
-        (weight_notes request.now.mode.explain bytes job.table) result.outcome
+        (text_of request.now.mode.explain no_origin bytes job.table) result.outcome
         (W.contents writer.old) (W.contents writer.new) result.notes.items }
 
     // A fault of the bytes is noted with its place, and without reasons refused calls alone are.

@@ -88,10 +88,10 @@ entries_told t p n (bucket h w m k rest) above told =
     (All-append (IsTold t) (entries_of (Some h.id) (Some h.name) k) (entries_of p n rest) (entries_told t (Some h.id) (Some h.name) k named told.3) (entries_told t p n rest above told.4))
 
 -- and there is one for each id
-abbrev summed : (ItemId → ℕ) → List EntryData → ℕ
+abbrev pub summed : (ItemId → ℕ) → List EntryData → ℕ
 summed n es = sum_by (λ (e : EntryData). n e.item.view.id) es
 
-entries_of_rows : (n : ItemId → ℕ) (p : Option ℕ) (name : Option (List ℕ)) (items : Items) → summed n (entries_of p name items) ≡ sum_by (λ (r : Row). n r.id) (rows p items)
+pub entries_of_rows : (n : ItemId → ℕ) (p : Option ℕ) (name : Option (List ℕ)) (items : Items) → summed n (entries_of p name items) ≡ sum_by (λ (r : Row). n r.id) (rows p items)
 entries_of_rows n p name none = refl
 entries_of_rows n p name (device d rest) =
     omega (arith, entries_of_rows n p name rest, sum_by-cons (λ (e : EntryData). n e.item.view.id) (device_entry p name d) (entries_of p name rest), sum_by-cons (λ (r : Row). n r.id) (device_row p d) (rows p rest))
@@ -107,7 +107,7 @@ entries_of_rows n p name (bucket h w m k rest) =
     )
 
 -- AN ENTRY IN MEMORY has the id of its item
-view_id : {A : _} (p : Option ℕ) (x : Node A) → (node_view p x).id ≡ node_id x
+pub view_id : {A : _} (p : Option ℕ) (x : Node A) → (node_view p x).id ≡ node_id x
 view_id p (Device l) = refl
 view_id p (Bucket b) = refl
 
@@ -124,7 +124,7 @@ sorted_lists f t xs ys stands are same up = record {
 }
 
 -- A SEARCH by key: two ids with one key are one
-same_key : (i j : ItemId) → id_key i ≡ id_key j → i ≡ j
+pub same_key : (i j : ItemId) → id_key i ≡ id_key j → i ≡ j
 same_key (DeviceItem d) (DeviceItem e) h = ap DeviceItem (omega (arith, h))
 same_key (BucketItem b) (BucketItem c) h = ap BucketItem (omega (arith, h))
 same_key (DeviceItem d) (BucketItem c) h = absurd (omega (arith, h))
@@ -145,23 +145,28 @@ found_here t ls i k at x lists key lt is equal =
     ap (λ l. Some (entry_data l)) is ∙ sym (told_at t ls at x lists.told lt) ∙ ap (entry_of t) same
 
 -- and an id that none has isn't there
-none_has : {A : _} (ls : List (Listed A)) (i : ItemId) → ((j : ℕ) (d : Listed A) → j < length ls → id_key (listed_id (get_or ls j d)) ≡ id_key i → ⊥) → sum_by (λ l. one_if (same_id (listed_id l) i)) ls ≡ 0
-none_has [] i other = refl
-none_has (x ∷ ls) i other = ⊎_elim
+none_has : {X : Type 0} (id_of : X → ItemId) (ls : List X) (i : ItemId) → ((j : ℕ) (d : X) → j < length ls → id_key (id_of (get_or ls j d)) ≡ id_key i → ⊥) → sum_by (λ l. one_if (same_id (id_of l) i)) ls ≡ 0
+none_has id_of [] i other = refl
+none_has id_of (x ∷ ls) i other = ⊎_elim
     (λ p. absurd (other 0 x (omega arith) (ap id_key p.1)))
-    (λ p. let no : one_if (same_id (listed_id x) i) ≡ 0 = ap one_if p.0 in omega (arith, no, none_has ls i (λ j d lt. other (suc j) d (omega (arith, lt))), sum_by-cons (λ l. one_if (same_id (listed_id l) i)) x ls))
-    (same_id_tells (listed_id x) i)
+    (λ p. let no : one_if (same_id (id_of x) i) ≡ 0 = ap one_if p.0 in omega (arith, no, none_has id_of ls i (λ j d lt. other (suc j) d (omega (arith, lt))), sum_by-cons (λ l. one_if (same_id (id_of l) i)) x ls))
+    (same_id_tells (id_of x) i)
+
+pub none_found : {X : Type 0} (id_of : X → ItemId) (ls : List X) (i : ItemId) (k at : ℕ) → IsNonDecreasingBy (λ l. id_key (id_of l)) ls → k ≡ id_key i
+    → (IsNonDecreasingBy (λ y. ordering_index (nat_cmp (id_key (id_of y)) k)) ls → IsPartitionPoint (λ y. nat_cmp (id_key (id_of y)) k ≡ Less) (λ y. nat_cmp (id_key (id_of y)) k ≡ Greater) ls at)
+    → sum_by (λ l. one_if (same_id (id_of l) i)) ls ≡ 0
+none_found id_of ls i k at rising key parted =
+    let parts = parted (comparisons_rise (λ l. id_key (id_of l)) ls k rising) in
+    none_has id_of ls i (λ j d lt same. ⊎_elim
+    (λ p. let greater = ranked _ k _ (sym (parts.1 j d p.1 lt)) in omega (arith, greater, same, key))
+    (λ p. let smaller = ranked _ k _ (sym (parts.0 j d (omega arith) p.1)) in omega (arith, smaller, same, key))
+    (leb_tells at j))
 
 pub found_nowhere : {A : _} (t : List Row) (ls : List (Listed A)) (i : ItemId) (k at : ℕ) → Lists t ls → k ≡ id_key i
     → (IsNonDecreasingBy (λ y. ordering_index (nat_cmp (id_key (listed_id y)) k)) ls → IsPartitionPoint (λ y. nat_cmp (id_key (listed_id y)) k ≡ Less) (λ y. nat_cmp (id_key (listed_id y)) k ≡ Greater) ls at)
     → None ≡ entry_of t i
 found_nowhere t ls i k at lists key parted =
-    let parts = parted (comparisons_rise (λ l. id_key (listed_id l)) ls k lists.rising) in
-    let none = none_has ls i (λ j d lt same. ⊎_elim
-    (λ p. let greater = ranked _ k _ (sym (parts.1 j d p.1 lt)) in omega (arith, greater, same, key))
-    (λ p. let smaller = ranked _ k _ (sym (parts.0 j d (omega arith) p.1)) in omega (arith, smaller, same, key))
-    (leb_tells at j)) in
-    ap (option_map (row_entry t i)) (sym (row_of-absent t i (sym (lists.ids (λ j. one_if (same_id j i))) ∙ none)))
+    ap (option_map (row_entry t i)) (sym (row_of-absent t i (sym (lists.ids (λ j. one_if (same_id j i))) ∙ none_found listed_id ls i k at lists.rising key parted)))
 
 -- what an entry says
 pub entry_item : (t : List Row) (i : ItemId) → option_map (λ (e : EntryData). e.item) (entry_of t i) ≡ item_of t i

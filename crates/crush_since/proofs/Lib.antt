@@ -1,4 +1,5 @@
 pub mod AskedLaws
+pub mod BelowLaws
 pub mod ChangeExamples
 pub mod ChangeTextLaws
 pub mod ChangesItself

@@ -1,13 +1,12 @@
 -- What a look-up tells of an item is what the table says.
-use Rattle.std.proofs.Common.{◌≡◌, ℕ, List, [], ap, ◌∙◌}
+use Rattle.std.proofs.Common.{◌≡◌, ℕ, List, ap, ◌∙◌, refl}
 use Rattle.std.specs.Prelude.{Option, None, Some, option_and_then}
-use Rattle.std.specs.Option.{option_map, option_map_or}
+use Rattle.std.specs.Option.{option_map}
 use Rattle.crush_units.specs.declared.id.ItemId.{ItemId}
 use Rattle.crush_units.specs.declared.id.ItemId.TheVariants.{Bucket}
-use Rattle.crush_table.specs.Items.{ShadowData}
 use Rattle.crush_table.specs.Table.{Row, row_of, name_of}
-use Rattle.crush_nodes.specs.Views.{ViewData, row_view, view_of, class_ids_of}
-use Rattle.crush_since.specs.ItemData.{row_item, item_of, own_class_ids}
+use Rattle.crush_nodes.specs.Views.{ViewData, row_view, view_of}
+use Rattle.crush_since.specs.ItemData.{ItemData, row_item, item_of}
 
 -- an item that is there
 pub item_found : (t : List Row) (i : ItemId) (v : ViewData) (h : Option (List ℕ)) → Some v ≡ view_of t i → h ≡ option_and_then (λ p. name_of t (Bucket p)) v.parent → Some (record { view = v; holder = h }) ≡ item_of t i
@@ -26,16 +25,9 @@ item_absent t i none = by_row (row_of t i) none where
   by_row None e = cc
   by_row (Some r) e = absurd cc
 
--- a bucket's class ids
-pub class_ids_found : (t : List Row) (b : ℕ) (c : List ShadowData) → Some c ≡ class_ids_of t b → c ≡ own_class_ids t (Bucket b)
-class_ids_found t b c found = by_row (row_of t (Bucket b)) found where
-  by_row : (o : Option Row) → Some c ≡ option_map (λ (r : Row). r.class_ids) o → c ≡ option_map_or (λ (r : Row). r.class_ids) o []
-  by_row None e = absurd cc
-  by_row (Some r) e = cc
-
--- one that isn't there has none
-pub class_ids_absent : (t : List Row) (b : ℕ) → None ≡ class_ids_of t b → [] ≡ own_class_ids t (Bucket b)
-class_ids_absent t b none = by_row (row_of t (Bucket b)) none where
-  by_row : (o : Option Row) → None ≡ option_map (λ (r : Row). r.class_ids) o → [] ≡ option_map_or (λ (r : Row). r.class_ids) o []
-  by_row None e = cc
-  by_row (Some r) e = absurd cc
+-- the name of an item that was looked up
+pub item_name : (t : List Row) (i : ItemId) → option_map (λ (x : ItemData). x.view.name) (item_of t i) ≡ name_of t i
+item_name t i = by_row (row_of t i) where
+  by_row : (o : Option Row) → option_map (λ (x : ItemData). x.view.name) (option_map (row_item t) o) ≡ option_map (λ (r : Row). r.name) o
+  by_row None = refl
+  by_row (Some r) = refl

@@ -1,3 +1,4 @@
+pub mod Below
 pub mod ChangeItems
 pub mod ChangeText
 pub mod Changes

@@ -2,6 +2,7 @@
 //!
 //! [`write_since`] prints it item by item, [`write_changes`] as a tree, [`since_part_text`] that of a
 //! part; [`told_ids`] hands out the ids, and [`is_changed`] says whether there is anything.
+//! [`listing_of`] lists a map's items by their ids, and [`all_below`] the ids of those below a bucket.
 #![tactic(auto)]
 
 mod changes;
@@ -9,10 +10,10 @@ mod since;
 
 pub use changes::{no_row_changes_since_itself, write_changes};
 pub use since::{
-    Seen, Tally, alg_bytes, class_bytes, class_ids_of, count_changes, is_changed, is_made,
-    is_part_changed, is_reclassed, is_reweighed, look_up, no_item_is_told_where_rows_are_equal,
-    nothing_changes_since_itself, push_counts, push_kinds, push_part, push_totals, push_tunables,
-    push_with_class, same_algs, same_class, same_class_ids, same_kinds, same_rules, same_step,
-    same_tunables, since_part_text, step_seen, tell_unless, told_ids, type_bytes, weight_of,
-    write_since,
+    Listed, Listing, Seen, Tally, alg_bytes, all_below, class_bytes, count_changes, is_among,
+    is_changed, is_made, is_part_changed, is_reclassed, is_reweighed, listing_of, look_up,
+    no_item_is_told_where_rows_are_equal, nothing_changes_since_itself, push_counts, push_kinds,
+    push_part, push_totals, push_tunables, push_with_class, same_algs, same_class, same_class_ids,
+    same_kinds, same_rules, same_step, same_tunables, since_part_text, tell_unless, told_ids,
+    type_bytes, weight_of, write_since,
 };

@@ -15,6 +15,7 @@ ghost use Rattle.crush_since.specs.SeenItem.{seen_data};
 ghost use Rattle.crush_since.specs.Counted.{IsCounted};
 
 pub(crate) mod asked;
+mod below;
 mod changed;
 pub(crate) mod columns;
 pub(crate) mod counting;
@@ -30,6 +31,7 @@ pub(crate) mod told;
 mod words;
 
 pub use asked::told_ids;
+pub use below::{all_below, is_among};
 pub use changed::{is_changed, is_part_changed};
 pub use columns::{same_algs, same_class, same_class_ids};
 pub use counting::count_changes;
@@ -38,11 +40,12 @@ use crush_map::CrushMap;
 use crush_units::ItemId;
 use emptied::push_emptied;
 use ids::ids_of_both;
-use listing::{Listing, found_class_ids, found_seen, listing_of};
+pub use listing::{Listed, Listing, listing_of};
+use listing::{found_class_ids, found_seen};
 pub use part::since_part_text;
 pub use parts::push_part;
 use parts::{Compared, push_line};
-pub use seen::{Seen, class_ids_of, look_up, step_seen};
+pub use seen::{Seen, look_up};
 use settings::push_settings;
 pub use settings::{
     push_kinds, push_tunables, same_kinds, same_rules, same_step, same_tunables, tell_unless,

@@ -2,7 +2,7 @@
 #![tactic(auto)]
 
 use crush_options::{Options, OptionsFault, options};
-use crush_report::{report, tell};
+use crush_report::{Words, report, tell};
 use crush_run::{Ending, RunFault, Summary, SystemFiles, run_options};
 use std::fs;
 use std::fs::OpenOptions;
@@ -25,12 +25,13 @@ fn main(rt: HostRuntime) -> ExitCode {
                 &mut output,
             );
             let outcome = stored(&rt, outcome);
-            let explain = options.mode.explain;
-            report(&outcome, explain, notes.as_slice(), &mut rt.stderr()).status
+            let words = Words::of(&options);
+            report(words, &outcome, notes.as_slice(), &mut rt.stderr()).status
         }
         Err(fault) => match tell(&fault, &mut rt.stdout(), &mut rt.stderr()) {
             0 if !is_stored(&rt) => {
-                report(&Err(RunFault::Write), false, b"", &mut rt.stderr()).status
+                let unwritten = Err(RunFault::Write);
+                report(Words::none(), &unwritten, b"", &mut rt.stderr()).status
             }
             status => status,
         },

@@ -1,6 +1,6 @@
 //! How many items differ, and in which way.
 
-ghost use Rattle.std.specs.Prelude.{◌≡◌, ◌+◌, ◌<◌, ◌≤◌, ◌^◌, List, Some, IfOk, is_some, not};
+ghost use Rattle.std.specs.Prelude.{◌≡◌, ◌+◌, ◌<◌, ◌≤◌, ◌^◌, ℕ, List, Option, Some, IfOk, is_some, not};
 ghost use Rattle.std.specs.List.{count_by};
 ghost use Rattle.std.specs.Option.{option_map};
 ghost use Rattle.crush_table.specs.Count.{one_if};
@@ -10,8 +10,10 @@ ghost use Rattle.crush_since.specs.SeenItem.{seen_data};
 ghost use Rattle.crush_since.specs.Tallies.{HasRoom, is_made, is_reclassed, is_reweighed};
 ghost use Rattle.crush_view.specs.SeenStep.{step_data};
 ghost use Rattle.crush_names.specs.Counted.{is_gone_by_name, is_moved_by_name, new_tally, tally_by_name, tally_plus};
+ghost use Rattle.crush_names.specs.Sides.{IsSide};
 
-use crate::named::{Devices, counterpart_next, has_counterpart, seen_next};
+use crate::named::{Devices, counterpart, has_counterpart};
+use crate::sides::Side;
 use crate::staying::columns::same_place;
 use crush_map::CrushMap;
 use crush_since::{Seen, Tally, is_made, is_reclassed, is_reweighed};
@@ -29,14 +31,16 @@ pub(crate) fn tally_of<A: Allocator, B: Allocator>(
 {
     let before = walk(alloc, old)?;
     let after = walk(alloc, new)?;
-    let removed = count_gone(new, before.as_slice());
-    let tally = count_new(old, new, after.as_slice());
+    let here = Side::of(alloc, old, None)?;
+    let there = Side::of(alloc, new, None)?;
+    let removed = count_gone(&there, before.as_slice());
+    let tally = count_new(&here, &there, after.as_slice());
     Ok(Tally { removed, ..tally })
 }
 
 /// How many of these items of the old map the new one hasn't.
-fn count_gone<A: Allocator, B: Allocator>(new: &CrushMap<B>, steps: &[Step<'_, A>]) -> usize
-    ensures { (t u : List Row) → Stands new.now.forest u
+fn count_gone<A: Allocator, B: Allocator>(new: &Side<'_, B>, steps: &[Step<'_, A>]) -> usize
+    ensures { (n : Option (List ℕ)) (t u : List Row) → IsSide n u new.now
         → result ≡ count_by (λ s. is_gone_by_name t u (step_data s)) steps.now }
 {
     let mut count: usize = 0;
@@ -47,8 +51,8 @@ fn count_gone<A: Allocator, B: Allocator>(new: &CrushMap<B>, steps: &[Step<'_, A
 }
 
 /// Whether the new map hasn't this item of the old.
-fn is_gone<A: Allocator, B: Allocator>(new: &CrushMap<B>, step: &Step<'_, A>) -> bool
-    ensures { (t u : List Row) → Stands new.now.forest u
+fn is_gone<A: Allocator, B: Allocator>(new: &Side<'_, B>, step: &Step<'_, A>) -> bool
+    ensures { (n : Option (List ℕ)) (t u : List Row) → IsSide n u new.now
         → result ≡ is_gone_by_name t u (step_data step.now) }
 {
     let view = step.view();
@@ -57,12 +61,12 @@ fn is_gone<A: Allocator, B: Allocator>(new: &CrushMap<B>, step: &Step<'_, A>) ->
 
 /// How many of these items of the new map differ in which way.
 fn count_new<'a, A: Allocator, B: Allocator>(
-    old: &'a CrushMap<A>,
-    new: &'a CrushMap<B>,
+    old: &Side<'a, A>,
+    new: &Side<'a, B>,
     steps: &[Step<'a, B>],
 ) -> Tally
-    ensures { (t u : List Row) → Stands old.now.forest t → Stands new.now.forest u
-        → result ≡ new_tally t u step_data steps.now }
+    ensures { (n : Option (List ℕ)) (t u : List Row) → IsSide n t old.now
+        → IsSide n u new.now → result ≡ new_tally t u step_data steps.now }
 {
     let mut tally = Tally {
         made: 0,
@@ -72,14 +76,10 @@ fn count_new<'a, A: Allocator, B: Allocator>(
         reweighed: 0,
         reclassed: 0,
     };
-    let mut last_before = None;
-    let mut last_after = None;
     for step in steps {
-        let after = seen_next(new, &last_after, step);
-        let before = counterpart_next(Devices::ByName, old, &last_before, &after);
-        last_before = before;
-        last_after = Some(after);
-        tally = with(&tally, &last_before, &last_after);
+        let after = new.step_seen(step);
+        let before = counterpart(Devices::ByName, old, &after);
+        tally = with(&tally, &before, &Some(after));
     }
     tally
 }

@@ -41,7 +41,7 @@ pub(crate) fn each_once(alloc: Global, found: &[ItemId]) -> Result<Vec<ItemId>, 
 }
 
 /// The ids of items.
-fn push_ids<A: Allocator>(
+pub(crate) fn push_ids<A: Allocator>(
     items: &[Listed<'_, A>],
     found: &mut Vec<ItemId>,
 ) -> Result<(), AllocError>

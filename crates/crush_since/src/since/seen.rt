@@ -1,20 +1,17 @@
 //! What a map says of an item.
 
-ghost use Rattle.std.specs.Prelude.{◌≡◌, List, option_and_then, map as each};
+ghost use Rattle.std.specs.Prelude.{◌≡◌, List, option_and_then};
 ghost use Rattle.std.specs.Option.{option_map};
-ghost use Rattle.crush_nodes.specs.Seen.{shadow_data};
 ghost use Rattle.crush_nodes.specs.SeenView.{view_data};
 ghost use Rattle.crush_table.specs.Stands.{Stands};
 ghost use Rattle.crush_table.specs.Table.{Row, name_of};
 ghost use Rattle.crush_units.specs.declared.id.ItemId.TheVariants.{Bucket};
-ghost use Rattle.crush_since.specs.ItemData.{item_of, own_class_ids, with_holder};
+ghost use Rattle.crush_since.specs.ItemData.{item_of};
 ghost use Rattle.crush_since.specs.SeenItem.{seen_data};
-ghost use Rattle.crush_view.specs.SeenStep.{step_data};
 
 use crush_map::CrushMap;
-use crush_tree::{ShadowId, View};
+use crush_tree::View;
 use crush_units::ItemId;
-use crush_view::Step;
 use std::alloc::Allocator;
 
 /// An item as a map has it.
@@ -26,7 +23,9 @@ pub struct Seen<'a> {
     pub holder: Option<&'a str>,
 }
 
-/// What the map says of the item of this id. The map's index is asked, and nothing is searched.
+/// What the map says of the item of this id. The map's index is asked for it, for the bucket that
+/// holds it and for all above, and nothing is searched: of many items
+/// [`Listing::look_up`](crate::Listing::look_up) is asked.
 pub fn look_up<A: Allocator>(map: &CrushMap<A>, id: ItemId) -> Option<Seen<'_>>
     ensures { (t : List Row) → Stands map.now.forest t
         → option_map seen_data result ≡ item_of t id }
@@ -40,17 +39,6 @@ pub fn look_up<A: Allocator>(map: &CrushMap<A>, id: ItemId) -> Option<Seen<'_>>
     }
 }
 
-/// The item of a step of the map's tree. The map's index is asked for the name of the bucket that holds
-/// it, and nothing is searched.
-pub fn step_seen<'a, A: Allocator>(map: &'a CrushMap<A>, step: &Step<'a, A>) -> Seen<'a>
-    ensures { (t : List Row) → Stands map.now.forest t
-        → seen_data result ≡ with_holder t (step_data step.now).item }
-{
-    let view = step.view();
-    let holder = holder_of(map, &view);
-    Seen { view, holder }
-}
-
 /// The name of the bucket that holds an item.
 fn holder_of<'a, A: Allocator>(map: &'a CrushMap<A>, view: &View<'a>) -> Option<&'a str>
     ensures { (t : List Row) → Stands map.now.forest t → option_map (λ name. name.now) result
@@ -59,19 +47,5 @@ fn holder_of<'a, A: Allocator>(map: &'a CrushMap<A>, view: &View<'a>) -> Option<
     match view.parent {
         Some(parent) => map.name_of(ItemId::Bucket(parent)),
         None => None,
-    }
-}
-
-/// The class ids of the item of this id, if it is a bucket.
-pub fn class_ids_of<A: Allocator>(map: &CrushMap<A>, id: ItemId) -> &[ShadowId<A>]
-    ensures { (t : List Row) → Stands map.now.forest t
-        → each shadow_data result.now ≡ own_class_ids t id }
-{
-    match id {
-        ItemId::Device(_) => &[],
-        ItemId::Bucket(bucket) => match map.class_ids(bucket) {
-            Some(ids) => ids,
-            None => &[],
-        },
     }
 }

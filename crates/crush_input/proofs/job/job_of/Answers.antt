@@ -1,15 +1,24 @@
-use Rattle.std.proofs.Common.{ℕ, List, ap, sym, subst, ◌∙◌}
+use Rattle.std.proofs.Common.{ℕ, ◌≤◌, List, length, subst, sym}
 use Rattle.crush_script.specs.Job.{IsJob, JobStands}
 use Rattle.crush_script.specs.declared.job.Job.{Job}
-use Rattle.crush_input.specs.Notes.{weight_notes}
+use Rattle.crush_input.specs.Origins.{origin_of}
+use Rattle.crush_input.proofs.Told.{kept_short}
+use Rattle.crush_units.specs.declared.limits.TheConstants.{LONGEST_JOB}
 use Rattle.crush_input.proofs.job.job_of.Goals as goal
 
--- what was read is the job, and its weights were looked at before a script ran
+-- what was read is the job, and what is told of its text was kept before a script ran
 pub returns-in-Ok-weighed-clause-only : goal.returns-in-Ok-weighed-clause-only
 returns-in-Ok-weighed-clause-only g c = λ job is.
-    let same = c.as_slice-bytes.ensures.value in
+    let same = c.as_slice-text.ensures.value in
+    let kept = c.in-Ok-weighed.ensures in
     let stands = c.in-Ok.ensures.only job (subst (λ (z : List ℕ). IsJob z job) (sym same) is) in
     record {
-      stands = subst (λ (j : Job). JobStands j job) (sym c.in-Ok-weighed.ensures.job) stands;
-      weights = c.in-Ok-weighed.ensures.weights job.table stands.map.forest ∙ ap (λ (b : List ℕ). weight_notes c.args.explain b job.table) same;
+      stands = subst (λ (j : Job). JobStands j job) (sym kept.job) stands;
+      text = λ i. record { origin = origin_of (kept.origins i); bytes = kept.bytes i; weights = kept.weights job.table stands.map.forest i };
     }
+
+-- the bytes of a job are no more than it may have
+pub returns-in-Ok-weighed-clause-short : goal.returns-in-Ok-weighed-clause-short
+returns-in-Ok-weighed-clause-short g c =
+    let short = subst (λ (b : List ℕ). length b ≤ LONGEST_JOB) c.as_slice-text.ensures.value c.in-Ok.ensures.job.1.short in
+    subst (λ (b : List ℕ). length b ≤ LONGEST_JOB) (sym c.in-Ok-weighed.ensures.bytes) (kept_short c.args.explain c.args.bytes.items short)

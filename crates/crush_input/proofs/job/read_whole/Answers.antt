@@ -1,13 +1,11 @@
-use Rattle.std.proofs.Common.{ℕ, List, Some, subst}
+use Rattle.std.proofs.Common.{Some, refl}
 use Rattle.std.proofs.lemmas.Result.{err_from_is_err_and}
-use Rattle.std.specs.Prelude.{IfOk}
 use Rattle.crush_input.specs.Input.{job_bytes}
-use Rattle.crush_input.specs.Stages.{IsWeighed}
 use Rattle.crush_input.proofs.Asking.{no_job_as_asked, part_as_asked}
 use Rattle.crush_input.proofs.Joins.{come_from, input_of_joined}
 use Rattle.crush_input.proofs.Outcomes.{err_as, err_both}
 use Rattle.crush_input.proofs.Noted.{noted_of_all}
-use Rattle.crush_input.proofs.Told.{has_job_where_done, job_of_all, no_job_of_all, read_fault_of_input, same_of_job}
+use Rattle.crush_input.proofs.Told.{has_job_where_done, job_of_all, no_job_of_all, read_fault_of_input, same_of_job, weighed_of_all}
 use Rattle.crush_input.proofs.job.read_whole.Goals as goal
 
 pub returns-clause-job : goal.returns-clause-job
@@ -18,8 +16,12 @@ returns-clause-job g c =
 -- the job of all bytes is that of the bytes that were read
 pub returns-clause-only : goal.returns-clause-only
 returns-clause-only g c = λ xs job all is.
-    let input = input_of_joined (job_bytes (g.F.Opens.content c.args.files.now) c.args.options.now (g.R.Read.remaining c.args.input.now)) _ _ c.in_ok-bytes.ensures.job in
-    subst (λ (z : List ℕ). IfOk c.job_of.result (IsWeighed c.args.options.now.mode.explain z job)) (same_of_job _ _ xs job input all is) (c.job_of.ensures.only job (job_of_all _ _ xs job input all is))
+    let content = g.F.Opens.content c.args.files.now in
+    let known = job_bytes content c.args.options.now (g.R.Read.remaining c.args.input.now) in
+    let from = come_from _ _ _ known _ _ c.first_name.ensures refl c.in_ok-bytes.ensures.job in
+    let input = input_of_joined known _ _ c.in_ok-bytes.ensures.job in
+    let own = job_of_all _ _ xs job input all is in
+    weighed_of_all c.args.options.now.mode.explain _ _ known _ xs job c.job_of.result from all own.short (same_of_job _ _ xs job input all is) (c.job_of.ensures.only job own)
 
 pub returns-clause-fault : goal.returns-clause-fault
 returns-clause-fault g c =
@@ -31,7 +33,7 @@ pub returns-clause-noted : goal.returns-clause-noted
 returns-clause-noted g c =
     let content = g.F.Opens.content c.args.files.now in
     let all = job_bytes content c.args.options.now (g.R.Read.remaining c.args.input.now) in
-    let from = come_from _ _ _ all _ _ c.first_name.ensures c.as_slice.ensures.value c.in_ok-bytes.ensures.job in
+    let from = come_from _ _ _ all _ _ c.first_name.ensures refl c.in_ok-bytes.ensures.job in
     err_both _ _ _ c.job_of.result (λ s h told. no_job_as_asked content c.args.options.now (g.R.Read.remaining c.args.input.now) (Some _) s.fault _ h (noted_of_all _ _ _ all _ s.fault _ from h told)) c.job_of.ensures.fault c.job_of.ensures.noted
 
 -- a fault of reading is one, and what is noted of it is noted of a file

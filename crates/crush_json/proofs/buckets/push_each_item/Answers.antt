@@ -1,4 +1,4 @@
-use Rattle.std.proofs.Common.{◌+◌, List, ◌++◌, ap, sym, ◌∙◌, append-nil, map, take}
+use Rattle.std.proofs.Common.{List, ◌++◌, ap, sym, ◌∙◌, append-nil, map, take}
 use Rattle.std.proofs.lemmas.List.{take_all}
 use Rattle.json.specs.Token.{Token}
 use Rattle.crush_nodes.specs.Seen.{node_id}

@@ -1,5 +1,4 @@
-use Rattle.std.proofs.Common.{List, ◌++◌, ap, ◌∙◌}
-use Rattle.json.specs.Token.{Token}
+use Rattle.std.proofs.Common.{◌++◌, ap, ◌∙◌}
 use Rattle.crush_table.specs.Table.{kids}
 use Rattle.crush_json.specs.MapDocument.{item_documents}
 use Rattle.crush_json.specs.Tokens.{tokens_of_all}

@@ -1,4 +1,3 @@
-use Rattle.std.proofs.Common.{◌++◌, List, ap, subst, OnOk, ◌≡◌}
 use Rattle.crush_units.specs.declared.id.ItemId.TheVariants.{Device}
 use Rattle.crush_json.specs.MapDocument.{device_document}
 use Rattle.crush_json.proofs.Told.{told_found, told_absent}

@@ -5,7 +5,7 @@ use Rattle.crush_nodes.specs.Seen.{items_of, node_id}
 use Rattle.crush_nodes.proofs.Ends.{all_taken}
 use Rattle.crush_print.proofs.ItemLines.{item_no_larger}
 use Rattle.crush_json.specs.Ids.{ids_among}
-use Rattle.crush_json.proofs.IdLaws.{ids-more, bucket_ids_below, device_ids}
+use Rattle.crush_json.proofs.IdLaws.{ids-more, bucket_ids_below}
 use Rattle.crush_json.proofs.Listed.{one_more_below}
 use Rattle.crush_json.proofs.ids.+push_node.Goals as goal
 

@@ -1,4 +1,4 @@
-use Rattle.std.proofs.Common.{◌==◌, None, sym, ap, ◌∙◌, map}
+use Rattle.std.proofs.Common.{◌==◌, sym, ap, ◌∙◌, map}
 use Rattle.std.specs.Prelude.{find}
 use Rattle.std.proofs.lemmas.List.{take_all}
 use Rattle.crush_edits.specs.Setting.{RuleData}

@@ -8,7 +8,7 @@ use Rattle.crush_since.specs.ItemData.{item_of}
 use Rattle.crush_since.specs.Since.{Told, told}
 use Rattle.crush_units.specs.Id.{item_number}
 use Rattle.json.specs.Token.{Token, begin_object, end_object}
-use Rattle.std.proofs.Common.{List, [], ap, ◌++◌, ◌∷◌, ◌∙◌}
+use Rattle.std.proofs.Common.{List, [], ◌++◌, ◌∷◌, ◌∙◌}
 use Rattle.std.specs.Prelude.{codes}
 use Rattle.crush_json.proofs.since.push_change.Goals as goal
 

@@ -1,7 +1,7 @@
-use Rattle.std.proofs.Common.{List, ℕ, [], ◌∷◌, ◌++◌, sym, subst, Option, Some}
+use Rattle.std.proofs.Common.{[], ◌∷◌, ◌++◌, sym, subst, Option}
 use Rattle.std.specs.Prelude.{OnOk, ◌≡◌}
 use Rattle.std.specs.Option.{option_map}
-use Rattle.json.specs.Token.{Token, key}
+use Rattle.json.specs.Token.{key}
 use Rattle.crush_since.specs.SeenItem.{seen_data}
 use Rattle.crush_since.specs.declared.since.seen.Seen.{Seen}
 use Rattle.crush_json.specs.SinceDocument.{seen_document}

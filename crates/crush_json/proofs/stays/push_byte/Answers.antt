@@ -1,5 +1,4 @@
-use Rattle.std.proofs.Common.{List, ℕ, [], ◌∷◌, ◌++◌, ap, ◌∙◌}
-use Rattle.json.specs.Token.{Token}
+use Rattle.std.proofs.Common.{List, ℕ, [], ◌++◌, ap, ◌∙◌}
 use Rattle.crush_json.specs.PlanDocument.{line_value}
 use Rattle.crush_json.specs.Tokens.{tokens_of}
 use Rattle.crush_json.proofs.Finds.{equal, other}

@@ -1,6 +1,5 @@
 use Rattle.std.proofs.Common.{List, ℕ, ◌++◌, ap}
 use Rattle.crush_json.specs.PlanDocument.{lines}
-use Rattle.crush_json.specs.Tokens.{tokens_of_all}
 use Rattle.crush_json.proofs.StaysLaws.{lines_done, to_come}
 use Rattle.crush_json.proofs.stays.push_lines.Goals as goal
 

@@ -1,4 +1,4 @@
-use Rattle.std.proofs.Common.{List, ℕ, [], ◌∷◌, ◌++◌, ap, sym, subst}
+use Rattle.std.proofs.Common.{List, [], ◌∷◌, ◌++◌, ap, sym, subst}
 use Rattle.std.specs.Prelude.{OnOk, ◌≡◌, codes, map}
 use Rattle.json.specs.Token.{Token, key}
 use Rattle.crush_nodes.specs.Seen.{node_id}

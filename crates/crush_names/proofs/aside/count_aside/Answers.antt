@@ -10,11 +10,13 @@ pub returns : goal.returns
 returns g c = λ t u a b.
     let under = option_map (λ n. n.now) c.args.under in
     let walked = c.in_ok-steps.ensures u b in
+    let old = c.in_ok-old.ensures.side t a in
+    let new = c.in_ok-new.ensures.side u b in
     record {
       ids =
-          c.count_ids.ensures t u a b ∙ ap (count_by (λ s. is_aside other_id under t u (step_data s))) c.as_slice.ensures.value
+          c.count_ids.ensures under t u old new ∙ ap (count_by (λ s. is_aside other_id under t u (step_data s))) c.as_slice.ensures.value
           ∙ sym (sum_by-map (λ s. cond (is_aside other_id under t u s) 1 0) step_data c.in_ok-steps.steps.items) ∙ ap (count_by (is_aside other_id under t u)) walked;
       class_ids =
-          c.count_class_ids.ensures t u a b ∙ ap (count_by (λ s. is_aside other_class_ids under t u (step_data s))) c.as_slice-2.ensures.value
+          c.count_class_ids.ensures under t u old new ∙ ap (count_by (λ s. is_aside other_class_ids under t u (step_data s))) c.as_slice-2.ensures.value
           ∙ sym (sum_by-map (λ s. cond (is_aside other_class_ids under t u s) 1 0) step_data c.in_ok-steps.steps.items) ∙ ap (count_by (is_aside other_class_ids under t u)) walked;
     }

@@ -9,9 +9,8 @@ use Rattle.crush_names.specs.Pairs.{is_found_in, step_item}
 use Rattle.crush_names.proofs.aside.stands_in_part.Goals as goal
 
 pub returns : goal.returns
-returns g c = λ t u a b.
-    let under = option_map (λ n. n.now) c.args.maps.now.under in
+returns g c = λ n t u a b.
     let y = step_item u (step_data c.args.step.now) in
-    let there : seen_data c.step_seen-there.result ≡ y = c.step_seen-there.ensures u b in
-    let here : option_map seen_data c.counterpart-here.result ≡ counterpart ById t y = c.counterpart-here.ensures t a ∙ ap (counterpart ById t) there in
-    c.is_of_part.ensures t u a b ∙ (λ i. is_in under u ((there i).view.id) || is_found_in under t (here i))
+    let there : seen_data c.step_seen-there.result ≡ y = c.step_seen-there.ensures n u b in
+    let here : option_map seen_data c.counterpart-here.result ≡ counterpart ById t y = c.counterpart-here.ensures n t a ∙ ap (counterpart ById t) there in
+    c.is_of_part.ensures n t u a b ∙ (λ i. is_in n u ((there i).view.id) || is_found_in n t (here i))

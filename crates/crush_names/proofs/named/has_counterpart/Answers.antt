@@ -4,7 +4,7 @@ use Rattle.std.proofs.Common.{sym, ◌∙◌}
 use Rattle.crush_names.proofs.named.has_counterpart.Goals as goal
 
 pub returns-in-Some : goal.returns-in-Some
-returns-in-Some g c = λ t holder stands. c.are_one.ensures ∙ sym (has_one c.args.devices t (record { view = view_data c.args.item.now; holder = holder }) c.in-Some.id stands.lawful.ids (sym (c.in-Some.ensures t stands)))
+returns-in-Some g c = λ n t holder side. c.are_one.ensures ∙ sym (has_one c.args.devices t (record { view = view_data c.args.item.now; holder = holder }) c.in-Some.id side.stands.lawful.ids (sym (c.in-Some.ensures n t side)))
 
 pub returns-in-None : goal.returns-in-None
-returns-in-None g c = λ t holder stands. sym (has_none c.args.devices t (record { view = view_data c.args.item.now; holder = holder }) (sym (c.in-None.ensures t stands)))
+returns-in-None g c = λ n t holder side. sym (has_none c.args.devices t (record { view = view_data c.args.item.now; holder = holder }) (sym (c.in-None.ensures n t side)))

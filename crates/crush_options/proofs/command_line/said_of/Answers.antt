@@ -12,4 +12,7 @@ returns c =
       as_ceph = c.is_set-2.ensures;
       to = sym (c.get_str-2.ensures ∙ first_value-rows found (codes "to"));
       by_name = c.is_set-3.ensures;
+      json = c.is_set-4.ensures;
+      under = sym (c.get_str-3.ensures ∙ first_value-rows found (codes "under"));
+      down_to = sym (c.get_str-4.ensures ∙ first_value-rows found (codes "down-to"));
     }

@@ -1,4 +1,4 @@
-use Rattle.std.proofs.Common.{◌≡◌, ◌∙◌, List, Option, Some, None, [], ap, arith, codes, inr, length, map, sym}
+use Rattle.std.proofs.Common.{◌≡◌, ◌∙◌, List, Option, Some, None, [], ap, arith, codes, inr, length, map, refl, sym}
 use Rattle.std.proofs.lemmas.List.{length-map}
 use Rattle.std.specs.Borrow.{Bor}
 use Rattle.std.specs.Prelude.{option_map, unwrap_or}
@@ -30,7 +30,7 @@ unfolding texts_at
 returns-in-Some-clause-fault c =
     let names = c.in-Some.names in
     let long = ap length (values c.get_strs.result names _ _ c.in-Some.is c.get_strs.ensures (raw_values-rows (found_of c.args.matches.now) (codes "script"))) in
-    refused_much _ _ c.refused.result (inr (omega (arith, long, length-map names.now (λ (v : Bor Text). v.now), c.if-names-gt-MOST_SCRIPTS.true))) c.refused.ensures
+    refused_much _ _ c.refused.result (inr (omega (arith, long, length-map names.now (λ (v : Bor Text). v.now), c.if-names-gt-MOST_SCRIPTS.true), refl)) c.refused.ensures
 
 pub returns-in_ok-copies-in-Some-2-clause-asked : goal.returns-in_ok-copies-in-Some-2-clause-asked
 unfolding texts_at

@@ -9,4 +9,4 @@ pub returns-in-To : goal.returns-in-To
 returns-in-To c =
     let f = c.in-To.wanted.map.forest in
     let sound : IsSound f = subst IsSound c.forest.ensures c.recall_invariant.ensures in
-    IfOk-weaker c.find_plan.result _ _ (λ plan is. λ t stands. rw c.in-To.is (is t (rows_of f) stands (stands_for_rows f sound))) c.find_plan.ensures
+    IfOk-weaker c.find_plan.result _ _ (λ plan is. λ t stands. rw (c.in-To.is, ← c.name_of-under.ensures) (is t (rows_of f) stands (stands_for_rows f sound))) c.find_plan.ensures

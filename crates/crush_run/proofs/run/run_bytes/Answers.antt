@@ -1,6 +1,6 @@
-use Rattle.std.proofs.Common.{ℕ, List, Some, subst}
+use Rattle.std.proofs.Common.{ℕ, Some, ap, subst, ◌∙◌}
 use Rattle.crush_reasons.specs.Place.{OriginData}
-use Rattle.crush_input.specs.Notes.{IsFaultNoted}
+use Rattle.crush_input.specs.Notes.{IsFaultNoted, TextData, text_of}
 use Rattle.crush_input.specs.Origins.{no_origin}
 use Rattle.crush_run.specs.Run.{Ends}
 use Rattle.crush_run.proofs.Early.{early_of_no_job}
@@ -14,7 +14,8 @@ returns-in-Ok-clause-job g c = is_job c.run_read.result.outcome _ c.in-Ok.ensure
 pub returns-in-Ok-clause-output : goal.returns-in-Ok-clause-output
 returns-in-Ok-clause-output g c = λ job is.
     let read = c.in-Ok.ensures.only job is in
-    subst (λ (w : List ℕ). Ends c.args.request.now.mode c.args.request.now.asked job w c.run_read.result.outcome (g.W.Write.contents c.args.writer.now) (g.W.Write.contents c.run_read.new.writer) c.run_read.result.notes.items) read.weights (c.run_read.ensures.ends job read.stands)
+    let text = read.text ∙ ap (λ (o : ℕ → OriginData). text_of c.args.request.now.mode.explain o c.args.bytes.items job.table) c.none.ensures in
+    subst (λ (w : TextData). Ends c.args.request.now.mode c.args.request.now.asked job w c.run_read.result.outcome (g.W.Write.contents c.args.writer.now) (g.W.Write.contents c.run_read.new.writer) c.run_read.result.notes.items) text (c.run_read.ensures.ends job read.stands)
 
 pub returns-in-Ok-clause-noted : goal.returns-in-Ok-clause-noted
 returns-in-Ok-clause-noted g c = c.run_read.ensures.noted no_origin (Some c.args.bytes.items)

@@ -3,7 +3,7 @@ use Rattle.std.proofs.lemmas.Option.{IfSome_then}
 use Rattle.crush_calls.specs.HistoryText.{names_of}
 use Rattle.crush_calls.specs.Script.{scripts_data}
 use Rattle.crush_run.proofs.Early.{early_of_scripts, scripts_noted}
-use Rattle.crush_run.proofs.Noted.{keeps_same}
+use Rattle.crush_run.proofs.Written.{keeps_same}
 use Rattle.crush_run.proofs.Runs.{ended_early, kept_opening, left_ends}
 use Rattle.crush_run.proofs.Told.{outcome_fault_of_scripts, outcome_fault_of_writing}
 use Rattle.crush_run.proofs.run.run_read.Goals as goal
@@ -16,6 +16,9 @@ returns-in_default-clause-ends g c = λ read stands.
 pub returns-in-Err-clause-ends : goal.returns-in-Err-clause-ends
 returns-in-Err-clause-ends g c = λ read stands.
     ended_early c.args.request.now.mode c.args.request.now.asked read _ _ _ _ _ c.quietly-in-Err.ensures.outcome (early_of_scripts _ _ c.in-Err.ensures.fault)
+
+pub returns-in-Err-clause-nothing : goal.returns-in-Err-clause-nothing
+returns-in-Err-clause-nothing g c = rw c.quietly-in-Err.ensures.outcome (λ other. keeps_same _)
 
 pub returns-in-Err-clause-fault : goal.returns-in-Err-clause-fault
 returns-in-Err-clause-fault g c = rw c.quietly-in-Err.ensures.outcome (outcome_fault_of_scripts c.args.request.now.mode _ c.in-Err.ensures.fault)
@@ -42,7 +45,7 @@ returns-clause-ends g c = λ read stands.
     let ran = c.in-Ok-run_scripts.ensures.runs read stands.map stands.scripts in
     let same = ap (λ xs. names_of (scripts_data xs)) c.as_slice-2.ensures.value ∙ c.in-Ok.ensures.names ∙ ap (λ xs. names_of (scripts_data xs)) c.as_slice.ensures.value ∙ ap names_of stands.scripts in
     let opening = kept_opening c.args.request.now.mode c.args.request.now.asked c.in-Ok-opening_asked.opening read.setting read.table c.in-Ok-opening_asked.ensures.kept (IfSome_then c.in-Ok-opening_asked.opening c.in-Ok-opening_asked.ensures.stands (λ m is. is _ _ stands.map)) in
-    left_ends c.args.request.now.mode c.args.request.now.asked _ read _ _ _ _ _ _ _ _ _ _ _ _ c.end_run.ensures c.in-Ok-plan_asked.ensures opening ran same c.as_slice-entries.ensures.value stands.adjusted c.as_slice-3.ensures.value
+    left_ends c.args.request.now.mode c.args.request.now.asked _ read _ _ _ _ _ _ _ _ _ _ _ c.end_run.ensures c.in-Ok-plan_asked.ensures opening ran same c.as_slice-entries.ensures.value stands.adjusted
 
 pub returns-clause-fault : goal.returns-clause-fault
 returns-clause-fault g c = outcome_fault_of_writing c.args.request.now.mode _ c.end_run.ensures.fault

@@ -1,5 +1,4 @@
 use Rattle.crush_json.proofs.PlanLaws.{plan_written}
-use Rattle.crush_json.specs.PlanDocument.{text}
 use Rattle.std.proofs.lemmas.Result.{IfOk-weaker}
 use Rattle.crush_json.proofs.write.plan.plan_text.Goals as goal
 

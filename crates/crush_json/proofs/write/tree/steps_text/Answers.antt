@@ -1,5 +1,4 @@
 use Rattle.crush_json.proofs.Written.{line_written}
-use Rattle.crush_json.specs.PlanDocument.{text}
 use Rattle.std.proofs.lemmas.Result.{IfOk-weaker}
 use Rattle.crush_json.proofs.write.tree.steps_text.Goals as goal
 

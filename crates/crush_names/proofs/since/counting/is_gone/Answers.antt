@@ -8,6 +8,6 @@ use Rattle.crush_names.specs.Named.{counterpart}
 use Rattle.crush_names.proofs.since.counting.is_gone.Goals as goal
 
 pub returns : goal.returns
-returns g c = λ t u b.
+returns g c = λ n t u b.
     let item = (with_holder t (step_data c.args.step.now).item) in
-    ap not (c.has_counterpart.ensures u item.holder b ∙ ap (λ (v : ViewData). is_some (counterpart ByName u (record { view = v; holder = item.holder }))) c.view-view.ensures)
+    ap not (c.has_counterpart.ensures n u item.holder b ∙ ap (λ (v : ViewData). is_some (counterpart ByName u (record { view = v; holder = item.holder }))) c.view-view.ensures)

@@ -1,5 +1,6 @@
 use Rattle.std.proofs.Common.{◌≡◌, Bool, List, ap, sym, map, ◌∙◌, cond}
 use Rattle.std.specs.List.{count_by}
+use Rattle.std.specs.Prelude.{None}
 use Rattle.crush_table.proofs.Reorder.{sum_by-map}
 use Rattle.crush_since.specs.Tallies.{is_made, is_reweighed, is_reclassed}
 use Rattle.crush_since.specs.declared.since.tally.Tally.{Tally}
@@ -17,8 +18,8 @@ returns g c = λ t u a b.
     let old = c.in_ok-before.ensures t a in
     let new = c.in_ok-after.ensures u b in
     let after = c.in_ok-after.after.items in
-    let tally = c.count_new-tally.ensures t u a b ∙ ap (new_tally t u step_data) c.as_slice-2.ensures.value in
-    let removed = c.count_gone-removed.ensures t u b ∙ ap (count_by (λ s. is_gone_by_name t u (step_data s))) c.as_slice.ensures.value ∙ seen (is_gone_by_name t u) step_data _ _ old in
+    let tally = c.count_new-tally.ensures None t u (c.in_ok-here.ensures.side t a) (c.in_ok-there.ensures.side u b) ∙ ap (new_tally t u step_data) c.as_slice-2.ensures.value in
+    let removed = c.count_gone-removed.ensures None t u (c.in_ok-there.ensures.side u b) ∙ ap (count_by (λ s. is_gone_by_name t u (step_data s))) c.as_slice.ensures.value ∙ seen (is_gone_by_name t u) step_data _ _ old in
     λ k. record {
       made = (ap (λ (n : Tally). n.made) tally ∙ seen (both_meet is_made t u) step_data after _ new) k;
       removed = removed k;

@@ -13,4 +13,4 @@ returns g c = λ t stands.
     section_pushed c.push_leaves.result c.args.out.now.items c.extend_from_slice.new.self.items c.push_leaves.new.out.items (codes "\n# devices\n")
     (flat_map (λ r. device_line (device_row None (leaf_data r.now))) c.as_slice.result.now) (device_lines t)
     c.in_ok-extend_from_slice.ensures.items c.push_leaves.ensures
-    (ap (flat_map (λ r. device_line (device_row None (leaf_data r.now)))) c.as_slice.ensures.value ∙ c.in_ok-devices.ensures t stands)
+    (ap (flat_map (λ r. device_line (device_row None (leaf_data r.now)))) c.as_slice.ensures.value ∙ c.in_ok-devices.ensures.lines t stands)

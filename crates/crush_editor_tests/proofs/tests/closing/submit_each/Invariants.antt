@@ -1,6 +1,0 @@
-use Rattle.crush_editor_tests.specs.Seats.{AreAll}
-use Rattle.crush_editor_tests.proofs.tests.closing.submit_each.Given as goal
-
--- the seats stay their operators'
-abbrev pub invariant-loop-operator : goal.invariant-loop-operator
-invariant-loop-operator g l = AreAll g.N.Ledger.parts l.seats.items

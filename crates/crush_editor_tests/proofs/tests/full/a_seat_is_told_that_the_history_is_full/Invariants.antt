@@ -1,7 +1,0 @@
-use Rattle.crush_editor_tests.proofs.tests.full.a_seat_is_told_that_the_history_is_full.Given as goal
-
-abbrev pub ghosts-one_operator-N-Desk : goal.ghosts-one_operator-N-Desk
-ghosts-one_operator-N-Desk g a = record { gauge = a.started.table; opening = a.started.opening }
-
-abbrev pub ghosts-one_operator-N-Ledger : goal.ghosts-one_operator-N-Ledger
-ghosts-one_operator-N-Ledger g a = record { name = a.started.name; parts = a.started.parts }

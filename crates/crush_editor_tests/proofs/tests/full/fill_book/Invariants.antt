@@ -1,6 +1,0 @@
-use Rattle.std.proofs.Common.{◌≡◌}
-use Rattle.crush_editor_tests.proofs.tests.full.fill_book.Given as goal
-
--- the book stays the gauge's
-abbrev pub invariant-loop : goal.invariant-loop
-invariant-loop g l = l.book.table ≡ l.fn.book.table

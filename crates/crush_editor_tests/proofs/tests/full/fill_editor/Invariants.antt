@@ -1,6 +1,0 @@
-use Rattle.crush_editor_tests.specs.Seats.{AreAll}
-use Rattle.crush_editor_tests.proofs.tests.full.fill_editor.Given as goal
-
--- the seats stay their operators'
-abbrev pub invariant-loop : goal.invariant-loop
-invariant-loop g l = AreAll g.N.Ledger.parts l.seats.items

@@ -1,9 +1,0 @@
-use Rattle.std.proofs.Common.{arith}
-use Rattle.crush_calls.proofs.EntryLines.{none_yet, one_more}
-use Rattle.crush_json_tests.proofs.tests.entries_of.Goals as goal
-
-pub loop-call-init : goal.loop-call-init
-loop-call-init g c = none_yet 1 _ c.new-entries.ensures.items
-
-pub loop-call-preserved : goal.loop-call-preserved
-loop-call-preserved g c = one_more 1 _ _ _ c.in-Ok.ensures.items c.loop-call.invariant (omega arith)

@@ -1,5 +1,0 @@
-use Rattle.crush_calls.specs.Entries.{AreOf}
-use Rattle.crush_json_tests.proofs.tests.entries_of.Given as goal
-
-abbrev pub invariant-loop-call : goal.invariant-loop-call
-invariant-loop-call g l = AreOf 1 l.entries.items

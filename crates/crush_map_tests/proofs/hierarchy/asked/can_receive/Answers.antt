@@ -1,0 +1,13 @@
+use Rattle.std.proofs.Common.{rules}
+use Rattle.crush_table.specs.Forest.{rows_of}
+use Rattle.crush_table.proofs.Stands.{stands_for_rows}
+use Rattle.crush_map_tests.proofs.hierarchy.asked.can_receive.Goals as goal
+
+pub fits_attach_by-requires : goal.fits_attach_by-requires
+fits_attach_by-requires c = record {
+  guides = search rules;
+  can = search rules;
+  total =
+      let f = c.args.guide.now.forest.now in
+      c.total-total.ensures (rows_of f) (stands_for_rows f c.recall_invariant.ensures);
+}

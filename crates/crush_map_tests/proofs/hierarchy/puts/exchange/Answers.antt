@@ -1,0 +1,24 @@
+use Rattle.std.proofs.Common.{rules, sym}
+use Rattle.crush_units.specs.declared.id.ItemId.TheVariants.{Bucket}
+use Rattle.crush_table.specs.Forest.{rows_of}
+use Rattle.crush_table.specs.Table.{row_of}
+use Rattle.crush_table.proofs.Stands.{stands_for_rows}
+use Rattle.crush_table.proofs.Swapped.{Lawful-swap}
+use Rattle.crush_map_tests.proofs.Passed.{found, passed}
+use Rattle.crush_map_tests.proofs.hierarchy.puts.exchange.Goals as goal
+
+pub swap-requires-clause-named : goal.swap-requires-clause-named
+swap-requires-clause-named c = record { first = c.in-Some.ensures; second = c.in-Some-named.ensures }
+
+pub swap-requires-clause-can : goal.swap-requires-clause-can
+swap-requires-clause-can c = record {
+  there_a = search rules;
+  there_b = search rules;
+  apart = search rules;
+  fits =
+      let f = c.args.hierarchy.now in
+      let t = rows_of f in
+      let r = found (row_of t (Bucket c.in-Some.a)) (sym c.if-not-has_item.ensures) in
+      let s = found (row_of t (Bucket c.in-Some-named.b)) (sym c.if-not-has_item-2.ensures) in
+      Lawful-swap t c.in-Some.a c.in-Some-named.b r.0 s.0 c.recall_invariant.ensures.lawful r.1 s.1 (sym c.if-are_nested.ensures) (passed _ (c.if-not-fits_swap.ensures t (stands_for_rows f c.recall_invariant.ensures)));
+}

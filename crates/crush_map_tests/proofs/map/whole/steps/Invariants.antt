@@ -1,0 +1,7 @@
+use Rattle.std.specs.Prelude.{All}
+use Rattle.crush_builder.specs.Rules.{IsStepForm}
+use Rattle.crush_map_tests.proofs.map.whole.steps.Given as goal
+
+-- those so far have the form
+abbrev pub invariant-loop-said : goal.invariant-loop-said
+invariant-loop-said g l = All IsStepForm l.made.items

@@ -1,0 +1,66 @@
+//! Which name a refusal is about, on the example map.
+
+use crate::map::asking::{Asked, edit};
+use crate::map::whole::whole_example_map;
+use crush_map::{CrushMap, Edit, EditFault, Refusal};
+use std::alloc::Global;
+use std::process::Abort;
+
+/// An edit, the refusal that it meets, and the name that is at fault.
+type Row = (Asked, Refusal, &'static str);
+
+const ROWS: &[Row] = &[
+    (
+        Asked::Move("h2", &[("host", "h1"), ("host", "h3")]),
+        Refusal::BadLocation,
+        "host",
+    ),
+    (
+        Asked::Move("h2", &[("rack", "r1"), ("root", "r1")]),
+        Refusal::BadLocation,
+        "r1",
+    ),
+    (
+        Asked::Move("h2", &[("rack", "r1"), ("zone", "z1")]),
+        Refusal::NoSuchType,
+        "zone",
+    ),
+    (
+        Asked::Move("h2", &[("rack", "osd.0")]),
+        Refusal::NotABucket,
+        "osd.0",
+    ),
+    (
+        Asked::Move("h2", &[("rack", "h1")]),
+        Refusal::WrongType,
+        "h1",
+    ),
+    (Asked::Swap("h1", "x"), Refusal::NoSuchItem, "x"),
+    (Asked::Swap("osd.0", "h1"), Refusal::NotABucket, "osd.0"),
+    (Asked::Rename("h1", "h2"), Refusal::NameTaken, "h2"),
+    (Asked::AddBucket("h9", "zone"), Refusal::NoSuchType, "zone"),
+    (Asked::Remove("h1"), Refusal::NotEmpty, "h1"),
+];
+
+/// Whether the map refuses the edit so, and blames the name.
+fn is_blamed(map: &mut CrushMap<Global>, edit: &Edit, refusal: Refusal, name: &str) -> bool {
+    map.apply(edit) == Err(EditFault::Refused(refusal))
+        && map.blamed(edit, refusal).as_str() == name
+}
+
+/// Asserts that the row is so.
+fn assert_blamed(rt: &impl Abort, alloc: Global, map: &mut CrushMap<Global>, row: &Row) {
+    let edit = edit(rt, alloc, row.0);
+    let is_right = is_blamed(map, &edit, row.1, row.2);
+    drop(edit);
+    assert!(rt; is_right, "{}", row.2);
+}
+
+#[test]
+fn names_that_refusals_are_about(rt: HostRuntime) {
+    let mut map = whole_example_map(&rt, rt.alloc());
+    for row in ROWS {
+        assert_blamed(&rt, rt.alloc(), &mut map, row);
+    }
+    drop(map);
+}

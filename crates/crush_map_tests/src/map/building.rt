@@ -1,0 +1,128 @@
+//! The example map, statement by statement, and what a builder is asked.
+
+use crate::map::asking::{Fact, are_true_of};
+use crate::map::same::has_the_same;
+use crate::map::statements::{Statement, takes_all};
+use crate::map::whole::{has_the_setting, map_in_the_making, whole_example_map};
+use crush_builder::{BuildFault, MapBuilder};
+use crush_units::{BucketId, DeviceId, ItemId, TypeId};
+use std::alloc::Global;
+use std::process::Abort;
+
+/// What is true of the example map.
+const MADE: &[Fact] = &[
+    Fact::HasId("osd.0", 0),
+    Fact::Weighs("osd.0", 65536),
+    Fact::HasId("osd.1", 1),
+    Fact::Weighs("osd.1", 65536),
+    Fact::HasId("osd.2", 2),
+    Fact::Weighs("osd.2", 32768),
+    Fact::HasId("h1", -2),
+    Fact::Weighs("h1", 131072),
+    Fact::HasId("h2", -3),
+    Fact::Weighs("h2", 32768),
+    Fact::HasId("default", -1),
+    Fact::Weighs("default", 163840),
+    Fact::IsAbsent("h3"),
+    Fact::Counts(3, 3),
+    Fact::Total(163840),
+];
+
+/// The example map, and a copy of it.
+#[test]
+fn the_example_map_is_made_and_copied(rt: HostRuntime) {
+    let map = whole_example_map(&rt, rt.alloc());
+    are_true_of(&rt, &map, 0, MADE);
+    let copy = map.try_copy().expect(&rt, "memory");
+    let is_same = has_the_same(&copy, &map);
+    let is_set = has_the_setting(&rt, map.setting()) && has_the_setting(&rt, copy.setting());
+    drop(copy);
+    drop(map);
+    assert!(rt; is_same && is_set);
+}
+
+/// The device of this number.
+fn device(rt: &impl Abort, number: i32) -> DeviceId {
+    DeviceId::new(number).expect(rt, "a device")
+}
+
+/// The bucket of this number.
+pub(super) fn bucket(rt: &impl Abort, number: i32) -> BucketId {
+    BucketId::new(number).expect(rt, "a bucket")
+}
+
+/// Whether the builder of the example map knows its types, tunables and rules.
+fn knows_the_setting(builder: &MapBuilder<Global>) -> bool {
+    let (osd, host) = (TypeId::new(0), TypeId::new(1));
+    builder.has_kind_number(host)
+        && builder.has_kind_name(b"rack")
+        && builder.is_bucket_kind(host)
+        && !builder.is_bucket_kind(osd)
+        && builder.kind_number(b"host") == Some(host)
+        && builder.has_tunable(b"choose_total_tries")
+        && builder.has_rule_name(b"replicated_rule")
+        && builder.has_rule_id(0)
+        && !builder.is_full_of_kinds()
+        && !builder.is_full_of_tunables()
+        && !builder.is_full_of_rules()
+}
+
+/// The host h2, as an item.
+fn h2(rt: &impl Abort) -> ItemId {
+    ItemId::Bucket(bucket(rt, -3))
+}
+
+/// Whether the builder of the example map knows its items.
+fn knows_the_items(rt: &impl Abort, builder: &MapBuilder<Global>) -> bool {
+    builder.has_device(device(rt, 2))
+        && builder.has_name(b"osd.2")
+        && builder.has_bucket_id(bucket(rt, -2))
+        && builder.bucket_named(b"h1") == Some(bucket(rt, -2))
+        && builder.item_named(b"h2") == Ok(h2(rt))
+        && builder.is_placed(h2(rt))
+        && !builder.is_full_of_devices()
+        && !builder.is_full_of_buckets()
+}
+
+/// A device of a class, and a host with its id and a class id.
+const OPENED: &[Statement] = &[
+    Statement::DeviceOfClass(9, "osd.9", "ssd"),
+    Statement::Begin("host", "h9"),
+    Statement::Id(-4),
+    Statement::ClassId(-5, "ssd"),
+];
+
+/// Whether the builder knows the open host with its class id, which is no item before its end.
+fn knows_the_open_host(rt: &impl Abort, builder: &MapBuilder<Global>) -> bool {
+    !builder.is_idle()
+        && builder.is_numbered()
+        && builder.has_name(b"h9")
+        && builder.has_bucket_id(bucket(rt, -5))
+        && builder.has_class(b"ssd")
+        && !builder.is_full_of_class_ids()
+        && builder.item_named(b"h9") == Err(BuildFault::UnknownItem)
+}
+
+/// The rest of that host, which holds the device, and a root that says one unit too much of it.
+const FILLED: &[Statement] = &[
+    Statement::Alg,
+    Statement::ItemAsItIs("osd.9"),
+    Statement::End,
+    Statement::Begin("root", "r9"),
+    Statement::Id(-6),
+    Statement::Alg,
+    Statement::Item("h9", 65537),
+    Statement::End,
+];
+
+#[test]
+fn what_a_builder_is_asked(rt: HostRuntime) {
+    let mut builder = map_in_the_making(&rt, rt.alloc());
+    let is_asked = knows_the_setting(&builder) && knows_the_items(&rt, &builder);
+    takes_all(&rt, &mut builder, OPENED);
+    let is_open = knows_the_open_host(&rt, &builder);
+    takes_all(&rt, &mut builder, FILLED);
+    let adjusted = builder.adjusted();
+    drop(builder);
+    assert!(rt; is_asked && is_open && adjusted == 1);
+}

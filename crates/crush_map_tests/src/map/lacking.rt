@@ -1,0 +1,428 @@
+//! Each edit, and batches, for which memory runs out at each of their growths: the map is then as
+//! before, and the same call, made again where there is memory, answers and does as ever. And a
+//! batch of as many edits as there may be.
+
+use crate::map::asking::{
+    Asked, CHANGED, Fact, Told, answer, are_true_of, edit, edits, make_batch,
+};
+use crate::map::same::has_the_same;
+use crate::map::whole::{whole_example_map, whole_example_map_in};
+use crush_map::{BatchFault, CrushMap, Done, Dones, Edit, EditFault, Refusal};
+use linked_list_allocator::LocalHeap;
+use std::alloc::Global;
+use std::process::Abort;
+
+/// How many bytes a heap of these tests has.
+const HEAP: usize = 65536;
+
+/// The largest piece that the heap still has, in steps of 64 bytes.
+fn largest_piece(heap: &LocalHeap) -> usize {
+    for step in 0..1024 {
+        let size = HEAP - 64 * step;
+        let piece: Result<Vec<u8, &LocalHeap>, _> = Vec::with_capacity(heap, size);
+        if piece.is_ok() {
+            return size;
+        }
+    }
+    0
+}
+
+/// Takes a piece of the heap.
+fn ballast<'h>(rt: &impl Abort, heap: &'h LocalHeap, size: usize) -> Vec<u8, &'h LocalHeap> {
+    Vec::with_capacity(heap, size).expect(rt, "a piece")
+}
+
+/// A call on the example map, of one edit by itself or of several as a batch.
+struct Call {
+    asked: &'static [Asked],
+    /// What it is answered where there is memory.
+    told: Told,
+    /// What is then true of the map.
+    then: &'static [Fact],
+    /// How often memory runs out for it at least.
+    least: usize,
+}
+
+/// What the map answers to the call where the largest piece of its heap is `spare` bytes. The piece
+/// that the map gave back when it was finished is filled before.
+fn answer_with(
+    rt: &impl Abort,
+    heap: &LocalHeap,
+    spare: usize,
+    map: &mut CrushMap<&LocalHeap>,
+    edits: &[Edit],
+) -> Told {
+    let size = largest_piece(heap);
+    let largest = ballast(rt, heap, size);
+    let given_back = ballast(rt, heap, largest_piece(heap));
+    drop(largest);
+    let rest = ballast(rt, heap, size.saturating_sub(spare));
+    let told = answer(rt, map, edits);
+    drop(given_back);
+    drop(rest);
+    told
+}
+
+/// Whether memory lacked.
+fn is_out_of_memory(told: Told) -> bool {
+    match told {
+        Told::One(answer) => answer == Err(EditFault::OutOfMemory),
+        Told::Batch(answer) => answer == Err(BatchFault::OutOfMemory),
+    }
+}
+
+/// Asserts that the call is answered as where there is memory, and that the map is as it then is.
+fn is_made(rt: &impl Abort, map: &CrushMap<&LocalHeap>, place: usize, call: &Call, told: Told) {
+    assert!(rt; told == call.told, "call {place}");
+    are_true_of(rt, map, place, call.then);
+}
+
+/// Asserts that the map is the example map.
+fn is_the_example_map(rt: &impl Abort, alloc: Global, map: &CrushMap<&LocalHeap>) {
+    let whole = whole_example_map(rt, alloc);
+    let same = has_the_same(map, &whole);
+    drop(whole);
+    assert!(rt; same);
+}
+
+/// One of the calls, with its place among them and its edits.
+#[derive(Clone, Copy)]
+struct Asking<'a> {
+    place: usize,
+    call: &'a Call,
+    edits: &'a [Edit],
+}
+
+/// Whether memory ran out for the call, which was answered so. The map is then as before. With
+/// memory again the same call is made.
+fn lacked(
+    rt: &impl Abort,
+    alloc: Global,
+    map: &mut CrushMap<&LocalHeap>,
+    asking: &Asking<'_>,
+    told: Told,
+) -> bool {
+    let lacks = is_out_of_memory(told);
+    let mut made = told;
+    if lacks {
+        is_the_example_map(rt, alloc, map);
+        made = answer(rt, map, asking.edits);
+    }
+    is_made(rt, map, asking.place, asking.call, made);
+    lacks
+}
+
+/// Whether memory runs out for the call on the example map in a heap whose largest piece is then
+/// `spare` bytes.
+fn lacks_with(rt: &impl Abort, alloc: Global, spare: usize, asking: &Asking<'_>) -> bool {
+    let heap = LocalHeap::new(alloc, HEAP).expect(rt, "a heap");
+    let mut map = whole_example_map_in(rt, alloc, &heap).expect(rt, "a map");
+    let told = answer_with(rt, &heap, spare, &mut map, asking.edits);
+    let lacks = lacked(rt, alloc, &mut map, asking, told);
+    drop(map);
+    lacks
+}
+
+/// Asserts how often memory runs out at least for the call in a heap that has hardly any memory left,
+/// then 64 bytes more, and so on until there is enough.
+fn lacks_often(rt: &impl Abort, alloc: Global, asking: &Asking<'_>) {
+    let place = asking.place;
+    for times in 0..256 {
+        if !lacks_with(rt, alloc, 64 * times, asking) {
+            assert!(rt; times >= asking.call.least, "call {place}");
+            return;
+        }
+    }
+    panic!(rt; "no heap has enough memory")
+}
+
+/// Asserts of each call, made on maps of its own, how often memory runs out for it at least.
+fn lack_at_each_growth(rt: &impl Abort, alloc: Global, calls: &[Call]) {
+    for (place, call) in calls.iter().enumerate() {
+        let edits = edits(rt, alloc, call.asked);
+        let asking = Asking {
+            place,
+            call,
+            edits: edits.as_slice(),
+        };
+        lacks_often(rt, alloc, &asking);
+        drop(edits);
+    }
+}
+
+/// [`CHANGED`] with a bucket that is made.
+const ADDED: Told = Told::One(Ok(Done {
+    changed: true,
+    made: 1,
+}));
+
+/// Items are put where a location leads: a device in new buckets, one that moves, one that gets
+/// another weight in its place, and a host that moves into a new bucket.
+const PUTS: &[Call] = &[
+    Call {
+        asked: &[Asked::Add(
+            3,
+            21823,
+            &[("host", "h3"), ("rack", "r1"), ("root", "default")],
+        )],
+        told: Told::One(Ok(Done {
+            changed: true,
+            made: 2,
+        })),
+        then: &[
+            Fact::Holds("h3", &["osd.3"], 21823),
+            Fact::Holds("r1", &["h3"], 21823),
+            Fact::Holds("default", &["h1", "h2", "r1"], 185663),
+            Fact::HasId("h3", -4),
+            Fact::HasId("r1", -5),
+        ],
+        least: 2,
+    },
+    Call {
+        asked: &[Asked::CreateOrMove(0, 327680, &[("host", "h2")])],
+        told: CHANGED,
+        then: &[
+            Fact::Holds("h1", &["osd.1"], 65536),
+            Fact::Holds("h2", &["osd.2", "osd.0"], 98304),
+            Fact::Holds("default", &["h1", "h2"], 163840),
+        ],
+        least: 1,
+    },
+    Call {
+        asked: &[Asked::Set(1, 196608, &[("host", "h1")])],
+        told: CHANGED,
+        then: &[Fact::Holds("h1", &["osd.0", "osd.1"], 262144)],
+        least: 0,
+    },
+    Call {
+        asked: &[Asked::Move("h2", &[("rack", "r1"), ("root", "default")])],
+        told: ADDED,
+        then: &[
+            Fact::Holds("r1", &["h2"], 32768),
+            Fact::HasId("r1", -4),
+            Fact::Holds("default", &["h1", "r1"], 163840),
+        ],
+        least: 1,
+    },
+];
+
+#[test]
+fn memory_lacks_for_what_is_put(rt: HostRuntime) {
+    lack_at_each_growth(&rt, rt.alloc(), PUTS);
+}
+
+/// The other edits. An exchange, new weights and a removal need no memory.
+const OTHERS: &[Call] = &[
+    Call {
+        asked: &[Asked::Swap("h1", "h2")],
+        told: CHANGED,
+        then: &[
+            Fact::Holds("h2", &["osd.2"], 32768),
+            Fact::Holds("h1", &["osd.0", "osd.1"], 131072),
+            Fact::Holds("default", &["h2", "h1"], 163840),
+            Fact::HasId("h2", -2),
+            Fact::HasId("h1", -3),
+        ],
+        least: 0,
+    },
+    Call {
+        asked: &[Asked::Reweight("osd.2", 65536)],
+        told: CHANGED,
+        then: &[
+            Fact::Holds("h2", &["osd.2"], 65536),
+            Fact::Holds("default", &["h1", "h2"], 196608),
+            Fact::Total(196608),
+        ],
+        least: 0,
+    },
+    Call {
+        asked: &[Asked::ReweightSubtree("h1", 16384)],
+        told: CHANGED,
+        then: &[
+            Fact::Holds("h1", &["osd.0", "osd.1"], 32768),
+            Fact::Holds("default", &["h1", "h2"], 65536),
+        ],
+        least: 0,
+    },
+    Call {
+        asked: &[Asked::Remove("osd.0")],
+        told: CHANGED,
+        then: &[
+            Fact::Holds("h1", &["osd.1"], 65536),
+            Fact::Holds("default", &["h1", "h2"], 98304),
+            Fact::IsAbsent("osd.0"),
+        ],
+        least: 0,
+    },
+    Call {
+        asked: &[Asked::AddBucket("h9", "host")],
+        told: ADDED,
+        then: &[
+            Fact::Holds("h9", &[], 0),
+            Fact::HasId("h9", -4),
+            Fact::IsRoot("h9"),
+        ],
+        least: 1,
+    },
+    Call {
+        asked: &[Asked::Rename("h1", "hq")],
+        told: CHANGED,
+        then: &[
+            Fact::Holds("hq", &["osd.0", "osd.1"], 131072),
+            Fact::Holds("default", &["hq", "h2"], 163840),
+        ],
+        least: 0,
+    },
+    Call {
+        asked: &[Asked::SetClass("osd.0", "ssd")],
+        told: CHANGED,
+        then: &[
+            Fact::HasClass("osd.0", "ssd"),
+            Fact::Holds("h1", &["osd.0", "osd.1"], 131072),
+        ],
+        least: 0,
+    },
+];
+
+#[test]
+fn memory_lacks_for_other_edits(rt: HostRuntime) {
+    lack_at_each_growth(&rt, rt.alloc(), OTHERS);
+}
+
+/// A batch that is made, one that is refused at its third edit, and one that is made in place, of which
+/// the first and the last edit take memory.
+const BATCHES: &[Call] = &[
+    Call {
+        asked: &[
+            Asked::AddBucket("h9", "host"),
+            Asked::Move("h9", &[("root", "default")]),
+        ],
+        told: Told::Batch(Ok(Dones {
+            edits: 2,
+            changed: 2,
+            made: 1,
+        })),
+        then: &[
+            Fact::Holds("default", &["h1", "h2", "h9"], 163840),
+            Fact::Holds("h9", &[], 0),
+            Fact::HasId("h9", -4),
+        ],
+        least: 2,
+    },
+    Call {
+        asked: &[
+            Asked::Add(3, 65536, &[("host", "h2")]),
+            Asked::Rename("h1", "hq"),
+            Asked::Remove("h2"),
+        ],
+        told: Told::Batch(Err(BatchFault::Refused(2, Refusal::NotEmpty))),
+        then: &[
+            Fact::Holds("h1", &["osd.0", "osd.1"], 131072),
+            Fact::Holds("h2", &["osd.2"], 32768),
+            Fact::Holds("default", &["h1", "h2"], 163840),
+            Fact::IsAbsent("osd.3"),
+            Fact::IsAbsent("hq"),
+        ],
+        least: 2,
+    },
+    Call {
+        asked: &[
+            Asked::SetClass("osd.0", "a-class-of-more-than-thirty-bytes"),
+            Asked::Reweight("osd.0", 1),
+            Asked::AddBucket("h9", "host"),
+        ],
+        told: Told::Batch(Ok(Dones {
+            edits: 3,
+            changed: 3,
+            made: 1,
+        })),
+        then: &[
+            Fact::HasClass("osd.0", "a-class-of-more-than-thirty-bytes"),
+            Fact::Weighs("osd.0", 1),
+            Fact::HasId("h9", -4),
+        ],
+        least: 3,
+    },
+];
+
+#[test]
+fn memory_lacks_for_batches(rt: HostRuntime) {
+    lack_at_each_growth(&rt, rt.alloc(), BATCHES);
+}
+
+/// So many new weights of one device, from 0 units up.
+fn new_weights(rt: &impl Abort, alloc: Global, count: u32) -> Vec<Edit> {
+    let mut made = Vec::new(alloc);
+    for number in 0..count {
+        let edit = edit(rt, alloc, Asked::Reweight("osd.0", number));
+        made.push(edit).expect(rt, "memory");
+    }
+    made
+}
+
+/// 64 new weights, and the same with a last edit that is refused.
+const WEIGHTS: &[Call] = &[
+    Call {
+        asked: &[],
+        told: Told::Batch(Ok(Dones {
+            edits: 64,
+            changed: 64,
+            made: 0,
+        })),
+        then: &[
+            Fact::Weighs("osd.0", 63),
+            Fact::Holds("default", &["h1", "h2"], 98367),
+        ],
+        least: 1,
+    },
+    Call {
+        asked: &[Asked::Remove("h2")],
+        told: Told::Batch(Err(BatchFault::Refused(64, Refusal::NotEmpty))),
+        then: &[
+            Fact::Weighs("osd.0", 65536),
+            Fact::Holds("default", &["h1", "h2"], 163840),
+        ],
+        least: 1,
+    },
+];
+
+/// Asserts of each call, behind 64 new weights, how often memory runs out for it at least.
+fn lack_behind_weights(rt: &impl Abort, alloc: Global, calls: &[Call]) {
+    for (place, call) in calls.iter().enumerate() {
+        let mut edits = new_weights(rt, alloc, 64);
+        for asked in call.asked {
+            edits.push(edit(rt, alloc, *asked)).expect(rt, "memory");
+        }
+        let asking = Asking {
+            place,
+            call,
+            edits: edits.as_slice(),
+        };
+        lacks_often(rt, alloc, &asking);
+        drop(edits);
+    }
+}
+
+#[test]
+fn memory_lacks_for_batches_of_weights(rt: HostRuntime) {
+    lack_behind_weights(&rt, rt.alloc(), WEIGHTS);
+}
+
+/// What is true after as many of them as a batch may have.
+const LAST: &[Fact] = &[Fact::Holds("default", &["h1", "h2"], 163839)];
+
+#[test]
+fn as_many_edits_as_there_may_be(rt: HostRuntime) {
+    let edits = new_weights(&rt, rt.alloc(), 65536);
+    let mut map = whole_example_map(&rt, rt.alloc());
+    let told = make_batch(&rt, &mut map, edits.as_slice());
+    drop(edits);
+    are_true_of(&rt, &map, 0, LAST);
+    drop(map);
+    let all = Dones {
+        edits: 65536,
+        changed: 65536,
+        made: 0,
+    };
+    assert!(rt; told == Ok(all));
+}

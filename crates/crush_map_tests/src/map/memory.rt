@@ -1,0 +1,148 @@
+//! The example map in heaps of each size. Only its hierarchy is there: a setting is in the
+//! machine's memory, of which a test can refuse nothing.
+
+use crate::map::same::has_the_same;
+use crate::map::statements::make;
+use crate::map::whole::{BEFORE_RULE, has_the_setting, whole_example_map, whole_example_map_in};
+use crush_builder::{BuildFault, MapBuilder};
+use crush_map::CrushMap;
+use crush_units::ItemId;
+use linked_list_allocator::LocalHeap;
+use std::alloc::Global;
+use std::process::Abort;
+
+/// An item of the example map: after how many of the statements it is there, and held by a bucket.
+struct Item {
+    name: &'static str,
+    there: usize,
+    held: usize,
+}
+
+/// The items of the example map. Its root is held by none.
+const ITEMS: &[Item] = &[
+    Item {
+        name: "osd.0",
+        there: 2,
+        held: 12,
+    },
+    Item {
+        name: "osd.1",
+        there: 3,
+        held: 13,
+    },
+    Item {
+        name: "osd.2",
+        there: 4,
+        held: 18,
+    },
+    Item {
+        name: "h1",
+        there: 14,
+        held: 23,
+    },
+    Item {
+        name: "h2",
+        there: 19,
+        held: 24,
+    },
+    Item {
+        name: "default",
+        there: 25,
+        held: 26,
+    },
+];
+
+/// Whether the builder has the item of this id as after so many statements.
+fn is_made(builder: &MapBuilder<&LocalHeap>, taken: usize, item: &Item, id: &ItemId) -> bool {
+    taken >= item.there && builder.is_placed(*id) == (taken >= item.held)
+}
+
+/// Whether the builder has the item as after so many statements, which is none at first.
+fn is_there(builder: &MapBuilder<&LocalHeap>, taken: usize, item: &Item) -> bool {
+    match builder.item_named(item.name.as_bytes()) {
+        Ok(id) => is_made(builder, taken, item, &id),
+        Err(fault) => matches!(fault, BuildFault::UnknownItem) && taken < item.there,
+    }
+}
+
+/// Whether the builder has the items as after so many statements.
+fn are_there(builder: &MapBuilder<&LocalHeap>, taken: usize) -> bool {
+    ITEMS.iter().all(|item| is_there(builder, taken, item))
+}
+
+/// Makes the statements up to the first for which memory runs out. After each, and after that one, the
+/// builder has the items of those that were taken.
+fn make_and_look(rt: &impl Abort, builder: &mut MapBuilder<&LocalHeap>) {
+    for (taken, statement) in BEFORE_RULE.iter().enumerate() {
+        assert!(rt; are_there(builder, taken), "statement {taken}");
+        if make(rt, builder, *statement).is_err() {
+            assert!(rt; are_there(builder, taken), "statement {taken}");
+            return;
+        }
+    }
+    assert!(rt; are_there(builder, BEFORE_RULE.len()));
+}
+
+/// Makes as much of the map in the heap as it has memory for, and looks at it.
+fn look_at_what_is_made(rt: &impl Abort, alloc: Global, heap: &LocalHeap) {
+    if let Ok(mut builder) = MapBuilder::new(alloc, heap) {
+        make_and_look(rt, &mut builder);
+        drop(builder);
+    }
+}
+
+/// Whether the map has no memory for a copy.
+fn lacks_a_copy(map: &CrushMap<&LocalHeap>) -> bool {
+    map.forest().try_copy().is_err()
+}
+
+/// Whether the map is this one, and has no memory for a copy.
+fn is_in_full_memory(
+    rt: &impl Abort,
+    map: &CrushMap<&LocalHeap>,
+    whole: &CrushMap<Global>,
+) -> bool {
+    has_the_setting(rt, map.setting()) && has_the_same(map, whole) && lacks_a_copy(map)
+}
+
+/// Whether the heap has the map that the machine's memory has. One that is too small has no memory for
+/// a statement of the map.
+fn holds_the_map(
+    rt: &impl Abort,
+    alloc: Global,
+    heap: &LocalHeap,
+    whole: &CrushMap<Global>,
+) -> bool {
+    match whole_example_map_in(rt, alloc, heap) {
+        Ok(map) => {
+            let is_whole = is_in_full_memory(rt, &map, whole);
+            drop(map);
+            assert!(rt; is_whole);
+            true
+        }
+        Err(fault) => {
+            assert!(rt; fault == BuildFault::OutOfMemory);
+            false
+        }
+    }
+}
+
+/// Asserts that a heap holds the map, after those that are too small, in each of which what was made
+/// before memory lacked is as the statements say.
+fn is_held(rt: &impl Abort, alloc: Global, whole: &CrushMap<Global>) {
+    for i in 1..1024 {
+        let heap = LocalHeap::new(alloc, 64 * i).expect(rt, "a heap");
+        look_at_what_is_made(rt, alloc, &heap);
+        if holds_the_map(rt, alloc, &heap, whole) {
+            return;
+        }
+    }
+    panic!(rt; "no heap holds the map")
+}
+
+#[test]
+fn in_heaps_of_each_size(rt: HostRuntime) {
+    let whole = whole_example_map(&rt, rt.alloc());
+    is_held(&rt, rt.alloc(), &whole);
+    drop(whole);
+}

@@ -1,0 +1,437 @@
+//! Worked calls on the example map, refused ones among them: after each, every name is looked up as the
+//! plain table has it, and as a search of the forest finds it.
+
+use crate::map::asking::{Asked, CHANGED, Told, answer, edits};
+use crate::map::looked_up::{NAMES, are_looked_up};
+use crate::map::whole::whole_example_map;
+use crush_map::{BatchFault, CrushMap, Done, Dones, EditFault, Refusal};
+use crush_units::{BucketId, ItemId, Weight};
+use std::alloc::Global;
+use std::process::Abort;
+
+/// An item of the plain table: its name, the number of its id, and its weight in units.
+type Item = (&'static str, i32, u32);
+
+/// Items of the plain table that one bucket holds, or that none does.
+#[derive(Clone, Copy)]
+enum Kids {
+    Roots(&'static [Item]),
+    Of(&'static str, &'static [Item]),
+}
+
+/// A call on the map that the one before it left, what it is answered, and the plain table then.
+struct Line {
+    asked: &'static [Asked],
+    told: Told,
+    then: &'static [Kids],
+}
+
+/// The items that are told.
+fn items(kids: &Kids) -> &'static [Item] {
+    match kids {
+        Kids::Roots(items) => items,
+        Kids::Of(_, items) => items,
+    }
+}
+
+/// The name of the bucket that holds them.
+fn holder(kids: &Kids) -> Option<&'static str> {
+    match kids {
+        Kids::Roots(_) => None,
+        Kids::Of(bucket, _) => Some(bucket),
+    }
+}
+
+/// The name of a bucket, if there is one.
+fn name_of(map: &CrushMap<Global>, bucket: Option<BucketId>) -> Option<&str> {
+    match bucket {
+        Some(id) => map.name_of(ItemId::Bucket(id)),
+        None => None,
+    }
+}
+
+/// Whether the item is looked up by its name, in the bucket of this name.
+fn is_row(map: &CrushMap<Global>, item: &Item, holder: Option<&str>) -> bool {
+    let (name, number, units) = *item;
+    let Some(id) = map.locate(name) else {
+        return false;
+    };
+    let id = &id;
+    id.number() == number
+        && map.weight_of(name) == Some(Weight::from_units(units))
+        && name_of(map, map.parent(*id)) == holder
+}
+
+/// Whether the items are.
+fn are_rows(map: &CrushMap<Global>, kids: &Kids) -> bool {
+    items(kids)
+        .iter()
+        .all(|item| is_row(map, item, holder(kids)))
+}
+
+/// Whether the table has an item of the name.
+fn has_name(table: &[Kids], name: &str) -> bool {
+    table
+        .iter()
+        .any(|kids| items(kids).iter().any(|item| item.0 == name))
+}
+
+/// Whether no item is looked up by a name that the table doesn't have.
+fn is_no_other(map: &CrushMap<Global>, table: &[Kids], name: &str) -> bool {
+    has_name(table, name) || (map.locate(name).is_none() && map.weight_of(name).is_none())
+}
+
+/// Whether all names are looked up as the table has them.
+fn is_told(map: &CrushMap<Global>, table: &[Kids]) -> bool {
+    table.iter().all(|kids| are_rows(map, kids))
+        && NAMES.iter().all(|name| is_no_other(map, table, name))
+}
+
+/// Makes a call, and asserts its answer and how all names are looked up then.
+fn make_and_look(
+    rt: &impl Abort,
+    alloc: Global,
+    map: &mut CrushMap<Global>,
+    place: usize,
+    line: &Line,
+) {
+    let edits = edits(rt, alloc, line.asked);
+    let told = answer(rt, map, edits.as_slice());
+    drop(edits);
+    assert!(rt; told == line.told, "line {place}");
+    assert!(rt; is_told(map, line.then), "line {place}");
+    assert!(rt; are_looked_up(map), "line {place}");
+}
+
+/// Makes the calls one after the other on the example map.
+fn make_all(rt: &impl Abort, alloc: Global, lines: &[Line]) {
+    let mut map = whole_example_map(rt, alloc);
+    for (place, line) in lines.iter().enumerate() {
+        make_and_look(rt, alloc, &mut map, place, line);
+    }
+    drop(map);
+}
+
+/// The edit is made, and changes nothing.
+const KEPT: Told = Told::One(Ok(Done {
+    changed: false,
+    made: 0,
+}));
+
+/// The edit is made with two new buckets.
+const MADE_TWO: Told = Told::One(Ok(Done {
+    changed: true,
+    made: 2,
+}));
+
+/// The example map.
+const EXAMPLE: &[Kids] = &[
+    Kids::Roots(&[("default", -1, 163840)]),
+    Kids::Of("default", &[("h1", -2, 131072), ("h2", -3, 32768)]),
+    Kids::Of("h1", &[("osd.0", 0, 65536), ("osd.1", 1, 65536)]),
+    Kids::Of("h2", &[("osd.2", 2, 32768)]),
+];
+
+/// A device comes by two new buckets.
+const IN_A_NEW_RACK: &[Line] = &[Line {
+    asked: &[Asked::Add(
+        3,
+        21823,
+        &[("host", "h3"), ("rack", "r1"), ("root", "default")],
+    )],
+    told: MADE_TWO,
+    then: &[
+        Kids::Roots(&[("default", -1, 185663)]),
+        Kids::Of(
+            "default",
+            &[("h1", -2, 131072), ("h2", -3, 32768), ("r1", -5, 21823)],
+        ),
+        Kids::Of("r1", &[("h3", -4, 21823)]),
+        Kids::Of("h1", &[("osd.0", 0, 65536), ("osd.1", 1, 65536)]),
+        Kids::Of("h2", &[("osd.2", 2, 32768)]),
+        Kids::Of("h3", &[("osd.3", 3, 21823)]),
+    ],
+}];
+
+/// A device comes where the first bucket of its location is.
+const IN_THE_FIRST_THERE: &[Line] = &[Line {
+    asked: &[Asked::Add(
+        3,
+        65536,
+        &[("host", "h1"), ("rack", "r9"), ("root", "other")],
+    )],
+    told: CHANGED,
+    then: &[
+        Kids::Roots(&[("default", -1, 229376)]),
+        Kids::Of("default", &[("h1", -2, 196608), ("h2", -3, 32768)]),
+        Kids::Of(
+            "h1",
+            &[
+                ("osd.0", 0, 65536),
+                ("osd.1", 1, 65536),
+                ("osd.3", 3, 65536),
+            ],
+        ),
+        Kids::Of("h2", &[("osd.2", 2, 32768)]),
+    ],
+}];
+
+/// A device stays where it is, and then moves with its weight; nothing goes below itself.
+const PLACED: &[Line] = &[
+    Line {
+        asked: &[Asked::CreateOrMove(0, 327680, &[("host", "h1"), ("root", "other")])],
+        told: KEPT,
+        then: EXAMPLE,
+    },
+    Line {
+        asked: &[Asked::Move("default", &[("host", "h1")])],
+        told: Told::One(Err(EditFault::Refused(Refusal::Loop))),
+        then: EXAMPLE,
+    },
+    Line {
+        asked: &[Asked::Move("h1", &[("host", "h1")])],
+        told: Told::One(Err(EditFault::Refused(Refusal::Loop))),
+        then: EXAMPLE,
+    },
+    Line {
+        asked: &[Asked::CreateOrMove(0, 327680, &[("host", "h2")])],
+        told: CHANGED,
+        then: &[
+            Kids::Roots(&[("default", -1, 163840)]),
+            Kids::Of("default", &[("h1", -2, 65536), ("h2", -3, 98304)]),
+            Kids::Of("h1", &[("osd.1", 1, 65536)]),
+            Kids::Of("h2", &[("osd.2", 2, 32768), ("osd.0", 0, 65536)]),
+        ],
+    },
+];
+
+#[test]
+fn what_is_put_is_looked_up(rt: HostRuntime) {
+    make_all(&rt, rt.alloc(), IN_A_NEW_RACK);
+    make_all(&rt, rt.alloc(), IN_THE_FIRST_THERE);
+    make_all(&rt, rt.alloc(), PLACED);
+}
+
+/// Two buckets exchange their names and items.
+const EXCHANGED: &[Line] = &[Line {
+    asked: &[Asked::Swap("h1", "h2")],
+    told: CHANGED,
+    then: &[
+        Kids::Roots(&[("default", -1, 163840)]),
+        Kids::Of("default", &[("h2", -2, 32768), ("h1", -3, 131072)]),
+        Kids::Of("h1", &[("osd.0", 0, 65536), ("osd.1", 1, 65536)]),
+        Kids::Of("h2", &[("osd.2", 2, 32768)]),
+    ],
+}];
+
+/// Devices and hosts are removed, and the root that a rule takes stays.
+const REMOVED: &[Line] = &[
+    Line {
+        asked: &[Asked::Remove("default")],
+        told: Told::One(Err(EditFault::Refused(Refusal::NotEmpty))),
+        then: EXAMPLE,
+    },
+    Line {
+        asked: &[Asked::Remove("osd.0")],
+        told: CHANGED,
+        then: &[
+            Kids::Roots(&[("default", -1, 98304)]),
+            Kids::Of("default", &[("h1", -2, 65536), ("h2", -3, 32768)]),
+            Kids::Of("h1", &[("osd.1", 1, 65536)]),
+            Kids::Of("h2", &[("osd.2", 2, 32768)]),
+        ],
+    },
+    Line {
+        asked: &[Asked::Remove("osd.1")],
+        told: CHANGED,
+        then: &[
+            Kids::Roots(&[("default", -1, 32768)]),
+            Kids::Of("default", &[("h1", -2, 0), ("h2", -3, 32768)]),
+            Kids::Of("h2", &[("osd.2", 2, 32768)]),
+        ],
+    },
+    Line {
+        asked: &[Asked::Remove("h1")],
+        told: CHANGED,
+        then: &[
+            Kids::Roots(&[("default", -1, 32768)]),
+            Kids::Of("default", &[("h2", -3, 32768)]),
+            Kids::Of("h2", &[("osd.2", 2, 32768)]),
+        ],
+    },
+    Line {
+        asked: &[Asked::Remove("osd.2")],
+        told: CHANGED,
+        then: &[
+            Kids::Roots(&[("default", -1, 0)]),
+            Kids::Of("default", &[("h2", -3, 0)]),
+        ],
+    },
+    Line {
+        asked: &[Asked::Remove("h2")],
+        told: CHANGED,
+        then: &[Kids::Roots(&[("default", -1, 0)])],
+    },
+    Line {
+        asked: &[Asked::Remove("default")],
+        told: Told::One(Err(EditFault::Refused(Refusal::InUse))),
+        then: &[Kids::Roots(&[("default", -1, 0)])],
+    },
+];
+
+#[test]
+fn what_is_exchanged_or_removed_is_looked_up(rt: HostRuntime) {
+    make_all(&rt, rt.alloc(), EXCHANGED);
+    make_all(&rt, rt.alloc(), REMOVED);
+}
+
+/// The example map with a rack that is as heavy as one can be.
+const HEAVY: &[Kids] = &[
+    Kids::Roots(&[("default", -1, 163840), ("rx", -5, 4294967294)]),
+    Kids::Of("rx", &[("hx", -4, 4294967294)]),
+    Kids::Of(
+        "hx",
+        &[("osd.10", 10, 2147483647), ("osd.11", 11, 2147483647)],
+    ),
+    Kids::Of("default", &[("h1", -2, 131072), ("h2", -3, 32768)]),
+    Kids::Of("h1", &[("osd.0", 0, 65536), ("osd.1", 1, 65536)]),
+    Kids::Of("h2", &[("osd.2", 2, 32768)]),
+];
+
+/// Devices come into a rack until it would be too heavy.
+const HEAVIER: &[Line] = &[
+    Line {
+        asked: &[Asked::Add(10, 2147483647, &[("host", "hx"), ("rack", "rx")])],
+        told: MADE_TWO,
+        then: &[
+            Kids::Roots(&[("default", -1, 163840), ("rx", -5, 2147483647)]),
+            Kids::Of("rx", &[("hx", -4, 2147483647)]),
+            Kids::Of("hx", &[("osd.10", 10, 2147483647)]),
+            Kids::Of("default", &[("h1", -2, 131072), ("h2", -3, 32768)]),
+            Kids::Of("h1", &[("osd.0", 0, 65536), ("osd.1", 1, 65536)]),
+            Kids::Of("h2", &[("osd.2", 2, 32768)]),
+        ],
+    },
+    Line {
+        asked: &[Asked::Add(11, 2147483647, &[("host", "hx")])],
+        told: CHANGED,
+        then: HEAVY,
+    },
+    Line {
+        asked: &[Asked::Add(12, 2147483647, &[("host", "hy"), ("rack", "rx")])],
+        told: Told::One(Err(EditFault::Refused(Refusal::SumTooLarge))),
+        then: HEAVY,
+    },
+    Line {
+        asked: &[Asked::Remove("hy")],
+        told: Told::One(Err(EditFault::Refused(Refusal::NoSuchItem))),
+        then: HEAVY,
+    },
+    Line {
+        asked: &[Asked::Add(13, 2147483648, &[("host", "hy")])],
+        told: Told::One(Err(EditFault::Refused(Refusal::WeightTooLarge))),
+        then: HEAVY,
+    },
+];
+
+#[test]
+fn what_is_too_heavy_is_not_looked_up(rt: HostRuntime) {
+    make_all(&rt, rt.alloc(), HEAVIER);
+}
+
+/// The example map with an empty host.
+const WITH_A_HOST: &[Kids] = &[
+    Kids::Roots(&[("default", -1, 163840)]),
+    Kids::Of(
+        "default",
+        &[("h1", -2, 131072), ("h2", -3, 32768), ("h9", -4, 0)],
+    ),
+    Kids::Of("h1", &[("osd.0", 0, 65536), ("osd.1", 1, 65536)]),
+    Kids::Of("h2", &[("osd.2", 2, 32768)]),
+];
+
+/// A batch that is refused at its third edit, one that is made, and one without an edit.
+const BATCHES: &[Line] = &[
+    Line {
+        asked: &[
+            Asked::Add(3, 65536, &[("host", "h2")]),
+            Asked::Rename("h1", "hq"),
+            Asked::Remove("h2"),
+        ],
+        told: Told::Batch(Err(BatchFault::Refused(2, Refusal::NotEmpty))),
+        then: EXAMPLE,
+    },
+    Line {
+        asked: &[
+            Asked::AddBucket("h9", "host"),
+            Asked::Move("h9", &[("root", "default")]),
+        ],
+        told: Told::Batch(Ok(Dones {
+            edits: 2,
+            changed: 2,
+            made: 1,
+        })),
+        then: WITH_A_HOST,
+    },
+    Line {
+        asked: &[],
+        told: Told::Batch(Ok(Dones {
+            edits: 0,
+            changed: 0,
+            made: 0,
+        })),
+        then: WITH_A_HOST,
+    },
+];
+
+#[test]
+fn what_batches_do_is_looked_up(rt: HostRuntime) {
+    make_all(&rt, rt.alloc(), BATCHES);
+}
+
+/// New weights, of one device two: a batch that is refused at its last edit, one that is refused
+/// before, and one that is made, whose last edit is an exchange.
+const BATCHES_OF_WEIGHTS: &[Line] = &[
+    Line {
+        asked: &[
+            Asked::Reweight("osd.0", 196608),
+            Asked::Reweight("osd.2", 0),
+            Asked::Reweight("osd.0", 16384),
+            Asked::Remove("h2"),
+        ],
+        told: Told::Batch(Err(BatchFault::Refused(3, Refusal::NotEmpty))),
+        then: EXAMPLE,
+    },
+    Line {
+        asked: &[
+            Asked::Reweight("osd.1", 131072),
+            Asked::Reweight("h1", 65536),
+            Asked::Reweight("osd.2", 65536),
+        ],
+        told: Told::Batch(Err(BatchFault::Refused(1, Refusal::NotADevice))),
+        then: EXAMPLE,
+    },
+    Line {
+        asked: &[
+            Asked::Reweight("osd.0", 196608),
+            Asked::Reweight("osd.0", 131072),
+            Asked::Swap("h1", "h2"),
+        ],
+        told: Told::Batch(Ok(Dones {
+            edits: 3,
+            changed: 3,
+            made: 0,
+        })),
+        then: &[
+            Kids::Roots(&[("default", -1, 229376)]),
+            Kids::Of("default", &[("h2", -2, 32768), ("h1", -3, 196608)]),
+            Kids::Of("h2", &[("osd.2", 2, 32768)]),
+            Kids::Of("h1", &[("osd.0", 0, 131072), ("osd.1", 1, 65536)]),
+        ],
+    },
+];
+
+#[test]
+fn what_batches_of_weights_do_is_looked_up(rt: HostRuntime) {
+    make_all(&rt, rt.alloc(), BATCHES_OF_WEIGHTS);
+}

@@ -1,0 +1,189 @@
+//! The devices and the buckets of a map, in the order in which they are printed.
+
+ghost use Rattle.std.specs.Prelude.{◌≡◌, List, [], ◌∷◌, ◌++◌, None, OnOk, IfOk, flat_map, map};
+ghost use Rattle.std.specs.List.Sorted.{IsPermutation};
+ghost use Rattle.crush_table.specs.ItemRows.{device_row};
+ghost use Rattle.crush_table.specs.Stands.{Stands};
+ghost use Rattle.crush_table.specs.Table.{Row};
+ghost use Rattle.crush_edits.specs.Setting.{SettingData};
+ghost use Rattle.crush_nodes.specs.Seen.{items_of, leaf_data, node_id};
+ghost use Rattle.crush_print.specs.ItemsText.{buckets_among, id_number, leaves, own_text};
+ghost use Rattle.crush_print.specs.Lines.{device_line};
+ghost use Rattle.crush_print.specs.MapText.{ascending, bucket_numbers, device_lines, device_numbers, root_texts};
+
+use crush_map::CrushMap;
+use crush_tree::{Bucket, Forest, Leaf, Node};
+use crush_units::{BucketId, DeviceId, ItemId};
+use std::alloc::{AllocError, Allocator, Global};
+
+/// The ids of all devices of a map, upward, as they are printed. Go on from each by
+/// [`CrushMap::find`], and by [`CrushMap::parent`] to the bucket that holds it, if one does.
+///
+/// An `Err` says that memory ran out.
+pub fn devices<A: Allocator>(alloc: Global, map: &CrushMap<A>) -> Result<Vec<DeviceId>, AllocError>
+    ensures { IfOk result (λ devices. (t : List Row) → Stands map.now.forest t
+        → devices.items ≡ device_numbers t) }
+{
+    let devices = devices_in_order(alloc, map.forest())?;
+    ids_of_devices(alloc, devices.as_slice())
+}
+
+/// The ids of all buckets of a map as they are printed: the roots from -1 downward, each behind the
+/// buckets below it, and these in the order of the items. Go on from each by [`CrushMap::find`], by
+/// [`CrushMap::items`] to what is in it, and by [`CrushMap::parent`] to the bucket that holds it, if
+/// one does.
+///
+/// An `Err` says that memory ran out.
+pub fn buckets<A: Allocator>(alloc: Global, map: &CrushMap<A>) -> Result<Vec<BucketId>, AllocError>
+    ensures { IfOk result (λ buckets. (t : List Row) → Stands map.now.forest t
+        → buckets.items ≡ bucket_numbers t) }
+{
+    let buckets = buckets_in_order(alloc, map.forest())?;
+    ids_of_buckets(alloc, buckets.as_slice())
+}
+
+/// The ids of devices, in their order.
+fn ids_of_devices<A: Allocator>(
+    alloc: Global,
+    devices: &[&Leaf<A>],
+) -> Result<Vec<DeviceId>, AllocError>
+    ensures { IfOk result (λ ids. ids.items ≡ map (λ d. (leaf_data d.now).id) devices.now) }
+{
+    devices.iter().map(|device| device.id).collect(alloc)
+}
+
+/// The ids of buckets, in their order.
+fn ids_of_buckets<A: Allocator>(
+    alloc: Global,
+    buckets: &[&Bucket<A>],
+) -> Result<Vec<BucketId>, AllocError>
+    ensures { IfOk result (λ ids. ids.items ≡ map (λ b. b.now.header.id) buckets.now) }
+{
+    buckets.iter().map(|bucket| bucket.header.id).collect(alloc)
+}
+
+/// The devices of the forest, by ascending id.
+pub(crate) fn devices_in_order<A: Allocator>(
+    alloc: Global,
+    forest: &Forest<A>,
+) -> Result<Vec<&Leaf<A>>, AllocError>
+    ensures ids { IfOk result (λ devices. (t : List Row) → Stands forest.now t
+        → map (λ d. (leaf_data d.now).id) devices.items ≡ device_numbers t) }
+    ensures lines { IfOk result (λ devices. (t : List Row) → Stands forest.now t
+        → flat_map (λ d. device_line (device_row None (leaf_data d.now))) devices.items
+        ≡ device_lines t) }
+{
+    let mut devices = Vec::new(alloc);
+    find_devices(forest.unplaced(), &mut devices)?;
+    find_devices(forest.roots(), &mut devices)?;
+    devices.sort_unstable_by_key(|device| device.id.number());
+    Ok(devices)
+}
+
+/// The devices among the nodes and below them, in order.
+fn find_devices<'a, A: Allocator>(
+    nodes: &'a [Node<A>],
+    found: &mut Vec<&'a Leaf<A>>,
+) -> Result<(), AllocError>
+    ensures { OnOk result (map (λ l. leaf_data l.now) found.new.items
+        ≡ map (λ l. leaf_data l.now) found.old.items ++ leaves (items_of nodes.now)) }
+{
+    for node in nodes {
+        match node {
+            Node::Device(leaf) => found.push(leaf)?,
+            Node::Bucket(bucket) => {
+                let bucket: &'a Bucket<A> = bucket;
+                find_devices(bucket.items.as_slice(), found)?;
+            }
+        }
+    }
+    Ok(())
+}
+
+/// The buckets of the forest: the roots by id from -1 downward, each behind the buckets below it.
+pub(crate) fn buckets_in_order<A: Allocator>(
+    alloc: Global,
+    forest: &Forest<A>,
+) -> Result<Vec<&Bucket<A>>, AllocError>
+    ensures ids { IfOk result (λ buckets. (t : List Row) → Stands forest.now t
+        → map (λ b. b.now.header.id) buckets.items ≡ bucket_numbers t) }
+    ensures texts { IfOk result (λ buckets. (s : SettingData) (t : List Row) → Stands forest.now t
+        → flat_map (λ b. own_text s b.now) buckets.items ≡ root_texts s t) }
+{
+    forest.recall_invariant();
+    let roots = nodes_in_order(alloc, forest.roots())?;
+    buckets_below(alloc, roots.as_slice())
+}
+
+/// The buckets among the nodes, node by node, each behind the buckets below it.
+fn buckets_below<'a, A: Allocator>(
+    alloc: Global,
+    nodes: &[&'a Node<A>],
+) -> Result<Vec<&'a Bucket<A>>, AllocError>
+    ensures { IfOk result (λ found. map (λ b. b.now) found.items
+        ≡ flat_map (λ r. buckets_among (items_of (r.now ∷ []))) nodes.now) }
+{
+    let mut found = Vec::new(alloc);
+    for node in nodes {
+        find_buckets(*node, &mut found)?;
+    }
+    Ok(found)
+}
+
+/// A bucket behind the buckets below it. Of a device nothing.
+fn find_buckets<'a, A: Allocator>(
+    node: &'a Node<A>,
+    found: &mut Vec<&'a Bucket<A>>,
+) -> Result<(), AllocError>
+    ensures { OnOk result (map (λ b. b.now) found.new.items
+        ≡ map (λ b. b.now) found.old.items ++ buckets_among (items_of (node.now ∷ []))) }
+{
+    match node {
+        Node::Device(_) => Ok(()),
+        Node::Bucket(bucket) => {
+            let bucket: &'a Bucket<A> = bucket;
+            let items = bucket.items.as_slice();
+            for item in items {
+                find_buckets(item, found)?;
+            }
+            found.push(bucket)?;
+            Ok(())
+        }
+    }
+}
+
+/// References to the nodes, by the numbers of their ids from the least: roots from -1 downward,
+/// devices upward. An `Err` says that memory ran out.
+pub fn nodes_in_order<A: Allocator>(
+    alloc: Global,
+    nodes: &[Node<A>],
+) -> Result<Vec<&Node<A>>, AllocError>
+    ensures same { IfOk result (λ sorted. IsPermutation nodes.now (map (λ r. r.now) sorted.items)) }
+    ensures rising { IfOk result (λ sorted. map (λ r. id_number (node_id r.now)) sorted.items
+        ≡ ascending (map (λ node. id_number (node_id node)) nodes.now)) }
+{
+    let mut sorted = references(alloc, nodes)?;
+    sorted.sort_unstable_by_key(|node| number_of(*node));
+    Ok(sorted)
+}
+
+/// References to the nodes, in their order.
+fn references<A: Allocator>(alloc: Global, nodes: &[Node<A>]) -> Result<Vec<&Node<A>>, AllocError>
+    ensures { IfOk result (λ references. map (λ r. r.now) references.items ≡ nodes.now) }
+{
+    let mut references = Vec::new(alloc);
+    for node in nodes {
+        references.push(node)?;
+    }
+    Ok(references)
+}
+
+/// The number of an item's id: how far it is from 0.
+fn number_of<A: Allocator>(node: &Node<A>) -> u32
+    ensures { result ≡ id_number (node_id node.now) }
+{
+    match node.id() {
+        ItemId::Device(device) => device.number(),
+        ItemId::Bucket(bucket) => bucket.distance(),
+    }
+}

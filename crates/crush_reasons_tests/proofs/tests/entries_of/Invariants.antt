@@ -1,6 +1,0 @@
-use Rattle.std.proofs.Common.{length}
-use Rattle.crush_calls.specs.Entries.{AreOf}
-use Rattle.crush_reasons_tests.proofs.tests.entries_of.Given as goal
-
-abbrev pub invariant-loop-call : goal.invariant-loop-call
-invariant-loop-call g l = AreOf (length l.scripts) l.entries.items

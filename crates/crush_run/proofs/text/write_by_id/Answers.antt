@@ -1,0 +1,18 @@
+use Rattle.std.proofs.Common.{subst}
+use Rattle.crush_table.specs.Forest.{rows_of, IsSound}
+use Rattle.crush_table.proofs.Stands.{stands_for_rows}
+use Rattle.crush_run.proofs.Written.{put_of_writes}
+use Rattle.crush_run.proofs.text.write_by_id.Goals as goal
+
+-- the other map stands for its rows
+pub returns-in-Some-clause-writes : goal.returns-in-Some-clause-writes
+returns-in-Some-clause-writes g c = λ t stands.
+    let f = c.args.old.now.forest in
+    let sound : IsSound f = subst IsSound c.forest.ensures c.recall_invariant.ensures in
+    rw c.in-Some.is (c.write_part.ensures.writes (rows_of f) t (stands_for_rows f sound) stands)
+
+pub returns-in-None-clause-writes : goal.returns-in-None-clause-writes
+returns-in-None-clause-writes g c = λ t stands.
+    let f = c.args.old.now.forest in
+    let sound : IsSound f = subst IsSound c.forest.ensures c.recall_invariant.ensures in
+    rw c.in-None.is (put_of_writes _ _ _ _ (c.write_since.ensures.writes (rows_of f) t (stands_for_rows f sound) stands) c.write_since.ensures.none)

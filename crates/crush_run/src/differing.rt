@@ -1,0 +1,99 @@
+//! Whether there is something to tell of a map, which the status may tell.
+
+ghost use Rattle.std.specs.Prelude.{◌≡◌, ◌≤◌, ◌&&◌, List, IfOk, length, true};
+ghost use Rattle.crush_input.specs.Options.{name_text};
+ghost use Rattle.crush_table.specs.Forest.{rows_of};
+ghost use Rattle.crush_table.specs.Stands.{Stands};
+ghost use Rattle.crush_table.specs.Table.{Row};
+ghost use Rattle.crush_since.specs.Since.{told};
+ghost use Rattle.crush_plan.specs.Plan.{plan_data};
+ghost use Rattle.crush_run.specs.Run.{differs_of, has_changed, is_changed_by_id};
+ghost use Rattle.crush_units.specs.declared.limits.TheConstants.{MOST_ENTRIES};
+
+use crate::finding::{item_asked, name_of};
+use crate::left::Left;
+use crush_calls::count_changes;
+use crush_input::{Asked, OldMap, Request};
+use crush_map::CrushMap;
+use crush_names::is_changed_by_name;
+use crush_since::{is_changed, is_part_changed};
+use crush_units::ItemId;
+use std::alloc::{AllocError, Global};
+
+/// Whether an item or a setting is told of what has changed since another map, or an item of a part.
+fn is_changed_by_id(
+    alloc: Global,
+    under: Option<ItemId>,
+    old: &CrushMap<Global>,
+    map: &CrushMap<Global>,
+) -> Result<bool, AllocError>
+    ensures { IfOk result (λ is_told. (t : List Row) → Stands map.now.forest t
+        → is_told ≡ is_changed_by_id under (told old.now.setting (rows_of old.now.forest))
+        (told map.now.setting t)) }
+{
+    old.forest().recall_invariant();
+    match under {
+        Some(item) => is_part_changed(alloc, old, map, item),
+        None => is_changed(alloc, old, map),
+    }
+}
+
+/// The same by the names of items.
+fn is_named_changed(alloc: Global, old: &OldMap, map: &CrushMap<Global>) -> Result<bool, AllocError>
+    ensures { IfOk result (λ is_told. (t : List Row) → Stands map.now.forest t
+        → is_told ≡ has_changed true (name_text old.now.under)
+        (told old.now.map.setting (rows_of old.now.map.forest)) (told map.now.setting t)) }
+{
+    old.map.forest().recall_invariant();
+    is_changed_by_name(alloc, name_of(&old.under), &old.map, map)
+}
+
+/// Whether an item or a setting is told of what has changed since another map, in the way that is
+/// asked for.
+fn has_changed(alloc: Global, old: &OldMap, map: &CrushMap<Global>) -> Result<bool, AllocError>
+    ensures { IfOk result (λ is_told. (t : List Row) → Stands map.now.forest t
+        → is_told ≡ has_changed old.now.by_name (name_text old.now.under)
+        (told old.now.map.setting (rows_of old.now.map.forest)) (told map.now.setting t)) }
+{
+    if old.by_name {
+        return is_named_changed(alloc, old, map);
+    }
+    let under = item_asked(name_of(&old.under), map);
+    is_changed_by_id(alloc, under, &old.map, map)
+}
+
+/// Whether there is something to tell of the map: of changes since another map, of a plan, and else
+/// that a call changed it.
+fn differs(alloc: Global, asked: &Asked, left: &Left<'_>) -> Result<bool, AllocError>
+    requires { length left.now.entries.now ≤ MOST_ENTRIES }
+    ensures { IfOk result (λ differs. (t : List Row) → Stands left.now.map.now.forest t
+        → differs ≡ differs_of asked.now (plan_data left.now.plan.now) left.now.map.now.setting t
+        left.now.entries.now) }
+{
+    match asked {
+        Asked::Since(old) => has_changed(alloc, old, left.map),
+        Asked::Changes(old) => is_changed_by_id(alloc, None, old, left.map),
+        Asked::To(_) => {
+            let (edits, rest) = (left.plan.edits.as_slice(), left.plan.rest.as_slice());
+            Ok(!edits.is_empty() || !rest.is_empty())
+        }
+        Asked::Map | Asked::Tree(_) | Asked::AsCeph => Ok(count_changes(left.entries) > 0),
+    }
+}
+
+/// The same, where the status is to tell it.
+pub(crate) fn differs_asked(
+    alloc: Global,
+    request: &Request,
+    left: &Left<'_>,
+) -> Result<bool, AllocError>
+    requires { length left.now.entries.now ≤ MOST_ENTRIES }
+    ensures { IfOk result (λ differs. (t : List Row) → Stands left.now.map.now.forest t
+        → differs ≡ (request.now.mode.exit_code && differs_of request.now.asked
+        (plan_data left.now.plan.now) left.now.map.now.setting t left.now.entries.now)) }
+{
+    if request.mode.exit_code {
+        return differs(alloc, &request.asked, left);
+    }
+    Ok(false)
+}

@@ -1,0 +1,230 @@
+//! What a run writes for a person.
+
+ghost use Rattle.std.specs.Prelude.{◌≡◌, ◌≤◌, List, Err, IfErr, IfOk, is_some, length, true};
+ghost use Rattle.std.specs.Io.KnownBytes.{Keeps};
+ghost use Rattle.crush_input.specs.Options.{name_text};
+ghost use Rattle.crush_since.specs.Since.{told};
+ghost use Rattle.crush_since.specs.SincePart.{since_part_text};
+ghost use Rattle.crush_table.specs.Forest.{rows_of};
+ghost use Rattle.crush_table.specs.Stands.{Stands};
+ghost use Rattle.crush_table.specs.Table.{Row};
+ghost use Rattle.crush_calls.specs.Entries.{AreOf};
+ghost use Rattle.crush_calls.specs.HistoryText.{names_of};
+ghost use Rattle.crush_calls.specs.Script.{scripts_data};
+ghost use Rattle.crush_edits.specs.Setting.{SettingData};
+ghost use Rattle.crush_input.specs.Notes.{IsKept};
+ghost use Rattle.crush_reasons.specs.Ceph.{ceph_text};
+ghost use Rattle.crush_plan.specs.Plan.{plan_data};
+ghost use Rattle.crush_run.specs.Output.{IsPut, changed_by_id, changed_by_name, changed_text, lines_asked, main_text, person_text};
+ghost use Rattle.crush_run.specs.Stages.{IsOpening, needs_opening};
+ghost use Rattle.crush_units.specs.declared.limits.TheConstants.{MOST_ENTRIES};
+
+use crate::finding::{item_asked, name_of, part_of};
+use crate::left::Left;
+use crate::planned::write_plan;
+use crush_bytes::{WriteFault, put};
+use crush_calls::{Entry, Script, history_text};
+use crush_input::{Asked, OldMap, Request};
+use crush_map::CrushMap;
+use crush_names::{write_since_by_name, write_since_by_name_part};
+use crush_print::write_map;
+use crush_reasons::ceph_text;
+use crush_since::{since_part_text, write_changes, write_since};
+use crush_units::ItemId;
+use crush_view::write_tree_part;
+use std::alloc::{AllocError, Global};
+use std::io::Write;
+
+/// The lines of the history, where they are asked for.
+fn lines_asked(
+    alloc: Global,
+    history: bool,
+    scripts: &[Script],
+    entries: &[Entry],
+) -> Result<Vec<u8>, AllocError>
+    requires few { length entries.now ≤ MOST_ENTRIES }
+    requires operators { AreOf (length scripts.now) entries.now }
+    ensures { IfOk result (λ lines. lines.items
+        ≡ lines_asked history (names_of (scripts_data scripts.now)) entries.now) }
+{
+    if history {
+        return history_text(alloc, scripts, entries);
+    }
+    Ok(Vec::new(alloc))
+}
+
+/// The commands that changed a map, as Ceph's own, by a copy of the map before them.
+fn ceph_lines(
+    alloc: Global,
+    opening: &CrushMap<Global>,
+    entries: &[Entry],
+) -> Result<Vec<u8>, AllocError>
+    requires { length entries.now ≤ MOST_ENTRIES }
+    ensures { IfOk result (λ text. (o : List Row) → Stands opening.now.forest o
+        → text.items ≡ ceph_text opening.now.setting o entries.now) }
+{
+    let opening = opening.try_copy()?;
+    ceph_text(alloc, opening, entries)
+}
+
+/// Writes these commands. The map before them was kept.
+fn write_ceph<W: Write>(alloc: Global, left: &Left<'_>, writer: &mut W) -> Result<(), WriteFault>
+    requires few { length left.now.entries.now ≤ MOST_ENTRIES }
+    requires kept { is_some left.now.opening.now ≡ true }
+    ensures writes { (s : SettingData) (o : List Row) → IsKept left.now.opening.now s o
+        → IsPut result (W.contents writer.old) (W.contents writer.new)
+        (ceph_text s o left.now.entries.now) }
+    ensures none { result ≡ Err WriteFault.OutOfMemory
+        → Keeps (W.contents writer.old) (W.contents writer.new) }
+{
+    let Some(opening) = left.opening else {
+        unreachable!()
+    };
+    let Ok(text) = ceph_lines(alloc, opening, left.entries) else {
+        return Err(WriteFault::OutOfMemory);
+    };
+    put(writer, text.as_slice())
+}
+
+/// Writes what has changed of the part below an item.
+fn write_part<W: Write>(
+    alloc: Global,
+    old: &CrushMap<Global>,
+    map: &CrushMap<Global>,
+    under: ItemId,
+    writer: &mut W,
+) -> Result<(), WriteFault>
+    ensures writes { (t u : List Row) → Stands old.now.forest t → Stands map.now.forest u
+        → IsPut result (W.contents writer.old) (W.contents writer.new)
+        (since_part_text under (told old.now.setting t) (told map.now.setting u)) }
+    ensures none { result ≡ Err WriteFault.OutOfMemory
+        → Keeps (W.contents writer.old) (W.contents writer.new) }
+{
+    let Ok(text) = since_part_text(alloc, old, map, under) else {
+        return Err(WriteFault::OutOfMemory);
+    };
+    put(writer, text.as_slice())
+}
+
+/// Writes what has changed by the ids of items, of a part or of all.
+fn write_by_id<W: Write>(
+    alloc: Global,
+    under: Option<ItemId>,
+    old: &CrushMap<Global>,
+    map: &CrushMap<Global>,
+    writer: &mut W,
+) -> Result<(), WriteFault>
+    ensures writes { (t : List Row) → Stands map.now.forest t
+        → IsPut result (W.contents writer.old) (W.contents writer.new) (changed_by_id under
+        (told old.now.setting (rows_of old.now.forest)) (told map.now.setting t)) }
+    ensures none { result ≡ Err WriteFault.OutOfMemory
+        → Keeps (W.contents writer.old) (W.contents writer.new) }
+{
+    old.forest().recall_invariant();
+    match under {
+        Some(item) => write_part(alloc, old, map, item, writer),
+        None => write_since(alloc, old, map, writer),
+    }
+}
+
+/// Writes what has changed by the names of items, of the part below the item of a name, or of all.
+fn write_by_name<W: Write>(
+    alloc: Global,
+    old: &OldMap,
+    map: &CrushMap<Global>,
+    writer: &mut W,
+) -> Result<(), WriteFault>
+    ensures writes { (t : List Row) → Stands map.now.forest t
+        → IsPut result (W.contents writer.old) (W.contents writer.new)
+        (changed_by_name (name_text old.now.under)
+        (told old.now.map.setting (rows_of old.now.map.forest)) (told map.now.setting t)) }
+    ensures none { result ≡ Err WriteFault.OutOfMemory
+        → Keeps (W.contents writer.old) (W.contents writer.new) }
+{
+    old.map.forest().recall_invariant();
+    match &old.under {
+        Some(name) => write_since_by_name_part(alloc, &old.map, map, name.as_str(), writer),
+        None => write_since_by_name(alloc, &old.map, map, writer),
+    }
+}
+
+/// Writes what has changed since another map.
+fn write_changed<W: Write>(
+    alloc: Global,
+    old: &OldMap,
+    map: &CrushMap<Global>,
+    writer: &mut W,
+) -> Result<(), WriteFault>
+    ensures writes { (t : List Row) → Stands map.now.forest t
+        → IsPut result (W.contents writer.old) (W.contents writer.new)
+        (changed_text old.now.by_name (name_text old.now.under)
+        (told old.now.map.setting (rows_of old.now.map.forest)) (told map.now.setting t)) }
+    ensures none { result ≡ Err WriteFault.OutOfMemory
+        → Keeps (W.contents writer.old) (W.contents writer.new) }
+{
+    if old.by_name {
+        return write_by_name(alloc, old, map, writer);
+    }
+    let under = item_asked(name_of(&old.under), map);
+    write_by_id(alloc, under, &old.map, map, writer)
+}
+
+/// Writes what is asked for of the map.
+fn write_asked<W: Write>(
+    alloc: Global,
+    request: &Request,
+    left: &Left<'_>,
+    writer: &mut W,
+) -> Result<(), WriteFault>
+    requires few { length left.now.entries.now ≤ MOST_ENTRIES }
+    requires kept { needs_opening request.now.mode request.now.asked ≡ true
+        → is_some left.now.opening.now ≡ true }
+    ensures writes { (o t : List Row) → IsOpening request.now.mode request.now.asked
+        left.now.opening.now left.now.map.now.setting o → Stands left.now.map.now.forest t
+        → IsPut result (W.contents writer.old) (W.contents writer.new)
+        (main_text request.now.asked (plan_data left.now.plan.now) left.now.map.now.setting o t
+        left.now.entries.now) }
+    ensures none { result ≡ Err WriteFault.OutOfMemory
+        → Keeps (W.contents writer.old) (W.contents writer.new) }
+{
+    match &request.asked {
+        Asked::Map => write_map(alloc, left.map, writer),
+        Asked::Tree(words) => write_tree_part(alloc, left.map, part_of(words, left.map), writer),
+        Asked::Since(old) => write_changed(alloc, old, left.map, writer),
+        Asked::Changes(old) => {
+            old.forest().recall_invariant();
+            write_changes(alloc, old, left.map, writer)
+        }
+        Asked::AsCeph => write_ceph(alloc, left, writer),
+        Asked::To(wanted) => write_plan(alloc, wanted.as_ceph, left.plan, writer),
+    }
+}
+
+/// Writes what is asked for of the map, and behind it the history where it is asked for. Both are laid
+/// out before anything is written.
+pub(crate) fn write_text<W: Write>(
+    alloc: Global,
+    request: &Request,
+    left: &Left<'_>,
+    writer: &mut W,
+) -> Result<(), WriteFault>
+    requires few { length left.now.entries.now ≤ MOST_ENTRIES }
+    requires operators { AreOf (length left.now.scripts.now) left.now.entries.now }
+    requires kept { needs_opening request.now.mode request.now.asked ≡ true
+        → is_some left.now.opening.now ≡ true }
+    ensures writes { (o t : List Row) → IsOpening request.now.mode request.now.asked
+        left.now.opening.now left.now.map.now.setting o → Stands left.now.map.now.forest t
+        → IsPut result (W.contents writer.old) (W.contents writer.new)
+        (person_text request.now.mode.history request.now.asked (plan_data left.now.plan.now)
+        left.now.map.now.setting o t (names_of (scripts_data left.now.scripts.now))
+        left.now.entries.now) }
+    ensures none { result ≡ Err WriteFault.OutOfMemory
+        → Keeps (W.contents writer.old) (W.contents writer.new) }
+{
+    let lines = lines_asked(alloc, request.mode.history, left.scripts, left.entries);
+    let Ok(lines) = lines else {
+        return Err(WriteFault::OutOfMemory);
+    };
+    write_asked(alloc, request, left, writer)?;
+    put(writer, lines.as_slice())
+}

@@ -1,0 +1,179 @@
+//! What an editor hands out at its close: the map, and the history of calls that its operators made
+//! by turns.
+
+ghost use Rattle.std.specs.Prelude.{◌≡◌};
+ghost use Rattle.crush_run_tests.specs.Seats.{AreAll};
+
+use super::{opened, started_with, submit_by};
+use crate::maps::PLAIN;
+use crush_calls::{Entry, Script, write_entry};
+use crush_editor::{Closed, Desk, Editor, Seat, Started};
+use crush_map::Hashing;
+use crush_print::write_map;
+use crush_script::{Job, read_job};
+use std::alloc::Global;
+use std::marker::Brand;
+use std::process::Abort;
+use std::sync::Wait;
+
+/// What three operators ask for, two calls each.
+const THREE: &[u8] = b"\
+    %operator a\n\
+    reweight osd.0 2\n\
+    add osd.7 1 host=h1\n\
+    %operator b\n\
+    reweight osd.1 2\n\
+    add osd.7 1 host=h2\n\
+    %operator c\n\
+    rm default\n\
+    begin\n\
+    add osd.3 1 host=h2\n\
+    rename-bucket h1 hq\n\
+    rm h2\n\
+    commit\n";
+
+/// The history where each makes its first call before any makes its second, and the map after it.
+const CLOSED: &[u8] = b"\
+    # 1 a reweight osd.0 2.00000 = done changed 1 made 0\n\
+    # 2 b reweight osd.1 2.00000 = done changed 1 made 0\n\
+    # 3 c rm default = refused NotEmpty 39\n\
+    # 4 a add osd.7 1.00000 host=h1 = done changed 1 made 0\n\
+    # 5 b add osd.7 1.00000 host=h2 = refused AlreadyPlaced 17\n\
+    # 6 c begin ; add osd.3 1.00000 host=h2 ; rename-bucket h1 hq ; rm h2 ; commit = refused at 2 NotEmpty 39\n\
+    # begin crush map\n\
+    \n\
+    # devices\n\
+    device 0 osd.0\n\
+    device 1 osd.1\n\
+    device 2 osd.2\n\
+    device 7 osd.7\n\
+    \n\
+    # types\n\
+    type 0 osd\n\
+    type 1 host\n\
+    type 3 rack\n\
+    type 11 root\n\
+    \n\
+    # buckets\n\
+    host h1 {\n\
+    \tid -2\t\t# do not change unnecessarily\n\
+    \t# weight 5.00000\n\
+    \talg straw2\n\
+    \thash 0\t# rjenkins1\n\
+    \titem osd.0 weight 2.00000\n\
+    \titem osd.1 weight 2.00000\n\
+    \titem osd.7 weight 1.00000\n\
+    }\n\
+    host h2 {\n\
+    \tid -3\t\t# do not change unnecessarily\n\
+    \t# weight 0.50000\n\
+    \talg straw2\n\
+    \thash 0\t# rjenkins1\n\
+    \titem osd.2 weight 0.50000\n\
+    }\n\
+    root default {\n\
+    \tid -1\t\t# do not change unnecessarily\n\
+    \t# weight 5.50000\n\
+    \talg straw2\n\
+    \thash 0\t# rjenkins1\n\
+    \titem h1 weight 5.00000\n\
+    \titem h2 weight 0.50000\n\
+    }\n\
+    \n\
+    # rules\n\
+    \n\
+    # end crush map\n";
+
+/// The job of the example map and these scripts.
+fn job(rt: &(impl Abort + AllocGlobal), scripts: &[u8]) -> Job {
+    let parts = [PLAIN, scripts];
+    let text = parts.concat(rt.alloc()).expect(rt, "no memory");
+    read_job(rt.alloc(), Hashing::plain(), text.as_slice()).expect(rt, "no job")
+}
+
+#[test]
+fn three_operators_by_turns(rt: HostRuntime) {
+    let Job {
+        map,
+        adjusted: _,
+        scripts,
+    } = job(&rt, THREE);
+    let started = started_with(&rt, map, 3);
+    let closed = close_after::<Brand>(&rt, started, scripts.as_slice());
+    assert!(&rt; is_written(&rt, &closed, CLOSED));
+}
+
+/// Submits the first call of each script by the seat of its operator, then the second of each, and
+/// closes.
+fn close_after<N: Desk>(
+    rt: &(impl Abort + AllocGlobal + Wait),
+    started: Started,
+    scripts: &[Script],
+) -> Closed<Global>
+    requires gauge { started.table ≡ N.gauge }
+    requires opening { started.opening ≡ N.opening }
+    requires name { started.name ≡ N.name }
+    requires parts { started.parts ≡ N.parts }
+{
+    let (editor, mut seats) = opened::<N>(rt, started);
+    submit_each(rt, &editor, &mut seats, scripts, 0);
+    submit_each(rt, &editor, &mut seats, scripts, 1);
+    editor.close(seats)
+}
+
+/// Submits the call of this number of each script.
+fn submit_each<N: Desk>(
+    rt: &(impl Abort + AllocGlobal + Wait),
+    editor: &Editor<N>,
+    seats: &mut Vec<Seat<N>>,
+    scripts: &[Script],
+    number: usize,
+)
+    requires { AreAll N.parts seats.old.items }
+    ensures { AreAll N.parts seats.new.items }
+{
+    for (operator, script) in scripts.iter().enumerate() {
+        let call = script.calls.get(number).expect(rt, "no call");
+        let answered = submit_by(rt, editor, seats, operator, call).is_ok();
+        assert!(rt; answered);
+    }
+}
+
+/// Whether the lines of the history, and the map behind them, are this text.
+fn is_written(rt: &impl AllocGlobal, closed: &Closed<Global>, text: &[u8]) -> bool {
+    let mut out = Vec::new(rt.alloc());
+    put_history(&mut out, closed.history.as_slice())
+        && write_map(rt.alloc(), &closed.map, &mut out).is_ok()
+        && out.as_slice() == text
+}
+
+/// Puts the lines of a history behind a text, and
+/// answers whether there is memory.
+fn put_history(out: &mut Vec<u8>, history: &[Entry]) -> bool {
+    let mut number = 0u32;
+    for entry in history {
+        number = number.saturating_add(1);
+        if write_entry(
+            number,
+            name_of(entry.operator),
+            &entry.call,
+            entry.reply,
+            out,
+        )
+        .is_err()
+        {
+            return false;
+        }
+    }
+    true
+}
+
+/// The name of an operator of three.
+fn name_of(operator: usize) -> &'static [u8] {
+    match operator {
+        0 => b"a",
+        1 => b"b",
+        2 => b"c",
+        _ => b"?",
+    }
+}

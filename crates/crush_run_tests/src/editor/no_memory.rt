@@ -1,0 +1,183 @@
+//! Calls that take no memory, made once and often: of each pair of tests `bench/refused_memory.py`
+//! counts the requests for memory, which have to be as many.
+
+ghost use Rattle.std.specs.Prelude.{◌≡◌};
+ghost use Rattle.crush_run_tests.specs.Seats.{AreAll};
+
+use super::{opened, read_map, reads, started, submit_by, weigh_two, weight_two};
+use crate::maps::PLAIN;
+use crush_calls::{Call, Reply, write_entry};
+use crush_editor::{Desk, Editor, Seat, Started};
+use crush_edits::Setting;
+use crush_map::{CrushMap, Done};
+use std::alloc::Global;
+use std::marker::Brand;
+use std::process::Abort;
+use std::sync::Wait;
+
+/// How often the second test of a pair makes its calls.
+const OFTEN: u32 = 1000;
+
+/// How many editors are made in each test of the close.
+const EDITORS: u32 = 16;
+
+/// Whether the example map is what it is asked for.
+fn is_example(map: &CrushMap<Global>) -> bool {
+    map.forest().recall_invariant();
+    map.locate("osd.1").is_some()
+        && map.weight_of("h1").is_some()
+        && has_plain_setting(map.setting())
+        && map.forest().roots().len() == 1
+        && map.counts().devices == 3
+        && map.total() == 163840
+}
+
+/// Whether there are the four types of the example map, and neither a tunable nor a rule.
+fn has_plain_setting(setting: &Setting) -> bool {
+    setting.kinds().len() == 4 && setting.tunables().len() == 0 && setting.rules().len() == 0
+}
+
+fn look_at_map(rt: &(impl Abort + AllocGlobal), times: u32) {
+    let (map, _) = read_map(rt.alloc(), PLAIN).expect(rt, "no map");
+    let mut same = true;
+    for _ in 0..times {
+        same = same && is_example(&map);
+    }
+    drop(map);
+    assert!(rt; same);
+}
+
+#[test]
+fn a_map_is_looked_at_once(rt: HostRuntime) {
+    look_at_map(&rt, 1);
+}
+
+#[test]
+fn a_map_is_looked_at_often(rt: HostRuntime) {
+    look_at_map(&rt, OFTEN);
+}
+
+fn look_at_book(rt: &(impl Abort + AllocGlobal), times: u32) {
+    let (gauge, mut book) = started(rt, 1).into_book();
+    let call = Call::One(weight_two(rt, b"osd.0"));
+    let mut same = book.commit_copied(&gauge, 0, call).is_ok();
+    for _ in 0..times {
+        book.recall_invariant();
+        same = same
+            && book.opening().total() == 163840
+            && book.map().total() == 229376
+            && book.history().len() == 1;
+    }
+    drop(book);
+    assert!(rt; same);
+}
+
+#[test]
+fn a_book_is_looked_at_once(rt: HostRuntime) {
+    look_at_book(&rt, 1);
+}
+
+#[test]
+fn a_book_is_looked_at_often(rt: HostRuntime) {
+    look_at_book(&rt, OFTEN);
+}
+
+/// One seat's notes are learned by another, which reads.
+fn read_editor<N: Desk>(rt: &(impl Abort + AllocGlobal + Wait), started: Started, times: u32)
+    requires gauge { started.table ≡ N.gauge }
+    requires opening { started.opening ≡ N.opening }
+    requires name { started.name ≡ N.name }
+    requires parts { started.parts ≡ N.parts }
+{
+    let (editor, mut seats) = opened::<N>(rt, started);
+    let mut last = seats.pop().expect(rt, "no seat");
+    let mut first = seats.pop().expect(rt, "no seat");
+    weigh_two(rt, &editor, &mut first, b"osd.0");
+    for _ in 0..times {
+        let note = editor.note(&mut first);
+        editor.learn(&mut last, note);
+        let _read = editor.reading(&mut last);
+    }
+    assert!(rt; reads(editor.reading(&mut last), 1, 229376));
+}
+
+#[test]
+fn an_editor_is_read_once(rt: HostRuntime) {
+    read_editor::<Brand>(&rt, started(&rt, 2), 1);
+}
+
+#[test]
+fn an_editor_is_read_often(rt: HostRuntime) {
+    read_editor::<Brand>(&rt, started(&rt, 2), OFTEN);
+}
+
+/// One call is made of an editor, which is closed or dropped.
+fn end_editor<N: Desk>(rt: &(impl Abort + AllocGlobal + Wait), started: Started, closes: bool)
+    requires gauge { started.table ≡ N.gauge }
+    requires opening { started.opening ≡ N.opening }
+    requires name { started.name ≡ N.name }
+    requires parts { started.parts ≡ N.parts }
+{
+    let (editor, mut seats) = opened::<N>(rt, started);
+    let call = Call::One(weight_two(rt, b"osd.0"));
+    let answered = submit_by(rt, &editor, &mut seats, 0, &call).is_ok();
+    drop(call);
+    let ended = !closes || is_closed(editor, seats);
+    assert!(rt; answered && ended);
+}
+
+/// Whether the editor, once closed, has one call.
+fn is_closed<N: Desk>(editor: Editor<N>, seats: Vec<Seat<N>>) -> bool
+    requires { AreAll N.parts seats.items }
+{
+    editor.close(seats).history.len() == 1
+}
+
+/// Of so many editors the first ones are closed.
+fn close_editors(rt: &(impl Abort + AllocGlobal + Wait), times: u32) {
+    for number in 0..EDITORS {
+        let started = started(rt, 2);
+        end_editor::<Brand>(rt, started, number < times);
+    }
+}
+
+#[test]
+fn an_editor_is_closed_once(rt: HostRuntime) {
+    close_editors(&rt, 1);
+}
+
+#[test]
+fn an_editor_is_closed_often(rt: HostRuntime) {
+    close_editors(&rt, EDITORS);
+}
+
+/// The line of an entry, written where there is room for it.
+fn write_line(rt: &(impl Abort + AllocGlobal), times: u32) {
+    let call = Call::One(weight_two(rt, b"osd.0"));
+    let reply = Reply::Done(Done {
+        changed: true,
+        made: 0,
+    });
+    let mut text = Vec::with_capacity(rt.alloc(), 100).expect(rt, "no memory");
+    let mut written = true;
+    for _ in 0..times {
+        text.clear();
+        written = written && write_entry(1, b"a", &call, reply, &mut text).is_ok();
+    }
+    drop(call);
+    assert!(rt;
+        written
+            && text.as_slice()
+                == b"# 1 a reweight osd.0 2.00000 = done changed 1 made 0\n".as_slice()
+    );
+}
+
+#[test]
+fn an_entry_is_written_once(rt: HostRuntime) {
+    write_line(&rt, 1);
+}
+
+#[test]
+fn an_entry_is_written_often(rt: HostRuntime) {
+    write_line(&rt, OFTEN);
+}

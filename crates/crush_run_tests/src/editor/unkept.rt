@@ -1,0 +1,71 @@
+//! A book and an editor that keep nothing of their opening, by calls that are moved into their entries.
+
+ghost use Rattle.std.specs.Prelude.{◌≡◌};
+
+use super::weight_two;
+use crate::maps::PLAIN;
+use crush_calls::Call;
+use crush_editor::{Closed, Desk, Editor, Started, Unkept};
+use crush_text::read_map;
+use std::alloc::Global;
+use std::marker::Brand;
+use std::process::Abort;
+use std::sync::Wait;
+
+/// What is made of the example map for one operator, of which no copy is kept.
+fn started_unkept(rt: &(impl Abort + AllocGlobal)) -> Started<Global, Unkept>
+    ensures { result.parts ≡ 1 }
+{
+    let (map, _) = read_map(rt.alloc(), PLAIN).expect(rt, "no map");
+    match Started::without_opening(map, 1, rt.alloc()) {
+        Ok(started) => started,
+        Err(map) => {
+            drop(map);
+            panic!(rt; "no memory")
+        }
+    }
+}
+
+/// Whether there is the map after one call that makes it weigh this, and that call.
+fn is_closed(closed: &Closed<Global, Unkept>, weight: u64) -> bool {
+    closed.opening == Unkept && closed.history.len() == 1 && closed.map.total() == weight
+}
+
+#[test]
+fn a_book_without_an_opening(rt: HostRuntime) {
+    let (gauge, mut book) = started_unkept(&rt).into_book();
+    let call = Call::One(weight_two(&rt, b"osd.0"));
+    let answered = book.commit_copied(&gauge, 0, call).is_ok();
+    let closed = book.into_closed();
+    assert!(&rt; answered && is_closed(&closed, 229376));
+}
+
+#[test]
+fn an_editor_without_an_opening(rt: HostRuntime) {
+    one_operator::<Brand>(&rt, started_unkept(&rt));
+}
+
+fn one_operator<N: Desk>(rt: &(impl Abort + AllocGlobal + Wait), started: Started<Global, Unkept>)
+    requires gauge { started.table ≡ N.gauge }
+    requires opening { started.opening ≡ N.opening }
+    requires name { started.name ≡ N.name }
+    requires parts { (started.parts ≡ N.parts) × (started.parts ≡ 1) }
+{
+    match Editor::<N, Unkept>::open_unkept(started, rt.alloc()) {
+        Ok((editor, mut seats)) => {
+            let mut seat = seats.pop().expect(rt, "no seat");
+            let call = Call::One(weight_two(rt, b"osd.0"));
+            let answered = editor
+                .submit_copied(rt, rt.alloc(), &mut seat, call)
+                .is_ok();
+            let slips = seat.slips().len();
+            drop(seat);
+            drop(editor);
+            assert!(rt; answered && slips == 1);
+        }
+        Err(map) => {
+            drop(map);
+            panic!(rt; "no memory")
+        }
+    }
+}

@@ -1,0 +1,136 @@
+//! Runs of whole jobs, from their bytes to the bytes written.
+
+use crate::maps::PLAIN;
+use crush_options::Mode;
+use crush_report::{Words, report};
+use crush_run::{Asked, Ending, Gate, NoGate, Request, RunFault, Summary, run_job};
+use std::io::{Read, Write};
+use std::process::Abort;
+use std::random::RandomSource;
+use std::sync::Wait;
+use std::thread::Threads;
+
+mod at_once;
+mod command_lines;
+mod explained;
+mod failing;
+mod finding;
+mod gate_faults;
+mod gates;
+mod limits;
+mod prefixes;
+mod programs;
+mod reporting;
+mod scripts;
+mod since;
+mod strict;
+
+/// The same where osd.2 weighs 1.0.
+const REWEIGHED: &[u8] =
+    b"# begin crush map\n\n# devices\ndevice 0 osd.0\ndevice 1 osd.1\ndevice 2 osd.2\n\n# types\ntype 0 osd\ntype 1 host\ntype 3 rack\ntype 11 root\n\n# buckets\nhost h1 {\n\tid -2\t\t# do not change unnecessarily\n\t# weight 2.00000\n\talg straw2\n\thash 0\t# rjenkins1\n\titem osd.0 weight 1.00000\n\titem osd.1 weight 1.00000\n}\nhost h2 {\n\tid -3\t\t# do not change unnecessarily\n\t# weight 1.00000\n\talg straw2\n\thash 0\t# rjenkins1\n\titem osd.2 weight 1.00000\n}\nroot default {\n\tid -1\t\t# do not change unnecessarily\n\t# weight 3.00000\n\talg straw2\n\thash 0\t# rjenkins1\n\titem h1 weight 2.00000\n\titem h2 weight 1.00000\n}\n\n# rules\n\n# end crush map\n";
+
+const MODE: Mode = Mode {
+    in_turn: true,
+    history: true,
+    strict: false,
+    no_make: false,
+    exit_code: false,
+    explain: false,
+    json: false,
+};
+
+/// The same where operators are at work at once.
+const AT_ONCE: Mode = Mode {
+    in_turn: false,
+    history: true,
+    strict: false,
+    no_make: false,
+    exit_code: false,
+    explain: false,
+    json: false,
+};
+
+/// The bytes of both, one behind the other.
+fn joined(rt: &(impl Abort + AllocGlobal), first: &[u8], second: &[u8]) -> Vec<u8> {
+    let parts = [first, second];
+    parts.concat(rt.alloc()).expect(rt, "no memory")
+}
+
+/// Puts the bytes behind a text.
+fn put_behind(rt: &impl Abort, text: &mut Vec<u8>, bytes: &[u8]) {
+    text.extend_from_slice(bytes).expect(rt, "no memory");
+}
+
+/// Runs a job of which the map is asked for.
+fn run_map<H, G, R, W>(
+    rt: &H,
+    gate: &G,
+    mode: Mode,
+    reader: &mut R,
+    writer: &mut W,
+) -> Result<Summary, RunFault>
+where
+    H: AllocGlobal + RandomSource + Threads + Wait + Sync,
+    G: Gate + Sync,
+    R: Read,
+    W: Write,
+{
+    let request = Request {
+        mode,
+        asked: Asked::Map,
+    };
+    let Ending { outcome, notes } = run_job(rt, gate, &request, reader, writer);
+    drop(notes);
+    outcome
+}
+
+/// Whether a job that is run in this mode writes this map and these lines behind it, and is summed
+/// up like this.
+fn writes(
+    rt: &(impl AllocGlobal + RandomSource + Threads + Wait + Sync),
+    mode: Mode,
+    job: &[u8],
+    output: (&[u8], &[u8]),
+    summary: Summary,
+) -> bool {
+    let (map, lines) = output;
+    let mut out = Vec::new(rt.alloc());
+    let outcome = run_map(rt, &NoGate, mode, &mut &*job, &mut out);
+    outcome == Ok(summary)
+        && out.len().checked_sub(map.len()) == Some(lines.len())
+        && out.starts_with(map)
+        && out.ends_with(lines)
+}
+
+/// One operator at once is as one in turn.
+#[test]
+fn runs_one_operator_at_once(rt: HostRuntime) {
+    let job = joined(&rt, PLAIN, b"%operator a\nreweight osd.2 1.0\n");
+    let lines = b"# 1 a reweight osd.2 1.00000 = done changed 1 made 0\n";
+    let sum = summary(0, 1, 1);
+    assert!(rt;
+        writes(&rt, MODE, job.as_slice(), (REWEIGHED, lines), sum)
+            && writes(&rt, AT_ONCE, job.as_slice(), (REWEIGHED, lines), sum)
+    );
+}
+
+/// What a run comes to of these numbers of weights that are replaced, calls, and changes.
+fn summary(adjusted: u32, calls: u32, changes: u32) -> Summary {
+    Summary {
+        adjusted,
+        calls,
+        changes,
+        differs: false,
+    }
+}
+
+/// Whether standard error is told this line of an outcome, and the program ends with this status.
+fn is_told(
+    rt: &impl AllocGlobal,
+    outcome: &Result<Summary, RunFault>,
+    line: &[u8],
+    status: u8,
+) -> bool {
+    let mut err = Vec::new(rt.alloc());
+    report(Words::none(), outcome, b"", &mut err).status == status && err.as_slice() == line
+}

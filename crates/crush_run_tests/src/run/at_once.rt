@@ -1,0 +1,165 @@
+//! Runs of operators at once. What a gate sees shows that threads are at work at the same time, which
+//! no clause says.
+
+use super::{AT_ONCE, joined, put_behind, run_map, summary};
+use crate::maps::PLAIN;
+use crush_run::{Gate, NoGate};
+use std::process::Abort;
+use std::sync::Wait;
+use std::sync::atomic::{AtomicU64, Ordering};
+use std::thread;
+use std::time::{Clock, Duration};
+
+/// How often a gate sleeps for a millisecond at the most before it gives up.
+const MOST_NAPS: u64 = 10_000;
+
+/// Waits until the count is as high as is asked, and answers whether it came to that.
+pub(super) fn reaches(clock: &impl Clock, count: &AtomicU64, goal: u64) -> bool {
+    for _ in 0..MOST_NAPS {
+        if count.load(Ordering::SeqCst) >= goal {
+            return true;
+        }
+        thread::sleep(clock, Duration::from_millis(1));
+    }
+    false
+}
+
+/// Lets the first two calls begin when both are there.
+#[derive(Drop)]
+struct Meeting<'a, C> {
+    clock: &'a C,
+    begun: AtomicU64,
+    missed: AtomicU64,
+}
+
+impl<C: Clock> Gate for Meeting<'_, C> {
+    fn before<R: Wait>(&self, _rt: &R, _operator: usize, _number: usize) {
+        self.begun.fetch_add(1, Ordering::SeqCst);
+        if !reaches(self.clock, &self.begun, 2) {
+            self.missed.store(1, Ordering::SeqCst);
+        }
+    }
+
+    fn after<R: Wait>(&self, _rt: &R, _operator: usize, _number: usize) {}
+}
+
+/// Lets the calls of two operators come by turns, the first operator's first.
+#[derive(Drop)]
+pub(super) struct ByTurns<'a, C> {
+    clock: &'a C,
+    made: AtomicU64,
+    missed: AtomicU64,
+}
+
+impl<'a, C> ByTurns<'a, C> {
+    /// The gate of a run in which no call is made yet.
+    pub(super) fn new(clock: &'a C) -> ByTurns<'a, C> {
+        ByTurns {
+            clock,
+            made: AtomicU64::new(0),
+            missed: AtomicU64::new(0),
+        }
+    }
+
+    /// Whether no call waited in vain so far.
+    pub(super) fn kept_order(&self) -> bool {
+        self.missed.load(Ordering::SeqCst) == 0
+    }
+}
+
+impl<C: Clock> Gate for ByTurns<'_, C> {
+    fn before<R: Wait>(&self, _rt: &R, operator: usize, number: usize) {
+        let place = (number % 2) * 2 + operator % 2;
+        if !reaches(self.clock, &self.made, place as u64) {
+            self.missed.store(1, Ordering::SeqCst);
+        }
+    }
+
+    fn after<R: Wait>(&self, _rt: &R, _operator: usize, _number: usize) {
+        self.made.fetch_add(1, Ordering::SeqCst);
+    }
+}
+
+/// Two operators who want the same device in two hosts.
+const ONE_DEVICE: &[u8] = b"%operator a\nadd osd.7 1 host=h1\n%operator b\nadd osd.7 1 host=h2\n";
+
+const FIRST_HAS_IT: &[u8] =
+    b"# end crush map\n# 1 a add osd.7 1.00000 host=h1 = done changed 1 made 0\n# 2 b add osd.7 1.00000 host=h2 = refused AlreadyPlaced 17\n";
+
+const SECOND_HAS_IT: &[u8] =
+    b"# end crush map\n# 1 b add osd.7 1.00000 host=h2 = done changed 1 made 0\n# 2 a add osd.7 1.00000 host=h1 = refused AlreadyPlaced 17\n";
+
+#[test]
+fn two_operators_are_at_work_at_the_same_time(rt: HostRuntime) {
+    let gate = Meeting {
+        clock: &rt,
+        begun: AtomicU64::new(0),
+        missed: AtomicU64::new(0),
+    };
+    let job = joined(&rt, PLAIN, ONE_DEVICE);
+    let mut out = Vec::new(rt.alloc());
+    let outcome = run_map(&rt, &gate, AT_ONCE, &mut job.as_slice(), &mut out);
+    let missed = gate.missed.load(Ordering::SeqCst);
+    assert!(&rt;
+        missed == 0
+            && outcome == Ok(summary(0, 2, 1))
+            && (out.ends_with(FIRST_HAS_IT) || out.ends_with(SECOND_HAS_IT))
+    );
+}
+
+/// Two operators who give one device two weights.
+const TWO_WEIGHTS: &[u8] =
+    b"%operator a\nreweight osd.0 2\nreweight osd.0 1\n%operator b\nreweight osd.0 2\nreweight osd.0 1\n";
+
+const BY_TURNS: &[u8] =
+    b"# end crush map\n# 1 a reweight osd.0 2.00000 = done changed 1 made 0\n# 2 b reweight osd.0 2.00000 = done changed 0 made 0\n# 3 a reweight osd.0 1.00000 = done changed 1 made 0\n# 4 b reweight osd.0 1.00000 = done changed 0 made 0\n";
+
+#[test]
+fn a_gate_dictates_the_order_of_calls(rt: HostRuntime) {
+    let gate = ByTurns::new(&rt);
+    let job = joined(&rt, PLAIN, TWO_WEIGHTS);
+    let mut out = Vec::new(rt.alloc());
+    let outcome = run_map(&rt, &gate, AT_ONCE, &mut job.as_slice(), &mut out);
+    let in_order = gate.kept_order();
+    assert!(&rt; in_order && outcome == Ok(summary(0, 4, 2)) && out.ends_with(BY_TURNS));
+}
+
+/// The names of sixteen operators.
+const SIXTEEN: &[u8] = b"abcdefghijklmnop";
+
+/// A job in which each of sixteen operators gives osd.0 the weight 2.0, so many times.
+fn sixteen_scripts(rt: &(impl Abort + AllocGlobal), times: usize) -> Vec<u8> {
+    let mut job = joined(rt, PLAIN, b"");
+    for name in SIXTEEN {
+        put_behind(rt, &mut job, b"%operator ");
+        put_behind(rt, &mut job, &[*name]);
+        put_behind(rt, &mut job, b"\n");
+        for _ in 0..times {
+            put_behind(rt, &mut job, b"reweight osd.0 2\n");
+        }
+    }
+    job
+}
+
+/// How many lines of the history are this operator's.
+fn lines_of(out: &[u8], name: u8) -> usize {
+    let mut count: usize = 0;
+    for line in out.split(|byte| *byte == b'\n') {
+        let mut words = line.split(|byte| *byte == b' ');
+        if line.ends_with(b" made 0") && words.nth(2) == Some(&[name]) {
+            count = count.saturating_add(1);
+        }
+    }
+    count
+}
+
+#[test]
+fn sixteen_operators_have_all_their_calls_answered(rt: HostRuntime) {
+    let job = sixteen_scripts(&rt, 256);
+    let mut out = Vec::new(rt.alloc());
+    let outcome = run_map(&rt, &NoGate, AT_ONCE, &mut job.as_slice(), &mut out);
+    assert!(&rt; outcome == Ok(summary(0, 4096, 1)));
+    for name in SIXTEEN {
+        assert!(&rt; lines_of(out.as_slice(), *name) == 256);
+    }
+}

@@ -1,0 +1,231 @@
+//! Readers and writers that fail, once or from then on, and readers of blanks alone, some without an end.
+
+use super::{MODE, REWEIGHED, is_told, joined, run_map, summary};
+use crate::maps::PLAIN;
+use crush_run::{NoGate, RunFault};
+use crush_script::JobFault;
+use std::io::{self, ErrorKind, Read, Write};
+use std::random::RandomSource;
+use std::sync::Wait;
+use std::thread::Threads;
+
+/// How long a stream fails, and by which error: once, as one that was interrupted does, or from then on.
+/// Who asked an interrupted one again would get all out of it or into it.
+#[derive(Clone, Copy)]
+struct Failing {
+    kind: ErrorKind,
+    is_for_good: bool,
+}
+
+/// Both ways to fail.
+const WAYS: [Failing; 2] = [
+    Failing {
+        kind: ErrorKind::Interrupted,
+        is_for_good: false,
+    },
+    Failing {
+        kind: ErrorKind::Other,
+        is_for_good: true,
+    },
+];
+
+/// Gives at most 16 bytes a read, and fails at one of the reads, counted from 0.
+#[derive(Drop)]
+struct FailingReader<'a> {
+    bytes: &'a [u8],
+    asked: usize,
+    fails_at: usize,
+    way: Failing,
+}
+
+impl Read for FailingReader<'_> {
+    fn read(&mut self, buf: &mut [u8]) -> io::Result<usize> {
+        let number = self.asked;
+        self.asked = number.saturating_add(1);
+        if number == self.fails_at || self.way.is_for_good && number > self.fails_at {
+            return Err(self.way.kind.into());
+        }
+        let most = buf.len().min(self.bytes.len()).min(16);
+        let (now, later) = self.bytes.split_at(most);
+        buf[..most].copy_from_slice(now);
+        self.bytes = later;
+        Ok(most)
+    }
+}
+
+/// Takes at most 7 bytes a write, as long as it has room. The next write it answers by an error or
+/// takes nothing of it, and has room again where it fails once.
+#[derive(Drop)]
+struct FailingWriter {
+    taken: Vec<u8>,
+    room: usize,
+    answers_error: bool,
+    way: Failing,
+}
+
+impl Write for FailingWriter {
+    fn write(&mut self, bytes: &[u8]) -> io::Result<usize> {
+        let most = bytes.len().min(self.room).min(7);
+        if most == 0 {
+            if !self.way.is_for_good {
+                self.room = usize::MAX;
+            }
+            return if self.answers_error {
+                Err(self.way.kind.into())
+            } else {
+                Ok(0)
+            };
+        }
+        self.room -= most;
+        let (now, _) = bytes.split_at(most);
+        self.taken.extend_from_slice(now)?;
+        Ok(most)
+    }
+
+    fn flush(&mut self) -> io::Result<()> {
+        Ok(())
+    }
+}
+
+/// Gives spaces, at most so many a read, until none is left, and counts how often it is asked.
+#[derive(Drop)]
+struct Blanks {
+    left: usize,
+    most: usize,
+    asked: u32,
+}
+
+impl Read for Blanks {
+    fn read(&mut self, buf: &mut [u8]) -> io::Result<usize> {
+        self.asked = self.asked.saturating_add(1);
+        let count = buf.len().min(self.left).min(self.most);
+        buf[..count].fill(b' ');
+        self.left -= count;
+        Ok(count)
+    }
+}
+
+/// What the operator of these jobs commands.
+const SCRIPT: &[u8] = b"%operator a\nreweight osd.2 1.0\n";
+
+/// Whether nothing is written where the read of that number fails.
+fn stops_at(
+    rt: &(impl AllocGlobal + RandomSource + Threads + Wait + Sync),
+    job: &[u8],
+    fails_at: usize,
+    way: Failing,
+) -> bool {
+    let mut reader = FailingReader {
+        bytes: job,
+        asked: 0,
+        fails_at,
+        way,
+    };
+    let mut out = Vec::new(rt.alloc());
+    let outcome = run_map(rt, &NoGate, MODE, &mut reader, &mut out);
+    outcome == Err(RunFault::Read)
+        && out.is_empty()
+        && is_told(rt, &outcome, b"crushedit: read fault\n", 3)
+}
+
+#[test]
+fn stops_at_a_failed_read(rt: HostRuntime) {
+    let job = joined(&rt, PLAIN, SCRIPT);
+    for fails_at in 0..job.len() / 16 + 1 {
+        for way in WAYS {
+            assert!(rt; stops_at(&rt, job.as_slice(), fails_at, way));
+        }
+    }
+}
+
+/// Whether of a job, which comes before its output, a prefix of the output is written where there is
+/// room for so many bytes.
+fn leaves_a_prefix(
+    rt: &(impl AllocGlobal + RandomSource + Threads + Wait + Sync),
+    run: (&[u8], &[u8]),
+    room: usize,
+    answers_error: bool,
+    way: Failing,
+) -> bool {
+    let (job, whole) = run;
+    let taken = Vec::new(rt.alloc());
+    let mut writer = FailingWriter {
+        taken,
+        room,
+        answers_error,
+        way,
+    };
+    let outcome = run_map(rt, &NoGate, MODE, &mut &*job, &mut writer);
+    outcome == Err(RunFault::Write)
+        && writer.taken.len() == room
+        && whole.starts_with(writer.taken.as_slice())
+        && is_told(rt, &outcome, b"crushedit: write fault\n", 3)
+}
+
+#[test]
+fn leaves_a_prefix_at_a_failed_write(rt: HostRuntime) {
+    let job = joined(&rt, PLAIN, SCRIPT);
+    let line = b"# 1 a reweight osd.2 1.00000 = done changed 1 made 0\n";
+    let whole = joined(&rt, REWEIGHED, line);
+    let run = (job.as_slice(), whole.as_slice());
+    for room in 0..run.1.len() {
+        for way in WAYS {
+            assert!(rt;
+                leaves_a_prefix(&rt, run, room, true, way)
+                    && leaves_a_prefix(&rt, run, room, false, way)
+            );
+        }
+    }
+}
+
+/// The most bytes that a job may have.
+const LONGEST_JOB: usize = 16_777_216;
+
+/// Whether a reader that never ends is refused when it has given one byte more than a job may have.
+fn is_too_long(
+    rt: &(impl AllocGlobal + RandomSource + Threads + Wait + Sync),
+    reader: &mut Blanks,
+) -> bool {
+    let mut out = Vec::new(rt.alloc());
+    let outcome = run_map(rt, &NoGate, MODE, reader, &mut out);
+    outcome == Err(RunFault::Job(JobFault::TooLong))
+        && reader.left == usize::MAX - LONGEST_JOB - 1
+        && out.is_empty()
+        && is_told(rt, &outcome, b"crushedit: TooLong\n", 1)
+}
+
+#[test]
+fn asks_an_endless_reader_for_one_byte_too_many(rt: HostRuntime) {
+    let mut reader = Blanks {
+        left: usize::MAX,
+        most: 1,
+        asked: 0,
+    };
+    assert!(rt; is_too_long(&rt, &mut reader) && reader.asked == 16_777_217);
+}
+
+#[test]
+fn takes_one_byte_too_many_of_a_reader_that_fills_what_it_is_given(rt: HostRuntime) {
+    let mut reader = Blanks {
+        left: usize::MAX,
+        most: usize::MAX,
+        asked: 0,
+    };
+    assert!(rt; is_too_long(&rt, &mut reader));
+}
+
+/// The map that has nothing.
+const EMPTY: &[u8] =
+    b"# begin crush map\n\n# devices\n\n# types\n\n# buckets\n\n# rules\n\n# end crush map\n";
+
+#[test]
+fn the_most_blanks_are_the_empty_map(rt: HostRuntime) {
+    let mut reader = Blanks {
+        left: LONGEST_JOB,
+        most: usize::MAX,
+        asked: 0,
+    };
+    let mut out = Vec::new(rt.alloc());
+    let outcome = run_map(&rt, &NoGate, MODE, &mut reader, &mut out);
+    assert!(rt; outcome == Ok(summary(0, 0, 0)) && reader.left == 0 && out.as_slice() == EMPTY);
+}

@@ -1,0 +1,102 @@
+//! As much as a map and a job may have: buckets below one another, and calls.
+
+use super::at_once::ByTurns;
+use super::{AT_ONCE, MODE, joined, put_behind, run_map, summary, writes};
+use crate::maps::PLAIN;
+use crush_run::NoGate;
+use std::process::Abort;
+
+/// As many buckets as a map may have.
+const DEPTH: u32 = 4096;
+
+/// Puts the host of this number and weight behind a text, with its only item, which weighs the same.
+fn put_host(
+    rt: &(impl Abort + AllocGlobal),
+    text: &mut Vec<u8>,
+    number: u32,
+    item: &str,
+    weight: &str,
+) {
+    let host = format!(in rt.alloc();
+        "host b{number} {{\n\tid -{number}\t\t# do not change unnecessarily\n\t# weight {weight}\n\talg straw2\n\thash 0\t# rjenkins1\n\titem {item} weight {weight}\n}}\n"
+    ).expect(rt, "no memory");
+    put_behind(rt, text, host.as_bytes());
+}
+
+/// The map of one device below as many buckets, each of which holds the one before, as it is printed
+/// where all weigh this.
+fn chain(rt: &(impl Abort + AllocGlobal), weight: &str) -> Vec<u8> {
+    let mut text = Vec::new(rt.alloc());
+    put_behind(
+        rt,
+        &mut text,
+        b"# begin crush map\n\n# devices\ndevice 0 osd.0\n\n# types\ntype 0 osd\ntype 1 host\n\n# buckets\n",
+    );
+    put_host(rt, &mut text, 1, "osd.0", weight);
+    for below in 1..DEPTH {
+        let item = format!(in rt.alloc(); "b{below}").expect(rt, "no memory");
+        put_host(rt, &mut text, below + 1, item.as_str(), weight);
+    }
+    put_behind(rt, &mut text, b"\n# rules\n\n# end crush map\n");
+    text
+}
+
+/// What is called in the chain, and the lines of it. That a name is taken is told before a lack of room,
+/// and a bucket that is there takes a further device.
+const SCRIPT: &[u8] =
+    b"%operator a\nadd-bucket b1 host\nadd-bucket z host\nadd osd.1 1 host=z\nadd osd.1 1 host=b1\nrm osd.1\nreweight osd.0 2.0\n";
+
+const LINES: &[u8] =
+    b"# 1 a add-bucket b1 host = refused NameTaken 17\n# 2 a add-bucket z host = refused NoRoom 28\n# 3 a add osd.1 1.00000 host=z = refused NoRoom 28\n# 4 a add osd.1 1.00000 host=b1 = done changed 1 made 0\n# 5 a rm osd.1 = done changed 1 made 0\n# 6 a reweight osd.0 2.00000 = done changed 1 made 0\n";
+
+#[test]
+fn edits_the_most_buckets(rt: HostRuntime) {
+    let before = chain(&rt, "1.00000");
+    let job = joined(&rt, before.as_slice(), SCRIPT);
+    let after = chain(&rt, "2.00000");
+    let output = (after.as_slice(), LINES);
+    assert!(rt; writes(&rt, MODE, job.as_slice(), output, summary(0, 6, 3)));
+}
+
+/// What two operators call by turns in the chain: the innermost device and the innermost bucket are
+/// each edited, and end where they were.
+const TWO_SCRIPTS: &[u8] =
+    b"%operator a\nreweight osd.0 3.0\nmove b1 host=b4096\n%operator b\nbegin\nreweight-subtree b4096 1.0\nreweight osd.0 2.0\ncommit\nmove b1 host=b2\n";
+
+const TWO_PARTS: &[u8] =
+    b"# 1 a reweight osd.0 3.00000 = done changed 1 made 0\n# 2 b begin ; reweight-subtree b4096 1.00000 ; reweight osd.0 2.00000 ; commit = dones 2 changed 2 made 0\n# 3 a move b1 host=b4096 = done changed 1 made 0\n# 4 b move b1 host=b2 = done changed 1 made 0\n";
+
+#[test]
+fn two_operators_edit_the_most_buckets(rt: HostRuntime) {
+    let gate = ByTurns::new(&rt);
+    let before = chain(&rt, "1.00000");
+    let job = joined(&rt, before.as_slice(), TWO_SCRIPTS);
+    let after = chain(&rt, "2.00000");
+    let expected = joined(&rt, after.as_slice(), TWO_PARTS);
+    let mut out = Vec::new(rt.alloc());
+    let outcome = run_map(&rt, &gate, AT_ONCE, &mut job.as_slice(), &mut out);
+    let in_order = gate.kept_order();
+    assert!(&rt; in_order && outcome == Ok(summary(0, 4, 4)) && out == expected);
+}
+
+/// Puts as many calls behind a text as a job may have.
+fn put_most_calls(rt: &impl Abort, job: &mut Vec<u8>) {
+    for _ in 0..32_768 {
+        put_behind(rt, job, b"reweight osd.0 2\nreweight osd.0 1\n");
+    }
+}
+
+#[test]
+fn runs_the_most_calls(rt: HostRuntime) {
+    let mut job = joined(&rt, PLAIN, b"%operator a\n");
+    put_most_calls(&rt, &mut job);
+    let mut out = Vec::new(rt.alloc());
+    let outcome = run_map(&rt, &NoGate, MODE, &mut job.as_slice(), &mut out);
+    assert!(rt;
+        outcome == Ok(summary(0, 65_536, 65_536))
+            && out.starts_with(PLAIN)
+            && out.ends_with(
+                b"\n# 65535 a reweight osd.0 2.00000 = done changed 1 made 0\n# 65536 a reweight osd.0 1.00000 = done changed 1 made 0\n"
+            )
+    );
+}

@@ -1,0 +1,143 @@
+//! What standard error is told, and standard output where help is asked for.
+
+use crate::run::is_told;
+use crush_bytes::WriteFault;
+use crush_options::OptionsFault;
+use crush_report::{Words, report, tell};
+use crush_run::{RunFault, Summary};
+use crush_script::JobFault;
+use std::alloc::AllocError;
+use std::io::{self, ErrorKind, Write};
+use std::process::Abort;
+
+/// Whether out of memory is one fault, whoever tells it.
+fn is_one_fault() -> bool {
+    RunFault::from(WriteFault::OutOfMemory) == RunFault::Memory
+        && RunFault::from(AllocError) == RunFault::Memory
+}
+
+#[test]
+fn reports_what_no_run_here_comes_to(rt: HostRuntime) {
+    let of_job = Err(RunFault::Job(JobFault::OutOfMemory));
+    let calls = Err(RunFault::Job(JobFault::TooManyCalls(65_579)));
+    assert!(rt;
+        is_told(
+            &rt,
+            &Err(RunFault::Memory),
+            b"crushedit: out of memory\n",
+            4
+        ) && is_told(&rt, &of_job, b"crushedit: out of memory\n", 4)
+            && is_told(&rt, &calls, b"crushedit: line 65579: TooManyCalls\n", 1)
+            && is_one_fault()
+    );
+}
+
+#[test]
+fn tells_of_a_thread_that_was_not_started(rt: HostRuntime) {
+    assert!(rt; is_told(&rt, &Err(RunFault::Thread), b"crushedit: no thread\n", 4));
+}
+
+/// What a run comes to in which there is something to tell, and so many weights were replaced.
+fn differing(adjusted: u32) -> Summary {
+    Summary {
+        adjusted,
+        calls: 2,
+        changes: 1,
+        differs: true,
+    }
+}
+
+#[test]
+fn tells_of_made_buckets_and_where_there_is_something_to_tell(rt: HostRuntime) {
+    let made = Err(RunFault::Made(3));
+    assert!(rt;
+        is_told(&rt, &made, b"crushedit: made 3\n", 5)
+            && is_told(&rt, &Ok(differing(0)), b"", 6)
+            && is_told(&rt, &Ok(differing(7)), b"crushedit: adjusted 7\n", 6)
+    );
+}
+
+/// Answers an error to each write.
+#[derive(Drop)]
+struct Closed;
+
+impl Write for Closed {
+    fn write(&mut self, _bytes: &[u8]) -> io::Result<usize> {
+        Err(ErrorKind::Other.into())
+    }
+
+    fn flush(&mut self) -> io::Result<()> {
+        Ok(())
+    }
+}
+
+#[test]
+fn keeps_the_status_where_standard_error_fails(rt: HostRuntime) {
+    let mut held = [0u8; 14];
+    let mut room = held.as_mut_slice();
+    let told = report(Words::none(), &Err(RunFault::Read), b"", &mut room);
+    assert!(rt;
+        told.status == 3
+            && told.written.is_err()
+            && held == *b"crushedit: rea"
+            && report(Words::none(), &Err(RunFault::Memory), b"", &mut Closed).status == 4
+    );
+}
+
+/// Whether standard output and standard error get these texts of a command line that asks for no
+/// run, and the program ends with this status.
+fn is_ended(
+    rt: &impl AllocGlobal,
+    fault: &OptionsFault,
+    output: &str,
+    error: &str,
+    status: u8,
+) -> bool {
+    let mut out = Vec::new(rt.alloc());
+    let mut err = Vec::new(rt.alloc());
+    tell(fault, &mut out, &mut err) == status
+        && out.as_slice() == output.as_bytes()
+        && err.as_slice() == error.as_bytes()
+}
+
+const HELP: &str = "Usage: crushedit [OPTIONS] [FILE]\n\nOptions:\n  -h, --help  Print help\n";
+
+const WRITE_FAULT: &[u8] = b"crushedit: write fault\n";
+
+const REFUSAL: &str = "error: unexpected argument '--fly' found\n";
+
+/// The text as a `String`.
+fn owned(rt: &(impl Abort + AllocGlobal), text: &str) -> String {
+    String::from_str(rt.alloc(), text).expect(rt, "no memory")
+}
+
+#[test]
+fn command_lines_without_a_run_are_told_whole(rt: HostRuntime) {
+    let help = OptionsFault::Help(owned(&rt, HELP));
+    let refused = OptionsFault::Refused(owned(&rt, REFUSAL));
+    let memory = OptionsFault::Memory;
+    let are_ended = is_ended(&rt, &help, HELP, "", 0)
+        && is_ended(&rt, &refused, "", REFUSAL, 2)
+        && is_ended(&rt, &memory, "", "crushedit: out of memory\n", 4)
+        && tell(&refused, &mut Closed, &mut Closed) == 2;
+    drop(help);
+    drop(refused);
+    assert!(rt; are_ended);
+}
+
+/// Whether it is a write fault that standard output can't take the text.
+fn is_write_fault<W: Write>(rt: &impl AllocGlobal, fault: &OptionsFault, out: &mut W) -> bool {
+    let mut err = Vec::new(rt.alloc());
+    tell(fault, out, &mut err) == 3 && err.as_slice() == WRITE_FAULT
+}
+
+#[test]
+fn help_that_cannot_be_written_is_a_write_fault(rt: HostRuntime) {
+    let help = OptionsFault::Help(owned(&rt, HELP));
+    let mut held = [0u8; 14];
+    let mut room = held.as_mut_slice();
+    let are_write_faults = is_write_fault(&rt, &help, &mut Closed)
+        && is_write_fault(&rt, &help, &mut room);
+    drop(help);
+    assert!(rt; are_write_faults && held == *b"Usage: crushed");
+}

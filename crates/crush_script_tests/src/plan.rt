@@ -1,0 +1,277 @@
+//! Plans from the example map to others, and back.
+//!
+//! Expected values are worked by hand from the steps of a plan in docs/plan.md. What owns a map
+//! lets it go by `drop`.
+
+mod maps;
+mod names_part;
+mod names_since;
+
+use crate::maps::{EXAMPLE_MAP, map_of};
+use crush_names::stays;
+use crush_plan::{Identity, PlanWords, find_plan, plan_text};
+use maps::*;
+use std::process::Abort;
+
+/// The plan from the map of the one text to that of the other.
+fn planned(
+    rt: &(impl Abort + AllocGlobal),
+    identity: Identity,
+    words: PlanWords,
+    texts: [&[u8]; 2],
+) -> Vec<u8> {
+    planned_under(rt, identity, words, None, texts)
+}
+
+/// The same of the part of this name.
+fn planned_under(
+    rt: &(impl Abort + AllocGlobal),
+    identity: Identity,
+    words: PlanWords,
+    under: Option<&str>,
+    texts: [&[u8]; 2],
+) -> Vec<u8> {
+    let map = map_of(rt, texts[0]);
+    let wanted = map_of(rt, texts[1]);
+    let plan = find_plan(rt.alloc(), identity, under, &map, &wanted).expect(rt, "no memory");
+    let text = plan_text(rt.alloc(), &plan, words).expect(rt, "no memory");
+    drop(plan);
+    drop(wanted);
+    drop(map);
+    text
+}
+
+/// Whether the plan, told by ids and in the words of a script, is this text.
+fn is_planned(rt: &(impl Abort + AllocGlobal), texts: [&[u8]; 2], told: &[u8]) -> bool {
+    planned(rt, Identity::Ids, PlanWords::Script, texts).as_slice() == told
+}
+
+/// Whether the plan of the part of this name, told by ids and in the words of a script, is this text.
+fn is_planned_under(
+    rt: &(impl Abort + AllocGlobal),
+    under: &str,
+    texts: [&[u8]; 2],
+    told: &[u8],
+) -> bool {
+    let text = planned_under(rt, Identity::Ids, PlanWords::Script, Some(under), texts);
+    text.as_slice() == told
+}
+
+#[test]
+fn a_map_to_itself_takes_no_command(rt: HostRuntime) {
+    assert!(rt; is_planned(&rt, [EXAMPLE_MAP, EXAMPLE_MAP], b"# 0 commands\n"));
+}
+
+#[test]
+fn an_item_is_moved(rt: HostRuntime) {
+    assert!(rt;
+        is_planned(
+            &rt,
+            [EXAMPLE_MAP, MOVED],
+            b"# 1 commands\nmove osd.0 host=h2\n"
+        )
+    );
+}
+
+#[test]
+fn exchanged_buckets_are_swapped_back(rt: HostRuntime) {
+    assert!(rt;
+        is_planned(
+            &rt,
+            [SWAPPED, EXAMPLE_MAP],
+            b"# 1 commands\nswap-bucket h2 h1\n"
+        )
+    );
+}
+
+#[test]
+fn buckets_that_come_are_made_and_put(rt: HostRuntime) {
+    assert!(rt;
+        is_planned(
+            &rt,
+            [EXAMPLE_MAP, GROWN],
+            b"# 5 commands\nadd-bucket h3 host\nadd-bucket r1 rack\nmove r1 root=default\nmove h3 rack=r1\nadd osd.3 0.33299 host=h3\n"
+        )
+    );
+}
+
+#[test]
+fn what_is_not_wanted_goes_lowest_first(rt: HostRuntime) {
+    assert!(rt;
+        is_planned(
+            &rt,
+            [GROWN, EXAMPLE_MAP],
+            b"# 3 commands\nrm osd.3\nrm h3\nrm r1\n"
+        )
+    );
+}
+
+#[test]
+fn a_host_is_removed_with_its_devices(rt: HostRuntime) {
+    assert!(rt;
+        is_planned(
+            &rt,
+            [EXAMPLE_MAP, SHRUNK],
+            b"# 3 commands\nrm osd.0\nrm osd.1\nrm h1\n"
+        )
+    );
+}
+
+#[test]
+fn and_comes_back(rt: HostRuntime) {
+    assert!(rt;
+        is_planned(
+            &rt,
+            [SHRUNK, EXAMPLE_MAP],
+            b"# 4 commands\nadd-bucket h1 host\nmove h1 root=default\nadd osd.0 1.00000 host=h1\nadd osd.1 1.00000 host=h1\n"
+        )
+    );
+}
+
+#[test]
+fn what_no_command_sets_stays(rt: HostRuntime) {
+    assert!(rt;
+        is_planned(
+            &rt,
+            [EXAMPLE_MAP, CLASSED],
+            b"# 1 commands\nset-device-class ssd osd.0\n# 1 differences stay\n# tunables differ\n"
+        )
+    );
+}
+
+#[test]
+fn an_id_is_told_aside(rt: HostRuntime) {
+    assert!(rt;
+        is_planned(
+            &rt,
+            [EXAMPLE_MAP, NUMBERED],
+            b"# 0 commands\n# ids of 1 buckets differ\n"
+        )
+    );
+}
+
+#[test]
+fn a_ring_of_names_is_opened(rt: HostRuntime) {
+    assert!(rt;
+        is_planned(
+            &rt,
+            [EXAMPLE_MAP, RENAMED],
+            b"# 3 commands\nrename-bucket h1 h1.1\nrename-bucket h2 h1\nrename-bucket h1.1 h2\n"
+        )
+    );
+}
+
+#[test]
+fn one_weight_below_a_bucket_is_one_command(rt: HostRuntime) {
+    assert!(rt;
+        is_planned(
+            &rt,
+            [EXAMPLE_MAP, WEIGHTLESS],
+            b"# 1 commands\nreweight-subtree default 0.00000\n"
+        )
+    );
+}
+
+#[test]
+fn a_unit_is_no_difference(rt: HostRuntime) {
+    assert!(rt; is_planned(&rt, [HEAVY, HEAVY_CUT], b"# 0 commands\n"));
+}
+
+#[test]
+fn a_bucket_gives_its_name_to_a_device(rt: HostRuntime) {
+    assert!(rt;
+        is_planned(
+            &rt,
+            [HOST_AS_DEVICE, DEVICE_IN_H2],
+            b"# 2 commands\nrm osd.3\nadd osd.3 1.00000 host=h2\n"
+        )
+    );
+}
+
+#[test]
+fn by_name_items_are_moved_in_place_of_names(rt: HostRuntime) {
+    let text = planned(
+        &rt,
+        Identity::Names,
+        PlanWords::Script,
+        [EXAMPLE_MAP, RENAMED],
+    );
+    assert!(rt;
+        text.as_slice()
+            == b"# 3 commands\nmove osd.0 host=h2\nmove osd.1 host=h2\nmove osd.2 host=h1\n# ids of 2 buckets differ\n".as_slice()
+    );
+}
+
+#[test]
+fn of_a_part_its_weights_alone_are_set(rt: HostRuntime) {
+    assert!(rt;
+        is_planned_under(
+            &rt,
+            "h1",
+            [EXAMPLE_MAP, WEIGHTLESS],
+            b"# 1 commands\nreweight-subtree h1 0.00000\n"
+        )
+    );
+}
+
+#[test]
+fn what_is_above_a_part_stays(rt: HostRuntime) {
+    assert!(rt;
+        is_planned_under(
+            &rt,
+            "h3",
+            [GROWN, EXAMPLE_MAP],
+            b"# 2 commands\nrm osd.3\nrm h3\n"
+        )
+    );
+}
+
+#[test]
+fn what_comes_into_a_part_is_of_it(rt: HostRuntime) {
+    assert!(rt;
+        is_planned_under(
+            &rt,
+            "h2",
+            [EXAMPLE_MAP, MOVED],
+            b"# 1 commands\nmove osd.0 host=h2\n"
+        )
+    );
+}
+
+#[test]
+fn of_a_part_without_a_difference_nothing_is_told(rt: HostRuntime) {
+    assert!(rt; is_planned_under(&rt, "h2", [EXAMPLE_MAP, CLASSED], b"# 0 commands\n"));
+}
+
+#[test]
+fn where_all_help_nothing_a_class_is_set_alone(rt: HostRuntime) {
+    let text = planned(
+        &rt,
+        Identity::Names,
+        PlanWords::Script,
+        [NAMES_OF_OTHER_TYPES, NAMES_EXCHANGED],
+    );
+    assert!(rt;
+        text.as_slice()
+            == b"# 1 commands\nset-device-class hdd osd.4\n# 3 differences stay\n# r1: type row, wanted root; alg list, wanted straw\n# other: type root, wanted row; alg straw, wanted list\n# rules differ\n# ids of 2 buckets differ\n".as_slice()
+    );
+}
+
+#[test]
+fn commands_are_told_as_those_of_ceph(rt: HostRuntime) {
+    let text = planned(&rt, Identity::Ids, PlanWords::Ceph, [EXAMPLE_MAP, MOVED]);
+    assert!(rt; text.as_slice() == b"# 1 commands\nceph osd crush move osd.0 host=h2\n".as_slice());
+}
+
+#[test]
+fn each_column_that_differs_is_told(rt: HostRuntime) {
+    let map = map_of(&rt, EXAMPLE_MAP);
+    let wanted = map_of(&rt, OTHERWISE);
+    let lines = stays(rt.alloc(), &map, &wanted).expect(&rt, "no memory");
+    assert!(rt;
+        lines.as_slice()
+            == b"h1: type host, wanted rack; alg straw2, wanted list\nosd.1: weight 1.00000, wanted 2.00000; class (none), wanted hdd\nosd.0: in h1, wanted in h2\nh3: wanted as host in (root)\nosd.3: wanted as osd in (unplaced)\nosd.2: not wanted\n".as_slice()
+    );
+    drop(wanted);
+    drop(map);
+}

@@ -1,0 +1,223 @@
+//! The texts of the maps that plans lead from and to.
+
+/// The example map, where osd.0 stands last in h2.
+pub const MOVED: &[u8] = b"\
+    tunable choose_total_tries 50\n\
+    device 0 osd.0\n\
+    device 1 osd.1\n\
+    device 2 osd.2\n\
+    type 0 osd\n\
+    type 1 host\n\
+    type 3 rack\n\
+    type 11 root\n\
+    host h1 { id -2 alg straw2 hash 0 item osd.1 weight 1.0 }\n\
+    host h2 { id -3 alg straw2 hash 0 item osd.2 weight 0.5 item osd.0 weight 1.0 }\n\
+    root default { id -1 alg straw2 hash 0 item h1 item h2 }\n\
+    rule replicated_rule { id 0 type replicated step take default step chooseleaf firstn 0 type host step emit }\n";
+
+/// The example map, where h1 and h2 are exchanged.
+pub const SWAPPED: &[u8] = b"\
+    tunable choose_total_tries 50\n\
+    device 0 osd.0\n\
+    device 1 osd.1\n\
+    device 2 osd.2\n\
+    type 0 osd\n\
+    type 1 host\n\
+    type 3 rack\n\
+    type 11 root\n\
+    host h2 { id -2 alg straw2 hash 0 item osd.2 weight 0.5 }\n\
+    host h1 { id -3 alg straw2 hash 0 item osd.0 weight 1.0 item osd.1 weight 1.0 }\n\
+    root default { id -1 alg straw2 hash 0 item h2 item h1 }\n\
+    rule replicated_rule { id 0 type replicated step take default step chooseleaf firstn 0 type host step emit }\n";
+
+/// The example map with a rack, a host in it and a device in that.
+pub const GROWN: &[u8] = b"\
+    tunable choose_total_tries 50\n\
+    device 0 osd.0\n\
+    device 1 osd.1\n\
+    device 2 osd.2\n\
+    device 3 osd.3\n\
+    type 0 osd\n\
+    type 1 host\n\
+    type 3 rack\n\
+    type 11 root\n\
+    host h1 { id -2 alg straw2 hash 0 item osd.0 weight 1.0 item osd.1 weight 1.0 }\n\
+    host h2 { id -3 alg straw2 hash 0 item osd.2 weight 0.5 }\n\
+    host h3 { id -4 alg straw2 hash 0 item osd.3 weight 0.333 }\n\
+    rack r1 { id -5 alg straw2 hash 0 item h3 }\n\
+    root default { id -1 alg straw2 hash 0 item h1 item h2 item r1 }\n\
+    rule replicated_rule { id 0 type replicated step take default step chooseleaf firstn 0 type host step emit }\n";
+
+/// The example map without h1 and what is in it.
+pub const SHRUNK: &[u8] = b"\
+    tunable choose_total_tries 50\n\
+    device 2 osd.2\n\
+    type 0 osd\n\
+    type 1 host\n\
+    type 3 rack\n\
+    type 11 root\n\
+    host h2 { id -3 alg straw2 hash 0 item osd.2 weight 0.5 }\n\
+    root default { id -1 alg straw2 hash 0 item h2 }\n\
+    rule replicated_rule { id 0 type replicated step take default step chooseleaf firstn 0 type host step emit }\n";
+
+/// The example map with a class and another tunable.
+pub const CLASSED: &[u8] = b"\
+    tunable choose_total_tries 51\n\
+    device 0 osd.0 class ssd\n\
+    device 1 osd.1\n\
+    device 2 osd.2\n\
+    type 0 osd\n\
+    type 1 host\n\
+    type 3 rack\n\
+    type 11 root\n\
+    host h1 { id -2 alg straw2 hash 0 item osd.0 weight 1.0 item osd.1 weight 1.0 }\n\
+    host h2 { id -3 alg straw2 hash 0 item osd.2 weight 0.5 }\n\
+    root default { id -1 alg straw2 hash 0 item h1 item h2 }\n\
+    rule replicated_rule { id 0 type replicated step take default step chooseleaf firstn 0 type host step emit }\n";
+
+/// The example map, where h1 has another id.
+pub const NUMBERED: &[u8] = b"\
+    tunable choose_total_tries 50\n\
+    device 0 osd.0\n\
+    device 1 osd.1\n\
+    device 2 osd.2\n\
+    type 0 osd\n\
+    type 1 host\n\
+    type 3 rack\n\
+    type 11 root\n\
+    host h1 { id -9 alg straw2 hash 0 item osd.0 weight 1.0 item osd.1 weight 1.0 }\n\
+    host h2 { id -3 alg straw2 hash 0 item osd.2 weight 0.5 }\n\
+    root default { id -1 alg straw2 hash 0 item h1 item h2 }\n\
+    rule replicated_rule { id 0 type replicated step take default step chooseleaf firstn 0 type host step emit }\n";
+
+/// The example map, where h1 and h2 have one another's names.
+pub const RENAMED: &[u8] = b"\
+    tunable choose_total_tries 50\n\
+    device 0 osd.0\n\
+    device 1 osd.1\n\
+    device 2 osd.2\n\
+    type 0 osd\n\
+    type 1 host\n\
+    type 3 rack\n\
+    type 11 root\n\
+    host h2 { id -2 alg straw2 hash 0 item osd.0 weight 1.0 item osd.1 weight 1.0 }\n\
+    host h1 { id -3 alg straw2 hash 0 item osd.2 weight 0.5 }\n\
+    root default { id -1 alg straw2 hash 0 item h2 item h1 }\n\
+    rule replicated_rule { id 0 type replicated step take default step chooseleaf firstn 0 type host step emit }\n";
+
+/// The example map, where every weight is 0.
+pub const WEIGHTLESS: &[u8] = b"\
+    tunable choose_total_tries 50\n\
+    device 0 osd.0\n\
+    device 1 osd.1\n\
+    device 2 osd.2\n\
+    type 0 osd\n\
+    type 1 host\n\
+    type 3 rack\n\
+    type 11 root\n\
+    host h1 { id -2 alg straw2 hash 0 item osd.0 weight 0 item osd.1 weight 0 }\n\
+    host h2 { id -3 alg straw2 hash 0 item osd.2 weight 0 }\n\
+    root default { id -1 alg straw2 hash 0 item h1 item h2 }\n\
+    rule replicated_rule { id 0 type replicated step take default step chooseleaf firstn 0 type host step emit }\n";
+
+/// The example map with a host that is called as a device.
+pub const HOST_AS_DEVICE: &[u8] = b"\
+    tunable choose_total_tries 50\n\
+    device 0 osd.0\n\
+    device 1 osd.1\n\
+    device 2 osd.2\n\
+    type 0 osd\n\
+    type 1 host\n\
+    type 3 rack\n\
+    type 11 root\n\
+    host h1 { id -2 alg straw2 hash 0 item osd.0 weight 1.0 item osd.1 weight 1.0 }\n\
+    host h2 { id -3 alg straw2 hash 0 item osd.2 weight 0.5 }\n\
+    host osd.3 { id -4 alg straw2 hash 0 }\n\
+    root default { id -1 alg straw2 hash 0 item h1 item h2 item osd.3 }\n\
+    rule replicated_rule { id 0 type replicated step take default step chooseleaf firstn 0 type host step emit }\n";
+
+/// The example map with a further device.
+pub const DEVICE_IN_H2: &[u8] = b"\
+    tunable choose_total_tries 50\n\
+    device 0 osd.0\n\
+    device 1 osd.1\n\
+    device 2 osd.2\n\
+    device 3 osd.3\n\
+    type 0 osd\n\
+    type 1 host\n\
+    type 3 rack\n\
+    type 11 root\n\
+    host h1 { id -2 alg straw2 hash 0 item osd.0 weight 1.0 item osd.1 weight 1.0 }\n\
+    host h2 { id -3 alg straw2 hash 0 item osd.2 weight 0.5 item osd.3 weight 1.0 }\n\
+    root default { id -1 alg straw2 hash 0 item h1 item h2 }\n\
+    rule replicated_rule { id 0 type replicated step take default step chooseleaf firstn 0 type host step emit }\n";
+
+/// The example map with a weight that isn't whole.
+pub const HEAVY: &[u8] = b"\
+    tunable choose_total_tries 50\n\
+    device 0 osd.0\n\
+    device 1 osd.1\n\
+    device 2 osd.2\n\
+    type 0 osd\n\
+    type 1 host\n\
+    type 3 rack\n\
+    type 11 root\n\
+    host h1 { id -2 alg straw2 hash 0 item osd.0 weight 1.81898 item osd.1 weight 1.0 }\n\
+    host h2 { id -3 alg straw2 hash 0 item osd.2 weight 0.5 }\n\
+    root default { id -1 alg straw2 hash 0 item h1 item h2 }\n\
+    rule replicated_rule { id 0 type replicated step take default step chooseleaf firstn 0 type host step emit }\n";
+
+/// The same, as Ceph's own tool cuts it.
+pub const HEAVY_CUT: &[u8] = b"\
+    tunable choose_total_tries 50\n\
+    device 0 osd.0\n\
+    device 1 osd.1\n\
+    device 2 osd.2\n\
+    type 0 osd\n\
+    type 1 host\n\
+    type 3 rack\n\
+    type 11 root\n\
+    host h1 { id -2 alg straw2 hash 0 item osd.0 weight 1.81897 item osd.1 weight 1.0 }\n\
+    host h2 { id -3 alg straw2 hash 0 item osd.2 weight 0.5 }\n\
+    root default { id -1 alg straw2 hash 0 item h1 item h2 }\n\
+    rule replicated_rule { id 0 type replicated step take default step chooseleaf firstn 0 type host step emit }\n";
+
+/// The example map with another type and algorithm of h1, a weight and a class, an item elsewhere, one that is gone, and two that come.
+pub const OTHERWISE: &[u8] = b"\
+    tunable choose_total_tries 50\n\
+    device 0 osd.0\n\
+    device 1 osd.1 class hdd\n\
+    device 3 osd.3\n\
+    type 0 osd\n\
+    type 1 host\n\
+    type 3 rack\n\
+    type 11 root\n\
+    rack h1 { id -2 alg list hash 0 item osd.1 weight 2.0 }\n\
+    host h2 { id -3 alg straw2 hash 0 item osd.0 weight 1.0 }\n\
+    root default { id -1 alg straw2 hash 0 item h1 item h2 }\n\
+    host h3 { id -4 alg straw2 hash 0 }\n\
+    rule replicated_rule { id 0 type replicated step take default step chooseleaf firstn 0 type host step emit }\n";
+
+/// A row with a device, and a root, of which a rule takes the root.
+pub const NAMES_OF_OTHER_TYPES: &[u8] = b"\
+    device 2 osd.2\n\
+    device 4 osd.4\n\
+    type 0 osd\n\
+    type 1 host\n\
+    type 4 row\n\
+    type 11 root\n\
+    root other { id -1 alg straw hash 0 }\n\
+    row r1 { id -9 alg list hash 0 item osd.2 weight 0.0 }\n\
+    rule r { id 0 type replicated step take other step chooseleaf firstn 0 type host step emit }\n";
+
+/// The same where both have exchanged their names and items, and osd.4 has a class.
+pub const NAMES_EXCHANGED: &[u8] = b"\
+    device 2 osd.2\n\
+    device 4 osd.4 class hdd\n\
+    type 0 osd\n\
+    type 1 host\n\
+    type 4 row\n\
+    type 11 root\n\
+    root r1 { id -1 alg straw hash 0 item osd.2 weight 0.0 }\n\
+    row other { id -9 alg list hash 0 }\n\
+    rule r { id 0 type replicated step take r1 step chooseleaf firstn 0 type host step emit }\n";

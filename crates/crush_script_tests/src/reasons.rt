@@ -1,0 +1,317 @@
+//! Faults and histories of jobs, and what is told of them.
+//!
+//! Expected values are written from the forms in docs/FORMATS.md and the sentences in docs/RULES.md.
+
+ghost use Rattle.std.specs.Prelude.{◌<◌, length};
+ghost use Rattle.crush_calls.specs.Entries.{AreOf};
+
+use crate::histories::entries_of;
+use crush_calls::{Entry, Script};
+use crush_map::{CrushMap, Hashing};
+use crush_reasons::{
+    JobText, Locates, Origin, ceph_text, explained_job, explained_text, fault_line, fault_text,
+    written_text,
+};
+use crush_script::{Job, JobFault, read_job};
+use std::alloc::Global;
+use std::process::Abort;
+
+/// The plain example map, where the type of the second host is misspelt.
+const MISSPELT: &[u8] =
+    b"# begin crush map\ntunable choose_total_tries 50\n\n# devices\ndevice 0 osd.0\ndevice 1 osd.1\ndevice 2 osd.2\n\n# types\ntype 0 osd\ntype 1 host\ntype 3 rack\ntype 11 root\n\n# buckets\nhost h1 {\n\tid -2\t\t# do not change unnecessarily\n\t# weight 2.00000\n\talg straw2\n\thash 0\t# rjenkins1\n\titem osd.0 weight 1.00000\n\titem osd.1 weight 1.00000\n}\nhots h2 {\n\tid -3\t\t# do not change unnecessarily\n\t# weight 0.50000\n\talg straw2\n\thash 0\t# rjenkins1\n\titem osd.2 weight 0.50000\n}\nroot default {\n\tid -1\t\t# do not change unnecessarily\n\t# weight 2.50000\n\talg straw2\n\thash 0\t# rjenkins1\n\titem h1 weight 2.00000\n\titem h2 weight 0.50000\n}\n\n# rules\n\n# end crush map\n";
+
+/// The plain example map and a script, of which the first and the last command change it.
+const JOB: &[u8] =
+    b"# begin crush map\ntunable choose_total_tries 50\n\n# devices\ndevice 0 osd.0\ndevice 1 osd.1\ndevice 2 osd.2\n\n# types\ntype 0 osd\ntype 1 host\ntype 3 rack\ntype 11 root\n\n# buckets\nhost h1 {\n\tid -2\t\t# do not change unnecessarily\n\t# weight 2.00000\n\talg straw2\n\thash 0\t# rjenkins1\n\titem osd.0 weight 1.00000\n\titem osd.1 weight 1.00000\n}\nhost h2 {\n\tid -3\t\t# do not change unnecessarily\n\t# weight 0.50000\n\talg straw2\n\thash 0\t# rjenkins1\n\titem osd.2 weight 0.50000\n}\nroot default {\n\tid -1\t\t# do not change unnecessarily\n\t# weight 2.50000\n\talg straw2\n\thash 0\t# rjenkins1\n\titem h1 weight 2.00000\n\titem h2 weight 0.50000\n}\n\n# rules\n\n# end crush map\n%operator a\nreweight osd.0 2\nreweight osd.0 2\nrm default\nmove h2 rack=r1 root=default\n";
+
+/// What is wrong with bytes that are no job.
+fn fault_of(rt: &(impl Abort + AllocGlobal), bytes: &[u8]) -> JobFault {
+    match read_job(rt.alloc(), Hashing::plain(), bytes) {
+        Ok(job) => {
+            drop(job);
+            panic!(rt; "a job")
+        }
+        Err(fault) => fault,
+    }
+}
+
+/// Whether this is told of a short text with a fault.
+fn is_told(rt: &(impl Abort + AllocGlobal), origin: Origin<'_>, bytes: &[u8], told: &[u8]) -> bool {
+    if bytes.len() > 10_000 {
+        return false;
+    }
+    let fault = fault_of(rt, bytes);
+    let text = fault_text(rt.alloc(), origin, bytes, fault).expect(rt, "no memory");
+    text.as_slice() == told
+}
+
+#[test]
+fn a_fault_is_told_with_its_place(rt: HostRuntime) {
+    assert!(rt;
+        is_told(
+            &rt,
+            Origin {
+                name: b"",
+                before: 0
+            },
+            MISSPELT,
+            b"  line 24, column 1\n    hots h2 {\n    ^\n  no type of this name is declared above\n"
+        ) && is_told(
+            &rt,
+            Origin {
+                name: b"alice.txt",
+                before: 0
+            },
+            b"# nothing\n%operator alice\nfly\tx\n",
+            b"  alice.txt line 3\n    fly x\n  the first word of a line is to be a command: --help has all of them\n"
+        )
+    );
+}
+
+/// A map that ends in a bucket.
+const CUT: &[u8] = b"type 1 host\nhost h1 {\n\tid -2\n%operator a\n";
+
+/// A bucket with a word that no bucket has.
+const ALGO: &[u8] = b"type 1 host\nhost h1 {\n\tid -2\n\talgo straw2\n}\n";
+
+#[test]
+fn what_does_not_fit_is_told(rt: HostRuntime) {
+    let origin = Origin {
+        name: b"",
+        before: 0,
+    };
+    assert!(rt;
+        is_told(
+            &rt,
+            origin,
+            b"%operator a\nreweight osd.0 1,5\n",
+            b"  line 2\n    reweight osd.0 1,5\n  reweight NAME WEIGHT: `1,5` is no weight; write 1.5\n"
+        ) && is_told(
+            &rt,
+            origin,
+            CUT,
+            b"  line 3, column 5\n     id -2\n        ^\n  the host h1 that begins at line 2 isn't closed\n"
+        ) && is_told(
+            &rt,
+            origin,
+            ALGO,
+            b"  line 4, column 2\n     algo straw2\n     ^\n  another word is wanted here: id or alg; in the host h1 that begins at line 2\n"
+        )
+    );
+}
+
+/// A map and two scripts that were joined: of each the line of its operator was put before it.
+const JOINED: &[u8] = b"# nothing\n%operator alice\nrm x\n%operator bob\nrm y\nfly z\n";
+
+/// The same, where the line that was put before the second is that of the first.
+const DUPLICATE: &[u8] = b"# nothing\n%operator alice\nrm x\n%operator alice\nrm y\n";
+
+#[test]
+fn a_line_is_told_as_that_of_its_own_file(rt: HostRuntime) {
+    let second = Origin {
+        name: b"bob.txt",
+        before: 4,
+    };
+    assert!(rt;
+        is_told(
+            &rt,
+            second,
+            JOINED,
+            b"  bob.txt line 2\n    fly z\n  the first word of a line is to be a command: --help has all of them\n"
+        ) && is_told(
+            &rt,
+            second,
+            DUPLICATE,
+            b"  bob.txt line 0\n    %operator alice\n  an operator above has this name\n"
+        )
+    );
+}
+
+/// Whether the fault of a short text stands at this line of it.
+fn stands_at(rt: &(impl Abort + AllocGlobal), bytes: &[u8], line: usize) -> bool {
+    bytes.len() <= 10_000 && fault_line(bytes, fault_of(rt, bytes)) == line
+}
+
+#[test]
+fn the_line_of_a_fault_counts_in_the_job(rt: HostRuntime) {
+    assert!(rt; stands_at(&rt, MISSPELT, 24) && stands_at(&rt, JOINED, 6));
+}
+
+/// Whether the commands that changed the map are these, and this is told of the others.
+fn are_printed(
+    rt: &(impl Abort + AllocGlobal),
+    opening: &CrushMap<Global>,
+    scripts: &[Script],
+    entries: &[Entry],
+    made: &[u8],
+    told: &[u8],
+) -> bool
+    requires few { length entries.now < 100 }
+    requires operators { AreOf (length scripts.now) entries.now }
+{
+    let first = opening.try_copy().expect(rt, "no memory");
+    let second = opening.try_copy().expect(rt, "no memory");
+    let commands = ceph_text(rt.alloc(), first, entries).expect(rt, "no memory");
+    let reasons = explained_text(rt.alloc(), second, scripts, entries).expect(rt, "no memory");
+    commands.as_slice() == made && reasons.as_slice() == told
+}
+
+/// Whether that holds of the only script of a job.
+fn is_answered(rt: &(impl Abort + AllocGlobal), job: &Job, made: &[u8], told: &[u8]) -> bool {
+    let scripts = job.scripts.as_slice();
+    if scripts.len() != 1 {
+        return false;
+    }
+    let mut map = job.map.try_copy().expect(rt, "no memory");
+    let entries = entries_of(rt, &mut map, scripts, 0);
+    let answered = entries.len() < 100
+        && are_printed(rt, &job.map, scripts, entries.as_slice(), made, told);
+    drop(entries);
+    drop(map);
+    answered
+}
+
+#[test]
+fn commands_and_reasons_are_told(rt: HostRuntime) {
+    let job = read_job(rt.alloc(), Hashing::plain(), JOB).expect(&rt, "no job");
+    assert!(rt;
+        is_answered(
+            &rt,
+            &job,
+            b"# 2 commands\nceph osd crush reweight osd.0 2.00000\nceph osd crush move h2 rack=r1 root=default\n",
+            b"# 3 a rm default = refused NotEmpty 39\n  default holds 2 items: move or remove them first\n"
+        )
+    );
+    drop(job);
+}
+
+/// A map of two hosts with a root that a rule takes, and a script of which three commands change it.
+const RULED: &[u8] =
+    b"device 0 osd.0\ndevice 1 osd.1\ntype 1 host\ntype 2 rack\ntype 3 root\nhost h1 {\nid -2\nalg straw2\nitem osd.0 weight 1.00000\n}\nhost h2 {\nid -3\nalg straw2\n}\nroot default {\nid -1\nalg straw2\nitem h1 weight 1.00000\n}\nroot spare {\nid -4\nalg straw2\n}\nrule fast {\nid 0\ntype replicated\nstep take spare\nstep emit\n}\n%operator a\nset osd.1 1 host=h1\nset osd.1 2 host=h2\nrm h3\nrm h1\nmove h2 root=default\nrm default\nrm spare\nmove default host=h2\nmove h1 rack=spare\nadd osd.0 1 host=h2\nbegin\nrename-bucket h1 h4\nrm h1\ncommit\n";
+
+const RULED_MADE: &[u8] =
+    b"# 3 commands\nceph osd crush add osd.1 1.00000 host=h1\nceph osd crush set osd.1 2.00000 host=h2\nceph osd crush move h2 root=default\n";
+
+const RULED_TOLD: &[u8] =
+    b"# 3 a rm h3 = refused NoSuchItem 2\n  h3 isn't there: is it h1?\n# 4 a rm h1 = refused NotEmpty 39\n  h1 holds 1 item: move or remove it first\n# 6 a rm default = refused NotEmpty 39\n  default holds 2 items: move or remove them first\n# 7 a rm spare = refused InUse 16\n  the rule fast takes spare\n# 8 a move default host=h2 = refused Loop 40\n  h2 stands below default: a bucket cannot come below itself\n# 9 a move h1 rack=spare = refused WrongType 22\n  spare is of type root, not rack\n# 10 a add osd.0 1.00000 host=h2 = refused AlreadyPlaced 17\n  osd.0 stands in h1: set and create-or-move put it into another\n# 11 a begin ; rename-bucket h1 h4 ; rm h1 ; commit = refused at 1 NoSuchItem 2\n  rm h1: h1 isn't there: is it h4?\n";
+
+#[test]
+fn each_is_told_of_the_map_before_it(rt: HostRuntime) {
+    let job = read_job(rt.alloc(), Hashing::plain(), RULED).expect(&rt, "no job");
+    assert!(rt; is_answered(&rt, &job, RULED_MADE, RULED_TOLD));
+    drop(job);
+}
+
+/// A host that was written with another weight than its sum.
+const WEIGHED: &[u8] =
+    b"device 0 osd.0\ntype 1 host\ntype 2 root\nhost h1 {\nid -2\nalg straw2\nitem osd.0 weight 554.62\n}\nroot default {\nid -1\nalg straw2\nitem h1 weight 554.6\n}\n%operator a\n";
+
+const WEIGHTS: &[u8] = b"h1: 554.6 was written, the sum is 554.62000\n";
+
+#[test]
+fn written_weights_are_told(rt: HostRuntime) {
+    let job = read_job(rt.alloc(), Hashing::plain(), WEIGHED).expect(&rt, "no job");
+    let told = written_text(rt.alloc(), &job.map, WEIGHED).expect(&rt, "no memory");
+    assert!(rt; told.as_slice() == WEIGHTS);
+    drop(job);
+}
+
+/// A map of a host, and the scripts of two operators, with a batch that is refused in each.
+const BATCHES: &[u8] =
+    b"type 1 host\nhost h1 {\nid -1\nalg straw2\n}\n%operator a\n# one\nbegin\n\nadd-bucket h2 host\nadd osd.1000 1 rack=r1\ncommit\nrm h3\n%operator b\nrm h2\nbegin at 0\nrename-bucket h1 h5 # two\nrm h1\ncommit\n";
+
+const BATCHES_OF_A: &[u8] =
+    b"# 1 a begin ; add-bucket h2 host ; add osd.1000 1.00000 rack=r1 ; commit = refused at 1 NoSuchType 22\n  cmds:5: add osd.1000 1.00000 rack=r1: rack is no type of the map\n# 2 a rm h3 = refused NoSuchItem 2\n  h3 isn't there: is it h1?\n";
+
+const BATCHES_OF_NO_FILE: &[u8] =
+    b"# 1 a begin ; add-bucket h2 host ; add osd.1000 1.00000 rack=r1 ; commit = refused at 1 NoSuchType 22\n  line 11: add osd.1000 1.00000 rack=r1: rack is no type of the map\n# 2 a rm h3 = refused NoSuchItem 2\n  h3 isn't there: is it h1?\n";
+
+const BATCHES_OF_B: &[u8] =
+    b"# 1 b rm h2 = refused NoSuchItem 2\n  h2 isn't there: is it h1?\n# 2 b begin at 0 ; rename-bucket h1 h5 ; rm h1 ; commit = refused at 1 NoSuchItem 2\n  b.txt:4: rm h1: h1 isn't there: is it h5?\n";
+
+/// A file from which all lines come.
+#[derive(Drop)]
+struct Whole<'a> {
+    name: &'a [u8],
+    before: usize,
+}
+
+impl Locates for Whole<'_> {
+    ghost origin = { λ file _. record { name = file.name.now; before = file.before } };
+
+    fn at(&self, line: usize) -> Origin<'_> {
+        let _ = line;
+        Origin {
+            name: self.name,
+            before: self.before,
+        }
+    }
+}
+
+/// Whether this is told of the calls of one operator of a short job, made alone.
+fn are_explained(
+    rt: &(impl Abort + AllocGlobal),
+    job: &Job,
+    operator: usize,
+    file: &Whole<'_>,
+    told: &[u8],
+) -> bool {
+    let scripts = job.scripts.as_slice();
+    if operator >= scripts.len() {
+        return false;
+    }
+    let mut map = job.map.try_copy().expect(rt, "no memory");
+    let entries = entries_of(rt, &mut map, scripts, operator);
+    let opening = job.map.try_copy().expect(rt, "no memory");
+    let explained = entries.len() < 100
+        && are_told(rt, opening, file, scripts, entries.as_slice(), told);
+    drop(entries);
+    drop(map);
+    explained
+}
+
+/// Whether this is told of these entries.
+fn are_told(
+    rt: &(impl Abort + AllocGlobal),
+    opening: CrushMap<Global>,
+    file: &Whole<'_>,
+    scripts: &[Script],
+    entries: &[Entry],
+    told: &[u8],
+) -> bool
+    requires few { length entries.now < 100 }
+    requires operators { AreOf (length scripts.now) entries.now }
+{
+    let text = JobText {
+        bytes: BATCHES,
+        origins: file,
+    };
+    let reasons = explained_job(rt.alloc(), text, opening, scripts, entries).expect(
+        rt,
+        "no memory",
+    );
+    reasons.as_slice() == told
+}
+
+#[test]
+fn a_batch_tells_where_its_refused_edit_stands(rt: HostRuntime) {
+    let job = read_job(rt.alloc(), Hashing::plain(), BATCHES).expect(&rt, "no job");
+    let cmds = Whole {
+        name: b"cmds",
+        before: 6,
+    };
+    let none = Whole {
+        name: b"",
+        before: 0,
+    };
+    let second = Whole {
+        name: b"b.txt",
+        before: 14,
+    };
+    assert!(rt;
+        are_explained(&rt, &job, 0, &cmds, BATCHES_OF_A)
+            && are_explained(&rt, &job, 0, &none, BATCHES_OF_NO_FILE)
+            && are_explained(&rt, &job, 1, &second, BATCHES_OF_B)
+    );
+    drop(job);
+}

@@ -1,0 +1,53 @@
+//! Maps that are read into a heap of a test's own.
+
+use crate::script::{PLAIN_EXAMPLE_MAP, text_of};
+use crush_map::{CrushMap, Hashing};
+use crush_text::{TextFault, TextFaultKind, read_map_in};
+use linked_list_allocator::LocalHeap;
+use std::alloc::Allocator;
+use std::process::Abort;
+
+/// Whether it is the plain example map.
+fn is_plain_example_map<A: Allocator>(rt: &(impl Abort + AllocGlobal), map: &CrushMap<A>) -> bool {
+    map.total() == 163840 && text_of(rt, map).as_slice() == PLAIN_EXAMPLE_MAP
+}
+
+/// Whether a heap of so many bytes holds the plain example map, with no weight adjusted.
+fn holds_the_map(rt: &(impl Abort + AllocGlobal), size: usize) -> Result<bool, TextFault> {
+    let heap = LocalHeap::new(rt.alloc(), size).expect(rt, "no memory");
+    match read_map_in(rt.alloc(), Hashing::plain(), &heap, PLAIN_EXAMPLE_MAP) {
+        Ok((map, adjusted)) => {
+            let is_held = adjusted == 0 && is_plain_example_map(rt, &map);
+            drop(map);
+            Ok(is_held)
+        }
+        Err(fault) => Err(fault),
+    }
+}
+
+#[test]
+fn the_plain_example_map_is_read_into_a_heap(rt: HostRuntime) {
+    assert!(rt; holds_the_map(&rt, 65536) == Ok(true));
+}
+
+/// Whether the fault is that memory ran out inside the text of the plain example map; for the first
+/// device, whose name is at place 38, where the heap is the smallest.
+fn is_lack(fault: TextFault, is_smallest: bool) -> bool {
+    fault.kind == TextFaultKind::OutOfMemory
+        && fault.place < PLAIN_EXAMPLE_MAP.len()
+        && (!is_smallest || fault.place == 38)
+}
+
+#[test]
+fn heaps_that_are_too_small(rt: HostRuntime) {
+    for i in 1..1024 {
+        match holds_the_map(&rt, 64 * i) {
+            Ok(is_held) => {
+                assert!(rt; i > 1 && is_held);
+                return;
+            }
+            Err(fault) => assert!(rt; is_lack(fault, i == 1)),
+        }
+    }
+    panic!(rt; "no heap holds the map")
+}

@@ -1,0 +1,179 @@
+//! Each prefix of the example map's text: which of them are maps is told by a rule of its lines.
+
+use crate::script::{put_behind, text_of};
+use crush_map::CrushMap;
+use crush_text::{TextFault, TextFaultKind, read_map};
+use std::alloc::Global;
+use std::process::Abort;
+
+/// The example map, as it is printed: each tunable, device and type a line of three words, each bucket and
+/// rule from a line with its opening brace to a line of its closing one.
+const EXAMPLE_MAP: &[u8] = b"\
+    # begin crush map\n\
+    tunable choose_total_tries 50\n\
+    \n\
+    # devices\n\
+    device 0 osd.0\n\
+    device 1 osd.1\n\
+    device 2 osd.2\n\
+    \n\
+    # types\n\
+    type 0 osd\n\
+    type 1 host\n\
+    type 3 rack\n\
+    type 11 root\n\
+    \n\
+    # buckets\n\
+    host h1 {\n\
+    \tid -2\t\t# do not change unnecessarily\n\
+    \t# weight 2.00000\n\
+    \talg straw2\n\
+    \thash 0\t# rjenkins1\n\
+    \titem osd.0 weight 1.00000\n\
+    \titem osd.1 weight 1.00000\n\
+    }\n\
+    host h2 {\n\
+    \tid -3\t\t# do not change unnecessarily\n\
+    \t# weight 0.50000\n\
+    \talg straw2\n\
+    \thash 0\t# rjenkins1\n\
+    \titem osd.2 weight 0.50000\n\
+    }\n\
+    root default {\n\
+    \tid -1\t\t# do not change unnecessarily\n\
+    \t# weight 2.50000\n\
+    \talg straw2\n\
+    \thash 0\t# rjenkins1\n\
+    \titem h1 weight 2.00000\n\
+    \titem h2 weight 0.50000\n\
+    }\n\
+    \n\
+    # rules\n\
+    rule replicated_rule {\n\
+    \tid 0\n\
+    \ttype replicated\n\
+    \tstep take default\n\
+    \tstep chooseleaf firstn 0 type host\n\
+    \tstep emit\n\
+    }\n\
+    \n\
+    # end crush map\n";
+
+/// Whether a word can have the byte.
+fn is_of_a_word(byte: u8) -> bool {
+    byte.is_ascii_alphanumeric() || byte == b'-' || byte == b'_' || byte == b'.'
+}
+
+/// How many braces of the prefix are open.
+fn depth(prefix: &[u8]) -> u32 {
+    let mut depth: u32 = 0;
+    for byte in prefix {
+        match *byte {
+            b'{' => depth = depth.saturating_add(1),
+            b'}' => depth = depth.saturating_sub(1),
+            _ => {}
+        }
+    }
+    depth
+}
+
+/// The last line of the prefix, so far as it goes.
+fn last_line(prefix: &[u8]) -> &[u8] {
+    let mut last: &[u8] = b"";
+    for line in prefix.split(|byte| *byte == b'\n') {
+        last = line;
+    }
+    last
+}
+
+/// How many words the line has, where spaces separate them.
+fn count_words(line: &[u8]) -> u32 {
+    let mut count: u32 = 0;
+    for word in line.split(|byte| *byte == b' ') {
+        if !word.is_empty() {
+            count = count.saturating_add(1);
+        }
+    }
+    count
+}
+
+/// Whether the prefix ends between two statements, or in the last word of a tunable, a device or a
+/// type: cut short, it is still a number, or a name that no other has.
+fn is_whole(prefix: &[u8]) -> bool {
+    let line = last_line(prefix);
+    let is_between = line.is_empty() || line.starts_with(b"#") || line == b"}".as_slice();
+    depth(prefix) == 0 && (is_between || count_words(line) == 3)
+}
+
+/// Where the last word of the prefix begins, or the prefix ends where none reaches its end.
+fn last_word(prefix: &[u8]) -> usize {
+    let mut begin: usize = 0;
+    for (place, byte) in prefix.iter().enumerate() {
+        if !is_of_a_word(*byte) {
+            begin = place.saturating_add(1);
+        }
+    }
+    begin
+}
+
+/// Whether the fault is that the prefix ends, or, where it cuts a word short, one of that word.
+fn is_at_the_end(fault: TextFault, prefix: &[u8], is_cut: bool) -> bool {
+    if fault.kind == TextFaultKind::Ended {
+        fault.place == prefix.len()
+    } else {
+        is_cut && fault.place < prefix.len() && fault.place == last_word(prefix)
+    }
+}
+
+/// The lines of the text that aren't empty and don't begin as a comment.
+fn statements(rt: &(impl Abort + AllocGlobal), text: &[u8]) -> Vec<u8> {
+    let mut kept = Vec::new(rt.alloc());
+    for line in text.split(|byte| *byte == b'\n') {
+        if !line.is_empty() && !line.starts_with(b"#") {
+            put_behind(rt, &mut kept, line);
+            put_behind(rt, &mut kept, b"\n");
+        }
+    }
+    kept
+}
+
+/// Whether the map is printed with the statements of the prefix, and no others.
+fn has_the_statements(
+    rt: &(impl Abort + AllocGlobal),
+    map: &CrushMap<Global>,
+    prefix: &[u8],
+) -> bool {
+    let text = text_of(rt, map);
+    statements(rt, text.as_slice()) == statements(rt, prefix)
+}
+
+/// Whether the prefix is read where it is whole, and refused at its end where it isn't. `is_cut` says
+/// that the word in which it ends goes on.
+fn is_due(rt: &(impl Abort + AllocGlobal), prefix: &[u8], is_cut: bool) -> bool {
+    match read_map(rt.alloc(), prefix) {
+        Ok((map, adjusted)) => {
+            let is_printed = has_the_statements(rt, &map, prefix);
+            drop(map);
+            is_whole(prefix) && adjusted == 0 && is_printed
+        }
+        Err(fault) => !is_whole(prefix) && is_at_the_end(fault, prefix, is_cut),
+    }
+}
+
+/// Whether the line at which the prefix ends goes on with the word that the prefix has begun. No word
+/// of a comment counts.
+fn cuts_a_word(prefix: &[u8], rest: &[u8]) -> bool {
+    let goes_on = match rest.first() {
+        Some(byte) => is_of_a_word(*byte),
+        None => false,
+    };
+    goes_on && !last_line(prefix).contains(&b'#')
+}
+
+#[test]
+fn prefixes_of_the_example_map(rt: HostRuntime) {
+    for length in 0..EXAMPLE_MAP.len() + 1 {
+        let (prefix, rest) = EXAMPLE_MAP.split_at(length);
+        assert!(rt; is_due(&rt, prefix, cuts_a_word(prefix, rest)));
+    }
+}

@@ -1,0 +1,51 @@
+//! The plain example map, as it is read and printed, and how faults are told.
+
+use crate::script::{PLAIN_EXAMPLE_MAP, text_of};
+use crush_map::CrushMap;
+use crush_script::JobFault;
+use crush_text::{TextFault, TextFaultKind, read_map};
+use std::alloc::Global;
+
+/// Whether the item of this name has the id of this number, or is none.
+fn has_id(map: &CrushMap<Global>, name: &str, number: Option<i32>) -> bool {
+    match map.locate(name) {
+        Some(id) => number == Some(id.number()),
+        None => number.is_none(),
+    }
+}
+
+/// Whether the map counts and finds what the plain example map has.
+fn is_plain_example_map(map: &CrushMap<Global>) -> bool {
+    let counts = map.counts();
+    map.total() == 163840
+        && counts.devices == 3
+        && counts.buckets == 3
+        && has_id(map, "osd.2", Some(2))
+        && has_id(map, "h2", Some(-3))
+        && has_id(map, "h3", None)
+}
+
+#[test]
+fn the_plain_example_map_is_read_and_printed(rt: HostRuntime) {
+    let (map, adjusted) = read_map(rt.alloc(), PLAIN_EXAMPLE_MAP).expect(&rt, "no map");
+    let is_read = is_plain_example_map(&map);
+    let text = text_of(&rt, &map);
+    drop(map);
+    assert!(rt; is_read && adjusted == 0 && text.as_slice() == PLAIN_EXAMPLE_MAP);
+}
+
+#[test]
+fn faults_are_told(rt: HostRuntime) {
+    let kind = TextFaultKind::OutOfMemory;
+    let text = TextFault { kind, place: 102 };
+    let line = JobFault::NoSuchCommand(3);
+    let whole = JobFault::TooLong;
+    let told = format!(in rt.alloc(); "{text}, {line}, {whole}").expect(&rt, "no memory");
+    assert!(rt;
+        kind.number() == 16
+            && kind.name() == "OutOfMemory"
+            && told.as_str() == "byte 102: OutOfMemory, line 3: NoSuchCommand, TooLong"
+            && JobFault::Text(text).lacks_memory()
+            && !line.lacks_memory()
+    );
+}

@@ -1,0 +1,87 @@
+//! What has changed from one map to another.
+
+use super::EXAMPLE_MAP;
+use crate::maps::map_of;
+use crush_map::CrushMap;
+use crush_since::write_since;
+use std::alloc::Global;
+use std::process::Abort;
+
+/// The example map after `create-or-move osd.0 5.0 host=h2`.
+pub(super) const MOVED: &[u8] = b"\
+    tunable chooseleaf_stable 1\n\
+    device 0 osd.0\n\
+    device 1 osd.1\n\
+    device 2 osd.2\n\
+    type 0 osd\n\
+    type 1 host\n\
+    type 3 rack\n\
+    type 11 root\n\
+    host h1 { id -2 alg straw2 hash 0 item osd.1 weight 1.0 }\n\
+    host h2 { id -3 alg straw2 hash 0 item osd.2 weight 0.5 item osd.0 weight 1.0 }\n\
+    root default { id -1 alg straw2 hash 0 item h1 weight 1.0 item h2 weight 1.5 }\n";
+
+/// Whether that is what has changed from one map to the other.
+fn is_since(rt: &(impl Abort + AllocGlobal), old: &[u8], new: &[u8], changes: &[u8]) -> bool {
+    let old = map_of(rt, old);
+    let new = map_of(rt, new);
+    let is = since(rt, &old, &new).as_slice() == changes;
+    drop(old);
+    drop(new);
+    is
+}
+
+/// What has changed from one map to the other.
+fn since(
+    rt: &(impl Abort + AllocGlobal),
+    old: &CrushMap<Global>,
+    new: &CrushMap<Global>,
+) -> Vec<u8> {
+    let mut text = Vec::new(rt.alloc());
+    write_since(rt.alloc(), old, new, &mut text).expect(rt, "no text");
+    text
+}
+
+#[test]
+fn a_moved_device_moves_its_weight(rt: HostRuntime) {
+    let changes = b"\
+        h1 (-2): weight 2.00000 to 1.00000\n\
+        h2 (-3): weight 0.50000 to 1.50000\n\
+        osd.0 (0): from h1 (-2) to h2 (-3)\n\
+        total 2.50000 to 2.50000\n\
+        0 made, 0 removed, 0 renamed, 1 moved, 2 of other weight, 0 of other class\n";
+    assert!(rt; is_since(&rt, EXAMPLE_MAP, MOVED, changes));
+}
+
+/// A map with a rule that takes a class, and two hosts.
+const RULE: &[u8] = b"\
+    device 0 osd.0 class hdd\n\
+    type 1 host\n\
+    type 11 root\n\
+    host h1 { id -2 alg straw2 hash 0 item osd.0 weight 1.0 }\n\
+    host h2 { id -3 alg straw2 hash 0 }\n\
+    root default { id -1 alg straw2 hash 0 item h1 weight 1.0 item h2 weight 0.0 }\n\
+    rule data { id 0 type replicated step take default class hdd step take h1 step take h2 step emit }\n";
+
+/// The same after `move osd.0 host=h2` and another class.
+const RULE_EMPTIED: &[u8] = b"\
+    device 0 osd.0 class ssd\n\
+    type 1 host\n\
+    type 11 root\n\
+    host h1 { id -2 alg straw2 hash 0 }\n\
+    host h2 { id -3 alg straw2 hash 0 item osd.0 weight 1.0 }\n\
+    root default { id -1 alg straw2 hash 0 item h1 weight 0.0 item h2 weight 1.0 }\n\
+    rule data { id 0 type replicated step take default class hdd step take h1 step take h2 step emit }\n";
+
+#[test]
+fn a_rule_that_finds_nothing_now_is_told(rt: HostRuntime) {
+    let changes = b"\
+        h1 (-2): weight 1.00000 to 0.00000\n\
+        h2 (-3): weight 0.00000 to 1.00000\n\
+        osd.0 (0): from h1 (-2) to h2 (-3); class hdd to ssd\n\
+        rule data takes nothing: default~hdd weighs 0.00000\n\
+        rule data takes nothing: h1 weighs 0.00000\n\
+        total 1.00000 to 1.00000\n\
+        0 made, 0 removed, 0 renamed, 1 moved, 2 of other weight, 1 of other class\n";
+    assert!(rt; is_since(&rt, RULE, RULE_EMPTIED, changes));
+}

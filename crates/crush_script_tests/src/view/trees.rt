@@ -1,0 +1,121 @@
+//! Trees as text, and walks.
+
+use super::EXAMPLE_MAP;
+use crate::maps::map_of;
+use crush_map::CrushMap;
+use crush_units::{BucketId, ItemId};
+use crush_view::{walk, walk_below, write_tree};
+use std::alloc::Global;
+use std::process::Abort;
+
+/// The tree of a map.
+fn tree_of(rt: &(impl Abort + AllocGlobal), map: &CrushMap<Global>) -> Vec<u8> {
+    let mut tree = Vec::new(rt.alloc());
+    write_tree(rt.alloc(), map, &mut tree).expect(rt, "no tree");
+    tree
+}
+
+/// Whether that is the tree of the map of the text.
+fn is_tree(rt: &(impl Abort + AllocGlobal), text: &[u8], tree: &[u8]) -> bool {
+    let map = map_of(rt, text);
+    let is = tree_of(rt, &map).as_slice() == tree;
+    drop(map);
+    is
+}
+
+#[test]
+fn the_example_map_has_its_tree(rt: HostRuntime) {
+    let tree = b"\
+        ID  CLASS  WEIGHT   TYPE NAME\n\
+        -1         2.50000  root default\n\
+        -2         2.00000      host h1\n \
+        0         1.00000          osd.0\n \
+        1         1.00000          osd.1\n\
+        -3         0.50000      host h2\n \
+        2         0.50000          osd.2\n";
+    assert!(rt; is_tree(&rt, EXAMPLE_MAP, tree));
+}
+
+#[test]
+fn an_empty_map_has_headings_alone(rt: HostRuntime) {
+    assert!(rt; is_tree(&rt, b"", b"ID  CLASS  WEIGHT  TYPE NAME\n"));
+}
+
+/// Eighteen buckets, each in the next.
+const NEST: &[u8] = b"\
+    type 1 a\n\
+    a b1 { id -1 alg straw2 }\n\
+    a b2 { id -2 alg straw2 item b1 }\n\
+    a b3 { id -3 alg straw2 item b2 }\n\
+    a b4 { id -4 alg straw2 item b3 }\n\
+    a b5 { id -5 alg straw2 item b4 }\n\
+    a b6 { id -6 alg straw2 item b5 }\n\
+    a b7 { id -7 alg straw2 item b6 }\n\
+    a b8 { id -8 alg straw2 item b7 }\n\
+    a b9 { id -9 alg straw2 item b8 }\n\
+    a b10 { id -10 alg straw2 item b9 }\n\
+    a b11 { id -11 alg straw2 item b10 }\n\
+    a b12 { id -12 alg straw2 item b11 }\n\
+    a b13 { id -13 alg straw2 item b12 }\n\
+    a b14 { id -14 alg straw2 item b13 }\n\
+    a b15 { id -15 alg straw2 item b14 }\n\
+    a b16 { id -16 alg straw2 item b15 }\n\
+    a b17 { id -17 alg straw2 item b16 }\n\
+    a b18 { id -18 alg straw2 item b17 }\n";
+
+/// How the tree of the nest ends: the two lowest stand behind 64 spaces alike.
+const LOWEST: &[u8] = b"\n \
+    -2         0.00000                                                                  a b2\n \
+    -1         0.00000                                                                  a b1\n";
+
+#[test]
+fn no_name_stands_behind_more_than_64_spaces(rt: HostRuntime) {
+    let map = map_of(&rt, NEST);
+    let ends = tree_of(&rt, &map).as_slice().ends_with(LOWEST);
+    drop(map);
+    assert!(rt; ends);
+}
+
+/// How many items a walk of the map goes to.
+fn walked(rt: &(impl Abort + AllocGlobal), map: &CrushMap<Global>) -> usize {
+    walk(rt.alloc(), map).expect(rt, "no memory").len()
+}
+
+/// How many items a walk below the bucket goes to.
+fn walked_below(
+    rt: &(impl Abort + AllocGlobal),
+    map: &CrushMap<Global>,
+    bucket: BucketId,
+) -> usize {
+    walk_below(rt.alloc(), map, bucket)
+        .expect(rt, "no memory")
+        .len()
+}
+
+/// The same of an item.
+fn below(rt: &(impl Abort + AllocGlobal), map: &CrushMap<Global>, item: ItemId) -> usize {
+    match item {
+        ItemId::Bucket(bucket) => walked_below(rt, map, bucket),
+        ItemId::Device(_) => 0,
+    }
+}
+
+/// The same of the item of this name.
+fn below_named(rt: &(impl Abort + AllocGlobal), map: &CrushMap<Global>, name: &str) -> usize {
+    match map.locate(name) {
+        Some(item) => below(rt, map, item),
+        None => 0,
+    }
+}
+
+#[test]
+fn walks_reach_what_is_below(rt: HostRuntime) {
+    let map = map_of(&rt, EXAMPLE_MAP);
+    let counts = (
+        walked(&rt, &map),
+        below_named(&rt, &map, "default"),
+        below_named(&rt, &map, "h1"),
+    );
+    drop(map);
+    assert!(rt; counts.0 == 6 && counts.1 == 5 && counts.2 == 2);
+}
