@@ -66,7 +66,7 @@ fn a_bucket_has_its_class_ids(rt: HostRuntime) {
     assert!(rt; count == 1);
 }
 
-/// Whether one of the ids of what is below the bucket is that of the item of this name.
+/// Whether the item of this name is among those below the bucket.
 fn is_below(
     rt: &(impl Abort + AllocGlobal),
     map: &CrushMap<Global>,
@@ -80,16 +80,29 @@ fn is_below(
     }
 }
 
+/// The same below an item, which a device never is.
+fn is_below_item(
+    rt: &(impl Abort + AllocGlobal),
+    map: &CrushMap<Global>,
+    item: ItemId,
+    name: &str,
+) -> bool {
+    match item {
+        ItemId::Bucket(bucket) => is_below(rt, map, bucket, name),
+        ItemId::Device(_) => false,
+    }
+}
+
 /// The same below the item of another name.
 fn is_below_named(
     rt: &(impl Abort + AllocGlobal),
     map: &CrushMap<Global>,
-    bucket: &str,
+    above: &str,
     name: &str,
 ) -> bool {
-    match map.locate(bucket) {
-        Some(ItemId::Bucket(bucket)) => is_below(rt, map, bucket, name),
-        _ => false,
+    match map.locate(above) {
+        Some(item) => is_below_item(rt, map, item, name),
+        None => false,
     }
 }
 
