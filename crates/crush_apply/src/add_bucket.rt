@@ -18,7 +18,6 @@ use crush_units::limits::MOST_BUCKETS;
 use crush_units::{BucketId, Name, TypeId};
 use std::alloc::{Allocator, Global};
 
-/// The type of the bucket that is to be made, or why it isn't.
 fn check_add<A: Allocator>(
     hierarchy: &Hierarchy<A>,
     setting: &Setting,
@@ -45,7 +44,6 @@ fn check_add<A: Allocator>(
     Ok(number)
 }
 
-/// The free id nearest to 0.
 fn first_free<A: Allocator>(hierarchy: &Hierarchy<A>) -> BucketId
     ensures { (t : List Row) → Stands hierarchy.now t → free_ids t 1 ≡ result ∷ [] }
 {
@@ -57,7 +55,6 @@ fn first_free<A: Allocator>(hierarchy: &Hierarchy<A>) -> BucketId
     ids[0]
 }
 
-/// Makes an empty bucket of this name and type that no other holds, or tells why it isn't made.
 pub(crate) fn add_bucket<A: Allocator + Clone>(
     hierarchy: &mut Hierarchy<A>,
     setting: &Setting,

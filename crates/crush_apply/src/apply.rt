@@ -1,4 +1,4 @@
-//! One edit of the hierarchy, whichever it is.
+//! One edit, of whichever kind.
 
 ghost use Rattle.std.specs.Prelude.{◌≡◌, ℕ, List, IfOk, OnErr, true, false};
 ghost use Rattle.crush_table.specs.Table.{Row};
@@ -31,12 +31,8 @@ use crush_edits::{Done, Edit, EditFault, Setting};
 use crush_hierarchy::Hierarchy;
 use std::alloc::Allocator;
 
-/// Makes the edit on the hierarchy, by the setting, or tells why it isn't made.
-///
-/// Where several refusals hold, the one of least number is told. Out of memory is told only of an
-/// edit that takes memory, where nothing speaks against it and the hierarchy would be another after
-/// it: so never of new weights, of an exchange or of a removal, also of a class. After an Err the
-/// hierarchy is as before, also its room, as it is where the edit changes nothing.
+/// Makes the edit, or answers why not: of several refusals the one of least number, and out of
+/// memory only where nothing refuses an edit that would change something.
 pub fn apply_edit<A: Allocator + Clone>(
     hierarchy: &mut Hierarchy<A>,
     setting: &Setting,
@@ -61,7 +57,7 @@ pub fn apply_edit<A: Allocator + Clone>(
     done_alone(make(hierarchy, setting, asked))
 }
 
-/// A law of each edit: its names are names, its ids are in range, and its location is one.
+/// The invariants of the parts of an edit.
 pub(crate) fn recall_forms(asked: &Edit)
     ensures { IsEdit asked.now }
 {
@@ -104,7 +100,6 @@ pub(crate) fn recall_forms(asked: &Edit)
     }
 }
 
-/// What an edit that brings a device does with one that stands in a bucket.
 fn if_placed(asked: &Edit) -> IfPlaced
     ensures insert { (d : ℕ) (n : List ℕ) (w : ℕ) (l : List Pair)
         → asked.now ≡ Insert d n w l → result ≡ Refuse }
@@ -120,8 +115,6 @@ fn if_placed(asked: &Edit) -> IfPlaced
     }
 }
 
-/// Makes the edit, and hands out what was done with what takes it back, where that is noted, or tells
-/// why it isn't made.
 pub(crate) fn make<A: Allocator + Clone>(
     hierarchy: &mut Hierarchy<A>,
     setting: &Setting,

@@ -1,4 +1,4 @@
-//! Several edits, of which all are made or none.
+//! Several edits, all made or none.
 
 ghost use Rattle.std.specs.Prelude.{◌≡◌, ℕ, ◌+◌, ◌*◌, ◌<◌, ◌≤◌, ◌++◌, List, [], length, IfOk, OnOk, OnErr, true, vec_len, vec_capacity};
 ghost use Rattle.crush_units.specs.declared.limits.TheConstants.{MOST_EDITS};
@@ -21,16 +21,12 @@ use crush_edits::{BatchFault, Done, Dones, Edit, EditFault, Setting};
 use crush_hierarchy::Hierarchy;
 use std::alloc::{AllocError, Allocator};
 
-/// Makes the edits one after the other, each on what the ones before it made, or none of them: at
-/// most 65,536.
+/// Makes all of the edits, at most 65,536, each on what the ones before it made, or none; a refusal
+/// comes with the index of its edit, from 0.
 ///
-/// Where each but the last gives a single device another weight or another class, or takes its class
-/// away, they are made in place, and taken back where one isn't made: then nothing has changed. Others
-/// are made on a copy of the hierarchy, which takes its place when all are done; so there is memory
-/// for no more items than there are. Where one is refused, its index, from 0, and its refusal are
-/// told, and the hierarchy stands for the tables for which it stood before the first, with the room
-/// that it had. Out of memory may be told of a batch of which a later edit would be refused, and has
-/// changed nothing.
+/// Where each but the last is of a single device's weight or class, they are made in place, and
+/// taken back where one isn't made; others are made on a copy of the hierarchy, without its spare
+/// room. Out of memory may hide a later refusal.
 pub fn apply_batch<A: Allocator + Clone>(
     hierarchy: &mut Hierarchy<A>,
     setting: &Setting,
@@ -59,7 +55,7 @@ pub fn apply_batch<A: Allocator + Clone>(
     Ok(dones)
 }
 
-/// Makes the edits one after the other until one isn't made, and notes nothing.
+/// On a copy: nothing is taken back.
 fn make_unnoted<A: Allocator + Clone>(
     hierarchy: &mut Hierarchy<A>,
     setting: &Setting,
@@ -80,8 +76,7 @@ fn make_unnoted<A: Allocator + Clone>(
     make_all(hierarchy, setting, edits, &mut log)
 }
 
-/// Makes edits in place, or none of them. What takes the last one back isn't noted, since behind it
-/// nothing is refused.
+/// What takes the last edit back isn't noted: behind it nothing is refused.
 fn make_in_place<A: Allocator + Clone>(
     hierarchy: &mut Hierarchy<A>,
     setting: &Setting,
@@ -111,7 +106,6 @@ fn make_in_place<A: Allocator + Clone>(
     }
 }
 
-/// A log with room for what is noted of so many edits. An Err is out of memory.
 fn new_log<A: Allocator + Clone>(
     hierarchy: &Hierarchy<A>,
     room: usize,
@@ -123,8 +117,6 @@ fn new_log<A: Allocator + Clone>(
     Vec::with_capacity(hierarchy.allocator().clone()?, room)
 }
 
-/// Makes the edits one after the other until one isn't made. Where the edits can be made in place and
-/// the log has room for all but the last, what those that are made have changed is in the log then.
 fn make_all<A: Allocator + Clone>(
     hierarchy: &mut Hierarchy<A>,
     setting: &Setting,
@@ -161,7 +153,6 @@ fn make_all<A: Allocator + Clone>(
     Ok(dones)
 }
 
-/// Makes the edit, and puts what takes it back last in the log, if that is noted and there is room.
 fn make_one<A: Allocator + Clone>(
     hierarchy: &mut Hierarchy<A>,
     setting: &Setting,
@@ -189,7 +180,6 @@ fn make_one<A: Allocator + Clone>(
     Ok(done)
 }
 
-/// Puts what takes an edit back last in the log, if it is noted and there is room.
 fn note<A: Allocator>(log: &mut Vec<Undo<A>, A>, undo: Option<Undo<A>>)
     ensures items { vec_len log.old < vec_capacity log.old
         → log.new.items ≡ log.old.items ++ as_list undo }
@@ -204,7 +194,6 @@ fn note<A: Allocator>(log: &mut Vec<Undo<A>, A>, undo: Option<Undo<A>>)
     }
 }
 
-/// What was done with one edit more.
 fn with_done(dones: Dones, done: Done) -> Dones
     requires edits { dones.edits < MOST_EDITS }
     requires changed { dones.changed ≤ dones.edits }

@@ -12,11 +12,8 @@ use crush_hierarchy::Hierarchy;
 use crush_units::{ItemId, Name};
 use std::alloc::{Allocator, Global};
 
-/// The name of an edit that its refusal is about, on the hierarchy that refused it and by that
-/// setting: of a location the type or the bucket that is at fault, of two names the one, and else
-/// the item that is to be edited.
-///
-/// A refusal that the edit can't meet is about an item that it names. It takes no memory.
+/// The name that a refusal of the edit by this hierarchy is about: the type, bucket or other name
+/// that is at fault, else the item that is to be edited.
 pub fn blamed<'a, A: Allocator>(
     hierarchy: &Hierarchy<A>,
     setting: &Setting,
@@ -42,7 +39,6 @@ pub fn blamed<'a, A: Allocator>(
     }
 }
 
-/// Of an item that is to come to a location.
 fn put_blamed<'a, A: Allocator>(
     hierarchy: &Hierarchy<A>,
     setting: &Setting,
@@ -67,7 +63,6 @@ fn put_blamed<'a, A: Allocator>(
     }
 }
 
-/// Of two buckets that are to be exchanged.
 fn swap_blamed<'a, A: Allocator>(
     hierarchy: &Hierarchy<A>,
     a: &'a Name<Global>,
@@ -87,7 +82,6 @@ fn swap_blamed<'a, A: Allocator>(
     }
 }
 
-/// Whether a device has the name.
 fn is_device<A: Allocator>(hierarchy: &Hierarchy<A>, name: &Name<Global>) -> bool
     ensures { (t : List Row) → Stands hierarchy.now t
         → result ≡ is_a_device (id_named t name.now) }
@@ -101,7 +95,6 @@ fn is_device<A: Allocator>(hierarchy: &Hierarchy<A>, name: &Name<Global>) -> boo
     }
 }
 
-/// Of a bucket that is to be made.
 fn bucket_blamed<'a>(
     name: &'a Name<Global>,
     kind: &'a Name<Global>,
@@ -115,7 +108,6 @@ fn bucket_blamed<'a>(
     }
 }
 
-/// Of a bucket that is to have another name.
 fn name_blamed<'a>(
     from: &'a Name<Global>,
     to: &'a Name<Global>,

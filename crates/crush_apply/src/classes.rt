@@ -1,4 +1,4 @@
-//! A class that a device gets, and one that it loses.
+//! Classes that devices get and lose.
 
 ghost use Rattle.std.specs.Prelude.{◌≡◌, ◌≢◌, List, Some, IfOk, IfErr, Err};
 ghost use Rattle.crush_units.specs.declared.id.ItemId.TheVariants.{Device as DeviceItem};
@@ -16,7 +16,6 @@ use crush_hierarchy::Hierarchy;
 use crush_units::{DeviceId, ItemId, Name};
 use std::alloc::{Allocator, Global};
 
-/// The device of this name, or why it loses no class.
 fn check_remove_class<A: Allocator>(
     hierarchy: &Hierarchy<A>,
     name: &Name<Global>,
@@ -35,8 +34,7 @@ fn check_remove_class<A: Allocator>(
     Ok(device)
 }
 
-/// The device of this name, which has no class, or nothing where it has the class already, or why
-/// it doesn't get it.
+/// `None` where the device has the class already.
 fn check_set_class<A: Allocator>(
     hierarchy: &Hierarchy<A>,
     name: &Name<Global>,
@@ -63,8 +61,6 @@ fn check_set_class<A: Allocator>(
     }
 }
 
-/// Gives the device of this name the class, and hands out what was done with what takes it back, or
-/// tells why it doesn't get it.
 pub(crate) fn set_class<A: Allocator + Clone>(
     hierarchy: &mut Hierarchy<A>,
     name: &Name<Global>,
@@ -91,8 +87,6 @@ pub(crate) fn set_class<A: Allocator + Clone>(
     Ok((done, Some(undo)))
 }
 
-/// Takes the class of the device of this name away, and hands out what was done with what takes it
-/// back, or tells why it doesn't.
 pub(crate) fn remove_class<A: Allocator>(
     hierarchy: &mut Hierarchy<A>,
     name: &Name<Global>,

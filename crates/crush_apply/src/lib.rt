@@ -1,9 +1,6 @@
-//! Edits made on the hierarchy of a map: each is the table's edit, for every table for which the
-//! hierarchy stands.
-//!
-//! [`apply_edit`] makes one, by a module for each command, [`apply_batch`] several or none. What
-//! the table makes of an edit stands in `crush_edits`; how much of it a call promises, in
-//! `specs/Answered.antt` and `specs/Batched.antt`. `crush_map` calls both for a whole map.
+//! Edits made on the hierarchy of a map: [`apply_edit`] makes one, [`apply_batch`] several or none.
+//! `specs/Answered.antt` and `specs/Batched.antt` say what a call promises of what `crush_edits`
+//! makes of the table.
 #![tactic(auto)]
 
 mod add_bucket;

@@ -9,22 +9,21 @@ use crush_hierarchy::Hierarchy;
 use crush_units::{DeviceId, Name, Weight};
 use std::alloc::Allocator;
 
-/// What takes an edit back: it needs no memory.
+/// What takes an edit back, without memory.
 #[derive(Drop)]
 pub(crate) enum Undo<A: Allocator> {
-    /// The weight of a device before.
+    /// The weight before.
     Weight {
         device: DeviceId,
         weight: Weight,
     },
-    /// The class of a device before, or none.
+    /// The class before.
     Class {
         device: DeviceId,
         class: Option<Name<A>>,
     },
 }
 
-/// What was done, without what takes it back.
 pub(crate) fn done_alone<A: Allocator>(
     answer: Result<(Done, Option<Undo<A>>), EditFault>,
 ) -> Result<Done, EditFault>
@@ -36,7 +35,6 @@ pub(crate) fn done_alone<A: Allocator>(
     }
 }
 
-/// What was done, where nothing is noted that takes it back.
 pub(crate) fn unnoted<A: Allocator>(
     answer: Result<Done, EditFault>,
 ) -> Result<(Done, Option<Undo<A>>), EditFault>
@@ -48,7 +46,6 @@ pub(crate) fn unnoted<A: Allocator>(
     }
 }
 
-/// Whether it is noted what takes the edit back.
 fn is_noted(asked: &Edit) -> bool
     ensures { result ≡ is_noted asked.now }
 {
@@ -58,7 +55,7 @@ fn is_noted(asked: &Edit) -> bool
     )
 }
 
-/// Whether the edit can be made in place before the later ones.
+/// Whether it can be made in place.
 fn stays(asked: &Edit, later: &[Edit]) -> bool
     ensures { result ≡ stays asked.now later.now }
 {
@@ -69,7 +66,6 @@ fn stays(asked: &Edit, later: &[Edit]) -> bool
     }
 }
 
-/// Whether all can be made in place: each but the last can be taken back.
 pub(crate) fn are_in_place(edits: &[Edit]) -> bool
     ensures { result ≡ are_in_place edits.now }
 {
@@ -82,7 +78,6 @@ pub(crate) fn are_in_place(edits: &[Edit]) -> bool
     true
 }
 
-/// Takes an edit back.
 fn give_back<A: Allocator>(hierarchy: &mut Hierarchy<A>, undo: Undo<A>)
     requires { CanGiveBack undo hierarchy.old }
     ensures { (f : ForestData) → GivesBack undo hierarchy.old f → hierarchy.new ≡ f }
@@ -98,7 +93,6 @@ fn give_back<A: Allocator>(hierarchy: &mut Hierarchy<A>, undo: Undo<A>)
     }
 }
 
-/// Takes all edits back, the last first.
 pub(crate) fn take_back<A: Allocator>(hierarchy: &mut Hierarchy<A>, mut log: Vec<Undo<A>, A>)
     requires { CanTakeBack log.items hierarchy.old }
     ensures { (f : ForestData) → GiveBack log.items hierarchy.old f → hierarchy.new ≡ f }

@@ -1,4 +1,4 @@
-//! A device that comes to the end of a location's route: made there, or moved.
+//! Devices that come to a location: `Insert`, `CreateOrMove` and `Update`.
 
 ghost use Rattle.std.specs.Prelude.{◌≡◌, ◌≤◌, List};
 ghost use Rattle.crush_units.specs.declared.limits.TheConstants.{HEAVIEST_DEVICE};
@@ -19,21 +19,17 @@ use crush_hierarchy::Hierarchy;
 use crush_units::{DeviceId, ItemId, Weight};
 use std::alloc::Allocator;
 
-/// What an edit that brings a device does with one that stands in a bucket.
+/// What becomes of a device that stands in a bucket.
 #[derive(Clone, Copy)]
 pub(crate) enum IfPlaced {
-    /// It refuses: `Insert`.
+    /// `Insert`.
     Refuse,
-    /// It leaves it where it is held, and else moves it, with its own weight: `CreateOrMove`.
+    /// `CreateOrMove`: it keeps its weight.
     KeepWeight,
-    /// It sets its weight where it is held, and else moves it with that: `Update`.
+    /// `Update`: it gets the weight.
     SetWeight,
 }
 
-/// Puts a device at the end of a location's route, and makes it where its id isn't there; or does
-/// with one that stands in a bucket what is told, or tells why it isn't put.
-///
-/// All memory is taken before the device moves. Where it lacks, the items are as before.
 pub(crate) fn place<A: Allocator + Clone>(
     hierarchy: &mut Hierarchy<A>,
     setting: &Setting,
@@ -59,7 +55,6 @@ pub(crate) fn place<A: Allocator + Clone>(
     place_device(hierarchy, &coming, &to)
 }
 
-/// Whether the device is refused since it stands in a bucket.
 fn is_barred<A: Allocator>(hierarchy: &Hierarchy<A>, how: IfPlaced, device: DeviceId) -> bool
     ensures { (t : List Row) → Stands hierarchy.now t → result ≡ is_barred how t device }
 {
@@ -70,8 +65,6 @@ fn is_barred<A: Allocator>(hierarchy: &Hierarchy<A>, how: IfPlaced, device: Devi
     }
 }
 
-/// Sets the weight of a device that the bucket of the location's lowest pair holds, or leaves it as
-/// it is.
 fn stay<A: Allocator>(
     hierarchy: &mut Hierarchy<A>,
     how: IfPlaced,
@@ -90,8 +83,6 @@ fn stay<A: Allocator>(
     })
 }
 
-/// The weight with which a device comes that isn't held: of up to 2147483647 units, where the given
-/// one is.
 fn coming_weight<A: Allocator>(
     hierarchy: &Hierarchy<A>,
     how: IfPlaced,
@@ -110,8 +101,6 @@ fn coming_weight<A: Allocator>(
     }
 }
 
-/// The own weight of a device that stands in a bucket, else the given one, of up to 2147483647
-/// units as well.
 fn kept_weight<A: Allocator>(hierarchy: &Hierarchy<A>, device: DeviceId, weight: Weight) -> Weight
     requires { weight ≤ HEAVIEST_DEVICE }
     ensures kept { (t : List Row) → Stands hierarchy.now t → result ≡ kept_weight t device weight }

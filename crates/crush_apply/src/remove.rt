@@ -1,4 +1,4 @@
-//! A device, or a bucket without items, that is taken out.
+//! A device or an empty bucket that is taken out.
 
 ghost use Rattle.std.specs.Prelude.{◌≡◌, ◌≢◌, List, Some, IfOk, IfErr, Err};
 ghost use Rattle.crush_table.specs.Table.{Row};
@@ -14,7 +14,6 @@ use crush_hierarchy::Hierarchy;
 use crush_units::{BucketId, ItemId, Name};
 use std::alloc::{Allocator, Global};
 
-/// Whether the bucket holds items.
 fn holds_items<A: Allocator>(hierarchy: &Hierarchy<A>, bucket: BucketId) -> bool
     ensures { (t : List Row) → Stands hierarchy.now t → result ≡ holds_items t bucket }
 {
@@ -24,7 +23,6 @@ fn holds_items<A: Allocator>(hierarchy: &Hierarchy<A>, bucket: BucketId) -> bool
     }
 }
 
-/// The item that is to be taken out, or why it isn't.
 fn check_remove<A: Allocator>(
     hierarchy: &Hierarchy<A>,
     setting: &Setting,
@@ -50,7 +48,6 @@ fn check_remove<A: Allocator>(
     Ok(id)
 }
 
-/// Takes the item of this name out, or tells why it doesn't.
 pub(crate) fn remove<A: Allocator>(
     hierarchy: &mut Hierarchy<A>,
     setting: &Setting,

@@ -14,7 +14,6 @@ use crush_hierarchy::Hierarchy;
 use crush_units::{BucketId, ItemId, Name};
 use std::alloc::{Allocator, Global};
 
-/// The bucket that is to have another name, or why it doesn't get it.
 fn check_rename<A: Allocator>(
     hierarchy: &Hierarchy<A>,
     from: &Name<Global>,
@@ -41,7 +40,6 @@ fn check_rename<A: Allocator>(
     Ok(bucket)
 }
 
-/// Gives the bucket of the one name the other, or tells why it doesn't get it.
 pub(crate) fn rename<A: Allocator + Clone>(
     hierarchy: &mut Hierarchy<A>,
     from: &Name<Global>,

@@ -17,7 +17,6 @@ use crush_hierarchy::Hierarchy;
 use crush_units::{DeviceId, ItemId, Name, Weight};
 use std::alloc::{Allocator, Global};
 
-/// The item of this name, where a device may have the weight, or why no weight is set.
 pub(crate) fn item_to_weigh<A: Allocator>(
     hierarchy: &Hierarchy<A>,
     name: &Name<Global>,
@@ -40,7 +39,6 @@ pub(crate) fn item_to_weigh<A: Allocator>(
     Ok(id)
 }
 
-/// The device whose weight is to be set, or why it isn't.
 fn check_reweight<A: Allocator>(
     hierarchy: &Hierarchy<A>,
     name: &Name<Global>,
@@ -62,7 +60,6 @@ fn check_reweight<A: Allocator>(
     Ok(device)
 }
 
-/// Sets the weight of the placed device of this name, or tells why it isn't set.
 pub(crate) fn reweight<A: Allocator>(
     hierarchy: &mut Hierarchy<A>,
     name: &Name<Global>,
@@ -76,8 +73,6 @@ pub(crate) fn reweight<A: Allocator>(
     done_alone(reweight_noted(hierarchy, name, weight))
 }
 
-/// Sets the weight of the placed device of this name, and hands out what was done with the weight
-/// before, or tells why it isn't set.
 pub(crate) fn reweight_noted<A: Allocator>(
     hierarchy: &mut Hierarchy<A>,
     name: &Name<Global>,

@@ -15,7 +15,6 @@ use crush_hierarchy::Hierarchy;
 use crush_units::{BucketId, ItemId, Name, Weight};
 use std::alloc::{Allocator, Global};
 
-/// The bucket below which weights are to be set, or why they aren't.
 fn check_subtree<A: Allocator>(
     hierarchy: &Hierarchy<A>,
     name: &Name<Global>,
@@ -33,7 +32,6 @@ fn check_subtree<A: Allocator>(
     Ok(bucket)
 }
 
-/// Sets the weight of all devices below the bucket of this name, or tells why they aren't set.
 pub(crate) fn reweight_subtree<A: Allocator>(
     hierarchy: &mut Hierarchy<A>,
     name: &Name<Global>,

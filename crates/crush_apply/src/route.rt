@@ -1,5 +1,4 @@
-//! The end of a location's route: where it leads, what refuses an item there, and how an item comes
-//! to it.
+//! The end of a location's route, and how items come to it.
 
 mod arrive;
 mod blaming;
@@ -19,16 +18,11 @@ pub(crate) use new_buckets::empty_bucket;
 pub(crate) use refusals::{check_device, check_location};
 use std::alloc::Global;
 
-/// A device that is to come, as an edit names it: its id and name, the weight that it is to have,
-/// and the location at whose end.
+/// A device that is to come, as an edit names it.
 #[derive(Clone, Copy)]
 pub(crate) struct Arrival<'a> {
-    /// Its id.
     pub(crate) device: DeviceId,
-    /// Its name.
     pub(crate) name: &'a Name<Global>,
-    /// The weight that it is to have.
     pub(crate) weight: Weight,
-    /// The location.
     pub(crate) at: &'a Location,
 }

@@ -14,7 +14,6 @@ use crush_hierarchy::Hierarchy;
 use crush_units::{BucketId, ItemId, Name};
 use std::alloc::{Allocator, Global};
 
-/// The two buckets that are to be exchanged, or why they aren't.
 fn check_swap<A: Allocator>(
     hierarchy: &Hierarchy<A>,
     a: &Name<Global>,
@@ -50,7 +49,6 @@ fn check_swap<A: Allocator>(
     Ok((first, second))
 }
 
-/// Exchanges the items and the names of the two buckets, or tells why it doesn't.
 pub(crate) fn swap<A: Allocator>(
     hierarchy: &mut Hierarchy<A>,
     a: &Name<Global>,

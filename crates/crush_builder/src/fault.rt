@@ -1,4 +1,4 @@
-//! Why a call of the builder isn't made.
+//! Why a call isn't made.
 
 ghost use Rattle.std.specs.Prelude.{◌≡◌};
 ghost use Rattle.crush_builder.specs.Faults.{build_fault_number};
@@ -6,40 +6,33 @@ ghost use Rattle.crush_builder.specs.Faults.{build_fault_number};
 use std::alloc::AllocError;
 use thiserror::Error;
 
-/// Why a statement of a map's text, or a part of one, isn't taken. Where several hold, the one of
-/// least number is told. The builder is then only dropped.
+/// Why a statement of a map's text, or a part of one, isn't taken.
 #[derive(Clone, Copy, Debug, PartialEq, Eq, Error)]
 pub enum BuildFault {
-    /// The weight of a device is above 2147483647 units.
     #[error("a device weighs at most 2147483647 units")]
     BadWeight,
-    /// Another device, type or rule has the id or the number, or another bucket or class id has it.
+    /// Of a device, type or rule; or of a bucket or class id.
     #[error("the id is taken")]
     DuplicateId,
-    /// Another item, type, tunable or rule has the name, or another class id of the bucket the
-    /// class.
+    /// Of an item, type, tunable or rule; or the class of a class id.
     #[error("the name is taken")]
     DuplicateName,
-    /// No type has the name or the number; of a bucket, no type but type 0.
+    /// Of a bucket, none but type 0.
     #[error("no such type")]
     UnknownType,
-    /// No device and no bucket that is complete has the name or the id.
+    /// No device and no complete bucket.
     #[error("no such item")]
     UnknownItem,
-    /// A bucket holds the item already.
     #[error("a bucket holds the item already")]
     SecondParent,
-    /// No bucket that is complete has the name that a step of a rule takes.
+    /// No complete bucket.
     #[error("no bucket has the name that a rule takes")]
     UnknownBucketInRule,
-    /// With one more there would be more than a map has at most.
     #[error("more than a map has at most")]
     TooMany,
-    /// With this item the bucket would weigh more than 4294967295 units, or all placed devices
-    /// more than 8796093022207.
+    /// A bucket above 4294967295 units, or all placed devices above 8796093022207.
     #[error("a bucket or the whole map is too heavy with this item")]
     SumTooLarge,
-    /// Nothing else speaks against the call, and there is no memory for it.
     #[error("out of memory")]
     OutOfMemory,
 }
@@ -47,30 +40,25 @@ pub enum BuildFault {
 /// The part of a rule that a fault is of, in the order of its text.
 #[derive(Clone, Copy, Debug, PartialEq, Eq)]
 pub enum RulePart {
-    /// The rule as a whole.
     Statement,
-    /// Its name.
     Name,
-    /// Its id.
     Id,
-    /// The step of this place, counted from 0.
+    /// The place, from 0.
     Step(usize),
 }
 
-/// Why a rule isn't taken, and at which part. Where several parts have faults, the first is told.
-/// Out of memory is told of the statement.
+/// Why a rule isn't taken, and at which part. The first part counts; out of memory is the
+/// statement's.
 #[derive(Clone, Copy, Debug, PartialEq, Eq, Error)]
 #[error("{fault}")]
 pub struct RuleFault {
-    /// The part.
     pub part: RulePart,
-    /// What speaks against it.
     pub fault: BuildFault,
 }
 
 impl BuildFault {
-    /// The fault's number, which is its place in the order in which faults are told. The faults of
-    /// a text have the numbers that are missing here.
+    /// The fault's number, which is its place in the order in which faults are told. A text's
+    /// faults have the numbers missing here.
     pub fn number(self) -> u8
         ensures { result ≡ build_fault_number self }
     {

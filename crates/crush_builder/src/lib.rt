@@ -1,8 +1,5 @@
-//! The builder of maps: a map made statement by statement of its text.
-//!
-//! [`MapBuilder`] takes what the statements of a text say, one after the other, and tells by a
-//! [`BuildFault`], of a rule by a [`RuleFault`], why one isn't taken. It reads no bytes: `crush_text`
-//! does, and calls it.
+//! [`MapBuilder`] takes what the statements of a map's text say, or answers a [`BuildFault`] or
+//! [`RuleFault`]. `crush_text` reads the bytes, and calls it.
 #![tactic(auto)]
 
 mod builder;

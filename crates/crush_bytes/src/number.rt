@@ -1,4 +1,4 @@
-//! Numbers of a text, written in decimal.
+//! Numbers in decimal.
 
 ghost use Rattle.std.specs.Prelude.{◌≡◌, ◌≤◌, if◌then◌else◌, length, true, Some, None};
 ghost use Rattle.std.specs.List.{list_all};
@@ -12,7 +12,6 @@ fn all_digits(text: &[u8]) -> bool
     text.iter().all(|byte| byte.is_ascii_digit())
 }
 
-/// The number that at most ten digits write.
 fn value_of(digits: &[u8]) -> u64
     requires digits { list_all is_ascii_digit digits.now ≡ true }
     requires few { length digits.now ≤ 10 }
@@ -25,8 +24,7 @@ fn value_of(digits: &[u8]) -> u64
     value
 }
 
-/// The number that 1 to 10 digits write, where it is at most `most`; `None` for any other text.
-/// Zeros may stand before it.
+/// The number that 1 to 10 digits write, if it is at most `most`.
 pub fn number_up_to(most: u32, text: &[u8]) -> Option<u32>
     ensures { result ≡ (if is_number most text.now then Some (digits_value 10 text.now) else None) }
 {

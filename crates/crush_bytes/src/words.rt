@@ -1,8 +1,5 @@
-//! The words of a map's text.
-//!
-//! Spaces, tabs, line feeds and carriage returns separate words, `#` begins a comment up to the
-//! end of its line, a brace is a word by itself, and any other word is a longest run of ASCII
-//! letters, digits, `-`, `_` and `.`, of at most as many bytes as a name.
+//! The words of a map's text: braces and runs of name bytes, between blanks and comments (`#` to a
+//! line's end).
 
 ghost use Rattle.std.specs.Prelude.{◌≡◌, if◌then◌else◌, ◌+◌, ◌<◌, ◌≤◌, length, drop, IsTrue};
 ghost use Rattle.crush_units.specs.Name.{is_name_byte};
@@ -12,18 +9,16 @@ use crush_units::is_name_byte;
 use crush_units::limits::LONGEST_NAME;
 use std::marker::Model;
 
-/// What comes next in a text. Places count bytes from 0.
+/// What comes next; places count bytes from 0.
 #[derive(Clone, Copy)]
 pub enum Token<'a> {
-    /// A word, and the place of its first byte.
     Word { place: usize, text: &'a [u8] },
-    /// The end of the text, and the text's length.
+    /// The text's length.
     End { place: usize },
-    /// The place of a byte that no text may have, or of the first byte of a word that is too long.
+    /// Where a bad byte stands or a too long word begins.
     Bad { place: usize },
 }
 
-/// A text, and the place up to which it was read.
 #[derive(Clone, Copy)]
 struct Lexer<'a> {
     text: &'a [u8],
@@ -43,15 +38,13 @@ fn is_brace(byte: u8) -> bool
     byte == b'{' || byte == b'}'
 }
 
-/// Whether a name may have the byte. Most bytes of a text are digits and small letters, so these
-/// are asked for first.
+/// Compares the likeliest bytes first.
 fn is_word_byte(byte: u8) -> bool
     ensures { result ≡ is_name_byte byte }
 {
     matches!(byte, b'0'..=b'9' | b'a'..=b'z') || is_name_byte(byte)
 }
 
-/// How many name bytes the text begins with.
 fn run_length(bytes: &[u8]) -> usize
     ensures count { result ≡ run_length bytes.now }
     ensures within { result ≤ length bytes.now }
@@ -63,7 +56,6 @@ fn run_length(bytes: &[u8]) -> usize
     len
 }
 
-/// The place of the first byte from `from` on that is neither blank nor in a comment.
 fn skip_blanks(text: &[u8], from: usize) -> usize
     requires { from ≤ length text.now }
     ensures within { result ≤ length text.now }
@@ -122,8 +114,7 @@ impl<'a> Lexer<'a> {
     }
 }
 
-/// Reads the words of a text one after the other. In a contract it is the words that are left,
-/// and what ends them.
+/// Reads a text's words; contracts see those left.
 #[derive(Drop)]
 pub struct Reader<'a> {
     lexer: Lexer<'a>,
@@ -142,7 +133,7 @@ impl<'a> Model for Reader<'a> {
 impl<'a> Reader<'a> {
     ghost use Rattle.crush_bytes.specs.Lexer.{Nexts, IsFormed};
 
-    /// A reader of all words of the text.
+    /// Reads all words of the text.
     pub fn new(text: &'a [u8]) -> Reader<'a>
         ensures { result ≡ words 0 text.now }
     {
@@ -151,7 +142,7 @@ impl<'a> Reader<'a> {
         }
     }
 
-    /// Takes what comes next. The end of the text and what no text may have stay where they are.
+    /// Takes what comes next; the end and bad places stay.
     pub fn next(&mut self) -> Token<'a>
         ensures nexts { Nexts result self.old self.new }
         ensures formed { IsFormed result }
@@ -160,7 +151,7 @@ impl<'a> Reader<'a> {
         self.lexer.next()
     }
 
-    /// Takes the next word where it is the key, and says whether it was.
+    /// Takes the next word if it is the key.
     pub fn take_key(&mut self, key: &[u8]) -> bool
         ensures answer { result ≡ begins key.now self.old }
         ensures rest { self.new ≡ (if result then past self.old else self.old) }

@@ -1,4 +1,4 @@
-//! Bytes into a writer, and how far they came where it fails.
+//! Writes up to the first failure.
 
 ghost use Rattle.std.specs.Prelude.{◌≡◌, flat_map, IfErr};
 ghost use Rattle.crush_bytes.specs.Writes.{Writes, write_fault_number};
@@ -9,11 +9,10 @@ use thiserror::Error;
 /// Why a text isn't written.
 #[derive(Clone, Copy, Debug, PartialEq, Eq, Error)]
 pub enum WriteFault {
-    /// The writer failed or took no byte. What it holds now is a prefix of the text, possibly none
-    /// of it.
+    /// The writer failed or took no byte; a prefix is written.
     #[error("the writer failed")]
     Write,
-    /// There was no memory to lay the text out in. Nothing is written.
+    /// Nothing is written.
     #[error("out of memory")]
     OutOfMemory,
 }
@@ -30,10 +29,7 @@ impl WriteFault {
     }
 }
 
-/// Writes all the bytes, in as many writes as the writer takes for them.
-///
-/// The first error, and a writer that takes nothing, ends it with [`WriteFault::Write`]: an
-/// interrupted write isn't tried again. The writer isn't flushed.
+/// Writes all bytes, up to the first error, also an interrupted write; it doesn't flush.
 pub fn put<W: Write>(out: &mut W, bytes: &[u8]) -> Result<(), WriteFault>
     ensures writes { Writes result (W.contents out.old) (W.contents out.new) bytes.now }
     ensures fault { IfErr result (λ fault. fault ≡ WriteFault.Write) }
@@ -50,7 +46,7 @@ pub fn put<W: Write>(out: &mut W, bytes: &[u8]) -> Result<(), WriteFault>
     Ok(())
 }
 
-/// Writes the parts one after the other, as [`put`] writes each.
+/// Writes the parts in order, as [`put`] does.
 pub fn put_all<W: Write>(out: &mut W, parts: &[&[u8]]) -> Result<(), WriteFault>
     ensures writes { Writes result (W.contents out.old) (W.contents out.new)
         (flat_map (λ part. part.now) parts.now) }

@@ -1,4 +1,4 @@
-//! What an operator asks of a map, and what it is told.
+//! Calls and replies.
 
 ghost use Rattle.std.specs.Prelude.{◌≡◌, ◌≤◌, ◌<◌, ◌++◌, ◌∷◌, [], length, nat_lt, IfOk, OnOk};
 ghost use Rattle.crush_units.specs.declared.limits.TheConstants.{MOST_EDITS};
@@ -8,7 +8,7 @@ use crush_units::limits::MOST_EDITS;
 use std::alloc::{AllocError, AllocFailed, Global};
 use std::marker::Model;
 
-/// The edits of a batch, at most 65,536. Contracts see their list.
+/// The edits of a batch, at most 65,536.
 #[derive(Debug, Drop)]
 pub struct Edits {
     edits: Vec<Edit>,
@@ -29,38 +29,27 @@ impl Model for Edits {
 /// One call of an operator, which is made as a whole.
 #[derive(Debug, Drop)]
 pub enum Call {
-    /// A single edit.
     One(Edit),
-    /// Edits of which each is made of the map that the ones before it made, or none of them.
+    /// Each edit is made of the map that those before it made, or none is.
     Batch(Edits),
-    /// A batch that its operator wants only while the history has so many changes.
-    Guarded {
-        /// The number of changes that the operator has seen.
-        seen: u32,
-        /// The edits of the batch.
-        edits: Edits,
-    },
+    /// A batch that its operator wants only while the history has `seen` changes.
+    Guarded { seen: u32, edits: Edits },
 }
 
 /// What a call is answered.
 #[derive(Clone, Copy, Debug, PartialEq, Eq)]
 pub enum Reply {
-    /// The edit was made.
     Done(Done),
-    /// All edits of the batch were made.
     Dones(Dones),
-    /// The edit was refused, and the map is as before.
     Refused(Refusal),
-    /// The edit of the batch at this index, counted from 0, was refused, and none before it. The
-    /// map is as before the batch.
+    /// The first refused edit's index, from 0.
     BatchRefused(u32, Refusal),
-    /// The history has another number of changes than the guarded batch named: this one. No edit of
-    /// it was looked at, and the map is as before.
+    /// The history has this number of changes, not the one that was seen.
     Stale(u32),
 }
 
 impl Edits {
-    /// A batch of these edits, which are at most 65,536. Takes no memory.
+    /// A batch of these edits, which are at most 65,536.
     pub fn new(edits: Vec<Edit>) -> Edits
         requires { length edits.items ≤ MOST_EDITS }
         ensures { result ≡ edits.items }
@@ -83,7 +72,7 @@ impl Edits {
         self.edits.len() < MOST_EDITS
     }
 
-    /// Adds an edit behind the others. An `Err` says that memory ran out.
+    /// Adds an edit behind the others.
     pub fn push(&mut self, edit: Edit) -> Result<(), AllocFailed<Edit>>
         requires { length self.old < MOST_EDITS }
         ensures { OnOk result (self.new ≡ self.old ++ edit ∷ []) }
@@ -91,7 +80,6 @@ impl Edits {
         self.edits.push(edit)
     }
 
-    /// A copy of the batch. An `Err` says that memory ran out.
     pub(crate) fn try_copy(&self, alloc: Global) -> Result<Edits, AllocError>
         ensures { IfOk result (λ copy. copy ≡ self.now) }
     {
@@ -101,8 +89,7 @@ impl Edits {
 }
 
 impl Call {
-    /// A copy of the call, as a history keeps one of a call that an operator lends. An `Err` says
-    /// that memory ran out.
+    /// A copy of the call, as a history keeps one of a call that an operator lends.
     pub fn try_copy(&self, alloc: Global) -> Result<Call, AllocError>
         ensures { IfOk result (λ copy. copy ≡ self.now) }
     {
@@ -117,7 +104,6 @@ impl Call {
     }
 }
 
-/// Copies of the edits, in their order. An `Err` says that memory ran out.
 fn copy_edits(alloc: Global, edits: &[Edit]) -> Result<Vec<Edit>, AllocError>
     ensures { IfOk result (λ copies. copies.items ≡ edits.now) }
 {

@@ -5,14 +5,12 @@ ghost use Rattle.crush_calls.specs.History.{changes, is_change};
 
 use crate::call::{Call, Reply};
 
-/// One entry of a history: a call that was answered, and by whom it was made. It owns its call.
+/// One entry of a history: a call that was answered, and by whom it was made.
 #[derive(Debug, Drop)]
 pub struct Entry {
-    /// The number of the operator that made it, counted from 0 in the order of the sections.
+    /// From 0 in the order of the sections.
     pub operator: usize,
-    /// What was asked.
     pub call: Call,
-    /// What the map answered at that point.
     pub reply: Reply,
 }
 
@@ -20,14 +18,11 @@ pub struct Entry {
 /// its operator.
 #[derive(Debug, Drop)]
 pub struct Slip {
-    /// What was asked.
     pub call: Call,
-    /// What the map answered.
     pub reply: Reply,
 }
 
-/// Whether a reply tells of a change of the map: an edit that changed it, or a batch with at least
-/// one such edit. A refusal never is, nor is a stale batch.
+/// Whether an edit, or one of a batch, changed the map.
 pub fn is_change(reply: Reply) -> bool
     ensures { result ≡ is_change reply }
 {
@@ -40,8 +35,7 @@ pub fn is_change(reply: Reply) -> bool
     }
 }
 
-/// How many entries are a change of the map. There are fewer than 2^32 of them, so that the count
-/// has room.
+/// How many entries changed the map.
 pub fn count_changes(entries: &[Entry]) -> u32
     requires { length entries.now < 2 ^ 32 }
     ensures { result ≡ changes entries.now }

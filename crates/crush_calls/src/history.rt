@@ -16,7 +16,6 @@ use itoa::Buffer;
 use std::alloc::{AllocError, Global};
 use std::io::Write;
 
-/// Writes what stands before the call.
 #[tactic(auto, unfolding(crate::specs::HistoryText::line_head))]
 fn write_head<W: Write>(number: u32, operator: &[u8], out: &mut W) -> Result<(), WriteFault>
     ensures writes { Writes result (W.contents out.old) (W.contents out.new)
@@ -37,14 +36,12 @@ fn write_head<W: Write>(number: u32, operator: &[u8], out: &mut W) -> Result<(),
     )
 }
 
-/// A truth as a digit.
 fn digit_of(is_true: bool) -> &'static [u8]
     ensures { result.now ≡ digit_of is_true }
 {
     if is_true { b"1" } else { b"0" }
 }
 
-/// Writes the reply to an edit that was made, and ends the line.
 #[tactic(auto, unfolding(crate::specs::HistoryText::line_end))]
 fn write_done<W: Write>(done: Done, out: &mut W) -> Result<(), WriteFault>
     ensures writes { Writes result (W.contents out.old) (W.contents out.new)
@@ -66,7 +63,6 @@ fn write_done<W: Write>(done: Done, out: &mut W) -> Result<(), WriteFault>
     )
 }
 
-/// Writes the reply to a batch that was made, and ends the line.
 #[tactic(auto, unfolding(crate::specs::HistoryText::line_end))]
 fn write_dones<W: Write>(dones: Dones, out: &mut W) -> Result<(), WriteFault>
     ensures writes { Writes result (W.contents out.old) (W.contents out.new)
@@ -93,7 +89,6 @@ fn write_dones<W: Write>(dones: Dones, out: &mut W) -> Result<(), WriteFault>
     )
 }
 
-/// Writes a refusal's name and its error, and ends the line.
 fn write_refusal<W: Write>(refusal: Refusal, out: &mut W) -> Result<(), WriteFault>
     ensures writes { Writes result (W.contents out.old) (W.contents out.new)
         (refusal_text refusal) }
@@ -105,7 +100,6 @@ fn write_refusal<W: Write>(refusal: Refusal, out: &mut W) -> Result<(), WriteFau
     put_all(out, &[name, b" ".as_slice(), error, b"\n".as_slice()])
 }
 
-/// Writes the reply to an edit that was refused, and ends the line.
 #[tactic(auto, unfolding(crate::specs::HistoryText::line_end))]
 fn write_refused<W: Write>(refusal: Refusal, out: &mut W) -> Result<(), WriteFault>
     ensures writes { Writes result (W.contents out.old) (W.contents out.new)
@@ -116,7 +110,6 @@ fn write_refused<W: Write>(refusal: Refusal, out: &mut W) -> Result<(), WriteFau
     write_refusal(refusal, out)
 }
 
-/// Writes what stands before the refusal of an edit of a batch.
 fn write_refused_at<W: Write>(index: u32, out: &mut W) -> Result<(), WriteFault>
     ensures writes { Writes result (W.contents out.old) (W.contents out.new)
         (refused_at_text index) }
@@ -127,7 +120,6 @@ fn write_refused_at<W: Write>(index: u32, out: &mut W) -> Result<(), WriteFault>
     put_all(out, &[b" = refused at ".as_slice(), index, b" ".as_slice()])
 }
 
-/// Writes the reply to a batch that was refused, and ends the line.
 #[tactic(auto, unfolding(crate::specs::HistoryText::line_end))]
 fn write_batch_refused<W: Write>(
     index: u32,
@@ -142,7 +134,6 @@ fn write_batch_refused<W: Write>(
     write_refusal(refusal, out)
 }
 
-/// Writes the reply to a guarded batch that is stale, and ends the line.
 #[tactic(auto, unfolding(crate::specs::HistoryText::line_end))]
 fn write_stale<W: Write>(changes: u32, out: &mut W) -> Result<(), WriteFault>
     ensures writes { Writes result (W.contents out.old) (W.contents out.new)
@@ -161,7 +152,6 @@ fn write_stale<W: Write>(changes: u32, out: &mut W) -> Result<(), WriteFault>
     )
 }
 
-/// Writes a reply, and ends the line.
 fn write_reply<W: Write>(reply: Reply, out: &mut W) -> Result<(), WriteFault>
     ensures writes { Writes result (W.contents out.old) (W.contents out.new) (line_end reply) }
     ensures fault { IfErr result (λ fault. fault ≡ WriteFault.Write) }
@@ -175,16 +165,8 @@ fn write_reply<W: Write>(reply: Reply, out: &mut W) -> Result<(), WriteFault>
     }
 }
 
-/// Writes the line of an entry: `# NUMBER OPERATOR CALL = REPLY`.
-///
-/// Entries count from 1. An edit shows as its command, its weight with five decimals, and a batch
-/// as `begin ; EDIT ; .. ; commit`, a guarded one begins by `begin at N`. The reply is
-/// `done changed C made M`, where C is 1 or 0, `dones N changed C made M`, `refused NAME ERROR`,
-/// `refused at INDEX NAME ERROR` or `refused Stale 11 changes N`; `docs/FORMATS.md` has the form.
-/// The line begins with `#`, and so is a comment by the grammar of a map's text.
-///
-/// It takes no memory, so the one fault is [`WriteFault::Write`], after which the writer holds a
-/// prefix of the line.
+/// Writes an entry's line, `# NUMBER OPERATOR CALL = REPLY`, a comment of a map's text;
+/// `docs/FORMATS.md` has the form.
 pub fn write_entry<W: Write>(
     number: u32,
     operator: &[u8],
@@ -201,7 +183,7 @@ pub fn write_entry<W: Write>(
     write_reply(reply, out)
 }
 
-/// The name of an operator, by its number.
+/// An operator's name.
 pub fn operator_name(scripts: &[Script], operator: usize) -> &[u8]
     requires { operator < length scripts.now }
     ensures { result.now ≡ slice_index_or (names_of (scripts_data scripts.now)) operator [] }
@@ -211,11 +193,8 @@ pub fn operator_name(scripts: &[Script], operator: usize) -> &[u8]
 }
 
 /// The lines of a history, one for each entry, as [`write_entry`] writes it; they count from 1, and
-/// each entry has the name of the script of its operator's number. Each is of one of the scripts.
-///
-/// They are laid out in memory, so that a whole history is one write, and so that out of memory
-/// shows before anything is written. There are fewer than 2^32 entries, so that each has a number;
-/// a job's are at most 65,536.
+/// each entry has the name of the script of its operator's number. A history is one write, before
+/// which out of memory shows.
 pub fn history_text(
     alloc: Global,
     scripts: &[Script],

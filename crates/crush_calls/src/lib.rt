@@ -1,10 +1,6 @@
-//! What operators ask of a map and what it answers: calls and replies, scripts of calls, what
-//! scripts in turn come to, and the lines of a history.
-//!
-//! A [`Call`] is an edit, a batch or a guarded batch, a [`Reply`] what it is answered, an
-//! [`Entry`] both with the operator. [`make_call`] makes one of a map; `crush_editor` does so for
-//! many operators, and `crush_script` reads calls from lines. Which histories are legal stands in
-//! `specs/History.antt`.
+//! A [`Call`] is what an operator wants of a map, a [`Reply`] its answer, an [`Entry`] both in a
+//! history. [`make_call`] makes one, `crush_editor` those of many operators, `crush_script` reads
+//! them.
 #![tactic(auto)]
 
 mod call;

@@ -9,7 +9,6 @@ use crush_edits::{BatchFault, Edit, EditFault};
 use crush_map::CrushMap;
 use std::alloc::{AllocError, Allocator};
 
-/// Makes one edit, whatever changes came before.
 fn make_edit<A: Allocator + Clone>(map: &mut CrushMap<A>, asked: &Edit) -> Result<Reply, AllocError>
     ensures made { IfOk result (λ reply. (n : ℕ)
         → Makes n map.old map.new (Call.One asked.now) reply) }
@@ -22,7 +21,6 @@ fn make_edit<A: Allocator + Clone>(map: &mut CrushMap<A>, asked: &Edit) -> Resul
     }
 }
 
-/// Makes a batch of at most 65,536 edits, or none of them, whatever changes came before.
 fn make_batch<A: Allocator + Clone>(
     map: &mut CrushMap<A>,
     asked: &[Edit],
@@ -39,7 +37,6 @@ fn make_batch<A: Allocator + Clone>(
     }
 }
 
-/// Makes a batch where as many changes came before as its operator has seen. Else it is stale.
 fn make_guarded<A: Allocator + Clone>(
     map: &mut CrushMap<A>,
     count: u32,
@@ -56,11 +53,7 @@ fn make_guarded<A: Allocator + Clone>(
     make_batch(map, asked)
 }
 
-/// Makes one call on a map, before which so many calls changed it. The reply is the one that the
-/// plain table gives, of each table for which the map stands, and the map then stands for the table
-/// after; so a refused edit or batch changes nothing, nor does a stale one.
-///
-/// An `Err` says that memory ran out. The map is then as before, also its room.
+/// Makes one call on a map, before which so many calls changed it.
 pub fn make_call<A: Allocator + Clone>(
     map: &mut CrushMap<A>,
     count: u32,

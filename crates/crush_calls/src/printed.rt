@@ -1,4 +1,4 @@
-//! Calls, as the lines of a history show them.
+//! The text of calls.
 
 ghost use Rattle.std.specs.Prelude.{◌≡◌, ◌++◌, codes, IfErr};
 ghost use Rattle.crush_bytes.specs.Writes.{Writes};
@@ -12,7 +12,6 @@ use itoa::Buffer;
 use std::alloc::Global;
 use std::io::Write;
 
-/// Writes a first word and a name.
 fn write_one_name<W: Write>(
     first: &[u8],
     name: &Name<Global>,
@@ -25,7 +24,6 @@ fn write_one_name<W: Write>(
     put_all(out, &[first, b" ".as_slice(), name.as_bytes()])
 }
 
-/// Writes a first word and two names.
 fn write_two_names<W: Write>(
     first: &[u8],
     a: &Name<Global>,
@@ -48,7 +46,6 @@ fn write_two_names<W: Write>(
     )
 }
 
-/// Writes a first word, a name and a weight.
 fn write_weighed<W: Write>(
     first: &[u8],
     name: &Name<Global>,
@@ -74,7 +71,6 @@ fn write_weighed<W: Write>(
     )
 }
 
-/// Writes a pair, behind a space.
 fn write_pair<W: Write>(pair: &Pair, out: &mut W) -> Result<(), WriteFault>
     ensures writes { Writes result (W.contents out.old) (W.contents out.new) (pair_text pair.now) }
     ensures fault { IfErr result (λ fault. fault ≡ WriteFault.Write) }
@@ -90,7 +86,6 @@ fn write_pair<W: Write>(pair: &Pair, out: &mut W) -> Result<(), WriteFault>
     )
 }
 
-/// Writes the pairs of a location, in order.
 fn write_pairs<W: Write>(pairs: &[Pair], out: &mut W) -> Result<(), WriteFault>
     ensures writes { Writes result (W.contents out.old) (W.contents out.new)
         (pairs_text pairs.now) }
@@ -102,7 +97,6 @@ fn write_pairs<W: Write>(pairs: &[Pair], out: &mut W) -> Result<(), WriteFault>
     Ok(())
 }
 
-/// Writes a first word, a device with its weight, and its location.
 fn write_placing<W: Write>(
     first: &[u8],
     name: &Name<Global>,
@@ -118,7 +112,6 @@ fn write_placing<W: Write>(
     write_pairs(at.pairs(), out)
 }
 
-/// Writes a move of an item.
 fn write_move<W: Write>(name: &Name<Global>, at: &Location, out: &mut W) -> Result<(), WriteFault>
     ensures writes { Writes result (W.contents out.old) (W.contents out.new)
         (one_name (codes "move") name.now ++ pairs_text at.now) }
@@ -128,11 +121,7 @@ fn write_move<W: Write>(name: &Name<Global>, at: &Location, out: &mut W) -> Resu
     write_pairs(at.pairs(), out)
 }
 
-/// Writes an edit as its command: the words of a job's line, a weight with five decimals and each
-/// pair of a location.
-///
-/// It takes no memory, so the one fault is [`WriteFault::Write`], after which the writer holds a
-/// prefix of the command.
+/// Writes an edit as its command, the weight with five decimals.
 pub fn write_edit<W: Write>(edit: &Edit, out: &mut W) -> Result<(), WriteFault>
     ensures writes { Writes result (W.contents out.old) (W.contents out.new) (edit_text edit.now) }
     ensures fault { IfErr result (λ fault. fault ≡ WriteFault.Write) }
@@ -170,7 +159,6 @@ pub fn write_edit<W: Write>(edit: &Edit, out: &mut W) -> Result<(), WriteFault>
     }
 }
 
-/// Writes an edit of a batch, and what separates it from what follows.
 fn write_edit_of_batch<W: Write>(edit: &Edit, out: &mut W) -> Result<(), WriteFault>
     ensures writes { Writes result (W.contents out.old) (W.contents out.new)
         (edit_text edit.now ++ codes " ; ") }
@@ -180,7 +168,6 @@ fn write_edit_of_batch<W: Write>(edit: &Edit, out: &mut W) -> Result<(), WriteFa
     put(out, b" ; ")
 }
 
-/// Writes the edits of a batch.
 fn write_edits<W: Write>(edits: &[Edit], out: &mut W) -> Result<(), WriteFault>
     ensures writes { Writes result (W.contents out.old) (W.contents out.new)
         (edits_text edits.now) }
@@ -192,7 +179,6 @@ fn write_edits<W: Write>(edits: &[Edit], out: &mut W) -> Result<(), WriteFault>
     Ok(())
 }
 
-/// Writes the edits of a batch and its end.
 fn write_rest<W: Write>(edits: &[Edit], out: &mut W) -> Result<(), WriteFault>
     ensures writes { Writes result (W.contents out.old) (W.contents out.new)
         (rest_text edits.now) }
@@ -202,7 +188,6 @@ fn write_rest<W: Write>(edits: &[Edit], out: &mut W) -> Result<(), WriteFault>
     put(out, b"commit")
 }
 
-/// Writes a batch.
 fn write_batch<W: Write>(edits: &[Edit], out: &mut W) -> Result<(), WriteFault>
     ensures writes { Writes result (W.contents out.old) (W.contents out.new)
         (codes "begin ; " ++ rest_text edits.now) }
@@ -212,7 +197,6 @@ fn write_batch<W: Write>(edits: &[Edit], out: &mut W) -> Result<(), WriteFault>
     write_rest(edits, out)
 }
 
-/// Writes what stands before the edits of a guarded batch.
 fn write_guard<W: Write>(seen: u32, out: &mut W) -> Result<(), WriteFault>
     ensures writes { Writes result (W.contents out.old) (W.contents out.new) (guard_text seen) }
     ensures fault { IfErr result (λ fault. fault ≡ WriteFault.Write) }
@@ -222,7 +206,6 @@ fn write_guard<W: Write>(seen: u32, out: &mut W) -> Result<(), WriteFault>
     put_all(out, &[b"begin at ".as_slice(), seen, b" ; ".as_slice()])
 }
 
-/// Writes a guarded batch.
 fn write_guarded<W: Write>(seen: u32, edits: &[Edit], out: &mut W) -> Result<(), WriteFault>
     ensures writes { Writes result (W.contents out.old) (W.contents out.new)
         (guard_text seen ++ rest_text edits.now) }
@@ -232,7 +215,6 @@ fn write_guarded<W: Write>(seen: u32, edits: &[Edit], out: &mut W) -> Result<(),
     write_rest(edits, out)
 }
 
-/// Writes a call.
 pub(crate) fn write_call<W: Write>(call: &Call, out: &mut W) -> Result<(), WriteFault>
     ensures writes { Writes result (W.contents out.old) (W.contents out.new) (call_text call.now) }
     ensures fault { IfErr result (λ fault. fault ≡ WriteFault.Write) }

@@ -1,4 +1,4 @@
-//! The entries of a history that were refused.
+//! Refused entries.
 
 ghost use Rattle.std.specs.Prelude.{◌≡◌, ◌<◌, ◌^◌, ◌++◌, IfOk, OnOk, length};
 ghost use Rattle.crush_calls.specs.Entries.{AreOf};
@@ -12,7 +12,7 @@ use crate::history::{operator_name, write_entry};
 use crate::script::Script;
 use std::alloc::{AllocError, Global};
 
-/// Whether a reply is a refusal: of an edit, of a batch, or of a guarded call that came too late.
+/// Whether a reply refuses, or is stale.
 pub fn is_refused(reply: Reply) -> bool
     ensures { result ≡ is_refused reply }
 {
@@ -25,7 +25,7 @@ pub fn is_refused(reply: Reply) -> bool
     }
 }
 
-/// How many entries were refused. There are fewer than 2^32 of them, so that the count has room.
+/// How many entries were refused.
 pub fn count_refused(entries: &[Entry]) -> u32
     requires { length entries.now < 2 ^ 32 }
     ensures { result ≡ refusals entries.now }
@@ -39,7 +39,6 @@ pub fn count_refused(entries: &[Entry]) -> u32
     count
 }
 
-/// The line of an entry, where it was refused.
 fn push_refused(
     number: u32,
     operator: &[u8],
@@ -55,9 +54,7 @@ fn push_refused(
     write_entry(number, operator, &entry.call, entry.reply, text).map_err(|_| AllocError)
 }
 
-/// The lines of the entries that were refused, each as the history has it, with its number there.
-///
-/// There are fewer than 2^32 entries, so that each has a number; a job's are at most 65,536.
+/// The lines of refused entries, numbered as in the history.
 pub fn refused_text(
     alloc: Global,
     scripts: &[Script],

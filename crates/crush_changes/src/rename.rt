@@ -13,7 +13,7 @@ use crush_nodes::way::Way;
 use crush_units::{ItemId, Name};
 use std::alloc::Allocator;
 
-/// Gives one of the items, or of those below them, another name, and hands out the old one.
+/// Gives an item another name, and hands out the old one.
 pub fn rename_in<A: Allocator, W: Way>(
     items: &mut [Node<A>],
     way: &W,

@@ -23,25 +23,18 @@ use std::alloc::{Allocator, Global};
 use std::marker::Model;
 use thiserror::Error;
 
-/// Why a call was not answered. It is then in no history, and nothing has changed.
+/// Why a call was not answered.
 #[derive(Clone, Copy, Debug, PartialEq, Eq, Error)]
 pub enum SubmitFault {
-    /// The history has as many entries as it may have: 65,536.
+    /// The history has 65,536 entries.
     #[error("the history is full")]
     Full,
-    /// A growth was refused.
     #[error("out of memory")]
     OutOfMemory,
 }
 
-/// A map, with the history of what was asked of it since its opening.
-///
-/// The type keeps, of every book: its history is legal from the opening, has at most 65,536 entries,
-/// each of an operator below 16, and the map stands for the table after it, with the opening's
-/// setting; and the gauge was told of the whole history.
-///
-/// `A` is where its maps live. Calls and entries are in the machine's memory. `O` is what it has of
-/// the opening: a map beside its own, or nothing, where contracts alone see it.
+/// A map, with the history of what was asked of it since its opening. `A` is where its maps live;
+/// calls and entries are in the machine's memory. `O` is what it has of the opening.
 #[derive(Drop)]
 pub struct Book<A: Allocator, O: Opening = CrushMap<A>> {
     opening: O,
@@ -68,8 +61,7 @@ impl<A: Allocator, O: Opening> Model for Book<A, O> {
 }
 
 impl<A: Allocator + Clone> Book<A> {
-    /// The book of a map, with no entry. The seat is the one that publishes of a gauge that was made
-    /// for this map and was never published to. Where memory runs out the map comes back.
+    /// The book of a map, with no entry.
     pub fn new(map: CrushMap<A>, seat: MapBookSeat, alloc: Global) -> Result<Book<A>, CrushMap<A>>
         requires { seat.view ≡ BookSees (known map []) }
         ensures opening { IfOk result (λ b. b.opening ≡ map) }
@@ -94,8 +86,7 @@ impl<A: Allocator + Clone> Book<A> {
 }
 
 impl<A: Allocator> Book<A, Unkept> {
-    /// [`Book::new`] of a map of which no copy is kept: the map itself is the one that calls change.
-    /// It takes no memory.
+    /// [`Book::new`] without a copy of the map.
     pub(crate) fn without_opening(
         map: CrushMap<A>,
         seat: MapBookSeat,
@@ -118,7 +109,6 @@ impl<A: Allocator> Book<A, Unkept> {
         }
     }
 
-    /// The map that the book was made of, in place of a book without an entry.
     pub(crate) fn into_map(self) -> CrushMap<A>
         requires { self.history ≡ [] }
         ensures { result ≡ self.opening }
@@ -135,13 +125,10 @@ impl<A: Allocator> Book<A, Unkept> {
 }
 
 impl<A: Allocator + Clone, O: Opening> Book<A, O> {
-    /// Makes a call of operator k, counted from 0 and below 16, records it with its reply behind the
-    /// other entries, and publishes the new number of changes and the new weight: once, also where
-    /// the call is refused. The gauge is the book's. A guarded batch is judged by the number of
-    /// changes in the history, which the book keeps.
-    ///
-    /// `Full` is judged first, and exactly where there are 65,536 entries. After either fault the book
-    /// is as before, its map also in its room: all memory is taken before anything changes.
+    /// Makes a call of operator k, counted from 0 and below 16, records it with its reply behind
+    /// the other entries, and publishes the new number of changes and the new weight: once, also
+    /// where the call is refused. `Full` is judged first; after a fault the map is as before also
+    /// in its room.
     pub fn commit(
         &mut self,
         alloc: Global,
@@ -172,8 +159,7 @@ impl<A: Allocator + Clone, O: Opening> Book<A, O> {
         }
     }
 
-    /// [`Book::commit`] of a call that is moved into its entry, so that it isn't copied. After a
-    /// fault the call comes back.
+    /// [`Book::commit`] of a call that is moved into its entry, so that it isn't copied.
     pub fn commit_copied(
         &mut self,
         gauge: &MapGauge,
@@ -217,7 +203,6 @@ impl<A: Allocator + Clone, O: Opening> Book<A, O> {
         Ok(reply)
     }
 
-    /// Takes in a note of the same gauge: what it has seen is a beginning of the history.
     pub(crate) fn meet(&mut self, gauge: &MapGauge, note: MapNote)
         requires gauge { self.old.table ≡ gauge.now.table.shared.table_id }
         requires note { (note.table ≡ self.old.table)
@@ -228,7 +213,6 @@ impl<A: Allocator + Clone, O: Opening> Book<A, O> {
         gauge.learn(&mut self.seat, note);
     }
 
-    /// A note that has seen the whole history.
     pub(crate) fn shown(&mut self, gauge: &MapGauge) -> MapNote
         requires { self.old.table ≡ gauge.now.table.shared.table_id }
         ensures book { self.new ≡ self.old }
@@ -238,8 +222,6 @@ impl<A: Allocator + Clone, O: Opening> Book<A, O> {
         gauge.note(&mut self.seat)
     }
 
-    /// One call of operator k, whose reader has seen a beginning of the history. It has then seen the
-    /// whole, with the entry of the call where that was answered.
     pub(crate) fn serve(
         &mut self,
         gauge: &MapGauge,
@@ -274,8 +256,7 @@ impl<A: Allocator + Clone, O: Opening> Book<A, O> {
         outcome
     }
 
-    /// The fault of a call for whose copies there was no memory. Its reader, which has seen a beginning
-    /// of the history, has then seen the whole.
+    /// The fault of a call for whose copies there was no memory.
     pub(crate) fn refuse(&mut self, gauge: &MapGauge, reader: &mut Reader) -> SubmitFault
         requires gauge { self.old.table ≡ gauge.now.table.shared.table_id }
         requires reader { (reader.old.table ≡ self.old.table)
@@ -293,8 +274,6 @@ impl<A: Allocator + Clone, O: Opening> Book<A, O> {
         self.lacking()
     }
 
-    /// The fault of a call for which memory runs out: still `Full`, exactly where there are 65,536
-    /// entries.
     fn lacking(&self) -> SubmitFault
         ensures { (result ≡ SubmitFault.Full) ↔ (length self.now.history ≡ MOST_ENTRIES) }
     {
@@ -313,7 +292,6 @@ impl<A: Allocator> Book<A> {
         &self.opening
     }
 
-    /// The map that the book was made of, in place of the book.
     pub(crate) fn into_opening(self) -> CrushMap<A>
         ensures { result ≡ self.opening }
     {
@@ -355,7 +333,7 @@ impl<A: Allocator, O: Opening> Book<A, O> {
     }
 
     /// What the book has of its opening, with map and history, in place of the book. It takes no
-    /// memory. What it has of the opening is the map that the book was made of, where it is one.
+    /// memory.
     pub fn into_closed(self) -> Closed<A, O>
         ensures opening { IfSome (O.kept result.opening) (λ m. m ≡ self.opening) }
         ensures map { result.map ≡ self.map }
@@ -384,15 +362,14 @@ impl<A: Allocator, O: Opening> Book<A, O> {
 /// What an editor hands out when it is closed, or a book in place of itself.
 #[derive(Drop)]
 pub struct Closed<A: Allocator, O: Opening = CrushMap<A>> {
-    /// The map before the first call, or nothing, of a book or an editor that keeps none.
+    /// Before the first call.
     pub opening: O,
-    /// The map after the history.
+    /// After the last call.
     pub map: CrushMap<A>,
-    /// What was asked and answered, in the order in which the calls were made.
     pub history: Vec<Entry>,
 }
 
-/// Publishes the pair of the history with one entry more, of which contracts alone see what it is.
+/// Contracts alone see the entry.
 fn publish(gauge: &MapGauge, seat: &mut MapBookSeat, joining: &Entry, count: u64, weight: u64)
     ghost joined: { EntryData }
     requires joins { joined ≡ joining.now }
@@ -405,7 +382,6 @@ fn publish(gauge: &MapGauge, seat: &mut MapBookSeat, joining: &Entry, count: u64
     gauge.publish(seat, count, weight)
 }
 
-/// How many changes a reply tells of: one or none.
 fn change_of(reply: Reply) -> u32
     ensures { result ≡ change_of reply }
 {

@@ -34,7 +34,7 @@ impl<N: Desk> Model for Note<N> {
         × IsLegalFrom N.opening (seen_of n.note.view) };
 }
 
-/// The gauge of an editor's name. No lock is in it, so that no call on it can wait for one.
+/// The gauge of an editor's name. Its calls take no lock and no memory.
 #[derive(Drop)]
 pub struct Dial<N: Desk> {
     gauge: MapGauge,
@@ -43,7 +43,6 @@ pub struct Dial<N: Desk> {
 }
 
 impl<N: Desk> Dial<N> {
-    /// The dial of the name's gauge.
     pub(crate) fn new(gauge: MapGauge) -> Dial<N>
         requires { gauge.table.shared.table_id ≡ N.gauge }
     {
@@ -53,7 +52,6 @@ impl<N: Desk> Dial<N> {
         }
     }
 
-    /// The gauge, for the calls under the lock.
     pub(crate) fn gauge(&self) -> &MapGauge
         ensures { result.now.table.shared.table_id ≡ N.gauge }
     {
@@ -61,8 +59,7 @@ impl<N: Desk> Dial<N> {
     }
 
     /// The number of changes so far and the weight of all placed devices, in units, by one load: it
-    /// takes no lock and no memory. They are those of a legal history that begins with what the seat
-    /// saw before, its own calls among it, and that the seat has then seen.
+    /// takes no lock and no memory.
     pub fn reading(&self, seat: &mut Seat<N>) -> Reading
         ensures seat { Sees N.opening seat.old seat.new }
         ensures changes { result.changes ≡ changes seat.new.seen }
@@ -72,7 +69,7 @@ impl<N: Desk> Dial<N> {
         self.gauge.read(&mut seat.reader)
     }
 
-    /// What the seat has seen, for another seat of this editor. It takes no memory.
+    /// What the seat has seen, for another seat of this editor.
     pub fn note(&self, seat: &mut Seat<N>) -> Note<N>
         ensures seat { seat.new ≡ seat.old }
         ensures note { result ≡ seat.old.seen }
@@ -85,7 +82,7 @@ impl<N: Desk> Dial<N> {
     }
 
     /// The seat has then also seen what the note's seat had seen when the note was made: its next
-    /// reading is not before either. It takes no memory.
+    /// reading is not before either.
     pub fn learn(&self, seat: &mut Seat<N>, note: Note<N>)
         ensures seat { Sees N.opening seat.old seat.new }
         ensures note { IsPrefix note seat.new.seen }

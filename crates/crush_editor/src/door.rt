@@ -1,5 +1,5 @@
-//! The lock of an editor. Only this file names it, so that nothing in the crate comes to the lock
-//! without the leave to wait, nor for a call whose slip lacks memory.
+//! The lock of an editor. Only this file names it, so that no call comes to it without the leave to
+//! wait and memory for its slip.
 
 ghost use Rattle.std.specs.Prelude.{◌≡◌, ◌<◌, ◌≤◌, length, vec_len, vec_capacity};
 ghost use mathlib.Core.Logic.{◌↔◌};
@@ -16,7 +16,6 @@ use crate::ready::Ready;
 use crush_calls::Slip;
 use std::sync::{Mutex, MutexGuard, Wait};
 
-/// What lies under the lock, behind it.
 #[derive(Drop)]
 pub(crate) struct Door<N: Desk, O: Opening> {
     desk: Mutex<Locked<N, O>>,
@@ -29,8 +28,6 @@ impl<N: Desk, O: Opening> Door<N, O> {
         }
     }
 
-    /// Takes the lock for a call whose slip has what it needs of memory: a copy of the call, and room
-    /// among the others. It may wait for ever.
     pub(crate) fn lock(
         &self,
         rt: &impl Wait,
@@ -44,8 +41,6 @@ impl<N: Desk, O: Opening> Door<N, O> {
         self.desk.lock(rt)
     }
 
-    /// The fault of a call for whose copies there was no memory, under the lock: it may wait for ever.
-    /// The call's reader has then seen the history.
     pub(crate) fn refuse(
         &self,
         rt: &impl Wait,
@@ -66,7 +61,6 @@ impl<N: Desk, O: Opening> Door<N, O> {
         self.desk.lock(rt).refuse(gauge, reader)
     }
 
-    /// What lies under the lock, in place of it.
     pub(crate) fn into_inner(self) -> Locked<N, O> {
         let Door { desk } = self;
         desk.into_inner()

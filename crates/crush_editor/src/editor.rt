@@ -31,12 +31,8 @@ use std::sync::Wait;
 use std::sync::ledger::Blank;
 
 /// What is made before an editor has its name: the gauge, the book, and the readers of the seats.
-///
-/// The name of an editor, `N`, tells contracts which gauge and which opening map are its. They are
-/// there only once this is made. So a caller makes it first, and then calls a function that is generic
-/// in `N` at [`Brand`].
-///
-/// `A` is where the maps of its book live, and `O` what the book has of its opening.
+/// The name `N` says to contracts which gauge and which opening map are its: so a caller makes this
+/// first, and then calls a function that is generic in `N` at [`Brand`].
 #[derive(Drop)]
 pub struct Started<A: Allocator = Global, O: Opening = CrushMap<A>> {
     gauge: MapGauge,
@@ -76,8 +72,7 @@ impl<A: Allocator, O: Opening> Model for Started<A, O> {
 }
 
 impl<A: Allocator + Clone> Started<A> {
-    /// Makes the gauge, the book and the readers of so many operators: 1 to 16. Where memory runs
-    /// out the map comes back.
+    /// Makes the gauge, the book and the readers of so many operators: 1 to 16.
     pub fn new(map: CrushMap<A>, operators: usize, alloc: Global) -> Result<Started<A>, CrushMap<A>>
         requires some { 0 < operators }
         requires few { operators ≤ MOST_OPERATORS }
@@ -99,8 +94,8 @@ impl<A: Allocator + Clone> Started<A> {
 }
 
 impl<A: Allocator> Started<A, Unkept> {
-    /// [`Started::new`] of a map of which no copy is kept: the map itself is the one that calls change,
-    /// and the close hands out no opening. What holds of the opening holds of the map as it was given.
+    /// [`Started::new`] of a map of which no copy is kept: the map itself is the one that calls
+    /// change, and the close hands out no opening.
     pub fn without_opening(
         map: CrushMap<A>,
         operators: usize,
@@ -145,7 +140,7 @@ impl<A: Allocator, O: Opening> Started<A, O> {
     }
 }
 
-/// The opening of a gauge, which contracts alone see. Each call picks it.
+/// Contracts alone see the opening. Each call picks it.
 trait Opened {
     ghost use Rattle.crush_map.specs.MapData.{MapData};
 
@@ -158,7 +153,6 @@ impl Opened for Brand {
     ghost map = { no_map };
 }
 
-/// The gauge of a map, with as many readers as there are operators.
 fn make_gauge<M: Opened, A: Allocator>(
     map: &CrushMap<A>,
     operators: usize,
@@ -175,7 +169,6 @@ fn make_gauge<M: Opened, A: Allocator>(
     new_gauge::<M>(map.total(), operators, alloc)
 }
 
-/// The gauge of an opening of this weight.
 fn new_gauge<M: Opened>(
     weight: u64,
     operators: usize,
@@ -191,8 +184,7 @@ fn new_gauge<M: Opened>(
     MapGauge::new(alloc, weight, operators)
 }
 
-/// The editor of a name: a book under one lock, and a gauge that is read without it. `O` is what the
-/// book has of its opening.
+/// The editor of a name: a book under one lock, and a gauge that is read without it.
 #[derive(Drop)]
 pub struct Editor<N: Desk, O: Opening = CrushMap<Global>> {
     dial: Dial<N>,
@@ -200,20 +192,9 @@ pub struct Editor<N: Desk, O: Opening = CrushMap<Global>> {
 }
 
 impl<N: Desk, O: Opening> Editor<N, O> {
-    /// Makes a call of the seat's operator, under the lock.
-    ///
-    /// Where it is answered, the seat's slips have the call with its reply behind the others, and the
-    /// seat has seen a legal history that ends with it and begins with what it saw before. After a
-    /// fault the slips and the history are as before, and the seat has seen the history that the lock
-    /// held: of 65,536 entries exactly where it is told `Full`. So a seat that was told `Full` is told
-    /// so ever after. Two copies of the call, one for its entry and one for its slip, and the slip's
-    /// room are taken before the lock. Under it no call is copied.
-    ///
-    /// A guarded batch that names as many changes as the seat has seen, as its last reading told
-    /// them, is made of the table that the seat has seen or is stale; a stale one is told the number
-    /// of changes that the seat has then seen.
-    ///
-    /// A call that waits for the lock may wait for ever; that it returns is not promised.
+    /// Makes a call of the seat's operator, under the lock. It may wait for ever; its copies and
+    /// the slip's room are taken before the lock. A guarded batch that names the changes of the
+    /// seat's last reading is stale, or made of the table that the seat has seen.
     pub fn submit(
         &self,
         rt: &impl Wait,
@@ -238,8 +219,8 @@ impl<N: Desk, O: Opening> Editor<N, O> {
         }
     }
 
-    /// [`Editor::submit`] of a call that is moved into its entry, so that it is copied once, for its
-    /// slip. After a fault the call comes back.
+    /// [`Editor::submit`] of a call that is moved into its entry, so that it is copied once, for
+    /// its slip.
     pub fn submit_copied(
         &self,
         rt: &impl Wait,
@@ -273,8 +254,6 @@ impl<N: Desk, O: Opening> Editor<N, O> {
         Ok(reply)
     }
 
-    /// The fault of a call for whose copies there was no memory. Its seat has then seen the history
-    /// that the lock held.
     fn refuse(&self, rt: &impl Wait, seat: &mut Seat<N>) -> SubmitFault
         ensures seat { Sees N.opening seat.old seat.new }
         ensures full { (result ≡ SubmitFault.Full) ↔ (length seat.new.seen ≡ MOST_ENTRIES) }
@@ -284,7 +263,7 @@ impl<N: Desk, O: Opening> Editor<N, O> {
         self.door.refuse(rt, gauge, &mut seat.reader)
     }
 
-    /// The part of the editor that readings need. It holds no lock.
+    /// The part of the editor that readings need.
     pub fn dial(&self) -> &Dial<N> {
         &self.dial
     }
@@ -317,9 +296,7 @@ impl<N: Desk, O: Opening> Editor<N, O> {
 }
 
 impl<N: Desk> Editor<N> {
-    /// The editor of a name, with a seat for each operator, seat k for operator k, counted from 0. No
-    /// seat has a slip, and each has seen the history without an entry. Where memory runs out the
-    /// map comes back as it was.
+    /// The editor of a name, with a seat for each operator, seat k for operator k, counted from 0.
     pub fn open(
         started: Started,
         alloc: Global,
@@ -363,7 +340,6 @@ impl<N: Desk> Editor<N, Unkept> {
 }
 
 impl<N: Desk, O: Opening> Editor<N, O> {
-    /// The editor of a name with its seats, or where memory runs out its book, without an entry.
     fn begin(
         started: Started<Global, O>,
         alloc: Global,
@@ -412,13 +388,9 @@ impl<N: Desk, O: Opening> Editor<N, O> {
         ))
     }
 
-    /// What the editor has of its opening, with map and history, once all seats are given back, in the
-    /// order of `open`.
-    ///
-    /// The history is one of one thread: it holds exactly the answered calls of all seats, each once
-    /// and in its operator's order, and every reply is what the plain table replies at that point; and
-    /// the map is the one after all of them. What it has of the opening is the map that the editor was
-    /// made of, where it is one. It has no fault and takes no memory.
+    /// What the editor has of its opening, with map and history, once all seats are given back, in
+    /// the order of `open`. The history is one that one thread could have made: each answered call
+    /// once, in its operator's order. It takes no memory.
     pub fn close(self, seats: Vec<Seat<N>>) -> Closed<Global, O>
         requires count { vec_len seats ≡ N.parts }
         requires order { InOrder seats.items }

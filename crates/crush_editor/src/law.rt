@@ -5,8 +5,7 @@ use crush_gauge::{BookSeat, Gauge, Law, Note, ReadSeat};
 use crush_map::CrushMap;
 use std::alloc::Global;
 
-/// The law of a map's gauge: which histories are legal from the map, and of each its number of changes
-/// and the weight of all placed devices after it.
+/// The law of a map's gauge: its legal histories, their changes and weights.
 pub struct OfMap;
 
 impl Law<CrushMap<Global>, Entry> for OfMap {

@@ -1,12 +1,7 @@
-//! An editor of one map for operators at once.
-//!
-//! A [`Book`] has a map, the map that it came from or nothing of that ([`Opening`]), and the history
-//! of what was asked of it since. An [`Editor`] has a book under one lock and a gauge beside it. Each
-//! operator has a [`Seat`]: it submits calls by it, one at a time, reads the number of changes and the
-//! weight of the map without the lock, and keeps a slip of each call that it was answered. Where all
-//! seats are given back, `close` hands out a history that one thread could have made.
-//!
-//! Only [`Editor::submit`] and [`Editor::submit_copied`] may wait: they take the lock.
+//! An editor of one map for operators at once: a [`Book`], the map with its history, under one
+//! lock, and a gauge beside it. Each operator has a [`Seat`] for its calls, for readings without
+//! the lock, and for slips of the answered calls. Only [`Editor::submit`] and
+//! [`Editor::submit_copied`] may wait.
 #![tactic(auto)]
 
 mod book;

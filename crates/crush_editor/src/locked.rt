@@ -36,11 +36,8 @@ impl Desk for Brand {
     ghost opening = { no_map };
 }
 
-/// An operator's place at an editor: its number, a slip of each call that it was answered, in order,
-/// and, for contracts alone, the history that it has seen.
-///
-/// The type keeps that this history is legal from the opening, and that the slips stand in it as calls
-/// of this operator, in their order, each at a place of its own.
+/// An operator's place at an editor: its number, a slip of each call that it was answered, in
+/// order, and, for contracts alone, the history that it has seen.
 #[derive(Drop)]
 pub struct Seat<N: Desk> {
     pub(crate) operator: usize,
@@ -63,7 +60,7 @@ impl<N: Desk> Model for Seat<N> {
         × IsSeat N.opening s.operator s.slips.items (seen_of s.reader.view) };
 }
 
-/// What lies under the lock: the book, and the count of all slips, which is the length of its history.
+/// `count` is the length of the book's history.
 #[derive(Drop)]
 pub(crate) struct Locked<N: Desk, O: Opening> {
     pub(crate) book: Book<Global, O>,
@@ -89,8 +86,6 @@ impl<N: Desk, O: Opening> Model for Locked<N, O> {
 }
 
 impl<N: Desk, O: Opening> Locked<N, O> {
-    /// Makes a call of operator k, whose reader and share these are. The reader has then seen the
-    /// history with it.
     pub(crate) fn submit(
         &mut self,
         gauge: &MapGauge,
@@ -129,7 +124,6 @@ impl<N: Desk, O: Opening> Locked<N, O> {
         Ok(reply)
     }
 
-    /// The fault of a call for whose copies there was no memory. Its reader has then seen the history.
     pub(crate) fn refuse(&mut self, gauge: &MapGauge, reader: &mut Reader) -> SubmitFault
         requires gauge { gauge.now.table.shared.table_id ≡ N.gauge }
         requires reader { (reader.old.table ≡ N.gauge)

@@ -6,14 +6,14 @@ ghost use Rattle.crush_editor.specs.History.{slip};
 use crush_calls::{Call, Reply, Slip};
 use std::alloc::{AllocError, Global};
 
-/// A copy of a call for its slip, made before the call is. Only this file makes one.
+/// A copy of a call for its slip. Only this file makes one.
 #[derive(Drop)]
 pub(crate) struct Ready {
     for_slip: Call,
 }
 
 impl Ready {
-    /// The copy of a call that is moved into its entry, and room for its slip.
+    /// With room for the slip.
     pub(crate) fn new(
         alloc: Global,
         slips: &mut Vec<Slip>,
@@ -28,7 +28,6 @@ impl Ready {
         Ok(Ready { for_slip })
     }
 
-    /// The slip of the call with its reply.
     pub(crate) fn into_slip(self, reply: Reply) -> Slip
         ensures { result ≡ slip self.for_slip reply }
     {

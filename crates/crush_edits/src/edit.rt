@@ -6,126 +6,86 @@ use crate::location::Location;
 use crush_units::{DeviceId, Name, Weight};
 use std::alloc::{AllocError, Global};
 
-/// An edit of a map, as `ceph osd crush` makes it. Its names are names that were read, so no edit
-/// has a malformed one.
-///
-/// What an edit makes of a map, and when it is refused, is said of the plain table of the map's
-/// items in docs/edits.md.
+/// An edit of a map, as `ceph osd crush` makes it. In brackets stand its command and Ceph's
+/// function.
 #[derive(Debug, Drop)]
 pub enum Edit {
-    /// Puts a device that stands in no bucket at the end of a location's route, with the weight,
-    /// and makes the device where its id isn't there (`insert_item`, `ceph osd crush add`).
+    /// Puts a device that stands in no bucket at the end of a location's route, made where its id
+    /// is new (`add`, `insert_item`).
     Insert {
-        /// The device's id.
         device: DeviceId,
-        /// The device's name.
         name: Name<Global>,
-        /// The device's weight.
         weight: Weight,
-        /// Where it comes.
         at: Location,
     },
-    /// Nothing, where the bucket of the location's lowest pair holds the device. Else a device that
-    /// stands in a bucket is taken out and put with its own weight, and another with the given one
-    /// (`create_or_move_item`, `ceph osd crush create-or-move`).
+    /// Puts a device, a placed one with its own weight, unless the lowest pair's bucket holds it
+    /// (`create-or-move`, `create_or_move_item`).
     CreateOrMove {
-        /// The device's id.
         device: DeviceId,
-        /// The device's name.
         name: Name<Global>,
-        /// The weight of a device that stands in no bucket.
         weight: Weight,
-        /// Where it comes.
         at: Location,
     },
-    /// Sets the weight, where the bucket of the location's lowest pair holds the device. Else the
-    /// device is taken out of its bucket, if it stands in one, and put with the weight
-    /// (`update_item`, `ceph osd crush set`).
+    /// Puts a device with the weight, which alone is set where the lowest pair's bucket holds it
+    /// (`set`, `update_item`).
     Update {
-        /// The device's id.
         device: DeviceId,
-        /// The device's name.
         name: Name<Global>,
-        /// The device's new weight.
         weight: Weight,
-        /// Where it comes.
         at: Location,
     },
-    /// Nothing, where the bucket of the location's lowest pair holds the item. Else the item is
-    /// taken out with all below it and put at the end of the route (`move_bucket`, `ceph osd crush
-    /// move`).
+    /// Puts an item with all below it, unless the lowest pair's bucket holds it (`move`,
+    /// `move_bucket`).
     Move {
-        /// The item's name.
         name: Name<Global>,
-        /// Where it comes.
         at: Location,
     },
-    /// Exchanges the items and the names of two buckets (`swap_bucket`, `ceph osd crush
-    /// swap-bucket`).
+    /// Exchanges two buckets' items and names (`swap-bucket`, `swap_bucket`).
     Swap {
-        /// The name of the one bucket.
         a: Name<Global>,
-        /// The name of the other.
         b: Name<Global>,
     },
-    /// Sets the weight of one device that stands in a bucket (`adjust_item_weight`, `ceph osd crush
-    /// reweight`).
+    /// Sets a placed device's weight (`reweight`, `adjust_item_weight`).
     Reweight {
-        /// The device's name.
         name: Name<Global>,
-        /// The device's new weight.
         weight: Weight,
     },
-    /// Sets the weight of every device below a bucket (`adjust_subtree_weight`, `ceph osd crush
-    /// reweight-subtree`).
+    /// Sets the weight of each device below a bucket (`reweight-subtree`, `adjust_subtree_weight`).
     ReweightSubtree {
-        /// The bucket's name.
         name: Name<Global>,
-        /// The new weight of each device.
         weight: Weight,
     },
-    /// Removes a device, or a bucket without items (`remove_item`, `ceph osd crush rm`).
+    /// Removes a device or an empty bucket (`rm`, `remove_item`).
     Remove {
-        /// The item's name.
         name: Name<Global>,
     },
-    /// Makes an empty bucket that stands in no other (`add_bucket`, `ceph osd crush add-bucket`).
+    /// Makes an empty root (`add-bucket`, `add_bucket`).
     AddBucket {
-        /// The bucket's name.
         name: Name<Global>,
-        /// The name of its type.
         kind: Name<Global>,
     },
-    /// Gives a bucket another name (`rename_bucket`, `ceph osd crush rename-bucket`).
+    /// Renames a bucket (`rename-bucket`, `rename_bucket`).
     Rename {
-        /// The bucket's name.
         from: Name<Global>,
-        /// Its new name.
         to: Name<Global>,
     },
-    /// Gives a device that has no class one, in a bucket or not (`ceph osd crush
-    /// set-device-class`).
+    /// Gives a device without a class one (`set-device-class`).
     SetClass {
-        /// The device's name.
         name: Name<Global>,
-        /// Its class.
         class: Name<Global>,
     },
-    /// Takes the class of a device away (`ceph osd crush rm-device-class`).
+    /// Takes a device's class away (`rm-device-class`).
     RemoveClass {
-        /// The device's name.
         name: Name<Global>,
     },
 }
 
-/// A name, and where its item comes.
 #[derive(Drop)]
 struct Placed {
     name: Name<Global>,
     at: Location,
 }
 
-/// Two names of an edit, in its order.
 #[derive(Drop)]
 struct Names {
     first: Name<Global>,
@@ -133,7 +93,7 @@ struct Names {
 }
 
 impl Edit {
-    /// A copy of the edit. An `Err` says that memory ran out.
+    /// A copy of the edit.
     pub fn try_copy(&self, alloc: Global) -> Result<Edit, AllocError>
         ensures { IfOk result (λ copy. copy ≡ self.now) }
     {
@@ -230,7 +190,6 @@ impl Edit {
     }
 }
 
-/// Copies of a name and of where its item comes. An `Err` says that memory ran out.
 fn copy_placed(name: &Name<Global>, at: &Location, alloc: Global) -> Result<Placed, AllocError>
     ensures { IfOk result (λ copy. copy ≡ record { name = name.now; at = at.now }) }
 {
@@ -239,7 +198,6 @@ fn copy_placed(name: &Name<Global>, at: &Location, alloc: Global) -> Result<Plac
     Ok(Placed { name, at })
 }
 
-/// Copies of two names, in their order. An `Err` says that memory ran out.
 fn copy_names(
     first: &Name<Global>,
     second: &Name<Global>,

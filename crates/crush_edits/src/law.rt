@@ -1,4 +1,4 @@
-//! Laws of the definitions, as contracts of functions that do nothing.
+//! Laws, as contracts of functions that do nothing.
 
 pub mod edit;
 pub mod order;

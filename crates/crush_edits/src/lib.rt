@@ -1,9 +1,6 @@
-//! The edits of a CRUSH map as values, and what the plain table of its items makes of them:
-//! definitions, and their laws.
-//!
-//! An [`Edit`] is a command, a [`Location`] says where an item comes, a [`Refusal`] why nothing
-//! was done. A [`Setting`] is what a map has beside its items. What the table makes of each edit
-//! stands in `specs/Edit.antt`; `crush_apply` makes it of a hierarchy.
+//! The edits of a CRUSH map and what its table makes of them (`specs/Edit.antt`): an [`Edit`] is a
+//! command, a [`Location`] says where an item comes, a [`Refusal`] why nothing was done, a
+//! [`Setting`] is the rest of a map.
 #![tactic(auto)]
 
 mod edit;

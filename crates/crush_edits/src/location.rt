@@ -1,4 +1,4 @@
-//! Locations: where an item is to be put.
+//! Where an item is to be put.
 
 ghost use Rattle.std.specs.Prelude.{◌≡◌, ◌≤◌, [], ◌∷◌, ◌++◌, length, IfOk, IfErr, OnOk, OnErr};
 ghost use Rattle.crush_units.specs.Name.{IsName};
@@ -13,17 +13,13 @@ use thiserror::Error;
 /// A type name and a bucket's name, as `host=h1` says them.
 #[derive(Debug, Drop)]
 pub struct Pair {
-    /// The type's name.
     pub kind: Name<Global>,
-    /// The bucket's name.
     pub name: Name<Global>,
 }
 
-/// Where an item is to be put: up to 16 pairs of type name and bucket name, in any order. Contracts
-/// see the list of the pairs.
-///
-/// The pairs are taken by ascending type number. The first whose bucket is in the map receives what
-/// comes before it, and each pair before it is a bucket to be made.
+/// Where an item is to be put: up to 16 pairs of type name and bucket name, in any order. By
+/// ascending type number, the first pair whose bucket is there receives what comes before it; pairs
+/// before it become buckets.
 #[derive(Debug, Drop)]
 pub struct Location {
     pairs: Vec<Pair>,
@@ -43,16 +39,13 @@ impl Model for Location {
     ghost invariant = { λ location. IsLocation location.pairs.items };
 }
 
-/// Why a pair isn't added to a location. Where several hold, the one of least number is told.
+/// Why a pair isn't added to a location.
 #[derive(Clone, Copy, Debug, PartialEq, Eq, Error)]
 pub enum LocationFault {
-    /// The location holds 16 pairs.
     #[error("a location has at most 16 pairs")]
     TooMany,
-    /// The bytes of the type or of the bucket are no name.
     #[error("not a name: expected letters, digits, `-`, `_` or `.`")]
     BadName,
-    /// The bytes are names, and there is no memory to keep them.
     #[error("out of memory")]
     OutOfMemory,
 }
@@ -85,7 +78,6 @@ impl From<NameFault> for LocationFault {
 }
 
 impl Pair {
-    /// A copy of the pair. An `Err` says that memory ran out.
     fn try_copy(&self, alloc: Global) -> Result<Pair, AllocError>
         ensures { IfOk result (λ copy. copy ≡ self.now) }
     {
@@ -96,7 +88,7 @@ impl Pair {
 }
 
 impl Location {
-    /// A location without pairs. Takes no memory.
+    /// A location without pairs.
     pub fn new(alloc: Global) -> Location
         ensures { result ≡ [] }
     {
@@ -107,10 +99,6 @@ impl Location {
     }
 
     /// Adds a pair behind those that are there.
-    ///
-    /// [`LocationFault::TooMany`] where the location holds 16 pairs, [`LocationFault::BadName`]
-    /// where the bytes of either are no name, [`LocationFault::OutOfMemory`] only of names for
-    /// which there is room. The location is then as it was.
     pub fn push(&mut self, type_name: &[u8], name: &[u8]) -> Result<(), LocationFault>
         ensures ok { OnOk result (self.new
             ≡ self.old ++ record { kind = type_name.now; name = name.now } ∷ []) }
@@ -141,7 +129,6 @@ impl Location {
         self.pairs.as_slice()
     }
 
-    /// A copy of the location. An `Err` says that memory ran out.
     pub(crate) fn try_copy(&self, alloc: Global) -> Result<Location, AllocError>
         ensures { IfOk result (λ copy. copy ≡ self.now) }
     {

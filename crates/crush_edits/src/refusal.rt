@@ -1,4 +1,4 @@
-//! Why an edit isn't made, and what one that is made tells.
+//! Why an edit isn't made.
 
 ghost use Rattle.std.specs.Prelude.{◌≡◌};
 ghost use Rattle.crush_edits.specs.Refusal.{refusal_name, refusal_number, refusal_error};
@@ -7,52 +7,43 @@ use std::alloc::AllocError;
 use std::fmt::{self, Display, Formatter};
 use thiserror::Error;
 
-/// Why an edit is refused. Where several hold, the one of least number is told.
-///
-/// The edits are those of `ceph osd crush`; numbers and order are this editor's own.
+/// Why an edit is refused. Of several the least is answered; numbers and order are this editor's
+/// own.
 #[derive(Clone, Copy, Debug, PartialEq, Eq)]
 pub enum Refusal {
     /// The device's name is also a bucket name of the location.
     BadName,
-    /// A type name or a bucket name stands twice in the location, or the name of type 0 stands
-    /// there as a type name.
+    /// A type or bucket name stands twice in the location, or type 0's as a type.
     BadLocation,
-    /// A type name of the location, or the type name of a new bucket, isn't one of the map's.
+    /// A type name, of the location or for a new bucket, isn't the map's.
     NoSuchType,
-    /// The location is empty.
     NoPlace,
-    /// The weight is above 2147483647 units, also where it wouldn't be used.
+    /// Above 2147483647 units, used or not.
     WeightTooLarge,
     /// A named item isn't there; of a new name, neither name is.
     NoSuchItem,
-    /// The name belongs to another item, or the item is there with another name.
+    /// Another item has the name, or the item has another.
     NameTaken,
-    /// The device stands in a bucket.
     AlreadyPlaced,
-    /// The device stands in no bucket.
     NotPlaced,
-    /// The item is a bucket.
     NotADevice,
-    /// The item is a device.
     NotABucket,
-    /// The bucket has another type than the location says, or the type of a new bucket is type 0.
+    /// Another type than the location says, or type 0 for a new bucket.
     WrongType,
-    /// The bucket that is to receive the item is the item or stands below it.
+    /// The receiving bucket is the item or stands below it.
     Loop,
-    /// The two buckets are one, or one stands below the other.
+    /// The buckets are one, or one stands below the other.
     Nested,
-    /// The bucket holds items.
     NotEmpty,
     /// A rule takes the bucket.
     InUse,
-    /// The item to be named anew is a device.
+    /// A device is to be renamed.
     NotDirectory,
-    /// The old name isn't there and the new one is.
+    /// The new name alone is there.
     AlreadyRenamed,
-    /// The map would have more than 4,096 buckets or 65,536 devices.
+    /// More than 4,096 buckets or 65,536 devices.
     NoRoom,
-    /// A bucket's weight would be above 4294967295 units, or the weight of all placed devices above
-    /// 8796093022207.
+    /// A bucket above 4294967295 units, or all placed devices above 8796093022207.
     SumTooLarge,
     /// The device has another class.
     ClassBound,
@@ -160,7 +151,6 @@ impl std::error::Error for Refusal {}
 /// What an edit that was made did.
 #[derive(Clone, Copy, Debug, PartialEq, Eq)]
 pub struct Done {
-    /// Whether the map is another than before.
     pub changed: bool,
     /// How many buckets were made.
     pub made: u16,
@@ -169,21 +159,17 @@ pub struct Done {
 /// What a batch of edits that were all made did.
 #[derive(Clone, Copy, Debug, PartialEq, Eq)]
 pub struct Dones {
-    /// How many edits there are.
     pub edits: u32,
-    /// How many of them made the map another.
+    /// How many changed the map.
     pub changed: u32,
-    /// How many buckets they made in all.
     pub made: u32,
 }
 
-/// Why an edit wasn't made. The map is then as before.
+/// Why an edit wasn't made.
 #[derive(Clone, Copy, Debug, PartialEq, Eq, Error)]
 pub enum EditFault {
-    /// The edit is refused.
     #[error("the edit is refused: {0}")]
     Refused(Refusal),
-    /// Nothing speaks against the edit, and there is no memory for it.
     #[error("out of memory")]
     OutOfMemory,
 }
@@ -210,13 +196,12 @@ impl From<AllocError> for EditFault {
     }
 }
 
-/// Why a batch of edits wasn't made. The map is then as before the first of them.
+/// Why a batch of edits wasn't made.
 #[derive(Clone, Copy, Debug, PartialEq, Eq, Error)]
 pub enum BatchFault {
-    /// The edit at this index, counted from 0, is refused, and none before it.
+    /// The first refused edit's index, from 0.
     #[error("edit {0} is refused: {1}")]
     Refused(u32, Refusal),
-    /// There is no memory for the batch.
     #[error("out of memory")]
     OutOfMemory,
 }

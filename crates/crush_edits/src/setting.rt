@@ -1,4 +1,4 @@
-//! The setting of a map: what it holds beside its items.
+//! What a map holds beside its items.
 
 ghost use Rattle.std.specs.Prelude.{◌≡◌, ◌∷◌, [], ◌++◌, map, None, false, OnOk, OnErr, IfOk};
 ghost use Rattle.std.specs.Option.{option_copied};
@@ -18,53 +18,34 @@ use std::alloc::{AllocError, Global};
 use std::marker::Model;
 
 /// A rule as a map keeps it: it names the buckets that it takes by their ids, so that a bucket's
-/// new name changes no rule.
+/// new name changes no rule. The rest is as in `Rule`.
 #[derive(Debug, Drop)]
 pub struct KeptRule {
-    /// Its name.
     pub name: Name<Global>,
-    /// Its id, up to 2147483647.
     pub id: u32,
-    /// The word for what it serves, as `replicated`.
     pub kind: Name<Global>,
-    /// The least pool size that it is for, up to 2147483647.
     pub min_size: Option<u32>,
-    /// The greatest pool size that it is for, up to 2147483647.
     pub max_size: Option<u32>,
-    /// Its steps, at most 64.
     pub steps: Vec<KeptStep>,
 }
 
-/// A step of a rule as a map keeps it.
+/// A step of a rule as a map keeps it. The rest is as in `Step`.
 #[derive(Debug, Drop)]
 pub enum KeptStep {
-    /// Takes the bucket of this id, or of its devices those of a class.
+    /// The bucket of this id, or its devices of a class.
     Take(BucketId, Option<Name<Global>>),
-    /// Chooses items of a type.
     Choose {
-        /// Whether devices below the items are chosen.
         leaf: bool,
-        /// Whether a lost one moves the others up, as in `firstn`; else each keeps its place, as in
-        /// `indep`.
         firstn: bool,
-        /// How many: a number below 0 counts from the size of the pool.
         count: i32,
-        /// The type's name.
         kind: Name<Global>,
     },
-    /// Sets a tunable for the steps that follow: a word that begins with `set_`, and its value.
     Set(Name<Global>, u32),
-    /// Hands out what was chosen.
     Emit,
 }
 
 /// What a map holds beside its items: types, tunables and rules, each in the order in which they
 /// were declared.
-///
-/// A type is a number and a name, as `type 1 host` says in a map's text; devices have type 0. A
-/// tunable of placement is a name and a value, as `tunable chooseleaf_stable 1` says. They are kept
-/// in maps, so that no two types have one number and no two tunables one name. Contracts see three
-/// lists.
 #[derive(Debug, Drop)]
 pub struct Setting {
     kinds: Kinds,
@@ -91,7 +72,6 @@ impl Model for Setting {
 }
 
 impl KeptStep {
-    /// A copy of the step. An `Err` says that memory ran out.
     fn try_copy(&self, alloc: Global) -> Result<KeptStep, AllocError>
         ensures { IfOk result (λ copy. copy ≡ self.now) }
     {
@@ -121,7 +101,6 @@ impl KeptStep {
 }
 
 impl KeptRule {
-    /// A copy of the rule. An `Err` says that memory ran out.
     fn try_copy(&self, alloc: Global) -> Result<KeptRule, AllocError>
         ensures { IfOk result (λ copy. rule_data copy ≡ rule_data self.now) }
     {
@@ -140,7 +119,7 @@ impl KeptRule {
 }
 
 impl Setting {
-    /// A setting without types, tunables and rules. Takes no memory.
+    /// A setting without types, tunables and rules.
     pub fn new(alloc: Global) -> Setting
         ensures { result ≡ record {
           kinds = [];
@@ -155,8 +134,7 @@ impl Setting {
         }
     }
 
-    /// Adds a type of a number that no type has, after those that are there. An `Err` says
-    /// that memory ran out; nothing has changed then.
+    /// Adds a type of a number that no type has, after those that are there.
     pub fn push_kind(&mut self, number: TypeId, name: Name<Global>) -> Result<(), AllocError>
         requires { kind_name self.old number ≡ None }
         ensures ok { OnOk result (self.new
@@ -167,8 +145,7 @@ impl Setting {
         Ok(())
     }
 
-    /// Adds a tunable of a name that no tunable has, after those that are there. An `Err` says
-    /// that memory ran out; nothing has changed then.
+    /// Adds a tunable of a name that no tunable has, after those that are there.
     pub fn push_tunable(&mut self, name: Name<Global>, value: u32) -> Result<(), AllocError>
         requires { has_tunable self.old name ≡ false }
         ensures ok { OnOk result (self.new
@@ -179,8 +156,7 @@ impl Setting {
         Ok(())
     }
 
-    /// Adds a rule after those that are there. An `Err` says that memory ran out; nothing has
-    /// changed then.
+    /// Adds a rule after those that are there.
     pub fn push_rule(&mut self, rule: KeptRule) -> Result<(), AllocError>
         ensures ok { OnOk result (self.new
             ≡ record self.old { rules = self.old.rules ++ rule_data rule ∷ [] }) }
@@ -225,12 +201,12 @@ impl Setting {
         self.kinds.name(number)
     }
 
-    /// The allocator that the setting was made with. No contract tells one from another.
+    /// The allocator that the setting was made with.
     pub fn allocator(&self) -> Global {
         self.kinds.allocator()
     }
 
-    /// A copy of the setting. An `Err` says that memory ran out.
+    /// A copy of the setting.
     pub fn try_copy(&self, alloc: Global) -> Result<Setting, AllocError>
         ensures { IfOk result (λ copy. copy ≡ self.now) }
     {
@@ -249,8 +225,7 @@ impl Setting {
     }
 }
 
-/// Whether a type of buckets may not have this name, since a statement of a map's text, or a part
-/// of one, begins with it. The name of type 0 is free.
+/// Whether only type 0 may have the name, since a part of a map's text begins with it.
 pub fn is_reserved(name: &[u8]) -> bool
     ensures { result ≡ is_reserved_name name.now }
 {
@@ -262,7 +237,6 @@ pub fn is_reserved(name: &[u8]) -> bool
         || b"choose_args".as_slice() == name
 }
 
-/// Copies of the tunables, in their order.
 fn copy_tunables(
     tunables: &IndexMap<Name<Global>, u32>,
     alloc: Global,
@@ -277,7 +251,6 @@ fn copy_tunables(
     Ok(copies)
 }
 
-/// Copies of the steps, in their order.
 fn copy_steps(steps: &[KeptStep], alloc: Global) -> Result<Vec<KeptStep>, AllocError>
     ensures { IfOk result (λ copies. copies.items ≡ steps.now) }
 {

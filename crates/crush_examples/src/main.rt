@@ -1,6 +1,5 @@
-//! Runs jobs as the program `crushedit` does, one after the other, and prints of each what is written,
-//! what the run comes to, what standard error is told and the status: first those that `jobs` names,
-//! then those of the file `records`.
+//! Runs jobs as `crushedit` does, one after the other, and prints of each its output, summary,
+//! standard error and status: first those of the file `jobs`, then those of `records`.
 #![tactic(auto)]
 
 use crush_options::{Mode, options};
@@ -22,10 +21,8 @@ fn main(rt: HostRuntime) -> io::Result<()> {
     done
 }
 
-/// What stands between two jobs of one file.
 const RECORD_SEPARATOR: u8 = 0x1e;
 
-/// Runs each of the jobs between record separators.
 fn run_records(
     rt: &HostRuntime,
     workers: &(impl AllocGlobal + RandomSource + Threads + Wait + Sync),
@@ -40,7 +37,6 @@ fn run_records(
     Ok(())
 }
 
-/// Runs a job that is in memory.
 fn run_record(
     rt: &HostRuntime,
     workers: &(impl AllocGlobal + RandomSource + Threads + Wait + Sync),
@@ -62,7 +58,7 @@ fn run_record(
     run_job(workers, &NoGate, &request, &mut reader, &mut output)
 }
 
-/// Runs each line, which has the words of a command line behind the program's name.
+/// Each line has the words of a command line behind the program's name.
 fn run_lines(
     rt: &HostRuntime,
     workers: &(impl AllocGlobal + RandomSource + Threads + Wait + Sync),
@@ -75,8 +71,7 @@ fn run_lines(
     Ok(())
 }
 
-/// Runs the job of a command line, and prints how it ends. One that is refused is told as a fault of
-/// reading.
+/// A refused command line is reported as a fault of reading.
 fn run_line(
     rt: &HostRuntime,
     workers: &(impl AllocGlobal + RandomSource + Threads + Wait + Sync),
@@ -103,7 +98,6 @@ fn run_line(
     print_end(rt, words, &ending)
 }
 
-/// Prints what a run comes to, what standard error is told of it, and the status.
 fn print_end(rt: &HostRuntime, words: Words<'_>, ending: &Ending) -> io::Result<()> {
     match &ending.outcome {
         Ok(done) => println!(rt;

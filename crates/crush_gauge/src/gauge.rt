@@ -1,4 +1,4 @@
-//! The gauge: one shared word, which holds the pair of a history.
+//! The gauge: one shared word with the pair of a history.
 
 ghost use Rattle.std.specs.Prelude.{◌≡◌, ℕ, ◌<◌, ◌≤◌, ◌++◌, ◌∷◌, [], IfOk, vec_len, length};
 ghost use Rattle.std.specs.List.{All};
@@ -15,18 +15,16 @@ use atomic_table::{Seat, Table};
 use std::alloc::{AllocError, Global};
 use std::marker::Brand;
 
-/// One word, which holds the pair of the history so far: `changes * 2^43 + weight`.
-///
-/// `O` is an opening, `E` an entry, and `P` says which histories are legal from an opening and which
-/// pair each has. The steps of all threads on the word stand in one order (sequential consistency).
+/// One word, `changes * 2^43 + weight`, for the history of entries `E` from an opening `O`; the law
+/// `P` says which histories there may be. The steps of all threads on it stand in one order
+/// (sequential consistency).
 #[derive(Drop)]
 pub struct Gauge<O, E, P: Law<O, E>> {
     pub table: Table<(), View<O, E>, u64, Rule<P>, Global>,
     pub ghost one_word: { (table.shared.table_id.words ≡ 1) × (table.shared.table_id.slots ≡ 0) },
 }
 
-/// The pair of one history: how many of its entries are changes, and the weight after it. The two
-/// numbers are always of the same history.
+/// The pair of one history: how many of its entries are changes, and the weight after it.
 #[derive(Clone, Copy, Debug, PartialEq, Eq)]
 pub struct Reading {
     /// How many entries are changes, at most [`MOST_CHANGES`](crate::limits::MOST_CHANGES).
@@ -36,11 +34,9 @@ pub struct Reading {
 }
 
 impl<O, E, P: Law<O, E>> Gauge<O, E, P> {
-    /// The gauge of an opening of this weight, the one seat that publishes, and as many seats that
-    /// read as are asked for. All have seen the history without an entry.
-    ///
-    /// The opening is picked by the proof of the call and no argument: it has no change and this
-    /// weight, below 2^43. An `Err` says that memory ran out.
+    /// The gauge of an opening of this weight, below 2^43, with the seat that publishes and
+    /// `readers` seats that read. The proof of the call picks the opening. An `Err` says that
+    /// memory ran out.
     pub fn new(
         alloc: Global,
         weight: u64,
@@ -63,7 +59,6 @@ impl<O, E, P: Law<O, E>> Gauge<O, E, P> {
         Ok((gauge, book, seats))
     }
 
-    /// The first seat gets the opening, by one load.
     fn begin<M: Picks<O>>(&self, first: Seat<(), View<O, E>>, weight: u64) -> BookSeat<O, E>
         requires gauge { first.table_id ≡ self.now.table.shared.table_id }
         requires key { self.now.table.shared.key ≡ weight }
@@ -76,7 +71,6 @@ impl<O, E, P: Law<O, E>> Gauge<O, E, P> {
         BookSeat { seat }
     }
 
-    /// So many seats that read, each with what the book's seat has seen.
     fn readers(
         &self,
         alloc: Global,
@@ -96,7 +90,6 @@ impl<O, E, P: Law<O, E>> Gauge<O, E, P> {
         Ok(seats)
     }
 
-    /// What a seat of either kind has seen.
     pub(crate) fn note_of(&self, seat: &mut Seat<(), View<O, E>>) -> Note<O, E>
         requires gauge { seat.old.table_id ≡ self.now.table.shared.table_id }
         requires either { IsEither seat.old.me.0 }
@@ -109,12 +102,8 @@ impl<O, E, P: Law<O, E>> Gauge<O, E, P> {
         }
     }
 
-    /// An entry joins the history, by one store: the word is then the pair of the history with it,
-    /// which the book's seat has seen.
-    ///
-    /// The entry is picked by the proof of the call and no argument. The condition: the history of
-    /// the book's seat with this entry is legal and has this pair, of at most
-    /// [`MOST_CHANGES`](crate::limits::MOST_CHANGES) changes and a weight below 2^43.
+    /// Adds an entry, which the proof of the call picks, by one store. The history with it has this
+    /// pair: at most [`MOST_CHANGES`](crate::limits::MOST_CHANGES) changes and a weight below 2^43.
     pub fn publish(&self, book: &mut BookSeat<O, E>, changes: u64, weight: u64)
         ghost entry: { E }
         requires gauge { book.old.table ≡ self.now.table.shared.table_id }
@@ -125,7 +114,6 @@ impl<O, E, P: Law<O, E>> Gauge<O, E, P> {
         self.publish_as::<Brand>(book, changes, weight)
     }
 
-    /// The same for the entries that a type tells of.
     fn publish_as<M: Picks<E>>(&self, book: &mut BookSeat<O, E>, changes: u64, weight: u64)
         requires gauge { book.old.table ≡ self.now.table.shared.table_id }
         requires follows { Follows P.legal P.changes P.weight book.old.view M.picked changes
@@ -139,7 +127,7 @@ impl<O, E, P: Law<O, E>> Gauge<O, E, P> {
     }
 
     /// The pair of the history at this moment, by one load, which waits for nobody and takes no
-    /// memory. The seat has then seen that history, which begins with what it saw before.
+    /// memory.
     pub fn read(&self, seat: &mut ReadSeat<O, E>) -> Reading
         requires { seat.old.table ≡ self.now.table.shared.table_id }
         ensures table { seat.new.table ≡ seat.old.table }
@@ -153,7 +141,7 @@ impl<O, E, P: Law<O, E>> Gauge<O, E, P> {
         }
     }
 
-    /// What the seat, of either kind, has seen, to be handed to another. The seat stays as it is.
+    /// What a seat of either kind has seen, to be handed to another.
     pub fn note<S: Watcher<O, E>>(&self, seat: &mut S) -> Note<O, E>
         requires { (S.knows seat.old).table ≡ self.now.table.shared.table_id }
         ensures seat { S.knows seat.new ≡ S.knows seat.old }
@@ -162,9 +150,9 @@ impl<O, E, P: Law<O, E>> Gauge<O, E, P> {
         seat.note_of(self)
     }
 
-    /// Joins a note of the same gauge into a seat of either kind. The seat has then seen the longer
-    /// of the two histories, of which the other is a beginning. A seat of the book knows the whole
-    /// history, so that it learns only that the note is a beginning of it.
+    /// Joins a note of the same gauge into a seat of either kind, which has then seen the longer of
+    /// the two histories, of which the other is a beginning. The book's seat knows the whole
+    /// history before, and learns only that the note is a beginning of it.
     pub fn learn<S: Watcher<O, E>>(&self, seat: &mut S, note: Note<O, E>)
         requires seat { (S.knows seat.old).table ≡ self.now.table.shared.table_id }
         requires note { note.table ≡ self.now.table.shared.table_id }
@@ -175,8 +163,7 @@ impl<O, E, P: Law<O, E>> Gauge<O, E, P> {
         seat.learn_from(self, note);
     }
 
-    /// A note joins a seat of either kind, which stays of its kind: one join, and one load that compares
-    /// the two.
+    /// One join, and one load that compares the two.
     pub(crate) fn join_note(&self, seat: &mut Seat<(), View<O, E>>, note: Note<O, E>)
         requires gauge { seat.old.table_id ≡ self.now.table.shared.table_id }
         requires either { IsEither seat.old.me.0 }

@@ -1,10 +1,7 @@
-//! One word that is shared by threads, and what each seat at it has seen of a history.
-//!
-//! The word holds the pair of the history so far: how many of its entries are changes, and a weight.
-//! One seat, the book's, publishes each further entry by one store. Any number of seats read the pair
-//! by one load, which waits for nobody. No value that is there when the program runs has an opening
-//! or an entry: contracts alone see them. So this crate knows nothing of what the entries are; which
-//! histories there may be, and which pair each has, is said by a [`Law`].
+//! One word that is shared by threads: how many entries of a history are changes, and the weight
+//! after it. One seat, the book's, publishes each entry by one store; any number of seats read the
+//! pair by one load. Openings and entries are there for contracts alone: which histories there may
+//! be, and which pair each has, a [`Law`] says.
 #![tactic(auto)]
 
 mod gauge;

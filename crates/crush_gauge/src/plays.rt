@@ -1,10 +1,10 @@
-//! The rule of the word, and what each kind of step does to the view of the seat that makes it.
+//! The rule of the word, and what each kind of step does to a seat's view.
 
 use crate::view::{Law, View};
 use atomic_table::{Join, Play, Split, TableRule};
 use std::marker::{Brand, PhantomData};
 
-/// The rule: there is one history, and the word has its pair. The key is the weight at the opening.
+/// There is one history, and the word has its pair. The key is the weight at the opening.
 pub struct Rule<P> {
     of: PhantomData<P>,
 }
@@ -18,8 +18,7 @@ impl<O, E, P: Law<O, E>> TableRule<(), View<O, E>, u64> for Rule<P> {
     ghost first = { λ weight. Fresh };
 }
 
-/// What contracts alone see of a step: the opening of a gauge, or the entries that join a history.
-/// The proof of each call picks them.
+/// What contracts alone see of a step, picked by the proof of the call: an opening, or entries.
 pub(crate) trait Picks<T> {
     ghost use Rattle.std.specs.Prelude.{List};
 
@@ -32,7 +31,6 @@ impl<T> Picks<T> for Brand {
     ghost picked = { [] };
 }
 
-/// The gauge gets its opening.
 pub(crate) struct Begin<M> {
     of: PhantomData<M>,
 }
@@ -43,7 +41,6 @@ impl<O, E, M: Picks<O>> Play<(), View<O, E>> for Begin<M> {
     ghost then = { begun M.picked };
 }
 
-/// Entries join the history.
 pub(crate) struct Publish<M> {
     of: PhantomData<M>,
 }

@@ -1,5 +1,4 @@
-//! The seats of a gauge. They hold no history when the program runs: what a seat has seen is there
-//! for contracts alone.
+//! The seats of a gauge. What a seat has seen is there for contracts alone.
 
 ghost use Rattle.std.specs.Prelude.{◌≡◌};
 
@@ -7,7 +6,7 @@ use crate::view::View;
 use atomic_table::Seat;
 use std::marker::Model;
 
-/// The seat that publishes. A gauge has one, and what this seat has seen is the whole history.
+/// The seat that publishes, one for each gauge; it has seen the whole history.
 #[derive(Drop)]
 pub struct BookSeat<O, E> {
     pub(crate) seat: Seat<(), View<O, E>>,
@@ -25,7 +24,7 @@ impl<O, E> Model for BookSeat<O, E> {
     ghost invariant = { λ s. (s.seat.me.1 ≡ []) × IsBook s.seat.me.0 };
 }
 
-/// A seat that reads. What it has seen is a beginning of the history of the book's seat.
+/// A seat that reads; it has seen a beginning of the history.
 #[derive(Drop)]
 pub struct ReadSeat<O, E> {
     pub(crate) seat: Seat<(), View<O, E>>,
@@ -62,7 +61,7 @@ impl<O, E> Model for Note<O, E> {
 }
 
 impl<O, E> ReadSeat<O, E> {
-    /// What the seat has seen, of a seat that is not used any more.
+    /// The note of a seat that is not used any more.
     pub fn into_note(self) -> Note<O, E>
         ensures { result ≡ self }
     {

@@ -1,5 +1,5 @@
-//! The calls of a job, made by a book whose maps are in memory that refuses requests. What answers
-//! that memory ran out counts that in `answers`.
+//! The calls of a job by a book whose maps are in memory that refuses requests; `answers` counts
+//! how often one says that memory ran out.
 
 ghost use Rattle.std.specs.Prelude.{◌≡◌, ◌<◌, IfOk};
 ghost use Rattle.crush_units.specs.declared.limits.TheConstants.{MOST_OPERATORS};
@@ -13,8 +13,6 @@ use crush_map::CrushMap;
 use crush_units::limits::MOST_OPERATORS;
 use std::alloc::{Allocator, Global};
 
-/// Makes the calls of all scripts in order by a book of the map, and answers the fewest requests that
-/// its map can then make. Map and history are then written as the output.
 pub fn run_by_book<A: Allocator + Clone>(
     alloc: Global,
     map: CrushMap<A>,
@@ -36,8 +34,7 @@ pub fn run_by_book<A: Allocator + Clone>(
     Ok(fewest_requests(book.map()))
 }
 
-/// A book of the map with its gauge, made once more where memory ran out. The map that comes back is
-/// then the one that was printed like this.
+/// A book of the map, made once more of the map that comes back where memory ran out.
 fn open_again<A: Allocator + Clone>(
     alloc: Global,
     map: CrushMap<A>,
@@ -55,7 +52,6 @@ fn open_again<A: Allocator + Clone>(
     }
 }
 
-/// The same of a map that came back.
 fn open_returned<A: Allocator + Clone>(
     alloc: Global,
     map: CrushMap<A>,
@@ -71,7 +67,6 @@ fn open_returned<A: Allocator + Clone>(
     Ok(started.into_book())
 }
 
-/// What the calls of all scripts are committed with.
 #[derive(Clone, Copy)]
 struct Committing<'c> {
     alloc: Global,
@@ -80,7 +75,6 @@ struct Committing<'c> {
 }
 
 impl Committing<'_> {
-    /// Commits the calls of all scripts in order.
     fn commit_all<A: Allocator + Clone>(
         &self,
         book: &mut Book<A>,
@@ -98,8 +92,7 @@ impl Committing<'_> {
         Ok(())
     }
 
-    /// Commits a call, once more where memory ran out, and answers whether it did. Map and history
-    /// are then written as before.
+    /// Commits a call, once more where memory ran out, and answers whether it did.
     fn commit_again<A: Allocator + Clone>(
         &self,
         book: &mut Book<A>,
@@ -125,7 +118,6 @@ impl Committing<'_> {
     }
 }
 
-/// The text of a book's map, with the lines of its history behind it.
 fn book_text<A: Allocator>(
     alloc: Global,
     book: &Book<A>,
@@ -136,7 +128,6 @@ fn book_text<A: Allocator>(
     Ok(text)
 }
 
-/// Writes the lines of a history of these scripts.
 fn write_lines(history: &[Entry], scripts: &[Script], text: &mut Vec<u8>) -> anyhow::Result<()> {
     let mut number = 0u32;
     for entry in history {
@@ -153,7 +144,6 @@ fn write_lines(history: &[Entry], scripts: &[Script], text: &mut Vec<u8>) -> any
     Ok(())
 }
 
-/// Whether a book's map and history are written as this.
 fn is_book_written<A: Allocator>(
     alloc: Global,
     book: &Book<A>,

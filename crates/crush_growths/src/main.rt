@@ -1,10 +1,6 @@
-//! Runs jobs whose output is known with each request for memory refused in turn: the first, then the
-//! second, until none is left.
-//!
-//! Standard input has the jobs. The items of maps are in memory that refuses one request, and what
-//! asked for it is asked once more: so each run has to come to the known output, whichever was
-//! refused, and out of memory has to be told, at most once in each run. The calls are made on a map
-//! alone, and then by a book.
+//! Runs the jobs of standard input, whose output is known, with each request for memory of their
+//! maps refused in turn, on a map alone and then by a book. What wanted that memory is done once
+//! more, so that each run comes to the known output, whichever request was refused.
 #![tactic(auto)]
 
 use anyhow::{Context, ensure};
@@ -20,7 +16,6 @@ mod map;
 mod refusing;
 mod run;
 
-/// What stands between two jobs.
 const RECORD_SEPARATOR: u8 = 0x1e;
 
 fn main(rt: HostRuntime) -> anyhow::Result<()> {
@@ -30,7 +25,6 @@ fn main(rt: HostRuntime) -> anyhow::Result<()> {
     done
 }
 
-/// Runs each job, and prints its name.
 fn run_records(rt: &HostRuntime, records: &[u8]) -> anyhow::Result<()> {
     for record in records.split(|byte| *byte == RECORD_SEPARATOR) {
         let parts = read_parts(record).context("a part is missing")?;
@@ -42,8 +36,8 @@ fn run_records(rt: &HostRuntime, records: &[u8]) -> anyhow::Result<()> {
     Ok(())
 }
 
-/// Runs a job with each request refused. Out of memory is told in no fewer runs than the fewest
-/// requests that its map can make.
+/// Runs a job with each request refused; no fewer runs have to answer that memory ran out than its
+/// map makes requests.
 fn run_record(rt: &HostRuntime, parts: &Parts, maker: Maker) -> anyhow::Result<()> {
     let memory = Refusing::new(rt.alloc());
     let (told, fewest) = run_each(rt.alloc(), &memory, parts, maker)?;

@@ -1,5 +1,5 @@
-//! The calls of a job, made on a map whose memory refuses requests. What answers that memory ran out
-//! counts that in `answers`.
+//! The calls of a job on a map whose memory refuses requests; `answers` counts how often one says
+//! that memory ran out.
 
 use anyhow::ensure;
 use crush_calls::{Call, Reply, Script, is_change, make_call, write_entry};
@@ -8,8 +8,8 @@ use crush_print::write_map;
 use crush_text::{TextFaultKind, read_map_in};
 use std::alloc::{Allocator, Global};
 
-/// Makes the calls of all scripts in order, and answers the fewest requests that the map then there
-/// can make. Map and history are then written as this.
+/// Makes the calls of all scripts, which write `output`, and answers the fewest requests of such a
+/// run.
 pub fn run_on_map<A: Allocator + Clone>(
     alloc: Global,
     map: CrushMap<A>,
@@ -26,16 +26,15 @@ pub fn run_on_map<A: Allocator + Clone>(
     Ok(fewest_requests(&map))
 }
 
-/// How many requests for memory a run has to make at least, by the map that it ends with: as many as
-/// there are buckets, and one for the table in which devices stand. A bucket's items are a list of
-/// its own, while short names and empty buckets ask for nothing: so this holds of the jobs that are
-/// run here, and not of every map.
+/// The fewest requests of a run, by the map that it ends with: one for each bucket's list, and one
+/// for the table of devices. Empty buckets and short names take none, so this holds of the jobs
+/// here, not of every map.
 pub fn fewest_requests<A: Allocator>(map: &CrushMap<A>) -> usize {
     let counts = map.counts();
     counts.buckets as usize + usize::from(counts.devices > 0)
 }
 
-/// The map of the text, which is read once more where memory ran out.
+/// Reads the text, once more where memory ran out.
 pub fn read_again<A: Allocator + Clone>(
     alloc: Global,
     memory: A,
@@ -57,7 +56,6 @@ pub fn read_again<A: Allocator + Clone>(
     }
 }
 
-/// Makes the calls of all scripts in order, and answers the lines of their history.
 fn make_calls<A: Allocator + Clone>(
     alloc: Global,
     map: &mut CrushMap<A>,
@@ -80,8 +78,7 @@ fn make_calls<A: Allocator + Clone>(
     Ok(lines)
 }
 
-/// The reply to a call, before which so many changed the map. It is made once more where memory
-/// lacked; the map is then as before.
+/// The reply to a call, made once more where memory ran out; the map is then as before.
 fn make_again<A: Allocator + Clone>(
     alloc: Global,
     map: &mut CrushMap<A>,
@@ -101,14 +98,12 @@ fn make_again<A: Allocator + Clone>(
     Ok(make_call(map, changes, call)?)
 }
 
-/// The text of a map.
 pub fn text_of<A: Allocator>(alloc: Global, map: &CrushMap<A>) -> anyhow::Result<Vec<u8>> {
     let mut text = Vec::new(alloc);
     write_map(alloc, map, &mut text)?;
     Ok(text)
 }
 
-/// Whether the map's text with these lines behind it is this one.
 pub fn is_written<A: Allocator>(
     alloc: Global,
     map: &CrushMap<A>,

@@ -1,26 +1,19 @@
 //! Memory for tests, of which one request is refused.
-//!
-//! [`Refusing`] passes each request on to the memory that it is made of, but for the one whose number
-//! a test has set. So a test makes a call again and again and has the first of its requests refused,
-//! then the second, until none is: it then knows what the call does at each of its growths.
 
 use std::alloc::{AllocError, Allocator};
 use std::cell::Cell;
 
-/// Memory of which one request is refused, as often as a test says which. Collections hold a `&` to
-/// it, so that all of them count as one.
-///
-/// A growth is a request too: it asks for a new block, copies and gives the old one back. What is
-/// given back doesn't count.
+/// Memory that refuses the request whose number a test has set. Collections hold a `&` to it, so
+/// that all of them count as one. A growth is one request, for its new block; blocks given back
+/// don't count.
 #[derive(Drop)]
 pub struct Refusing<M: Allocator> {
     memory: M,
-    /// The number of the request that is refused, counted from the next as 1; at 0 none is.
+    /// The number of the refused request, from the next as 1; 0 for none.
     left: Cell<usize>,
 }
 
 impl<M: Allocator> Refusing<M> {
-    /// Memory that refuses no request yet.
     pub fn new(memory: M) -> Refusing<M> {
         Refusing {
             memory,
@@ -28,19 +21,17 @@ impl<M: Allocator> Refusing<M> {
         }
     }
 
-    /// Refuses the request of this number, counted from the next as 1, and none after it. At 0 none
-    /// is refused.
+    /// Refuses the request of this number, counted from the next as 1; at 0 none.
     pub fn refuse(&self, number: usize) {
         self.left.set(number);
     }
 
-    /// Whether the request that was to be refused has come; so also where none was to be.
+    /// Whether the request has come; also true where none was to be refused.
     pub fn has_refused(&self) -> bool {
         self.left.get() == 0
     }
 }
 
-/// Counts one request, and tells whether it is the one to be refused.
 fn counts_down(left: &Cell<usize>) -> bool {
     let number = left.get();
     left.set(number.saturating_sub(1));

@@ -10,17 +10,15 @@ use crush_map::Hashing;
 use crush_script::{Job, read_job};
 use std::alloc::Global;
 
-/// By what the calls of a job are made.
 #[derive(Clone, Copy)]
 pub enum Maker {
-    /// A map alone.
     Map,
-    /// A book, which has two maps and the history.
+    /// It has two maps and the history.
     Book,
 }
 
-/// In how many runs it was told that memory ran out, and the fewest requests that the map can make. In
-/// each run a later request was refused; where a list asked for a smaller block that is told to nobody.
+/// In how many runs an answer said that memory ran out, and the fewest requests of a run. Each run
+/// refuses a later request; where a list then does with a smaller block, no answer says so.
 pub fn run_each(
     alloc: Global,
     memory: &Refusing<Global>,
@@ -42,8 +40,6 @@ pub fn run_each(
     bail!("no end of requests")
 }
 
-/// Runs the scripts once, and answers how often it was told that memory ran out, and the fewest
-/// requests that the map then there can make. Its output is the known one.
 fn run_refused(
     alloc: Global,
     memory: &Refusing<Global>,

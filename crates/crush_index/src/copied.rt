@@ -4,7 +4,6 @@ ghost use Rattle.std.specs.Prelude.{◌≡◌, IfOk};
 
 use std::alloc::AllocError;
 
-/// A copy of a table. An Err is out of memory.
 pub(crate) fn copied<T: Copy>(table: &Vec<T>) -> Result<Vec<T>, AllocError>
     ensures { IfOk result (λ copy. copy.items ≡ table.now.items) }
 {

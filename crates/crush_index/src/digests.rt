@@ -2,11 +2,10 @@
 
 use std::hash::{BuildHasher, Hasher};
 
-/// Makes hashers of digests.
 #[derive(Clone, Copy)]
 pub(crate) struct Digests;
 
-/// A hasher that is written a digest and finishes with it.
+/// Finishes with the digest that it is written.
 #[derive(Clone, Copy)]
 pub(crate) struct Passed {
     digest: u64,

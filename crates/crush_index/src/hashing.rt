@@ -1,4 +1,4 @@
-//! How the keys of an index are hashed.
+//! How keys are hashed.
 
 ghost use Rattle.std.specs.Prelude.{◌≡◌, Some, None};
 
@@ -6,9 +6,8 @@ use std::hash::{BuildHasher, DefaultHasher, RandomState};
 
 /// How the keys of an index are hashed, by SipHash in either case.
 ///
-/// Names come from strangers. Without keys whoever writes a map can work out names that all hash
-/// alike, and each look-up then compares many of them; with keys that are drawn when the program
-/// starts that can't be worked out beforehand. What an index answers is the same in either case.
+/// Without keys, whoever writes a map can choose names that all hash alike, so that each look-up
+/// compares many; with keys that are drawn at the start that fails.
 #[derive(Clone, Copy)]
 pub struct Hashing {
     keys: Option<RandomState>,

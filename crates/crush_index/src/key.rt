@@ -13,9 +13,8 @@ use std::alloc::{AllocError, Global};
 use std::hash::{BuildHasher, Hash, Hasher};
 use std::marker::Model;
 
-/// A name that an index keeps, with its digest, so that a copy of the index digests no name anew.
-/// A table hashes the digest alone: keys that no stranger knows have gone into that already.
-/// Contracts see both.
+/// A name with its digest, so that a copy of the index hashes no name anew; a table hashes the
+/// digest alone.
 #[derive(Drop)]
 pub(crate) struct Key {
     machine: Global,
@@ -32,7 +31,6 @@ impl Model for Key {
 }
 
 impl Key {
-    /// The key of a name, where names are hashed so. Copies of it are in the machine's memory.
     pub(crate) fn of(machine: Global, name: Name<Global>, hashing: &Hashing) -> Key
         ensures { result ≡ key_of hashing.now name }
     {
@@ -82,7 +80,7 @@ impl Hash for Key {
     }
 }
 
-/// The bytes by which an index of names is asked, with their digest.
+/// The bytes of a name that is looked for, with their digest.
 #[derive(Clone, Copy)]
 pub(crate) struct Asked<'a> {
     digest: u64,
@@ -90,7 +88,6 @@ pub(crate) struct Asked<'a> {
 }
 
 impl<'a> Asked<'a> {
-    /// The key of a name that is given by its bytes, where names are hashed so.
     pub(crate) fn of(bytes: &'a [u8], hashing: &Hashing) -> Asked<'a>
         ensures { asked_key result ≡ key_of hashing.now bytes.now }
     {
@@ -137,9 +134,7 @@ impl<'a> Equivalent<Key> for Asked<'a> {
     }
 }
 
-/// The digest of a name, written at once.
-///
-/// [`Name`] itself is hashed as a slice is, byte by byte, which takes some five times as long.
+/// Written at once: [`Name`] is hashed byte by byte, in some five times as long.
 #[tactic(auto, unfolding(crate::specs::Keys::digest))]
 fn digest(name: &[u8], hashing: &Hashing) -> u64
     ensures { result ≡ digest hashing.now name.now }

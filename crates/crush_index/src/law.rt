@@ -4,9 +4,7 @@ ghost use Rattle.crush_index.specs.NamesLaw.{NamesOfSame, NamesOfWeights, NamesO
 ghost use Rattle.crush_index.specs.PlacesLaw.{PlacesOfSame, PlacesOfWeights, PlacesOfNames, PlacesFollowRow, PlacesFollowWithout, PlacesFollowMove, PlacesFollowSwap};
 ghost use Rattle.crush_index.specs.UsedLaw.{UsedOfSame, UsedOfWeights, UsedOfNames, UsedOfSwap, UsedFollowRow, UsedFollowWithout};
 
-/// An index of names that is told of each change of a table tells the names of the table after it.
-///
-/// Nothing has to be told of tables that are the same, of weights and of parents.
+/// Names follow the table: only new and gone rows, new names and exchanges need an update.
 pub fn names_follow_the_table()
     ensures same { NamesOfSame }
     ensures weights { NamesOfWeights }
@@ -17,10 +15,7 @@ pub fn names_follow_the_table()
     ensures swap { NamesFollowSwap }
 {}
 
-/// An index of places that is told of each change of the table tells the places of the table after
-/// it.
-///
-/// Nothing has to be told of tables that are the same, of weights and of names.
+/// Places follow the table: only new and gone rows, moves and exchanges need an update.
 pub fn places_follow_the_table()
     ensures same { PlacesOfSame }
     ensures weights { PlacesOfWeights }
@@ -31,10 +26,7 @@ pub fn places_follow_the_table()
     ensures swap { PlacesFollowSwap }
 {}
 
-/// An index of used ids that is told of each change of the table tells those of the table after it.
-///
-/// Nothing has to be told of tables that are the same, of weights, of names and of two buckets that
-/// are exchanged.
+/// Used ids follow the table: only new and gone rows need an update.
 pub fn used_ids_follow_the_table()
     ensures same { UsedOfSame }
     ensures weights { UsedOfWeights }

@@ -13,7 +13,7 @@ use crush_units::{ItemId, Name};
 use indexmap::IndexMap;
 use std::alloc::{AllocError, Global};
 
-/// The id of each name. It has names of its own, in the machine's memory.
+/// The id of each name.
 #[derive(Drop)]
 pub(crate) struct Names {
     machine: Global,
@@ -22,7 +22,6 @@ pub(crate) struct Names {
 }
 
 impl Names {
-    /// No names. It takes no memory yet, and later hashes so.
     pub(crate) fn new(alloc: Global, hashing: Hashing) -> Names
         ensures none { (n : List ℕ) → id_told result n ≡ None }
         ensures hashing { names_hashing result ≡ hashing }
@@ -34,7 +33,6 @@ impl Names {
         }
     }
 
-    /// A copy that tells the same and hashes so. An Err is out of memory.
     pub(crate) fn try_copy(&self) -> Result<Names, AllocError>
         ensures { IfOk result (IsCopyOf self.now) }
     {
@@ -46,7 +44,6 @@ impl Names {
         })
     }
 
-    /// The id of a name, given by its bytes: `None` where no item has it.
     pub(crate) fn id_of(&self, name: &[u8]) -> Option<ItemId>
         ensures { result ≡ id_told self.now name.now }
     {
@@ -56,7 +53,6 @@ impl Names {
         }
     }
 
-    /// The name of an item that comes. An Err is out of memory, and nothing has changed then.
     pub(crate) fn insert(&mut self, name: Name<Global>, id: ItemId) -> Result<(), AllocError>
         ensures { Inserts name id self.old self.new result }
     {
@@ -65,7 +61,6 @@ impl Names {
         Ok(())
     }
 
-    /// The name of an item that has gone. Where it isn't there nothing changes.
     pub(crate) fn remove(&mut self, name: &[u8])
         ensures told { TellsOne self.old self.new name.now None }
         ensures hashing { names_hashing self.new ≡ names_hashing self.old }
@@ -73,7 +68,6 @@ impl Names {
         self.ids.swap_remove(Asked::of(name, &self.hashing));
     }
 
-    /// Two items that exchange their names. It takes no memory.
     pub(crate) fn exchange(&mut self, a: &[u8], b: &[u8], first: ItemId, second: ItemId)
         requires first { id_told self.old a.now ≡ Some first }
         requires second { id_told self.old b.now ≡ Some second }

@@ -10,15 +10,12 @@ use crush_units::limits::FARTHEST_BUCKET_ID;
 use indexmap::IndexSet;
 use std::alloc::{AllocError, Global};
 
-/// How many ids have a bit, counted from 0. A map uses at most 17 ids for each of 4,096 buckets, and
-/// an edit asks for at most 16 more, so that the nearest free ones are among these.
+/// How many ids have a bit, the nearest free ones among them: a map uses at most 17 for each of
+/// 4,096 buckets, and an edit wants at most 16 more.
 const NEAR: u32 = 69696;
 
-/// The ids that buckets and class ids use, each as its distance below 0, in the machine's memory.
-///
-/// An id near to 0 has a bit in a table of words, so that the first one that is free is found word
-/// by word, whatever was used and given back before. The words come as they are needed, and none
-/// goes. An id further off is kept by itself.
+/// The used ids, as distances below 0: near ones as bits of words, so that the first free one is
+/// found word by word, others by themselves. Words stay.
 #[derive(Drop)]
 pub(crate) struct UsedIds {
     words: Vec<u64>,
@@ -31,7 +28,6 @@ impl UsedIds {
     ghost use Rattle.crush_index.specs.UsedChanged.{IsCopyOf, Inserts};
     ghost use Rattle.crush_index.specs.UsedTold.{used_told, UsesOne, AreAllUsed, IsFirstFree};
 
-    /// No ids. It takes no memory.
     pub(crate) fn new(alloc: Global, hashing: Hashing) -> UsedIds
         ensures none { (k : ℕ) → used_told result k ≡ false }
         ensures hashing { used_hashing result ≡ hashing }
@@ -42,7 +38,6 @@ impl UsedIds {
         }
     }
 
-    /// A copy in which the same ids are in use, and which hashes so. An Err is out of memory.
     pub(crate) fn try_copy(&self) -> Result<UsedIds, AllocError>
         ensures { IfOk result (IsCopyOf self.now) }
     {
@@ -51,7 +46,6 @@ impl UsedIds {
         Ok(UsedIds { words, far })
     }
 
-    /// Whether an id is in use.
     pub(crate) fn has(&self, id: u32) -> bool
         ensures { result ≡ used_told self.now id }
     {
@@ -62,7 +56,6 @@ impl UsedIds {
         }
     }
 
-    /// An id that comes into use. An Err is out of memory, and nothing has changed then.
     pub(crate) fn insert(&mut self, id: u32) -> Result<(), AllocError>
         ensures { Inserts id self.old self.new result }
     {
@@ -76,7 +69,6 @@ impl UsedIds {
         Ok(())
     }
 
-    /// An id that is free again.
     pub(crate) fn remove(&mut self, id: u32)
         ensures told { UsesOne self.old self.new id false }
         ensures hashing { used_hashing self.new ≡ used_hashing self.old }
@@ -91,8 +83,6 @@ impl UsedIds {
         }
     }
 
-    /// The free id nearest to 0 among those that are at least so far below it. `None` where all
-    /// that a bucket can have are in use.
     pub(crate) fn first_free(&self, least: u32) -> Option<u32>
         ensures some { IfSome result (IsFirstFree self.now least) }
         ensures none { IfNone result (AreAllUsed self.now least) }
@@ -114,7 +104,6 @@ impl UsedIds {
     }
 }
 
-/// A copy of the ids further off, which hashes so. An Err is out of memory.
 fn copy_far(far: &IndexSet<u32, Hashing>) -> Result<IndexSet<u32, Hashing>, AllocError>
     ensures told { IfOk result
         (λ copy. (k : ℕ) → contains nat_eq copy k ≡ contains nat_eq far.now k) }
@@ -125,7 +114,6 @@ fn copy_far(far: &IndexSet<u32, Hashing>) -> Result<IndexSet<u32, Hashing>, Allo
     Ok(copy)
 }
 
-/// A word, or one without bits where there are fewer.
 fn word_at(words: &[u64], place: usize) -> u64
     ensures { result ≡ slice_index words.now place }
 {
@@ -135,7 +123,6 @@ fn word_at(words: &[u64], place: usize) -> u64
     }
 }
 
-/// Makes a word be there: those that lack are put last, without bits. An Err is out of memory.
 fn reach(words: &mut Vec<u64>, place: usize) -> Result<(), AllocError>
     requires within { place < 1089 }
     requires few { length words.old.items ≤ 1089 }
@@ -149,8 +136,6 @@ fn reach(words: &mut Vec<u64>, place: usize) -> Result<(), AllocError>
     Ok(())
 }
 
-/// From which of its bits on a word is looked at: in the first word from the least id's own on, in
-/// each later one from its lowest on.
 fn first_bit(least: u32, place: usize) -> u32
     requires { least / 64 ≤ place }
     ensures within { result < 64 }

@@ -3,7 +3,6 @@
 ghost use Rattle.std.specs.Prelude.{◌≡◌, ◌≢◌, ◌↔◌, ℕ, ◌<◌, ◌≤◌, IsTrue, IfSome, IfNone};
 ghost use Rattle.std.specs.Int.{bit_at};
 
-/// Whether a bit is set.
 pub(crate) fn is_set(word: u64, bit: u32) -> bool
     requires { bit < 64 }
     ensures { IsTrue result ↔ (bit_at word bit ≡ 1) }
@@ -11,7 +10,6 @@ pub(crate) fn is_set(word: u64, bit: u32) -> bool
     word & (1 << bit) != 0
 }
 
-/// The word with a bit set.
 pub(crate) fn with_bit(word: u64, bit: u32) -> u64
     requires { bit < 64 }
     ensures set { bit_at result bit ≡ 1 }
@@ -20,7 +18,6 @@ pub(crate) fn with_bit(word: u64, bit: u32) -> u64
     word | (1 << bit)
 }
 
-/// The word with a bit cleared.
 pub(crate) fn without_bit(word: u64, bit: u32) -> u64
     requires { bit < 64 }
     ensures clear { bit_at result bit ≡ 0 }
@@ -29,7 +26,6 @@ pub(crate) fn without_bit(word: u64, bit: u32) -> u64
     word & !(1 << bit)
 }
 
-/// The lowest bit that isn't set, from one on.
 pub(crate) fn first_clear(word: u64, least: u32) -> Option<u32>
     requires { least < 64 }
     ensures within { IfSome result (λ bit. bit < 64) }

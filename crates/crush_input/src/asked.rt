@@ -1,4 +1,4 @@
-//! What a run is asked for.
+//! What a run is to print.
 
 ghost use Rattle.std.specs.Prelude.{◌≡◌, IfErr, IfOk, []};
 ghost use Rattle.crush_input.specs.Notes.{IsMapNoted};
@@ -13,37 +13,33 @@ use crush_options::{Mode, Part, Printed, Since, Wanted};
 use std::alloc::{AllocError, Global};
 use std::random::RandomSource;
 
-/// The map since which changes are told, and of which items.
+/// The map since which changes are printed.
 #[derive(Drop)]
 pub struct OldMap {
-    /// That map.
     pub map: CrushMap<Global>,
-    /// Whether items are told apart by their names, and not by their ids.
+    /// Items are matched by name, and not by id.
     pub by_name: bool,
-    /// The name of the item that is told of with what stands or stood below it; without one all are.
+    /// For this item and what stands or stood below it; `None` for all.
     pub under: Option<String>,
 }
 
-/// The map that commands are to lead to, and how they are found and printed.
+/// The map that commands are to lead to.
 #[derive(Drop)]
 pub struct WantedMap {
-    /// The wanted map.
     pub map: CrushMap<Global>,
-    /// Whether the commands are printed as Ceph's own.
+    /// As Ceph's own commands.
     pub as_ceph: bool,
-    /// Whether a bucket is told by its name and type alone, and not by its id.
+    /// Buckets are known by name and type, and not by id.
     pub by_name: bool,
-    /// The name of the item that commands are for, with what stands or shall stand below it; without
-    /// one they are for all.
+    /// For this item and what stands or shall stand below it; `None` for all.
     pub under: Option<String>,
 }
 
 /// What is printed of the map after the scripts.
 #[derive(Drop)]
 pub enum Asked {
-    /// Its text.
     Map,
-    /// Its tree, or a part of it: a line for each item, from the roots downward.
+    /// Its tree, or a part of it.
     Tree(Part),
     /// What has changed in it since this map.
     Since(OldMap),
@@ -55,16 +51,13 @@ pub enum Asked {
     To(WantedMap),
 }
 
-/// What a run is asked for.
+/// How the job is run, and what is printed.
 #[derive(Drop)]
 pub struct Request {
-    /// How the job is run, and what is told of it.
     pub mode: Mode,
-    /// What is printed of the map after the scripts.
     pub asked: Asked,
 }
 
-/// A copy of a name, where there is one.
 fn name_of(alloc: Global, name: &Option<String>) -> Result<Option<String>, AllocError>
     ensures { IfOk result (λ copy. name_text copy ≡ name_text name.now) }
 {
@@ -74,7 +67,6 @@ fn name_of(alloc: Global, name: &Option<String>) -> Result<Option<String>, Alloc
     }
 }
 
-/// A copy of the names of a part.
 fn part_of(alloc: Global, part: &Part) -> Result<Part, AllocError>
     ensures { IfOk result (IsPartOf part.now) }
 {
@@ -83,7 +75,6 @@ fn part_of(alloc: Global, part: &Part) -> Result<Part, AllocError>
     Ok(Part { under, down_to })
 }
 
-/// The tree of the part that the words name.
 fn tree_of(alloc: Global, part: &Part) -> Result<Asked, Stopped>
     ensures asked { IfOk result (IsTreeOf part.now) }
     ensures fault { IfErr result (λ stopped. stopped.fault ≡ RunFault.Memory) }
@@ -95,7 +86,6 @@ fn tree_of(alloc: Global, part: &Part) -> Result<Asked, Stopped>
     }
 }
 
-/// The map since which the words want changes, read of its file.
 fn old_of<H: AllocGlobal + RandomSource, F: Opens>(
     rt: &H,
     files: &F,
@@ -122,7 +112,6 @@ fn old_of<H: AllocGlobal + RandomSource, F: Opens>(
     }
 }
 
-/// The map that the words want, read of its file.
 fn wanted_of<H: AllocGlobal + RandomSource, F: Opens>(
     rt: &H,
     files: &F,
@@ -150,7 +139,7 @@ fn wanted_of<H: AllocGlobal + RandomSource, F: Opens>(
     }
 }
 
-/// What is asked for by the words of a command line, with the other map that they name.
+/// What a command line wants printed, with the other map that it names.
 pub fn asked_of<H: AllocGlobal + RandomSource, F: Opens>(
     rt: &H,
     files: &F,

@@ -9,7 +9,7 @@ use thiserror::Error;
 /// What a map is read for beside the job's.
 #[derive(Clone, Copy, Debug, PartialEq, Eq)]
 pub enum OtherMap {
-    /// What has changed since it is told.
+    /// Changes since it are printed.
     Since,
     /// Commands lead to it.
     To,
@@ -18,57 +18,49 @@ pub enum OtherMap {
 /// Why a map beside the job's was not read.
 #[derive(Clone, Copy, Debug, PartialEq, Eq, Error)]
 pub enum OtherFault {
-    /// Its text has this flaw, whose place is that of a byte of its file. Out of memory is never
-    /// told here, but as [`RunFault::Memory`].
+    /// A flaw, at a byte of its file; never out of memory.
     #[error("{0}")]
     Text(TextFault),
-    /// Its file has more than 16,777,216 bytes, as no job may.
+    /// Its file has more than 16,777,216 bytes.
     #[error("TooLong")]
     TooLong,
-    /// Its file couldn't be opened, or a read answered an error.
+    /// Its file couldn't be opened or read.
     #[error("read fault")]
     Read,
 }
 
-/// Why a run was not done.
+/// Why a run was not done. Nothing was written, but before [`RunFault::Write`].
 #[derive(Clone, Copy, Debug, PartialEq, Eq, Error)]
 pub enum RunFault {
-    /// What was read is no job. Nothing was written. Out of memory is never told here, but as
-    /// [`RunFault::Memory`].
+    /// What was read is no job; never out of memory.
     #[error("{0}")]
     Job(JobFault),
-    /// A read answered an error. Nothing was written.
     #[error("read fault")]
     Read,
-    /// A write answered an error or took no byte. What was written is a prefix of the output.
+    /// A prefix of the output was written.
     #[error("write fault")]
     Write,
-    /// A growth was refused. Nothing was written.
     #[error("out of memory")]
     Memory,
-    /// A worker couldn't be started. Nothing was written.
+    /// A worker couldn't be started.
     #[error("no thread")]
     Thread,
-    /// In a strict run so many calls were refused. Nothing was written.
+    /// In a strict run so many calls were refused.
     #[error("refused {0}")]
     Refused(u32),
-    /// In a run that is to make no buckets so many calls made some for which no `add-bucket` asks.
-    /// Nothing was written.
+    /// So many calls made buckets without `add-bucket`, where none are to be made.
     #[error("made {0}")]
     Made(usize),
-    /// A job was read, and then the map that is read for this was not. Nothing was written.
+    /// The job was read, but not the map for this.
     #[error("another map: {1}")]
     Other(OtherMap, OtherFault),
-    /// In a strict run so many differences stay between the map behind all commands of a plan and the
-    /// wanted one. Nothing was written.
+    /// In a strict run so many differences stay behind a plan.
     #[error("differs {0}")]
     Differs(usize),
-    /// There is no item of the name that `--under` has, in the map after the scripts. Nothing was
-    /// written.
+    /// `--under` names no item of the map after the scripts.
     #[error("no item")]
     NoItem,
-    /// There is no type of the name that `--down-to` has, in the map after the scripts. Nothing was
-    /// written.
+    /// `--down-to` names no type of the map.
     #[error("no type")]
     NoType,
 }

@@ -11,7 +11,7 @@ pub trait Opens {
     /// An open file.
     type Opened: Read + Drop;
 
-    // The bytes of the file of a name, where they are known.
+    // The bytes of a named file, where they are known.
     ghost content: { Self → List ℕ → Option (List ℕ) };
 
     /// Opens the file of this name.
@@ -20,7 +20,7 @@ pub trait Opens {
             (λ bytes. Self.Opened.remaining file ≡ Some bytes)) };
 }
 
-/// The files of a system, which don't tell their bytes.
+/// The files of a system, whose bytes contracts don't know.
 #[derive(Drop)]
 pub struct SystemFiles<'a, F>(pub &'a F);
 

@@ -18,16 +18,14 @@ use crush_units::limits::LONGEST_JOB;
 use std::alloc::{AllocError, Global};
 use std::io::{self, Read};
 
-/// The most bytes that are asked of a reader: one more than a job may have, so that a longer one
-/// shows.
+/// One byte more than a job may have, so that a longer one shows.
 pub const MOST_BYTES: usize = LONGEST_JOB + 1;
 
-/// How many bytes one read asks for at the most.
+/// Of one read.
 const PIECE: usize = 65_536;
 
-/// Reads to the end, or to the first byte that no job can have. The reader is asked at most
-/// [`MOST_BYTES`] times: each read but the last gives a byte. What is read is what is taken of it.
-/// A read that answers an error is a fault, also where it could be tried again.
+/// Reads to the end, or to the first byte that no job can have, by at most [`MOST_BYTES`] reads. A
+/// read that fails isn't tried again.
 pub fn read_bytes<R: Read>(alloc: Global, reader: &mut R) -> Result<Vec<u8>, RunFault>
     ensures few { IfOk result (λ bytes. length bytes.items ≤ MOST_BYTES) }
     ensures fault { IfErr result IsInputFault }
@@ -44,17 +42,13 @@ pub fn read_bytes<R: Read>(alloc: Global, reader: &mut R) -> Result<Vec<u8>, Run
     }
 }
 
-/// Why the bytes of a reader weren't read.
 #[derive(Drop)]
 enum ReadFailure {
-    /// A read answered this error.
     Error(io::Error),
-    /// There was no memory for them.
     Memory,
 }
 
 impl ReadFailure {
-    /// The fault of the run.
     fn fault(self) -> RunFault
         ensures { IsInputFault result }
     {
@@ -76,7 +70,7 @@ impl From<AllocError> for ReadFailure {
     }
 }
 
-/// Reads as that does, to the end or so many bytes, by at most as many reads.
+/// By at most `most` reads.
 fn read_most<R: Read>(alloc: Global, most: usize, reader: &mut R) -> Result<Vec<u8>, ReadFailure>
     ensures few { IfOk result (λ bytes. length bytes.items ≤ most) }
     ensures consumed { IfOk result (λ bytes.
@@ -106,7 +100,6 @@ fn read_most<R: Read>(alloc: Global, most: usize, reader: &mut R) -> Result<Vec<
     Ok(bytes)
 }
 
-/// Reads standard input, to the end or so many bytes. Nothing is noted of what fails.
 fn read_quietly<R: Read>(alloc: Global, most: usize, reader: &mut R) -> Result<Vec<u8>, Stopped>
     ensures few { IfOk result (λ bytes. length bytes.items ≤ most) }
     ensures bytes { IfOk result (λ bytes. IfSome (R.remaining reader.old)
@@ -121,8 +114,7 @@ fn read_quietly<R: Read>(alloc: Global, most: usize, reader: &mut R) -> Result<V
     }
 }
 
-/// Reads so many bytes of an open file of this name. Where that fails its name and the system's reason
-/// are noted, where reasons are asked for.
+/// With `explain`, a failure is noted with the system's reason.
 fn read_named<R: Read>(
     alloc: Global,
     explain: bool,
@@ -145,7 +137,6 @@ fn read_named<R: Read>(
     }
 }
 
-/// Reads the file of this name. One that can't be opened is one that can't be read.
 pub(crate) fn read_file<F: Opens>(
     alloc: Global,
     files: &F,
@@ -165,7 +156,7 @@ pub(crate) fn read_file<F: Opens>(
     }
 }
 
-/// Reads what a job begins with: its file, or without one standard input.
+/// The job's file, or without one standard input.
 fn read_first<F: Opens, R: Read>(
     alloc: Global,
     files: &F,
@@ -187,7 +178,7 @@ fn read_first<F: Opens, R: Read>(
     }
 }
 
-/// What was read of a job, and where the scripts of files stand in it.
+/// A job, and where the scripts of files stand in it.
 #[derive(Drop)]
 pub(crate) struct Joined<'a> {
     pub(crate) bytes: Vec<u8>,
@@ -195,14 +186,12 @@ pub(crate) struct Joined<'a> {
 }
 
 impl<'a> Joined<'a> {
-    /// How many bytes more may be read: one more than a job may still have, so that a longer one shows.
     fn left(&self) -> usize
         ensures { result ≡ left_behind self.now.bytes.items }
     {
         MOST_BYTES.saturating_sub(self.bytes.len())
     }
 
-    /// Puts the script of a file of this name behind.
     fn push(&mut self, name: &'a [u8], script: &[u8]) -> Result<(), AllocError>
         ensures bytes { OnOk result
             (self.new.bytes.items ≡ joined self.old.bytes.items name.now script.now) }
@@ -217,8 +206,6 @@ impl<'a> Joined<'a> {
         Ok(())
     }
 
-    /// Reads what an open file of this name has, up to what is left of a job, and puts it behind as a
-    /// script.
     fn read_behind<R: Read>(
         &mut self,
         alloc: Global,
@@ -242,7 +229,6 @@ impl<'a> Joined<'a> {
     }
 }
 
-/// Reads the script of the file of this name, and puts it behind a job.
 fn push_file<'a, F: Opens>(
     alloc: Global,
     files: &F,
@@ -262,7 +248,6 @@ fn push_file<'a, F: Opens>(
     }
 }
 
-/// Puts the scripts of the files of these names behind a job, in this order.
 fn push_files<'a, F: Opens>(
     alloc: Global,
     files: &F,
@@ -285,7 +270,6 @@ fn push_files<'a, F: Opens>(
     Ok(())
 }
 
-/// Reads the job that the options name, with the scripts of its files behind it.
 pub(crate) fn read_all<'a, F: Opens, R: Read>(
     alloc: Global,
     files: &F,

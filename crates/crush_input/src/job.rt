@@ -22,7 +22,7 @@ use std::hash::RandomState;
 use std::io::Read;
 use std::random::RandomSource;
 
-/// Hashing with keys that the system draws. It hashes without keys where none can be drawn.
+/// With keys that the system draws, or without where it can't.
 pub(crate) fn drawn_hashing<H: RandomSource>(rt: &H) -> Hashing {
     match RandomState::new(rt) {
         Ok(keys) => Hashing::keyed(keys),
@@ -30,7 +30,7 @@ pub(crate) fn drawn_hashing<H: RandomSource>(rt: &H) -> Hashing {
     }
 }
 
-/// Reads the job that these bytes are, whose lines come from there.
+/// Reads the job that these bytes are, whose lines come from `origins`.
 pub fn job_of<'a, H: AllocGlobal + RandomSource>(
     rt: &H,
     explain: bool,

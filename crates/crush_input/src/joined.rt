@@ -11,22 +11,19 @@ use std::alloc::AllocError;
 /// Where the script of a file stands in a job.
 #[derive(Clone, Copy)]
 pub(crate) struct Part<'a> {
-    /// The name of the file.
     pub(crate) name: &'a [u8],
-    /// Its first line in the job, counted from 1, with that which names its operator where one is put.
+    /// Its first line in the job, from 1, with that of its operator.
     pub(crate) from: usize,
-    /// How many lines of the job stand before the file's own.
+    /// How many lines stand before the file's own.
     pub(crate) before: usize,
 }
 
-/// Whether the last byte is a line feed.
 fn ends_line(bytes: &[u8]) -> bool
     ensures { result ≡ (slice_index bytes.now (length bytes.now - 1) == 10) }
 {
     matches!(bytes, [.., b'\n'])
 }
 
-/// Ends the last line.
 fn push_line_end(bytes: &mut Vec<u8>) -> Result<(), AllocError>
     ensures { OnOk result (bytes.new.items ≡ bytes.old.items ++ line_end bytes.old.items) }
 {
@@ -67,7 +64,6 @@ fn begins_section(script: &[u8]) -> bool
     false
 }
 
-/// How many bytes a file's name has up to its last `/`.
 fn folder_length(name: &[u8]) -> usize
     ensures length { result ≡ folder_length 0 0 name.now }
     ensures within { result ≤ length name.now }
@@ -81,7 +77,6 @@ fn folder_length(name: &[u8]) -> usize
     best
 }
 
-/// The place of the first `.`, or the length where there is none.
 fn dot_at(name: &[u8]) -> usize
     ensures place { result ≡ position_or_len (λ b. b == 46) name.now }
     ensures within { result ≤ length name.now }
@@ -94,7 +89,7 @@ fn dot_at(name: &[u8]) -> usize
     name.len()
 }
 
-/// The operator of a script in a file of this name: its last part, up to the first `.`.
+/// The last part of a file's name, up to the first `.`.
 fn operator_of(name: &[u8]) -> &[u8]
     ensures { result.now ≡ operator_of name.now }
 {
@@ -103,8 +98,7 @@ fn operator_of(name: &[u8]) -> &[u8]
     operator
 }
 
-/// Puts the line that begins the section of an operator. Bytes that are no name are left out of it, and
-/// a line without one is refused.
+/// A line without a name is refused later.
 fn push_section_head(operator: &[u8], bytes: &mut Vec<u8>) -> Result<(), AllocError>
     ensures { OnOk result (bytes.new.items ≡ bytes.old.items ++ section_head operator.now) }
 {
@@ -116,7 +110,6 @@ fn push_section_head(operator: &[u8], bytes: &mut Vec<u8>) -> Result<(), AllocEr
     bytes.extend_from_slice(b"\n")
 }
 
-/// Puts the line that names the operator of a script, unless the script does.
 fn push_operator_line(name: &[u8], script: &[u8], bytes: &mut Vec<u8>) -> Result<(), AllocError>
     ensures { OnOk result (bytes.new.items
         ≡ bytes.old.items ++ operator_line name.now script.now) }
@@ -127,9 +120,7 @@ fn push_operator_line(name: &[u8], script: &[u8], bytes: &mut Vec<u8>) -> Result
     push_section_head(operator_of(name), bytes)
 }
 
-/// Puts the script of a file of this name behind a job: on a line of its own, and below the line
-/// that names its operator, where its first line with a word begins no section. The answer is where
-/// it stands.
+/// On a line of its own, below its operator's unless it begins a section.
 pub(crate) fn push_script<'a>(
     name: &'a [u8],
     script: &[u8],

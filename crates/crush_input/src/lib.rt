@@ -1,10 +1,6 @@
-//! What a run is given, and what is told of it: the job read of its files or of a reader, another map
-//! that is asked for, and the notes below the one line. Nothing here needs an editor or a
-//! thread.
-//!
-//! [`read_whole`] reads the job that a command line names, [`asked_of`] what is printed of it; a
-//! [`RunFault`] says why a run was not done. `crush_run` calls all of them; what is read stands in
-//! `specs/Input.antt`, what is noted in `specs/Notes.antt`.
+//! What a run is given, and what is noted of it, without an editor or a thread. [`read_whole`]
+//! reads the job that a command line names, [`asked_of`] what is printed of it; a [`RunFault`] says
+//! why a run was not done. The rules stand in `specs/Input.antt` and `specs/Notes.antt`.
 #![tactic(auto)]
 
 mod asked;

@@ -1,4 +1,4 @@
-//! The calls that made a bucket for which no `add-bucket` asks: a location named one that wasn't there.
+//! The calls that made a bucket without `add-bucket`: a location named one that wasn't there.
 
 ghost use Rattle.std.specs.Prelude.{◌≡◌, ◌<◌, ◌≤◌, ◌^◌, ◌++◌, IfErr, IfOk, OnOk, length, true};
 ghost use Rattle.std.specs.List.{count_by};
@@ -15,14 +15,12 @@ use crush_calls::{Call, Entry, Reply, Script, operator_name, write_entry};
 use crush_edits::Edit;
 use std::alloc::{AllocError, Global};
 
-/// Whether an edit asks for a bucket.
 fn asks_bucket(edit: &Edit) -> bool
     ensures { result ≡ asks_bucket edit.now }
 {
     matches!(edit, Edit::AddBucket { .. })
 }
 
-/// For how many buckets the edits of a batch ask.
 fn count_asked(edits: &[Edit]) -> usize
     ensures { result ≡ count_by asks_bucket edits.now }
 {
@@ -35,7 +33,6 @@ fn count_asked(edits: &[Edit]) -> usize
     count
 }
 
-/// For how many buckets a call asks.
 fn buckets_asked(call: &Call) -> usize
     ensures { result ≡ buckets_asked call.now }
 {
@@ -46,7 +43,6 @@ fn buckets_asked(call: &Call) -> usize
     }
 }
 
-/// How many buckets were made, by the reply.
 fn buckets_made(reply: Reply) -> usize
     ensures { result ≡ buckets_made reply }
 {
@@ -59,14 +55,12 @@ fn buckets_made(reply: Reply) -> usize
     }
 }
 
-/// Whether an entry made more buckets than its call asks for.
 fn makes_more(entry: &Entry) -> bool
     ensures { result ≡ makes_more entry.now }
 {
     buckets_made(entry.reply) > buckets_asked(&entry.call)
 }
 
-/// How many entries made more buckets than their calls ask for.
 fn count_making(entries: &[Entry]) -> usize
     ensures { result ≡ makings entries.now }
 {
@@ -79,8 +73,8 @@ fn count_making(entries: &[Entry]) -> usize
     count
 }
 
-/// Ends a run that is to make no buckets by those that calls made unasked: [`RunFault::Made`] with how
-/// many calls did.
+/// [`RunFault::Made`] with how many calls made buckets without `add-bucket`, where none are to be
+/// made.
 pub fn check_made(no_make: bool, entries: &[Entry]) -> Result<(), RunFault>
     ensures made { IsNoMake no_make entries.now result }
     ensures fault { IfErr result (IsMadeFault no_make) }
@@ -95,7 +89,6 @@ pub fn check_made(no_make: bool, entries: &[Entry]) -> Result<(), RunFault>
     Err(RunFault::Made(count))
 }
 
-/// The line of an entry, where it made more buckets than its call asks for.
 fn push_made(
     number: u32,
     operator: &[u8],
@@ -111,8 +104,7 @@ fn push_made(
     write_entry(number, operator, &entry.call, entry.reply, text).map_err(|_| AllocError)
 }
 
-/// Puts the lines of the entries that made more buckets than their calls ask for, each as the history
-/// has it, with its number there.
+/// Each with its number in the history.
 fn made_text(alloc: Global, scripts: &[Script], entries: &[Entry]) -> Result<Vec<u8>, AllocError>
     requires few { length entries.now ≤ MOST_ENTRIES }
     requires operators { AreOf (length scripts.now) entries.now }
@@ -128,8 +120,7 @@ fn made_text(alloc: Global, scripts: &[Script], entries: &[Entry]) -> Result<Vec
     Ok(text)
 }
 
-/// Before the notes of a run that is to make no buckets the lines of the calls that made some unasked,
-/// which are told where they end it; of any other run nothing.
+/// The lines of the calls that [`check_made`] counts, before the notes; empty without `no_make`.
 pub fn made_notes(
     alloc: Global,
     no_make: bool,

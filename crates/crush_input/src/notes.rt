@@ -1,5 +1,4 @@
-//! What is told below the one line: of a fault of the bytes, of a file that can't be read, of the
-//! calls that were refused, and of written weights.
+//! The notes below the one line.
 
 ghost use Rattle.std.specs.Prelude.{◌≡◌, ◌≤◌, List, [], IfErr, IfOk, false, is_some, length, true};
 ghost use Rattle.crush_table.specs.Stands.{Stands};
@@ -27,7 +26,7 @@ use crush_units::limits::LONGEST_JOB;
 use std::alloc::{AllocError, Global};
 use std::io;
 
-/// Ends a strict run in which calls were refused: [`RunFault::Refused`] with how many.
+/// [`RunFault::Refused`] with how many calls a strict run refused.
 pub fn check_strict(strict: bool, entries: &[Entry]) -> Result<(), RunFault>
     requires { length entries.now ≤ MOST_ENTRIES }
     ensures strict { IsStrict strict entries.now result }
@@ -43,18 +42,17 @@ pub fn check_strict(strict: bool, entries: &[Entry]) -> Result<(), RunFault>
     Err(RunFault::Refused(count))
 }
 
-/// The calls of a run with their replies, and the map before them, where it is kept.
+/// The calls of a run, and the map before them.
 #[derive(Clone, Copy)]
 pub struct History<'a> {
-    /// The map as it was read. Reasons are told by it.
+    /// By which reasons are found.
     pub opening: &'a Option<CrushMap<Global>>,
-    /// The scripts of the operators.
     pub scripts: &'a [Script],
-    /// The calls in the order in which they were made.
+    /// In order.
     pub entries: &'a [Entry],
 }
 
-/// The lines of the calls that were refused, and behind them those of written weights.
+/// The lines of refused calls, and behind them those of written weights.
 pub fn history_notes(
     alloc: Global,
     mode: Mode,
@@ -75,8 +73,7 @@ pub fn history_notes(
     Ok(lines)
 }
 
-/// The lines of the calls that were refused: with reasons where those are asked for, and without in
-/// another strict run.
+/// With reasons by `explain`, without in another strict run.
 fn refused_notes(
     alloc: Global,
     mode: Mode,
@@ -101,8 +98,6 @@ fn refused_notes(
     Ok(Vec::new(alloc))
 }
 
-/// The lines of the calls that were refused, each with its reason, by a copy of the map before them and
-/// by the text from which they come.
 fn reasons_of(
     alloc: Global,
     history: History<'_>,
@@ -128,8 +123,7 @@ fn reasons_of(
     explained_job(alloc, job, opening, history.scripts, history.entries)
 }
 
-/// The lines of the weights that are written in a job's text and aren't the sums in its map, where
-/// reasons are asked for.
+/// The weights in a job's text that aren't the sums.
 fn weight_notes(
     alloc: Global,
     explain: bool,
@@ -146,7 +140,6 @@ fn weight_notes(
     Ok(Vec::new(alloc))
 }
 
-/// The bytes of a job, where reasons are asked for.
 fn bytes_kept(alloc: Global, explain: bool, bytes: Vec<u8>) -> Vec<u8>
     ensures { result.items ≡ bytes_kept explain bytes.items }
 {
@@ -156,7 +149,6 @@ fn bytes_kept(alloc: Global, explain: bool, bytes: Vec<u8>) -> Vec<u8>
     Vec::new(alloc)
 }
 
-/// A job that was read of these bytes, whose lines come from there, with what is kept of its text.
 pub(crate) fn weighed<'a>(
     alloc: Global,
     explain: bool,
@@ -180,7 +172,6 @@ pub(crate) fn weighed<'a>(
     Ok(Weighed { job, text })
 }
 
-/// The line of a file that can't be opened or read: its name, and the reason that the system gives.
 fn unread_text(alloc: Global, name: &str, error: &io::Error) -> Result<Vec<u8>, AllocError>
     ensures { IfOk result (λ text. IsUnread name.now text.items) }
 {
@@ -194,7 +185,6 @@ fn unread_text(alloc: Global, name: &str, error: &io::Error) -> Result<Vec<u8>, 
     Ok(text)
 }
 
-/// That line, where reasons are asked for.
 fn unread_notes(
     alloc: Global,
     explain: bool,
@@ -210,7 +200,6 @@ fn unread_notes(
     Ok(Vec::new(alloc))
 }
 
-/// Why a file of this name wasn't read, whose opening or reading answered this error.
 pub(crate) fn unread(alloc: Global, explain: bool, name: &str, error: io::Error) -> Stopped
     ensures fault { IsInputFault result.fault }
     ensures noted { IsFileNoted explain name.now result.fault result.notes.items }
@@ -224,7 +213,6 @@ pub(crate) fn unread(alloc: Global, explain: bool, name: &str, error: io::Error)
     }
 }
 
-/// The bytes, or of too many a prefix as long as a job may be.
 fn job_prefix(bytes: &[u8]) -> &[u8]
     ensures few { length result.now ≤ LONGEST_JOB }
     ensures whole { length bytes.now ≤ LONGEST_JOB → bytes.now ≡ result.now }
@@ -235,8 +223,7 @@ fn job_prefix(bytes: &[u8]) -> &[u8]
     bytes.split_at(LONGEST_JOB).0
 }
 
-/// Where a fault of these bytes stands, in the file that its line comes from, and what was wanted
-/// there, where that is asked for. More bytes than a job may have have no place, but that fault alone.
+/// Of too many bytes a prefix is enough: their fault has no place.
 fn place_notes(
     alloc: Global,
     explain: bool,
@@ -256,7 +243,7 @@ fn place_notes(
     Ok(Vec::new(alloc))
 }
 
-/// Why bytes are no job, and where; or out of memory, where there is none to tell it.
+/// Out of memory also where there is none for the notes.
 pub(crate) fn stopped_by(
     alloc: Global,
     explain: bool,

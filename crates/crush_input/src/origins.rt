@@ -10,17 +10,16 @@ use crush_options::Options;
 use crush_reasons::{Locates, Origin};
 use std::alloc::Global;
 
-/// Where the lines of a job come from: of its first file, and of scripts behind it.
+/// The first file of a job, and the scripts behind it.
 #[derive(Drop)]
 pub struct Origins<'a> {
-    /// The name of the first file, empty where none is told.
+    /// Empty where it isn't named.
     pub(crate) first: &'a [u8],
-    /// Where the scripts stand, in order.
     pub(crate) parts: Vec<Part<'a>>,
 }
 
 impl Origins<'_> {
-    /// Those of a job of which no file is told.
+    /// Those of a job whose file isn't named.
     pub fn none(alloc: Global) -> Origins<'static>
         ensures { origin_of result ≡ no_origin }
     {
@@ -41,7 +40,6 @@ impl Locates for Origins<'_> {
     }
 }
 
-/// Where a line of a job comes from whose first file has this name, and whose scripts stand there.
 fn origin_in<'a>(first: &'a [u8], parts: &[Part<'a>], line: usize) -> Origin<'a>
     ensures { origin_data result
         ≡ origin_in (whole_of first.now) (each part_data parts.now) line }
@@ -59,7 +57,6 @@ fn origin_in<'a>(first: &'a [u8], parts: &[Part<'a>], line: usize) -> Origin<'a>
 }
 
 impl<'a> Part<'a> {
-    /// Where its lines come from.
     fn origin(&self) -> Origin<'a>
         ensures { origin_data result ≡ within (part_data self.now) }
     {
@@ -70,7 +67,7 @@ impl<'a> Part<'a> {
     }
 }
 
-/// The name of the file that a job begins with, which is told where others stand behind it.
+/// Empty where no scripts stand behind it.
 pub(crate) fn first_name(options: &Options) -> &[u8]
     ensures { result.now ≡ first_name options.now.file options.now.scripts.items }
 {

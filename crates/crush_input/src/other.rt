@@ -20,7 +20,6 @@ use crush_units::limits::LONGEST_JOB;
 use std::alloc::{AllocError, Global};
 use std::random::RandomSource;
 
-/// Where a flaw of a text stands and what was wanted there, where that is asked for.
 fn flaw_notes(
     alloc: Global,
     explain: bool,
@@ -41,7 +40,6 @@ fn flaw_notes(
     fault_text(alloc, origin, text, JobFault::Text(fault))
 }
 
-/// Why a text is no map, and where; or out of memory, also where there is none to tell it.
 fn stopped_at(
     alloc: Global,
     explain: bool,
@@ -67,7 +65,7 @@ fn stopped_at(
     }
 }
 
-/// The map of this text of a file of this name, which may be no longer than a job.
+/// The text may be no longer than a job.
 fn map_of<H: AllocGlobal + RandomSource>(
     rt: &H,
     explain: bool,
@@ -91,7 +89,6 @@ fn map_of<H: AllocGlobal + RandomSource>(
 }
 
 impl Stopped {
-    /// The same of a map that is read for this.
     fn of_other(self, which: OtherMap) -> Stopped
         requires { IsInputFault self.fault }
         ensures fault { (all : Option (List ℕ)) → IsMapFault which all result.fault }
@@ -110,7 +107,6 @@ impl Stopped {
     }
 }
 
-/// Reads the map of the file of this name, for this.
 pub(crate) fn read_other<H: AllocGlobal + RandomSource, F: Opens>(
     rt: &H,
     files: &F,

@@ -1,4 +1,4 @@
-//! What was read of a run, or why it stopped before its scripts ran.
+//! What was read of a run, or why it stopped.
 
 ghost use Rattle.std.specs.Prelude.{◌≡◌, []};
 
@@ -7,37 +7,33 @@ use crate::origins::Origins;
 use crush_script::Job;
 use std::alloc::Global;
 
-/// What is kept of the text of a job, to tell of it.
+/// What is kept of the text of a job, for notes.
 #[derive(Drop)]
 pub struct TextKept<'a> {
-    /// Its bytes, no more than a job may have, where reasons are asked for; else none.
+    /// Empty without `explain`.
     pub bytes: Vec<u8>,
     /// Where its lines come from.
     pub origins: Origins<'a>,
-    /// The lines of written weights that aren't sums, where reasons are asked for.
+    /// The notes on weights that aren't sums.
     pub weights: Vec<u8>,
 }
 
-/// A job that was read, and what is kept of its text.
+/// A job, and what is kept of its text.
 #[derive(Drop)]
 pub struct Weighed<'a> {
-    /// The job.
     pub job: Job,
-    /// What is kept of its text.
     pub text: TextKept<'a>,
 }
 
 /// Why a run stopped before its scripts ran.
 #[derive(Debug, Drop)]
 pub struct Stopped {
-    /// The fault that it ends with.
     pub fault: RunFault,
-    /// What is told of it below the one line.
+    /// The lines below the one line.
     pub notes: Vec<u8>,
 }
 
 impl Stopped {
-    /// A fault of which nothing is told.
     pub(crate) fn quietly(alloc: Global, fault: RunFault) -> Stopped
         ensures fault { result.fault ≡ fault }
         ensures quiet { result.notes.items ≡ [] }

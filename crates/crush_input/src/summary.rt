@@ -3,13 +3,13 @@
 /// What a run did.
 #[derive(Clone, Copy, Debug, PartialEq, Eq)]
 pub struct Summary {
-    /// How many written weights of bucket items weren't the sums and were replaced by them.
+    /// How many weights in the text weren't the sums, and were replaced.
     pub adjusted: u32,
-    /// How many calls were answered.
+    /// How many were answered.
     pub calls: u32,
-    /// How many of them changed the map.
+    /// How many calls changed the map.
     pub changes: u32,
-    /// Where the status is to tell it, whether there is something to tell: that the map is another than
-    /// was read, what has changed since another map, or a command or a difference of a plan.
+    /// For the status: the map is another than was read, or something has changed since another
+    /// map, or a plan has a command or a difference.
     pub differs: bool,
 }

@@ -21,7 +21,6 @@ use crush_tree::{Node, View};
 use crush_units::{Alg, BucketId, ItemId};
 use std::alloc::{AllocError, Allocator};
 
-/// The buckets of a map, which are those of these ids.
 pub(crate) fn push_buckets<A: Allocator>(
     map: &CrushMap<A>,
     ids: &[BucketId],
@@ -36,7 +35,6 @@ pub(crate) fn push_buckets<A: Allocator>(
     out.end_array()
 }
 
-/// The buckets of these ids, in their order.
 fn push_each<A: Allocator>(
     map: &CrushMap<A>,
     ids: &[BucketId],
@@ -51,7 +49,6 @@ fn push_each<A: Allocator>(
     Ok(())
 }
 
-/// The bucket of this id, if it is there.
 fn push_bucket<A: Allocator>(
     map: &CrushMap<A>,
     id: BucketId,
@@ -66,7 +63,6 @@ fn push_bucket<A: Allocator>(
     }
 }
 
-/// A bucket with its items.
 #[tactic(auto, unfolding(crate::specs::MapDocument::bucket_document))]
 fn push_view<A: Allocator>(
     map: &CrushMap<A>,
@@ -89,7 +85,6 @@ fn push_view<A: Allocator>(
     out.end_object()
 }
 
-/// The name of an algorithm, or nothing where there is none.
 fn alg_name(alg: Option<Alg>) -> &'static str
     ensures { result.now ≡ option_map_or alg_text alg [] }
 {
@@ -99,7 +94,6 @@ fn alg_name(alg: Option<Alg>) -> &'static str
     }
 }
 
-/// The members of a bucket that tell its name and its type.
 fn push_kind<A: Allocator>(
     map: &CrushMap<A>,
     item: &View<'_>,
@@ -116,7 +110,6 @@ fn push_kind<A: Allocator>(
     out.text("type_name", kind_name(map.setting(), item.kind))
 }
 
-/// The items of a bucket, in their order.
 fn push_items<A: Allocator>(
     map: &CrushMap<A>,
     id: BucketId,
@@ -130,7 +123,6 @@ fn push_items<A: Allocator>(
     out.end_array()
 }
 
-/// The items of a bucket, in their order: none where it isn't there.
 pub(crate) fn items_of<A: Allocator>(map: &CrushMap<A>, id: BucketId) -> &[Node<A>]
     ensures { (t : List Row) → Stands map.now.forest t → each node_id result.now ≡ kids t id }
 {
@@ -140,7 +132,6 @@ pub(crate) fn items_of<A: Allocator>(map: &CrushMap<A>, id: BucketId) -> &[Node<
     }
 }
 
-/// The items, in their order, each with its place.
 fn push_each_item<A: Allocator>(
     map: &CrushMap<A>,
     items: &[Node<A>],
@@ -155,7 +146,6 @@ fn push_each_item<A: Allocator>(
     Ok(())
 }
 
-/// The item of this id, if it is there, at a place.
 fn push_item<A: Allocator>(
     map: &CrushMap<A>,
     id: ItemId,
@@ -171,7 +161,6 @@ fn push_item<A: Allocator>(
     }
 }
 
-/// An item of a bucket, at a place.
 #[tactic(auto, unfolding(crate::specs::MapDocument::item_document))]
 fn push_item_view(item: &View<'_>, place: u64, out: &mut Document) -> Result<(), AllocError>
     ensures { OnOk result (out.new ≡ out.old

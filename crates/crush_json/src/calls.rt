@@ -8,7 +8,6 @@ use crush_map::{Edit, Location, Pair};
 use crush_units::{Name, Weight};
 use std::alloc::{AllocError, Global};
 
-/// A call as it stands in the line of its entry. An `Err` says that memory ran out.
 pub(crate) fn call_text(alloc: Global, call: &Call) -> Result<String, AllocError>
     ensures { IfOk result (λ text. string_bytes text ≡ call_text call.now) }
 {
@@ -17,7 +16,6 @@ pub(crate) fn call_text(alloc: Global, call: &Call) -> Result<String, AllocError
     Ok(text)
 }
 
-/// The same, behind what there is.
 fn push_call(call: &Call, text: &mut String) -> Result<(), AllocError>
     ensures { OnOk result (string_bytes text.new
         ≡ string_bytes text.old ++ call_text call.now) }
@@ -29,7 +27,6 @@ fn push_call(call: &Call, text: &mut String) -> Result<(), AllocError>
     }
 }
 
-/// A batch.
 fn push_batch(edits: &[Edit], text: &mut String) -> Result<(), AllocError>
     ensures { OnOk result (string_bytes text.new
         ≡ string_bytes text.old ++ (codes "begin ; " ++ rest_text edits.now)) }
@@ -38,7 +35,6 @@ fn push_batch(edits: &[Edit], text: &mut String) -> Result<(), AllocError>
     push_rest(edits, text)
 }
 
-/// A guarded batch.
 fn push_guarded(seen: u32, edits: &[Edit], text: &mut String) -> Result<(), AllocError>
     ensures { OnOk result (string_bytes text.new
         ≡ string_bytes text.old ++ (guard_text seen ++ rest_text edits.now)) }
@@ -47,7 +43,6 @@ fn push_guarded(seen: u32, edits: &[Edit], text: &mut String) -> Result<(), Allo
     push_rest(edits, text)
 }
 
-/// The edits of a batch and its end.
 fn push_rest(edits: &[Edit], text: &mut String) -> Result<(), AllocError>
     ensures { OnOk result (string_bytes text.new
         ≡ string_bytes text.old ++ rest_text edits.now) }
@@ -56,7 +51,6 @@ fn push_rest(edits: &[Edit], text: &mut String) -> Result<(), AllocError>
     text.push_str("commit")
 }
 
-/// The edits of a batch, in their order.
 fn push_edits(edits: &[Edit], text: &mut String) -> Result<(), AllocError>
     ensures { OnOk result (string_bytes text.new
         ≡ string_bytes text.old ++ edits_text edits.now) }
@@ -67,7 +61,6 @@ fn push_edits(edits: &[Edit], text: &mut String) -> Result<(), AllocError>
     Ok(())
 }
 
-/// An edit of a batch, and what separates it from what follows.
 fn push_edit_of_batch(edit: &Edit, text: &mut String) -> Result<(), AllocError>
     ensures { OnOk result (string_bytes text.new
         ≡ string_bytes text.old ++ (edit_text edit.now ++ codes " ; ")) }
@@ -76,7 +69,6 @@ fn push_edit_of_batch(edit: &Edit, text: &mut String) -> Result<(), AllocError>
     text.push_str(" ; ")
 }
 
-/// An edit as its command.
 fn push_edit(edit: &Edit, text: &mut String) -> Result<(), AllocError>
     ensures { OnOk result (string_bytes text.new
         ≡ string_bytes text.old ++ edit_text edit.now) }
@@ -114,7 +106,6 @@ fn push_edit(edit: &Edit, text: &mut String) -> Result<(), AllocError>
     }
 }
 
-/// A first word, a device with its weight, and its location.
 fn push_placing(
     first: &str,
     name: &Name<Global>,
@@ -129,7 +120,6 @@ fn push_placing(
     push_pairs(at.pairs(), text)
 }
 
-/// A move of an item.
 fn push_move(name: &Name<Global>, at: &Location, text: &mut String) -> Result<(), AllocError>
     ensures { OnOk result (string_bytes text.new
         ≡ string_bytes text.old ++ (one_name (codes "move") name.now ++ pairs_text at.now)) }
@@ -138,7 +128,6 @@ fn push_move(name: &Name<Global>, at: &Location, text: &mut String) -> Result<()
     push_pairs(at.pairs(), text)
 }
 
-/// The pairs of a location, in order.
 fn push_pairs(pairs: &[Pair], text: &mut String) -> Result<(), AllocError>
     ensures { OnOk result (string_bytes text.new
         ≡ string_bytes text.old ++ pairs_text pairs.now) }
@@ -149,7 +138,6 @@ fn push_pairs(pairs: &[Pair], text: &mut String) -> Result<(), AllocError>
     Ok(())
 }
 
-/// A pair, behind a space.
 fn push_pair(pair: &Pair, text: &mut String) -> Result<(), AllocError>
     ensures { OnOk result (string_bytes text.new
         ≡ string_bytes text.old ++ pair_text pair.now) }
@@ -159,7 +147,6 @@ fn push_pair(pair: &Pair, text: &mut String) -> Result<(), AllocError>
     write!(text, " {kind}={name}")
 }
 
-/// A first word and a name.
 fn push_one_name(first: &str, name: &Name<Global>, text: &mut String) -> Result<(), AllocError>
     ensures { OnOk result (string_bytes text.new
         ≡ string_bytes text.old ++ one_name first.now name.now) }
@@ -167,7 +154,6 @@ fn push_one_name(first: &str, name: &Name<Global>, text: &mut String) -> Result<
     write!(text, "{first} {name}")
 }
 
-/// A first word and two names.
 fn push_two_names(
     first: &str,
     a: &Name<Global>,
@@ -180,7 +166,6 @@ fn push_two_names(
     write!(text, "{first} {a} {b}")
 }
 
-/// A first word, a name and a weight.
 fn push_weighed(
     first: &str,
     name: &Name<Global>,

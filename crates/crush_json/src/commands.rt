@@ -12,8 +12,7 @@ use crush_map::{Edit, Location, Pair};
 use crush_units::{DeviceId, Name, Weight};
 use std::alloc::{AllocError, Global};
 
-/// An edit as the command of it, with the keys of Ceph's own table of commands. An `Err` says that
-/// memory ran out.
+/// With the keys of Ceph's own table of commands.
 pub(crate) fn push_command(alloc: Global, edit: &Edit, out: &mut Document) -> Result<(), AllocError>
     ensures { OnOk result (out.new ≡ out.old ++ json_tokens (command edit.now)) }
 {
@@ -52,7 +51,6 @@ pub(crate) fn push_command(alloc: Global, edit: &Edit, out: &mut Document) -> Re
     }
 }
 
-/// A device that is put somewhere with a weight. The command is named by its prefix.
 fn push_placing(
     alloc: Global,
     prefix: &str,
@@ -73,7 +71,6 @@ fn push_placing(
     out.end_object()
 }
 
-/// An item that is moved.
 fn push_moving(
     alloc: Global,
     name: &Name<Global>,
@@ -90,7 +87,7 @@ fn push_moving(
     out.end_object()
 }
 
-/// Two buckets that are exchanged, whether or not one shares a parent with the other.
+/// `yes_i_really_mean_it` also where one bucket shares a parent with the other.
 fn push_swapping(a: &Name<Global>, b: &Name<Global>, out: &mut Document) -> Result<(), AllocError>
     ensures { OnOk result (out.new ≡ out.old ++ json_tokens (swapping a.now b.now)) }
 {
@@ -102,7 +99,6 @@ fn push_swapping(a: &Name<Global>, b: &Name<Global>, out: &mut Document) -> Resu
     out.end_object()
 }
 
-/// A weight that is set. The command is named by its prefix.
 fn push_weighing(
     alloc: Global,
     prefix: &str,
@@ -120,7 +116,6 @@ fn push_weighing(
     out.end_object()
 }
 
-/// An item that is removed.
 fn push_removing(name: &Name<Global>, out: &mut Document) -> Result<(), AllocError>
     ensures { OnOk result (out.new ≡ out.old ++ json_tokens (removing name.now)) }
 {
@@ -130,7 +125,6 @@ fn push_removing(name: &Name<Global>, out: &mut Document) -> Result<(), AllocErr
     out.end_object()
 }
 
-/// A bucket that is made.
 fn push_adding(
     name: &Name<Global>,
     kind: &Name<Global>,
@@ -145,7 +139,6 @@ fn push_adding(
     out.end_object()
 }
 
-/// A bucket that gets another name.
 fn push_renaming(
     from: &Name<Global>,
     to: &Name<Global>,
@@ -160,7 +153,6 @@ fn push_renaming(
     out.end_object()
 }
 
-/// A device that gets a class.
 fn push_classing(
     name: &Name<Global>,
     class: &Name<Global>,
@@ -176,7 +168,6 @@ fn push_classing(
     out.end_object()
 }
 
-/// A device whose class is taken away.
 fn push_declassing(name: &Name<Global>, out: &mut Document) -> Result<(), AllocError>
     ensures { OnOk result (out.new ≡ out.old ++ json_tokens (declassing name.now)) }
 {
@@ -187,7 +178,6 @@ fn push_declassing(name: &Name<Global>, out: &mut Document) -> Result<(), AllocE
     out.end_object()
 }
 
-/// A list of one name.
 fn push_one_name(name: &Name<Global>, out: &mut Document) -> Result<(), AllocError>
     ensures { OnOk result (out.new ≡ out.old ++ tokens_of (one_name name.now)) }
 {
@@ -196,7 +186,6 @@ fn push_one_name(name: &Name<Global>, out: &mut Document) -> Result<(), AllocErr
     out.end_array()
 }
 
-/// The pairs of a location, in their order.
 fn push_pairs(alloc: Global, pairs: &[Pair], out: &mut Document) -> Result<(), AllocError>
     ensures { OnOk result (out.new ≡ out.old ++ tokens_of (list (pair_values pairs.now))) }
 {
@@ -205,7 +194,6 @@ fn push_pairs(alloc: Global, pairs: &[Pair], out: &mut Document) -> Result<(), A
     out.end_array()
 }
 
-/// The same, without brackets.
 fn push_each_pair(alloc: Global, pairs: &[Pair], out: &mut Document) -> Result<(), AllocError>
     ensures { OnOk result (out.new ≡ out.old
         ++ flat_map (λ p. tokens_of (string (pair_word p))) pairs.now) }
@@ -216,7 +204,6 @@ fn push_each_pair(alloc: Global, pairs: &[Pair], out: &mut Document) -> Result<(
     Ok(())
 }
 
-/// A pair.
 fn push_pair(alloc: Global, pair: &Pair, out: &mut Document) -> Result<(), AllocError>
     ensures { OnOk result (out.new ≡ out.old ++ tokens_of (string (pair_word pair.now))) }
 {
@@ -231,7 +218,6 @@ fn pair_word(alloc: Global, pair: &Pair) -> Result<String, AllocError>
     joined(alloc, pair.kind.as_str(), &pair.name)
 }
 
-/// A type's name and a bucket's, with what separates them.
 fn joined(alloc: Global, kind: &str, name: &Name<Global>) -> Result<String, AllocError>
     ensures { IfOk result (λ word. string_bytes word ≡ kind.now ++ codes "=" ++ name.now) }
 {

@@ -15,7 +15,6 @@ use crush_tree::View;
 use crush_units::{DeviceId, ItemId};
 use std::alloc::{AllocError, Allocator};
 
-/// The devices of a map, which are those of these ids.
 pub(crate) fn push_devices<A: Allocator>(
     map: &CrushMap<A>,
     ids: &[DeviceId],
@@ -29,7 +28,6 @@ pub(crate) fn push_devices<A: Allocator>(
     out.end_array()
 }
 
-/// The devices of these ids, in their order.
 fn push_each<A: Allocator>(
     map: &CrushMap<A>,
     ids: &[DeviceId],
@@ -44,7 +42,6 @@ fn push_each<A: Allocator>(
     Ok(())
 }
 
-/// The device of this id, if it is there.
 fn push_device<A: Allocator>(
     map: &CrushMap<A>,
     id: DeviceId,
@@ -59,7 +56,6 @@ fn push_device<A: Allocator>(
     }
 }
 
-/// A device.
 #[tactic(auto, unfolding(crate::specs::MapDocument::device_document))]
 fn push_view(item: &View<'_>, out: &mut Document) -> Result<(), AllocError>
     ensures { OnOk result (out.new ≡ out.old ++ tokens_of (device_document (view_data item.now))) }

@@ -14,8 +14,7 @@ use json::Writer;
 use std::alloc::{AllocError, Global};
 use std::marker::Model;
 
-/// A text of JSON that grows token by token: the writer places commas and colons, and its caller
-/// closes what it opened. Contracts see the tokens.
+/// The writer places commas and colons, the caller closes what it opened; contracts see the tokens.
 #[derive(Drop)]
 pub(crate) struct Document {
     writer: Writer<Global>,
@@ -35,7 +34,7 @@ impl Model for Document {
 }
 
 impl Document {
-    /// A text without a token, with memory for so many bytes. An `Err` says that memory ran out.
+    /// With memory for so many bytes.
     pub(crate) fn new(alloc: Global, capacity: usize) -> Result<Document, AllocError>
         ensures { IfOk result (λ document. document ≡ []) }
     {
@@ -44,49 +43,43 @@ impl Document {
         })
     }
 
-    /// The bytes of the text.
     pub(crate) fn finish(self) -> Vec<u8>
         ensures { result.items ≡ print self }
     {
         self.writer.into_inner()
     }
 
-    /// Opens an object.
     pub(crate) fn begin_object(&mut self) -> Result<(), AllocError>
         ensures { OnOk result (self.new ≡ self.old ++ begin_object ∷ []) }
     {
         self.writer.begin_object()
     }
 
-    /// Closes an object.
     pub(crate) fn end_object(&mut self) -> Result<(), AllocError>
         ensures { OnOk result (self.new ≡ self.old ++ end_object ∷ []) }
     {
         self.writer.end_object()
     }
 
-    /// Opens an array.
     pub(crate) fn begin_array(&mut self) -> Result<(), AllocError>
         ensures { OnOk result (self.new ≡ self.old ++ begin_array ∷ []) }
     {
         self.writer.begin_array()
     }
 
-    /// Closes an array.
     pub(crate) fn end_array(&mut self) -> Result<(), AllocError>
         ensures { OnOk result (self.new ≡ self.old ++ end_array ∷ []) }
     {
         self.writer.end_array()
     }
 
-    /// The name of a member, whose value follows.
+    /// The value of the member follows.
     pub(crate) fn key(&mut self, name: &str) -> Result<(), AllocError>
         ensures { OnOk result (self.new ≡ self.old ++ key name.now ∷ []) }
     {
         self.writer.key(name)
     }
 
-    /// A member that is a text.
     pub(crate) fn text(&mut self, name: &str, text: &str) -> Result<(), AllocError>
         ensures { OnOk result (self.new
             ≡ self.old ++ member_tokens name.now (string text.now)) }
@@ -95,7 +88,6 @@ impl Document {
         self.writer.string(text)
     }
 
-    /// A member that is a text, where there is one.
     pub(crate) fn text_if(&mut self, name: &str, text: Option<&str>) -> Result<(), AllocError>
         ensures { OnOk result (self.new
             ≡ self.old ++ text_tokens_if name.now (option_map (λ text. text.now) text.entry)) }
@@ -106,7 +98,6 @@ impl Document {
         }
     }
 
-    /// A member that is a number from 0 upward.
     pub(crate) fn natural(&mut self, name: &str, number: u64) -> Result<(), AllocError>
         ensures { OnOk result (self.new ≡ self.old ++ member_tokens name.now (natural number)) }
     {
@@ -114,14 +105,13 @@ impl Document {
         self.writer.u64(number)
     }
 
-    /// A number from 0 upward, in an array.
+    /// In an array, as `push_id` and `push_text`.
     pub(crate) fn push_natural(&mut self, number: u64) -> Result<(), AllocError>
         ensures { OnOk result (self.new ≡ self.old ++ tokens_of (natural number)) }
     {
         self.writer.u64(number)
     }
 
-    /// A member that is a whole number.
     pub(crate) fn whole(&mut self, name: &str, number: i32) -> Result<(), AllocError>
         ensures { OnOk result (self.new ≡ self.old ++ member_tokens name.now (whole number)) }
     {
@@ -129,7 +119,6 @@ impl Document {
         self.push_whole(number)
     }
 
-    /// A whole number, as the value of a member or in an array.
     fn push_whole(&mut self, number: i32) -> Result<(), AllocError>
         ensures { OnOk result (self.new ≡ self.old ++ tokens_of (whole number)) }
     {
@@ -140,21 +129,18 @@ impl Document {
         }
     }
 
-    /// The id of an item, in an array.
     pub(crate) fn push_id(&mut self, id: ItemId) -> Result<(), AllocError>
         ensures { OnOk result (self.new ≡ self.old ++ tokens_of (whole (item_number id))) }
     {
         self.push_whole(id.number())
     }
 
-    /// A text, in an array.
     pub(crate) fn push_text(&mut self, text: &str) -> Result<(), AllocError>
         ensures { OnOk result (self.new ≡ self.old ++ tokens_of (string text.now)) }
     {
         self.writer.string(text)
     }
 
-    /// A member that is true or false.
     pub(crate) fn truth(&mut self, name: &str, holds: bool) -> Result<(), AllocError>
         ensures { OnOk result (self.new ≡ self.old ++ member_tokens name.now (boolean holds)) }
     {
@@ -162,7 +148,7 @@ impl Document {
         self.writer.boolean(holds)
     }
 
-    /// The member `weight`, as a decimal of five places, of which 1.0 is 65536 units.
+    /// A decimal of five places: 1.0 is 65536 units.
     pub(crate) fn weight(&mut self, alloc: Global, weight: Weight) -> Result<(), AllocError>
         ensures { OnOk result (self.new ≡ self.old ++ weight_tokens weight) }
     {
@@ -172,7 +158,6 @@ impl Document {
         self.writer.number(text.as_str())
     }
 
-    /// A member that is the id of an item.
     pub(crate) fn id(&mut self, name: &str, id: ItemId) -> Result<(), AllocError>
         ensures { OnOk result (self.new
             ≡ self.old ++ member_tokens name.now (whole (item_number id))) }
@@ -180,7 +165,6 @@ impl Document {
         self.whole(name, id.number())
     }
 
-    /// A member that is a whole number, where there is one.
     pub(crate) fn whole_if(&mut self, name: &str, number: Option<i32>) -> Result<(), AllocError>
         ensures { OnOk result (self.new ≡ self.old ++ whole_tokens_if name.now number) }
     {

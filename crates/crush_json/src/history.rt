@@ -22,32 +22,26 @@ use std::alloc::{AllocError, Global};
 /// The calls that were made of a map, with what they were answered.
 #[derive(Clone, Copy)]
 pub struct History<'a> {
-    /// The scripts of the operators, whose names the entries are told by.
+    /// The scripts of the operators.
     pub scripts: &'a [Script],
-    /// The entries, each of one of the scripts.
     pub entries: &'a [Entry],
 }
 
-/// A reply is told by the words that the line of its entry has. There is nothing to run: the
-/// contract is the law.
+/// The law that replies have the words of their lines.
 pub fn replies_are_of_lines()
     ensures { RepliesAreOfLines }
 {}
 
-/// What an entry tells, but for what its reply counts.
+/// What an entry says, but for what its reply counts.
 #[derive(Clone, Copy)]
 struct Told<'a> {
-    /// Its number, from 1.
+    /// From 1.
     number: u32,
-    /// The name of its operator.
     operator: &'a str,
-    /// Its call.
     call: &'a str,
-    /// Its reply.
     reply: &'a str,
 }
 
-/// The member that tells the history, where there is one.
 pub(crate) fn push_history_if(
     alloc: Global,
     history: Option<History<'_>>,
@@ -66,7 +60,6 @@ pub(crate) fn push_history_if(
     }
 }
 
-/// A history: an object for each entry.
 fn push_history(alloc: Global, history: History<'_>, out: &mut Document) -> Result<(), AllocError>
     requires { IsHistory history }
     ensures { OnOk result (out.new ≡ out.old ++ tokens_of (history_data history.entry)) }
@@ -76,7 +69,6 @@ fn push_history(alloc: Global, history: History<'_>, out: &mut Document) -> Resu
     out.end_array()
 }
 
-/// The entries, in their order, which count from 1.
 fn push_entries(alloc: Global, history: History<'_>, out: &mut Document) -> Result<(), AllocError>
     requires { IsHistory history }
     ensures { OnOk result (out.new ≡ out.old ++ tokens_of_all (entry_documents
@@ -90,7 +82,6 @@ fn push_entries(alloc: Global, history: History<'_>, out: &mut Document) -> Resu
     Ok(())
 }
 
-/// The name of an operator, by its number.
 fn operator_name(scripts: &[Script], operator: usize) -> &str
     requires { operator < length scripts.now }
     ensures { result.now ≡ slice_index_or (names_of (scripts_data scripts.now)) operator [] }
@@ -99,7 +90,6 @@ fn operator_name(scripts: &[Script], operator: usize) -> &str
     script.name.as_str()
 }
 
-/// An entry.
 fn push_entry(
     alloc: Global,
     number: u32,
@@ -121,7 +111,6 @@ fn push_entry(
     push_told(&told, entry.reply, out)
 }
 
-/// An entry with this reply.
 #[tactic(auto, unfolding(crate::specs::HistoryDocument::answered_document))]
 fn push_told(told: &Told<'_>, reply: Reply, out: &mut Document) -> Result<(), AllocError>
     ensures { told.now.reply.now ≡ reply_text reply → OnOk result (out.new ≡ out.old
@@ -137,7 +126,6 @@ fn push_told(told: &Told<'_>, reply: Reply, out: &mut Document) -> Result<(), Al
     }
 }
 
-/// An entry of an edit that was made.
 fn push_done(told: &Told<'_>, done: Done, out: &mut Document) -> Result<(), AllocError>
     ensures { OnOk result (out.new ≡ out.old ++ tokens_of (made_document told.now.number
         told.now.operator.now told.now.call.now (one_if done.changed) done.made
@@ -150,7 +138,6 @@ fn push_done(told: &Told<'_>, done: Done, out: &mut Document) -> Result<(), Allo
     }
 }
 
-/// An entry of what was made.
 fn push_made(told: &Told<'_>, changed: u32, made: u32, out: &mut Document) -> Result<(), AllocError>
     ensures { OnOk result (out.new ≡ out.old ++ tokens_of (made_document told.now.number
         told.now.operator.now told.now.call.now changed made told.now.reply.now)) }
@@ -163,7 +150,6 @@ fn push_made(told: &Told<'_>, changed: u32, made: u32, out: &mut Document) -> Re
     out.end_object()
 }
 
-/// An entry of an edit that was refused.
 fn push_refused(told: &Told<'_>, refusal: Refusal, out: &mut Document) -> Result<(), AllocError>
     ensures { OnOk result (out.new ≡ out.old ++ tokens_of (object (refused_members
         told.now.number told.now.operator.now told.now.call.now refusal told.now.reply.now))) }
@@ -173,7 +159,6 @@ fn push_refused(told: &Told<'_>, refusal: Refusal, out: &mut Document) -> Result
     out.end_object()
 }
 
-/// An entry of a batch of which the edit at this index was refused.
 fn push_refused_at(
     told: &Told<'_>,
     index: u32,
@@ -190,7 +175,6 @@ fn push_refused_at(
     out.end_object()
 }
 
-/// The members of an entry that tell a refusal.
 fn push_refusal(told: &Told<'_>, refusal: Refusal, out: &mut Document) -> Result<(), AllocError>
     ensures { OnOk result (out.new ≡ out.old
         ++ (member_tokens (codes "call") (string told.now.call.now)
@@ -203,7 +187,7 @@ fn push_refusal(told: &Told<'_>, refusal: Refusal, out: &mut Document) -> Result
     push_last(told, Some(refusal.name()), out)
 }
 
-/// An entry of a guarded batch that came too late: the history had so many changes.
+/// A guarded batch that came too late; 11 is EAGAIN.
 fn push_stale(told: &Told<'_>, changes: u32, out: &mut Document) -> Result<(), AllocError>
     ensures { OnOk result (out.new ≡ out.old ++ tokens_of (stale_document told.now.number
         told.now.operator.now told.now.call.now changes told.now.reply.now)) }
@@ -216,7 +200,6 @@ fn push_stale(told: &Told<'_>, changes: u32, out: &mut Document) -> Result<(), A
     out.end_object()
 }
 
-/// The last members of an entry.
 fn push_last(told: &Told<'_>, refusal: Option<&str>, out: &mut Document) -> Result<(), AllocError>
     ensures { OnOk result (out.new ≡ out.old ++ last_tokens told.now.number
         told.now.operator.now (option_map (λ name. name.now) refusal.entry)

@@ -12,16 +12,14 @@ use crush_tree::{Bucket, Forest, Node};
 use crush_units::{BucketId, DeviceId, ItemId};
 use std::alloc::{AllocError, Allocator, Global};
 
-/// The ids of a map's items.
 #[derive(Drop)]
 pub(crate) struct Ids {
-    /// The buckets, from -1 downward.
+    /// From -1 downward.
     pub buckets: Vec<BucketId>,
-    /// The devices, upward.
+    /// Upward.
     pub devices: Vec<DeviceId>,
 }
 
-/// The ids of a forest's items, in order. An `Err` says that memory ran out.
 pub(crate) fn ids_in_order<A: Allocator>(
     alloc: Global,
     forest: &Forest<A>,
@@ -37,7 +35,6 @@ pub(crate) fn ids_in_order<A: Allocator>(
     Ok(Ids { buckets, devices })
 }
 
-/// The buckets among the ids, from -1 downward.
 fn buckets_among(alloc: Global, ids: &[ItemId]) -> Result<Vec<BucketId>, AllocError>
     ensures { IfOk result (λ buckets. buckets.items ≡ ascending (flat_map bucket_ids ids.now)) }
 {
@@ -46,7 +43,6 @@ fn buckets_among(alloc: Global, ids: &[ItemId]) -> Result<Vec<BucketId>, AllocEr
     Ok(buckets)
 }
 
-/// The buckets among the ids, in their order.
 fn only_buckets(alloc: Global, ids: &[ItemId]) -> Result<Vec<BucketId>, AllocError>
     ensures { IfOk result (λ buckets. buckets.items ≡ flat_map bucket_ids ids.now) }
 {
@@ -59,7 +55,6 @@ fn only_buckets(alloc: Global, ids: &[ItemId]) -> Result<Vec<BucketId>, AllocErr
     Ok(buckets)
 }
 
-/// The devices among the ids, upward.
 fn devices_among(alloc: Global, ids: &[ItemId]) -> Result<Vec<DeviceId>, AllocError>
     ensures { IfOk result (λ devices. devices.items ≡ ascending (flat_map device_number ids.now)) }
 {
@@ -68,7 +63,6 @@ fn devices_among(alloc: Global, ids: &[ItemId]) -> Result<Vec<DeviceId>, AllocEr
     Ok(devices)
 }
 
-/// The devices among the ids, in their order.
 fn only_devices(alloc: Global, ids: &[ItemId]) -> Result<Vec<DeviceId>, AllocError>
     ensures { IfOk result (λ devices. devices.items ≡ flat_map device_number ids.now) }
 {
@@ -81,7 +75,7 @@ fn only_devices(alloc: Global, ids: &[ItemId]) -> Result<Vec<DeviceId>, AllocErr
     Ok(devices)
 }
 
-/// The ids of a forest's items, each before those of what is below it.
+/// Each before what is below it.
 fn ids_of<A: Allocator>(alloc: Global, forest: &Forest<A>) -> Result<Vec<ItemId>, AllocError>
     ensures { IfOk result (λ ids. ids.items ≡ ids_among (all_items forest.now)) }
 {
@@ -91,7 +85,6 @@ fn ids_of<A: Allocator>(alloc: Global, forest: &Forest<A>) -> Result<Vec<ItemId>
     Ok(ids)
 }
 
-/// Pushes the ids of nodes that no bucket holds, and of what is below them.
 fn push_tops<A: Allocator>(nodes: &[Node<A>], ids: &mut Vec<ItemId>) -> Result<(), AllocError>
     ensures { OnOk result (ids.new.items ≡ ids.old.items ++ ids_among (items_of nodes.now)) }
 {
@@ -101,7 +94,6 @@ fn push_tops<A: Allocator>(nodes: &[Node<A>], ids: &mut Vec<ItemId>) -> Result<(
     Ok(())
 }
 
-/// Pushes the id of a node, and of what is below it.
 fn push_node<A: Allocator>(node: &Node<A>, ids: &mut Vec<ItemId>) -> Result<(), AllocError>
     ensures { OnOk result (ids.new.items ≡ ids.old.items
         ++ ids_among (items_of (node.now ∷ []))) }

@@ -13,7 +13,7 @@ use crush_units::{Name, TypeId};
 use indexmap::IndexMap;
 use std::alloc::{AllocError, Global};
 
-/// The types, by ascending number.
+/// By ascending number.
 pub(crate) fn push_kinds(
     alloc: Global,
     setting: &Setting,
@@ -27,7 +27,6 @@ pub(crate) fn push_kinds(
     out.end_array()
 }
 
-/// The types of these numbers, in their order.
 fn push_each(setting: &Setting, numbers: &[u16], out: &mut Document) -> Result<(), AllocError>
     ensures { OnOk result (out.new ≡ out.old
         ++ flat_map (λ n. tokens_of (kind_document n (kind_text setting.now n))) numbers.now) }
@@ -38,7 +37,6 @@ fn push_each(setting: &Setting, numbers: &[u16], out: &mut Document) -> Result<(
     Ok(())
 }
 
-/// A type.
 #[tactic(auto, unfolding(crate::specs::MapDocument::kind_document))]
 fn push_kind(number: u16, name: &str, out: &mut Document) -> Result<(), AllocError>
     ensures { OnOk result (out.new ≡ out.old ++ tokens_of (kind_document number name.now)) }
@@ -49,7 +47,6 @@ fn push_kind(number: u16, name: &str, out: &mut Document) -> Result<(), AllocErr
     out.end_object()
 }
 
-/// The numbers of the types, from the least to the greatest.
 fn numbers_in_order(alloc: Global, setting: &Setting) -> Result<Vec<u16>, AllocError>
     ensures { IfOk result (λ numbers. numbers.items ≡ kind_numbers setting.now) }
 {
@@ -58,14 +55,13 @@ fn numbers_in_order(alloc: Global, setting: &Setting) -> Result<Vec<u16>, AllocE
     Ok(numbers)
 }
 
-/// The numbers of the types.
 fn numbers_of(alloc: Global, kinds: &IndexMap<TypeId, Name<Global>>) -> Result<Vec<u16>, AllocError>
     ensures { IfOk result (λ numbers. numbers.items ≡ keys kinds.now) }
 {
     kinds.keys().map(|number| number.number()).collect(alloc)
 }
 
-/// The name of the type with this number, or nothing where the setting has none.
+/// Empty where the setting has none.
 #[tactic(auto, unfolding(crush_print::specs::MapText::kind_text))]
 pub(crate) fn kind_name(setting: &Setting, number: TypeId) -> &str
     ensures { result.now ≡ kind_text setting.now number }

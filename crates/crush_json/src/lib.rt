@@ -1,13 +1,7 @@
-//! What a map, its tree, its history, what has changed and a plan are for programs: JSON, with the
-//! keys that Ceph's own has.
-//!
-//! [`write_map_document`], [`write_tree_document`], [`write_since_document`] and
-//! [`write_plan_document`] write one value on one line. Which value it is stands in `specs/`, over the
-//! map's setting and its table: `map_document`, `tree_document`, `since_document` and
-//! `history_document`, which `document`, `document_of_tree` and `document_of_since` put together. The
-//! bytes are `compact_text` of that value, as `serde_json` defines it; of a plan, whose weights are
-//! decimals, they are what the writer of `json` prints for its tokens. They are made token by token,
-//! so that beside the text no value lies in memory.
+//! A map, its tree, its history, what has changed and a plan as JSON, each one value on one line,
+//! with the keys of Ceph's own output; `specs/` says which value. Weights are in units, of which
+//! 65536 are 1.0, except in plans. Each text is laid out in the given memory, token by token,
+//! before anything is written.
 #![tactic(auto)]
 
 mod buckets;

@@ -18,7 +18,6 @@ use crate::tunables::push_tunables;
 use crush_map::CrushMap;
 use std::alloc::{AllocError, Allocator, Global};
 
-/// A map: its buckets, devices, rules, tunables and types.
 pub(crate) fn push_map<A: Allocator>(
     alloc: Global,
     map: &CrushMap<A>,
@@ -33,7 +32,6 @@ pub(crate) fn push_map<A: Allocator>(
     out.end_object()
 }
 
-/// The members that tell its buckets and its devices.
 fn push_items<A: Allocator>(
     alloc: Global,
     map: &CrushMap<A>,
@@ -50,7 +48,6 @@ fn push_items<A: Allocator>(
     push_devices(map, ids.devices.as_slice(), out)
 }
 
-/// The members that tell its rules, its tunables and its types.
 fn push_setting<A: Allocator>(
     alloc: Global,
     map: &CrushMap<A>,

@@ -8,7 +8,6 @@ use crush_calls::Reply;
 use crush_edits::{Done, Dones, Refusal};
 use std::alloc::{AllocError, Global};
 
-/// A reply as it stands in the line of its entry. An `Err` says that memory ran out.
 pub(crate) fn reply_text(alloc: Global, reply: Reply) -> Result<String, AllocError>
     ensures { IfOk result (λ text. string_bytes text ≡ reply_text reply) }
 {
@@ -21,14 +20,12 @@ pub(crate) fn reply_text(alloc: Global, reply: Reply) -> Result<String, AllocErr
     }
 }
 
-/// The digit 1 where it is so, and else 0.
 fn digit_of(so: bool) -> &'static str
     ensures { result.now ≡ digit_of so }
 {
     if so { "1" } else { "0" }
 }
 
-/// Of an edit that was made.
 #[tactic(auto, unfolding(crate::specs::HistoryDocument::reply_text))]
 fn done_text(alloc: Global, done: Done) -> Result<String, AllocError>
     ensures { IfOk result (λ text. string_bytes text ≡ reply_text (Reply.Done done)) }
@@ -38,7 +35,6 @@ fn done_text(alloc: Global, done: Done) -> Result<String, AllocError>
     format!(in alloc; "done changed {changed} made {made}")
 }
 
-/// Of a batch that was made.
 #[tactic(auto, unfolding(crate::specs::HistoryDocument::reply_text))]
 fn dones_text(alloc: Global, done: Dones) -> Result<String, AllocError>
     ensures { IfOk result (λ text. string_bytes text ≡ reply_text (Reply.Dones done)) }
@@ -51,7 +47,6 @@ fn dones_text(alloc: Global, done: Dones) -> Result<String, AllocError>
     Ok(text)
 }
 
-/// Of an edit that was refused.
 #[tactic(auto, unfolding(crate::specs::HistoryDocument::reply_text))]
 fn refused_text(alloc: Global, refusal: Refusal) -> Result<String, AllocError>
     ensures { IfOk result (λ text. string_bytes text ≡ reply_text (Reply.Refused refusal)) }
@@ -61,7 +56,6 @@ fn refused_text(alloc: Global, refusal: Refusal) -> Result<String, AllocError>
     format!(in alloc; "refused {name} {error}")
 }
 
-/// Of a batch of which the edit at this index was refused.
 #[tactic(auto, unfolding(crate::specs::HistoryDocument::reply_text))]
 fn batch_refused_text(alloc: Global, index: u32, refusal: Refusal) -> Result<String, AllocError>
     ensures { IfOk result (λ text. string_bytes text
@@ -74,7 +68,6 @@ fn batch_refused_text(alloc: Global, index: u32, refusal: Refusal) -> Result<Str
     Ok(text)
 }
 
-/// Of a guarded batch that came too late.
 #[tactic(auto, unfolding(crate::specs::HistoryDocument::reply_text))]
 fn stale_text(alloc: Global, changes: u32) -> Result<String, AllocError>
     ensures { IfOk result (λ text. string_bytes text ≡ reply_text (Reply.Stale changes)) }

@@ -17,7 +17,7 @@ use crush_map::{CrushMap, KeptRule, KeptStep};
 use crush_units::Name;
 use std::alloc::{AllocError, Allocator, Global};
 
-/// The rules of a map, by ascending id.
+/// By ascending id.
 pub(crate) fn push_rules<A: Allocator>(
     alloc: Global,
     map: &CrushMap<A>,
@@ -32,7 +32,6 @@ pub(crate) fn push_rules<A: Allocator>(
     out.end_array()
 }
 
-/// The ids of the rules, from the least to the greatest.
 fn ids_in_order(alloc: Global, rules: &[KeptRule]) -> Result<Vec<u32>, AllocError>
     ensures { IfOk result (λ ids. ids.items
         ≡ ascending (each (λ (r : RuleData). r.id) (each rule_data rules.now))) }
@@ -42,7 +41,6 @@ fn ids_in_order(alloc: Global, rules: &[KeptRule]) -> Result<Vec<u32>, AllocErro
     Ok(ids)
 }
 
-/// The ids of the rules, in their order.
 fn ids_of(alloc: Global, rules: &[KeptRule]) -> Result<Vec<u32>, AllocError>
     ensures { IfOk result (λ ids. ids.items ≡ each (λ r. (rule_data r).id) rules.now) }
 {
@@ -53,7 +51,6 @@ fn ids_of(alloc: Global, rules: &[KeptRule]) -> Result<Vec<u32>, AllocError>
     Ok(ids)
 }
 
-/// The rules of these ids, in their order.
 fn push_each<A: Allocator>(
     alloc: Global,
     map: &CrushMap<A>,
@@ -69,7 +66,6 @@ fn push_each<A: Allocator>(
     Ok(())
 }
 
-/// The rule of this id, if there is one.
 fn push_rule_of<A: Allocator>(
     alloc: Global,
     map: &CrushMap<A>,
@@ -85,7 +81,6 @@ fn push_rule_of<A: Allocator>(
     }
 }
 
-/// The first rule of this id.
 fn rule_of(rules: &[KeptRule], id: u32) -> Option<&KeptRule>
     ensures { option_map (λ r. rule_data r.now) result
         ≡ find (λ (r : RuleData). r.id == id) (each rule_data rules.now) }
@@ -98,7 +93,6 @@ fn rule_of(rules: &[KeptRule], id: u32) -> Option<&KeptRule>
     None
 }
 
-/// A rule.
 #[tactic(auto, unfolding(crate::specs::RuleDocument::rule_document))]
 fn push_rule<A: Allocator>(
     alloc: Global,
@@ -118,7 +112,6 @@ fn push_rule<A: Allocator>(
     out.end_object()
 }
 
-/// The steps of a rule, in their order.
 fn push_steps<A: Allocator>(
     alloc: Global,
     map: &CrushMap<A>,
@@ -133,7 +126,6 @@ fn push_steps<A: Allocator>(
     out.end_array()
 }
 
-/// The steps, in their order.
 fn push_each_step<A: Allocator>(
     alloc: Global,
     map: &CrushMap<A>,
@@ -149,7 +141,7 @@ fn push_each_step<A: Allocator>(
     Ok(())
 }
 
-/// What a rule serves, as Ceph's number of it, or as the word where Ceph has none.
+/// Ceph's number of what a rule serves, or the word where it has none.
 #[tactic(auto, unfolding(crate::specs::RuleDocument::served))]
 fn push_served(kind: &Name<Global>, out: &mut Document) -> Result<(), AllocError>
     ensures { OnOk result (out.new ≡ out.old ++ member_tokens (codes "type") (served kind.now)) }

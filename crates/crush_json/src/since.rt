@@ -1,4 +1,4 @@
-//! What has changed from one map to another as a value.
+//! What has changed between two maps, as a value.
 
 ghost use Rattle.std.specs.Prelude.{◌≡◌, ◌++◌, List, OnOk, None, Some, codes, flat_map, map as each};
 ghost use Rattle.std.specs.Cmp.Lexicographic.{pointwise};
@@ -22,8 +22,7 @@ use crush_since::{
 use crush_units::ItemId;
 use std::alloc::{AllocError, Allocator, Global};
 
-/// What has changed: of all items with the counts, the settings and the totals, or of a part the items
-/// alone.
+/// Of a part the items alone.
 pub(crate) fn push_since<A: Allocator, B: Allocator>(
     alloc: Global,
     old: &CrushMap<A>,
@@ -41,7 +40,6 @@ pub(crate) fn push_since<A: Allocator, B: Allocator>(
     }
 }
 
-/// What has changed below an item, it among what is told.
 fn push_part<A: Allocator, B: Allocator>(
     alloc: Global,
     old: &CrushMap<A>,
@@ -58,7 +56,6 @@ fn push_part<A: Allocator, B: Allocator>(
     out.end_object()
 }
 
-/// What has changed of all items, of the settings and of the totals.
 fn push_whole<A: Allocator, B: Allocator>(
     alloc: Global,
     old: &CrushMap<A>,
@@ -77,7 +74,6 @@ fn push_whole<A: Allocator, B: Allocator>(
     out.end_object()
 }
 
-/// The member that tells how many items differ, and in which way.
 fn push_counts(counts: &Tally, out: &mut Document) -> Result<(), AllocError>
     ensures { OnOk result (out.new ≡ out.old
         ++ member_tokens (codes "counts") (counts_document counts.now)) }
@@ -93,7 +89,6 @@ fn push_counts(counts: &Tally, out: &mut Document) -> Result<(), AllocError>
     out.end_object()
 }
 
-/// The member that tells the items.
 fn push_items<A: Allocator, B: Allocator>(
     alloc: Global,
     old: &CrushMap<A>,
@@ -110,7 +105,6 @@ fn push_items<A: Allocator, B: Allocator>(
     push_list(old, new, ids.as_slice(), out)
 }
 
-/// The items of these ids, in their order.
 fn push_list<A: Allocator, B: Allocator>(
     old: &CrushMap<A>,
     new: &CrushMap<B>,
@@ -126,7 +120,6 @@ fn push_list<A: Allocator, B: Allocator>(
     out.end_array()
 }
 
-/// The same, without brackets.
 fn push_each<A: Allocator, B: Allocator>(
     old: &CrushMap<A>,
     new: &CrushMap<B>,
@@ -143,7 +136,6 @@ fn push_each<A: Allocator, B: Allocator>(
     Ok(())
 }
 
-/// The item of an id: what it is now, and what it was.
 fn push_change<A: Allocator, B: Allocator>(
     old: &CrushMap<A>,
     new: &CrushMap<B>,
@@ -163,7 +155,6 @@ fn push_change<A: Allocator, B: Allocator>(
     out.end_object()
 }
 
-/// A member that is an item as a map has it, where it has it.
 fn push_seen_if(
     name: &str,
     setting: &Setting,
@@ -182,7 +173,6 @@ fn push_seen_if(
     }
 }
 
-/// An item as a map has it.
 fn push_seen(setting: &Setting, item: &Seen<'_>, out: &mut Document) -> Result<(), AllocError>
     ensures { OnOk result (out.new ≡ out.old
         ++ tokens_of (seen_document setting.now (seen_data item.now))) }
@@ -196,7 +186,6 @@ fn push_seen(setting: &Setting, item: &Seen<'_>, out: &mut Document) -> Result<(
     out.end_object()
 }
 
-/// The members that tell whether rules, tunables and types differ, and the totals.
 fn push_last<A: Allocator, B: Allocator>(
     old: &CrushMap<A>,
     new: &CrushMap<B>,
@@ -214,14 +203,13 @@ fn push_last<A: Allocator, B: Allocator>(
     out.truth("types", !same_kinds(before, after))
 }
 
-/// Whether the rules are the same, in order.
 fn have_same_rules(old: &Setting, new: &Setting) -> bool
     ensures { result ≡ pointwise same_rule old.now.rules new.now.rules }
 {
     same_rules(old.rules(), new.rules())
 }
 
-/// The member that tells what all placed devices weighed, and weigh.
+/// Before and after.
 fn push_totals(before: u64, after: u64, out: &mut Document) -> Result<(), AllocError>
     ensures { OnOk result (out.new ≡ out.old
         ++ member_tokens (codes "total") (totals_document before after)) }

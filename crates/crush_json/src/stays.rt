@@ -7,7 +7,7 @@ ghost use Rattle.crush_json.specs.Tokens.{tokens_of, tokens_of_all};
 use crate::document::Document;
 use std::alloc::{AllocError, Global};
 
-/// The lines of a text, each a text of its own. An `Err` says that memory ran out.
+/// Bytes that aren't UTF-8 are replaced.
 pub(crate) fn push_stays(alloc: Global, rest: &[u8], out: &mut Document) -> Result<(), AllocError>
     ensures { OnOk result (out.new ≡ out.old ++ tokens_of (stays_document rest.now)) }
 {
@@ -16,7 +16,6 @@ pub(crate) fn push_stays(alloc: Global, rest: &[u8], out: &mut Document) -> Resu
     out.end_array()
 }
 
-/// The same, without brackets.
 fn push_lines(alloc: Global, rest: &[u8], out: &mut Document) -> Result<(), AllocError>
     ensures { OnOk result (out.new ≡ out.old
         ++ tokens_of_all (each line_value (lines rest.now))) }
@@ -28,7 +27,6 @@ fn push_lines(alloc: Global, rest: &[u8], out: &mut Document) -> Result<(), Allo
     push_last(alloc, line.as_slice(), out)
 }
 
-/// A byte more of a line, which a line feed ends.
 fn push_byte(
     alloc: Global,
     byte: u8,
@@ -50,7 +48,6 @@ fn push_byte(
     }
 }
 
-/// What stands behind the last line feed, if anything does.
 fn push_last(alloc: Global, line: &[u8], out: &mut Document) -> Result<(), AllocError>
     ensures { OnOk result (out.new ≡ out.old
         ++ tokens_of_all (each line_value (last_line line.now))) }
@@ -62,7 +59,6 @@ fn push_last(alloc: Global, line: &[u8], out: &mut Document) -> Result<(), Alloc
     }
 }
 
-/// A line.
 fn push_line(alloc: Global, line: &[u8], out: &mut Document) -> Result<(), AllocError>
     ensures { OnOk result (out.new ≡ out.old ++ tokens_of (line_value line.now)) }
 {

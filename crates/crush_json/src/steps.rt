@@ -17,7 +17,6 @@ use crush_tree::ShadowId;
 use crush_units::{BucketId, ItemId, Name};
 use std::alloc::{AllocError, Allocator, Global};
 
-/// A step.
 pub(crate) fn push_step<A: Allocator>(
     alloc: Global,
     map: &CrushMap<A>,
@@ -40,7 +39,6 @@ pub(crate) fn push_step<A: Allocator>(
     }
 }
 
-/// A step that takes a bucket, or of its devices those of a class.
 #[tactic(auto, unfolding(crate::specs::RuleDocument::take_document))]
 fn push_take<A: Allocator>(
     alloc: Global,
@@ -60,7 +58,7 @@ fn push_take<A: Allocator>(
     out.end_object()
 }
 
-/// The name that a bucket has now, and behind it the class that is taken of it.
+/// The name that the bucket has now, and behind `~` the class.
 fn taken_name<A: Allocator>(
     alloc: Global,
     map: &CrushMap<A>,
@@ -77,14 +75,12 @@ fn taken_name<A: Allocator>(
     }
 }
 
-/// A name, and a class behind it.
 fn classed_name(alloc: Global, name: &str, class: &Name<Global>) -> Result<String, AllocError>
     ensures { IfOk result (λ text. string_bytes text ≡ name.now ++ codes "~" ++ class.now) }
 {
     format!(in alloc; "{name}~{class}")
 }
 
-/// The name that a bucket has now.
 #[tactic(auto, unfolding(crush_print::specs::RuleLines::bucket_name))]
 fn bucket_name<A: Allocator>(map: &CrushMap<A>, bucket: BucketId) -> &str
     ensures { (t : List Row) → Stands map.now.forest t → result.now ≡ bucket_name t bucket }
@@ -95,7 +91,6 @@ fn bucket_name<A: Allocator>(map: &CrushMap<A>, bucket: BucketId) -> &str
     }
 }
 
-/// The number of what is taken: of the bucket, or the one that it has for the class.
 fn taken_number<A: Allocator>(
     map: &CrushMap<A>,
     bucket: BucketId,
@@ -110,7 +105,6 @@ fn taken_number<A: Allocator>(
     }
 }
 
-/// The id of what is taken.
 fn taken_id<A: Allocator>(
     map: &CrushMap<A>,
     bucket: BucketId,
@@ -125,7 +119,6 @@ fn taken_id<A: Allocator>(
     }
 }
 
-/// The id that a bucket has for a class.
 fn class_id_of<A: Allocator>(
     map: &CrushMap<A>,
     bucket: BucketId,
@@ -140,7 +133,6 @@ fn class_id_of<A: Allocator>(
     }
 }
 
-/// The id of a class among class ids.
 fn class_id_among<A: Allocator>(ids: &[ShadowId<A>], class: &Name<Global>) -> Option<BucketId>
     ensures { result ≡ class_id_among (each shadow_data ids.now) class.now }
 {
@@ -152,7 +144,6 @@ fn class_id_among<A: Allocator>(ids: &[ShadowId<A>], class: &Name<Global>) -> Op
     None
 }
 
-/// The word of a step that chooses.
 #[tactic(auto, unfolding(crate::specs::RuleDocument::choice_word))]
 fn choice_word(leaf: bool, firstn: bool) -> &'static str
     ensures { result.now ≡ choice_word leaf firstn }
@@ -170,7 +161,6 @@ fn choice_word(leaf: bool, firstn: bool) -> &'static str
     }
 }
 
-/// A step that chooses so many items of a type.
 #[tactic(auto, unfolding(crate::specs::RuleDocument::choose_document))]
 fn push_choice(
     leaf: bool,
@@ -189,7 +179,6 @@ fn push_choice(
     out.end_object()
 }
 
-/// A step that sets a tunable.
 #[tactic(auto, unfolding(crate::specs::RuleDocument::set_document))]
 fn push_set(word: &Name<Global>, value: u32, out: &mut Document) -> Result<(), AllocError>
     ensures { OnOk result (out.new ≡ out.old ++ tokens_of (set_document word.now value)) }
@@ -200,7 +189,6 @@ fn push_set(word: &Name<Global>, value: u32, out: &mut Document) -> Result<(), A
     out.end_object()
 }
 
-/// The step that hands out.
 #[tactic(auto, unfolding(crate::specs::RuleDocument::emit_document))]
 fn push_emit(out: &mut Document) -> Result<(), AllocError>
     ensures { OnOk result (out.new ≡ out.old ++ tokens_of emit_document) }

@@ -19,7 +19,6 @@ use crush_units::{ItemId, TypeId};
 use crush_view::Step;
 use std::alloc::{AllocError, Allocator};
 
-/// The tree of these steps: its nodes, and the devices among them that no bucket holds.
 #[tactic(auto, unfolding(crate::specs::TreeDocument::tree_document))]
 pub(crate) fn push_tree<A: Allocator>(
     map: &CrushMap<A>,
@@ -37,7 +36,7 @@ pub(crate) fn push_tree<A: Allocator>(
     out.end_object()
 }
 
-/// The stray ones among the steps, or the others.
+/// The stray items, or the others.
 fn push_nodes<A: Allocator>(
     map: &CrushMap<A>,
     stray: bool,
@@ -52,7 +51,6 @@ fn push_nodes<A: Allocator>(
     out.end_array()
 }
 
-/// The same, in their order.
 fn push_each<A: Allocator>(
     map: &CrushMap<A>,
     stray: bool,
@@ -69,7 +67,6 @@ fn push_each<A: Allocator>(
     Ok(())
 }
 
-/// A step, if it is among these.
 fn push_step<A: Allocator>(
     map: &CrushMap<A>,
     stray: bool,
@@ -87,7 +84,6 @@ fn push_step<A: Allocator>(
     }
 }
 
-/// Whether an item is among the stray ones, or among the others.
 fn is_among(stray: bool, item: &View<'_>) -> bool
     ensures { result ≡ is_among stray (view_data item.now) }
 {
@@ -98,7 +94,7 @@ fn is_among(stray: bool, item: &View<'_>) -> bool
     }
 }
 
-/// Whether no bucket holds the item, and it is no root.
+/// A device that no bucket holds.
 fn is_stray(item: &View<'_>) -> bool
     ensures { result ≡ is_stray (view_data item.now) }
 {
@@ -108,7 +104,6 @@ fn is_stray(item: &View<'_>) -> bool
     }
 }
 
-/// An item that stands below so many buckets.
 fn push_node<A: Allocator>(
     map: &CrushMap<A>,
     depth: u32,
@@ -126,7 +121,6 @@ fn push_node<A: Allocator>(
     out.end_object()
 }
 
-/// The member of a bucket that tells the ids of its items.
 fn push_children<A: Allocator>(
     map: &CrushMap<A>,
     id: ItemId,
@@ -144,7 +138,6 @@ fn push_children<A: Allocator>(
     }
 }
 
-/// The ids of nodes, in their order.
 fn push_ids<A: Allocator>(nodes: &[Node<A>], out: &mut Document) -> Result<(), AllocError>
     ensures { OnOk result (out.new ≡ out.old
         ++ tokens_of (list (each (λ i. whole (item_number i)) (each node_id nodes.now)))) }
@@ -154,7 +147,6 @@ fn push_ids<A: Allocator>(nodes: &[Node<A>], out: &mut Document) -> Result<(), A
     out.end_array()
 }
 
-/// The same, without brackets.
 fn push_each_id<A: Allocator>(nodes: &[Node<A>], out: &mut Document) -> Result<(), AllocError>
     ensures { OnOk result (out.new ≡ out.old
         ++ flat_map (λ n. tokens_of (whole (item_number (node_id n)))) nodes.now) }
@@ -165,7 +157,6 @@ fn push_each_id<A: Allocator>(nodes: &[Node<A>], out: &mut Document) -> Result<(
     Ok(())
 }
 
-/// The members that tell an item's id, its name, its type and its weight.
 fn push_item(setting: &Setting, item: &View<'_>, out: &mut Document) -> Result<(), AllocError>
     ensures { OnOk result (out.new ≡ out.old
         ++ item_tokens setting.now (view_data item.now)) }
@@ -177,7 +168,7 @@ fn push_item(setting: &Setting, item: &View<'_>, out: &mut Document) -> Result<(
     out.natural("weight", item.weight.units() as u64)
 }
 
-/// The name of an item's type. That of a device is `osd` where the setting has no type 0.
+/// A device is an `osd` where the setting has no type 0.
 pub(crate) fn type_name(setting: &Setting, id: ItemId, kind: TypeId) -> &str
     ensures { result.now ≡ type_word setting.now id kind }
 {

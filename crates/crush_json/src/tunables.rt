@@ -1,4 +1,4 @@
-//! The tunables of a map.
+//! The tunables of a map, in the order of their names.
 
 ghost use Rattle.std.specs.Prelude.{◌≡◌, ◌++◌, IfOk, OnOk, flat_map, map as each, string_bytes};
 ghost use Rattle.crush_edits.specs.SettingSeen.{tunable_data};
@@ -15,7 +15,6 @@ use indexmap::IndexMap;
 use std::alloc::{AllocError, Global};
 use std::collections::BTreeMap;
 
-/// The tunables, by their names.
 pub(crate) fn push_tunables(
     alloc: Global,
     setting: &Setting,
@@ -29,7 +28,6 @@ pub(crate) fn push_tunables(
     out.end_object()
 }
 
-/// The tunables in the order of their names.
 fn by_name(
     alloc: Global,
     tunables: &IndexMap<Name<Global>, u32>,
@@ -45,7 +43,6 @@ fn by_name(
     Ok(sorted)
 }
 
-/// The members of an object that are numbers.
 fn push_each(numbers: &BTreeMap<String, u32>, out: &mut Document) -> Result<(), AllocError>
     ensures { OnOk result (out.new ≡ out.old
         ++ flat_map (λ e. member_tokens (string_bytes e.0) (natural e.1)) numbers.now.entries) }

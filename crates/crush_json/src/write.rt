@@ -25,20 +25,14 @@ use crush_map::CrushMap;
 use std::alloc::{AllocError, Allocator, Global};
 use std::io::Write;
 
-/// How many bytes tell of a device, and of a bucket, as a rule of thumb.
+/// In bytes.
 const USUAL_DEVICE: usize = 84;
 
 const USUAL_BUCKET: usize = 192;
 
 /// Writes `{"history":H,"map":M}` and a line feed, or without a history `{"map":M}`: the map as
-/// `crushtool --dump` tells it, and an object for each entry of the history.
-///
-/// A rule that takes a class of a bucket's devices has the id that the bucket has for the class as
-/// its `item`, and no `item` where the bucket has none. Weights are in units, of which 65536 are
-/// 1.0.
-///
-/// The text is laid out in the given memory first. With [`WriteFault::OutOfMemory`] nothing is
-/// written, with [`WriteFault::Write`] a prefix of the text.
+/// `crushtool --dump` tells it, and an object for each entry of the history. A rule that takes a
+/// class of a bucket has as `item` the bucket's id for the class, if it has one.
 pub fn write_map_document<A: Allocator, W: Write>(
     alloc: Global,
     map: &CrushMap<A>,
@@ -58,8 +52,6 @@ pub fn write_map_document<A: Allocator, W: Write>(
     put(out, text.as_slice())
 }
 
-/// The whole text of a map and its history, for which memory is asked once, unless it is longer
-/// than usual.
 fn map_text<A: Allocator>(
     alloc: Global,
     map: &CrushMap<A>,
@@ -77,7 +69,6 @@ fn map_text<A: Allocator>(
     line_of(document)
 }
 
-/// A map and its history.
 #[tactic(auto, unfolding(crate::specs::Document::document))]
 fn push_document<A: Allocator>(
     alloc: Global,
@@ -95,7 +86,6 @@ fn push_document<A: Allocator>(
     out.end_object()
 }
 
-/// Opens a document: the history, where there is one, and the name of what follows.
 fn open(
     alloc: Global,
     history: Option<History<'_>>,
@@ -111,7 +101,6 @@ fn open(
     out.key(name)
 }
 
-/// The text of a document, and a line feed.
 fn line_of(document: Document) -> Result<Vec<u8>, AllocError>
     ensures { IfOk result (λ text. text.items ≡ print document ++ codes "\n") }
 {
@@ -120,7 +109,7 @@ fn line_of(document: Document) -> Result<Vec<u8>, AllocError>
     Ok(text)
 }
 
-/// A count of which a size is made: so large that no text has more.
+/// No text has more.
 fn bounded(count: usize) -> usize
     ensures { result ≤ 2 ^ 32 }
 {

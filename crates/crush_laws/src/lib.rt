@@ -1,9 +1,6 @@
-//! Laws of texts: each is one map or has one flaw, that of a map is a lawful document, and what is
-//! printed of a map, or written of a run, is read back. There is no code here but functions whose
-//! contract is a law.
-//!
-//! What words spell a document stands in `specs/Spells.antt`, what it means in `specs/Meaning.antt`,
-//! without a reader; `crush_text` reads, `crush_print` prints, and `crush_script` cuts jobs.
+//! Laws of texts: functions that run nothing, whose contract is the law. Each text is one map or
+//! has one flaw, a map's is a lawful document, and what is printed or written is read back.
+//! `specs/Spells.antt` and `specs/Meaning.antt` say what a document is.
 #![tactic(auto)]
 
 mod documents;

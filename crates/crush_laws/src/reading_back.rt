@@ -1,14 +1,12 @@
-//! What is printed of a map, and what is written of a run, is read back.
+//! What is printed or written is read back.
 
 ghost use Rattle.crush_laws.specs.ReadingBack.{CommentsBehindAreNoMatter, InOrderIsTheSame, PrintedTextsAreReadBack, ReadBackPrintsAlike, TypesAreReadInOrder};
 ghost use Rattle.crush_laws.specs.Written.{HistoryLinesAreComments, WhatIsWrittenIsReadBack, HistoryTextsAreReadBack};
 ghost use Rattle.crush_laws.specs.Written.{JobsStayLawful, JobTextsAreReadBack, JobMapsAreReadBack, JobTextsRunOn, PrintedMapsRunOn};
 
-/// What is printed of a map is the text of that map: whatever reads it as the grammar says gets the
-/// same table, no weight of which is adjusted, and the same setting but for the order of its types,
-/// which stand by ascending number. What is read so prints the same text again. It is read as well
-/// where lines of comments stand behind it; and with the sections of scripts behind that it is the
-/// job of that map. There is nothing to run: the contract is the law.
+/// What is printed of a map is read as the same table and setting, but that its types stand by
+/// ascending number, and prints the same text again: also with comments behind it, and with
+/// sections of scripts as the job of that map.
 pub fn what_is_printed_is_read_back()
     ensures read { PrintedTextsAreReadBack }
     ensures behind { CommentsBehindAreNoMatter }
@@ -18,12 +16,9 @@ pub fn what_is_printed_is_read_back()
     ensures again { ReadBackPrintsAlike }
 {}
 
-/// The lines of a history are comments, so that the printed map with them behind it is read as that
-/// map; and so the text of any history, whose calls have the forms that edits keep, is read back as
-/// the map after it. And whatever job bytes are, the map after its run is lawful, and what is written
-/// of it is read back as that map, with the lines of the history behind it and without; with the
-/// sections of further scripts behind them it is the job of that map. There is nothing to run: the
-/// contract is the law.
+/// The lines of a history are comments: the text of one whose calls have the forms that edits keep
+/// is read back as the map after it. After any job the map is lawful, and what is written is read
+/// back as it, also as the start of a further job.
 pub fn what_is_written_is_read_back()
     ensures comments { HistoryLinesAreComments }
     ensures read { WhatIsWrittenIsReadBack }

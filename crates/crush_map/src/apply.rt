@@ -23,11 +23,8 @@ use std::alloc::{Allocator, Global};
 impl<A: Allocator> CrushMap<A> {
     /// Makes the edit, or tells why it isn't made.
     ///
-    /// Where several refusals hold, the one of least number is told. Out of memory is told only of
-    /// an edit that takes memory, where nothing speaks against it and the map would be another after
-    /// it: so never of new weights, of an exchange or of a removal, also of a class. After an Err
-    /// the map is as before, also its room, as it is where the edit changes nothing. New weights
-    /// leave each place the room that it has, whatever is answered.
+    /// Of several refusals the one of least number is answered, and out of memory only where
+    /// nothing refuses an edit that would change something.
     pub fn apply(&mut self, asked: &Edit) -> Result<Done, EditFault>
     where
         A: Clone,
@@ -51,7 +48,7 @@ impl<A: Allocator> CrushMap<A> {
 
     /// The name of an edit that its refusal is about, where this map has refused it: of a location
     /// the type or the bucket that is at fault, of two names the one, and else the item that is to
-    /// be edited. It takes no memory.
+    /// be edited.
     ///
     /// An edit of a batch is refused by the map that the edits before it made, and not by this one.
     pub fn blamed<'a>(&self, asked: &'a Edit, refusal: Refusal) -> &'a Name<Global>
@@ -64,13 +61,7 @@ impl<A: Allocator> CrushMap<A> {
     /// Makes the edits one after the other, each on what the ones before it made, or none of them:
     /// at most 65,536.
     ///
-    /// Where one is refused, its index, from 0, and its refusal are told, and the map stands for the
-    /// tables for which it stood before the first, with the room that it had. Out of memory may be
-    /// told of a batch of which a later edit would be refused, and has changed nothing.
-    ///
-    /// Where memory is taken for none of them, and all but the last give single devices another
-    /// weight, they are made in place, and taken back where one is refused. Other batches of several
-    /// edits are made on a copy of the map's hierarchy.
+    /// A refusal comes with the index of its edit, from 0; out of memory may hide a later one.
     pub fn apply_batch(&mut self, edits: &[Edit]) -> Result<Dones, BatchFault>
     where
         A: Clone,

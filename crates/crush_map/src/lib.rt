@@ -1,9 +1,7 @@
-//! The map: its setting and its hierarchy of buckets and devices, and the edits that
-//! `ceph osd crush` makes.
+//! The map: its setting, its hierarchy of buckets and devices, and the edits of `ceph osd crush`.
 //!
-//! [`CrushMap`] is looked at and edited here. How a text becomes one stands in `crush_builder`, by
-//! which `crush_text` reads; `crush_print` writes one as a text again, and `crush_editor` shares one
-//! among operators.
+//! `crush_text` reads a [`CrushMap`], `crush_print` writes one, and `crush_editor` shares one among
+//! operators.
 #![tactic(auto)]
 
 mod apply;

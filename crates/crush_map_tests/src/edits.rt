@@ -1,4 +1,4 @@
-//! Locations up to their limit, and copies of each edit, in the machine's memory.
+//! Locations up to their limit, and copies of each edit.
 
 use crush_edits::*;
 use crush_units::limits::MOST_PAIRS;
@@ -6,13 +6,11 @@ use crush_units::{DeviceId, Name, Weight};
 use std::alloc::Global;
 use std::process::Abort;
 
-/// Whether the location has two pairs, a host's and that of the bucket default.
 fn leads_to_a_host(at: &Location) -> bool {
     let pairs = at.pairs();
     pairs.len() == 2 && pairs[0].kind.is(b"host") && pairs[1].name.is(b"default")
 }
 
-/// Puts two pairs into the location, and answers whether it then has them and takes no bad name.
 fn takes_two(rt: &impl Abort, at: &mut Location) -> bool {
     at.push(b"host", b"h1").expect(rt, "a pair");
     at.push(b"root", b"default").expect(rt, "a pair");
@@ -21,7 +19,6 @@ fn takes_two(rt: &impl Abort, at: &mut Location) -> bool {
         && leads_to_a_host(at)
 }
 
-/// Fills the location of two pairs up, and answers whether it then takes no further one.
 fn is_full(rt: &impl Abort, at: &mut Location) -> bool {
     for _ in 2..MOST_PAIRS {
         at.push(b"host", b"h1").expect(rt, "a pair");
@@ -39,19 +36,16 @@ fn locations(rt: HostRuntime) {
     assert!(rt; is_right);
 }
 
-/// A name in the machine's memory.
 fn name(rt: &impl Abort, alloc: Global, text: &str) -> Name<Global> {
     Name::read(alloc, text.as_bytes()).expect(rt, text)
 }
 
-/// The location of the host h1.
 fn at_h1(rt: &impl Abort, alloc: Global) -> Location {
     let mut at = Location::new(alloc);
     at.push(b"host", b"h1").expect(rt, "a pair");
     at
 }
 
-/// The edits that put device 3 at the host h1.
 fn placing_edits(rt: &impl Abort, alloc: Global) -> [Edit; 3] {
     let device = DeviceId::new(3).expect(rt, "a device");
     let weight = Weight::from_units(65536);
@@ -77,7 +71,6 @@ fn placing_edits(rt: &impl Abort, alloc: Global) -> [Edit; 3] {
     ]
 }
 
-/// An edit of each other kind.
 fn other_edits(rt: &impl Abort, alloc: Global) -> [Edit; 9] {
     let weight = Weight::from_units(65536);
     [
@@ -118,7 +111,6 @@ fn other_edits(rt: &impl Abort, alloc: Global) -> [Edit; 9] {
     ]
 }
 
-/// Asserts that each of the edits can be copied.
 fn assert_copied(rt: &impl Abort, alloc: Global, edits: &[Edit]) {
     for edit in edits {
         let copy = edit.try_copy(alloc).expect(rt, "memory");
@@ -136,7 +128,6 @@ fn copies(rt: HostRuntime) {
     drop(others);
 }
 
-/// Whether a refusal has the name, the number and the error.
 fn is_told(refusal: Refusal, name: &str, number: u8, error: u8) -> bool {
     refusal.name() == name && refusal.number() == number && refusal.error() == error
 }

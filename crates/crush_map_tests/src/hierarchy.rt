@@ -1,5 +1,4 @@
-//! Each call once: of an index, on names, places and ids one by one and on all three as items come,
-//! change and go, and of a hierarchy, over helpers that build one item by item.
+//! Each call of an index and of a hierarchy once.
 
 mod asked;
 mod asked_changes;

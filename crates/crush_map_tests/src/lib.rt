@@ -1,10 +1,6 @@
-//! Tests of a map and of all below it, by the crates that they test.
-//!
-//! `units` and `edits` are of `crush_units` and `crush_edits`: ids, weights and names, locations and
-//! edits. `tree` is of forests that are built item by item, each call of one, and their limits;
-//! `hierarchy` of a hierarchy and of its index, each call of one, on items that are put in one by one.
-//! `map` is of `crush_map` and `crush_builder`: the example map built, told and edited, in the machine's
-//! memory and in small heaps.
+//! Tests of a map and of all below it: `units` and `edits` are of `crush_units` and `crush_edits`,
+//! `tree` of forests, `hierarchy` of a hierarchy and its index, `map` of `crush_map` and
+//! `crush_builder`.
 #![tactic(auto)]
 
 #[cfg(test)]

@@ -1,9 +1,6 @@
-//! The example map made statement by statement, in the machine's memory and in small heaps, what it
-//! tells, and each edit of it once, for which memory runs out first. What edits answer beside is in
-//! `examples/worked`, whose jobs have it with the whole map after them.
-//!
-//! What owns a map, a builder or an edit lets it go by `drop`: its parts are then taken apart in one
-//! place, and not in the proof of each function that owns one.
+//! The example map, its building and its edits, in the machine's memory and in small heaps. The
+//! jobs of `examples/worked` have what edits answer beside. An owner of a map, a builder or an edit
+//! ends it by `drop`, so that proofs take its parts apart in one place.
 
 mod asking;
 mod blaming;

@@ -1,4 +1,4 @@
-//! Tests by subject, over helpers that build a forest item by item.
+//! Forests that are built item by item.
 
 mod alike;
 mod asks;

@@ -1,4 +1,4 @@
-//! Limits, ids and algorithms at theirs, and the worked examples of weights and names.
+//! Limits, ids and algorithms, and the worked examples of weights and names.
 
 use crush_units::limits::*;
 use crush_units::*;
@@ -50,7 +50,6 @@ const _: () = prove!(MOST_ENTRIES == 65_536);
 
 const _: () = prove!(LONGEST_JOB == 16 << 20);
 
-/// What a device's id of the number tells, where it is one.
 fn device_number(number: i32) -> Option<u32> {
     let id = DeviceId::new(number)?;
     Some(id.number())
@@ -69,7 +68,6 @@ fn device_ids(rt: HostRuntime) {
     );
 }
 
-/// What a bucket's id of the number tells, and its distance below 0, where it is one.
 fn bucket_number(number: i32) -> Option<(i32, u32)> {
     let id = BucketId::new(number)?;
     Some((id.number(), id.distance()))
@@ -90,7 +88,6 @@ fn bucket_ids(rt: HostRuntime) {
     );
 }
 
-/// Whether the items tell their numbers, and are two.
 fn are_two_items(device: &ItemId, bucket: &ItemId) -> bool {
     device.number() == 1
         && bucket.number() == -1
@@ -108,7 +105,6 @@ fn item_ids(rt: HostRuntime) {
     );
 }
 
-/// Whether an algorithm is read as itself by the name that it has.
 fn is_named(alg: Alg, name: &str) -> bool {
     alg.name() == name && alg.is_same(alg) && Alg::read(name.as_bytes()) == Some(alg)
 }
@@ -124,7 +120,6 @@ fn algorithms(rt: HostRuntime) {
     );
 }
 
-/// Whether the name tells its text, and is told from another.
 fn is_osd_0<A: Allocator>(name: &Name<A>) -> bool {
     name.as_str() == "osd.0"
         && name.as_bytes() == b"osd.0".as_slice()
@@ -142,7 +137,6 @@ fn names(rt: HostRuntime) {
     assert!(rt; are_names && Name::read(rt.alloc(), &[b'Z'; 255]).is_ok());
 }
 
-/// Whether the bytes are no name, by this fault with its number.
 fn is_refused(rt: &impl AllocGlobal, bytes: &[u8], fault: NameFault, number: u8) -> bool {
     let told = Name::read(rt.alloc(), bytes).err();
     !is_name(bytes) && told == Some(fault) && fault.number() == number
@@ -159,7 +153,6 @@ fn names_refused(rt: HostRuntime) {
     );
 }
 
-/// Whether of the bytes each may stand in a name, or, where `may` is false, none.
 fn may_stand(bytes: &[u8], may: bool) -> bool {
     for byte in bytes {
         if is_name_byte(*byte) != may {
@@ -174,7 +167,7 @@ fn bytes_of_names(rt: HostRuntime) {
     assert!(rt; may_stand(b"azAZ09-_.", true) && may_stand(b"@[`{/:,+ ", false));
 }
 
-/// Texts of weights with their units and what these print as.
+/// A text, its units, and how these are printed.
 const WEIGHTS: &[(&str, u32, &str)] = &[
     ("0", 0, "0.00000"),
     ("1", 65536, "1.00000"),
@@ -191,7 +184,6 @@ const WEIGHTS: &[(&str, u32, &str)] = &[
     ("0000000001", 65536, "1.00000"),
 ];
 
-/// Whether the text is read as the units, and these as they are printed.
 fn is_weight(text: &str, units: u32, printed: &str) -> bool {
     let weight = Weight::from_units(units);
     Weight::read(text) == Ok(weight)
@@ -215,7 +207,6 @@ fn weights(rt: HostRuntime) {
     printed_is_read_back();
 }
 
-/// Texts that are no weights by their form.
 const NO_WEIGHTS: &[&str] = &[
     "",
     ".",
@@ -230,10 +221,8 @@ const NO_WEIGHTS: &[&str] = &[
     "0.0000000000000000001",
 ];
 
-/// Texts of weights that are too large.
 const TOO_LARGE: &[&str] = &["65536", "65535.999999", "9999999999"];
 
-/// Whether the texts are no weights, by this fault.
 fn are_no_weights(texts: &[&str], fault: WeightFault) -> bool {
     for text in texts {
         if Weight::read(*text) != Err(fault) {

@@ -28,14 +28,12 @@ use std::alloc::{AllocError, Allocator, Global};
 /// How many buckets that both maps have differ in what no command sets.
 #[derive(Clone, Copy, Debug, PartialEq, Eq)]
 pub struct Counts {
-    /// In their ids.
     pub ids: usize,
-    /// In their class ids.
     pub class_ids: usize,
 }
 
-/// Counts the buckets that both maps have, by their names, whose ids or class ids differ: with a name
-/// those that stand at or below the one of this name in either map. An `Err` says that memory ran out.
+/// Counts the buckets that both maps have, by their names, whose ids or class ids differ: with a
+/// name those that stand at or below the one of this name in either map.
 pub fn count_aside<A: Allocator, B: Allocator>(
     alloc: Global,
     under: Option<&str>,
@@ -61,7 +59,6 @@ pub fn count_aside<A: Allocator, B: Allocator>(
     })
 }
 
-/// A count with one more, where the test says so.
 fn more(count: usize, test: bool) -> usize
     requires { count + 1 < 2 ^ 64 }
     ensures sum { result ≡ count + one_if test }
@@ -70,7 +67,6 @@ fn more(count: usize, test: bool) -> usize
     if test { count + 1 } else { count }
 }
 
-/// How many of these items have another id in the map.
 fn count_ids<A: Allocator, B: Allocator>(
     maps: &Comparison<'_, A, B>,
     steps: &[Step<'_, B>],
@@ -86,7 +82,6 @@ fn count_ids<A: Allocator, B: Allocator>(
     count
 }
 
-/// How many of these items have other class ids in the map.
 fn count_class_ids<A: Allocator, B: Allocator>(
     maps: &Comparison<'_, A, B>,
     steps: &[Step<'_, B>],
@@ -102,7 +97,6 @@ fn count_class_ids<A: Allocator, B: Allocator>(
     count
 }
 
-/// Whether the map has an item of this one's name with another id, and either stands in the part.
 fn has_aside_id<A: Allocator, B: Allocator>(maps: &Comparison<'_, A, B>, step: &Step<'_, B>) -> bool
     ensures { (n : Option (List ℕ)) (t u : List Row) → IsSide n t maps.now.old
         → IsSide n u maps.now.new → result
@@ -111,7 +105,6 @@ fn has_aside_id<A: Allocator, B: Allocator>(maps: &Comparison<'_, A, B>, step: &
     has_other_id(maps, step) && stands_in_part(maps, step)
 }
 
-/// Whether the map has an item of this one's name with other class ids, and either stands in the part.
 fn has_aside_class_ids<A: Allocator, B: Allocator>(
     maps: &Comparison<'_, A, B>,
     step: &Step<'_, B>,
@@ -123,7 +116,6 @@ fn has_aside_class_ids<A: Allocator, B: Allocator>(
     has_other_class_ids(maps, step) && stands_in_part(maps, step)
 }
 
-/// Whether an item of the wanted map stands in the part in either map.
 fn stands_in_part<A: Allocator, B: Allocator>(
     maps: &Comparison<'_, A, B>,
     step: &Step<'_, B>,
@@ -137,8 +129,7 @@ fn stands_in_part<A: Allocator, B: Allocator>(
     is_of_part(maps, &here, &there)
 }
 
-/// Whether the map has an item of this one's name with another id. Two devices are one by their ids,
-/// so that no device has.
+/// Never of devices, which are one by their ids.
 fn has_other_id<A: Allocator, B: Allocator>(maps: &Comparison<'_, A, B>, step: &Step<'_, B>) -> bool
     ensures { (n : Option (List ℕ)) (t u : List Row) → IsSide n t maps.now.old
         → IsSide n u maps.now.new → result ≡ other_id t u (step_data step.now) }
@@ -149,7 +140,6 @@ fn has_other_id<A: Allocator, B: Allocator>(maps: &Comparison<'_, A, B>, step: &
     }
 }
 
-/// Whether the map has an item of this one's name with another id.
 fn has_another_id<A: Allocator>(side: &Side<'_, A>, there: &Seen<'_>) -> bool
     ensures { (n : Option (List ℕ)) (t : List Row) → IsSide n t side.now
         → result ≡ has_other_id (counterpart ById t (seen_data there.now)) (seen_data there.now) }
@@ -160,7 +150,7 @@ fn has_another_id<A: Allocator>(side: &Side<'_, A>, there: &Seen<'_>) -> bool
     }
 }
 
-/// Whether the map has an item of this one's name with other class ids, which no device has.
+/// No device has class ids.
 fn has_other_class_ids<A: Allocator, B: Allocator>(
     maps: &Comparison<'_, A, B>,
     step: &Step<'_, B>,
@@ -174,7 +164,6 @@ fn has_other_class_ids<A: Allocator, B: Allocator>(
     }
 }
 
-/// Whether the map has an item of this one's name with other class ids.
 fn has_another_class_id<A: Allocator, B: Allocator>(
     maps: &Comparison<'_, A, B>,
     there: &Seen<'_>,
@@ -202,7 +191,6 @@ pub fn push_aside(counts: Counts, lines: &mut Vec<u8>) -> Result<(), AllocError>
     push_count(b"class ids of ".as_slice(), counts.class_ids, lines)
 }
 
-/// A line, where there are any.
 fn push_count(what: &[u8], count: usize, lines: &mut Vec<u8>) -> Result<(), AllocError>
     ensures { OnOk result (lines.new.items ≡ lines.old.items ++ aside_line what.now count) }
 {

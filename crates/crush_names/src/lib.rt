@@ -1,9 +1,8 @@
-//! Items of two maps that are told apart by their names, and what differs between the two.
+//! Items of two maps, matched by their names, and what differs between the two.
 //!
-//! [`stays`] tells what differs between a map and the one that is wanted, [`stays_part`] of a part of
-//! them, and [`count_aside`] counts what differs and is no difference: ids, which no command sets.
-//! [`write_since_by_name`] prints what has changed from one map to another, and
-//! [`write_since_by_name_part`] of a part of them.
+//! [`stays`] lists what differs from a wanted map, [`count_aside`] counts differing ids, which no
+//! command sets, and [`write_since_by_name`] prints what has changed. An `AllocError` says that
+//! memory ran out.
 #![tactic(auto)]
 
 mod aside;

@@ -1,4 +1,4 @@
-//! Items of two maps that are told apart by their names.
+//! Items of two maps, matched by their names.
 
 ghost use Rattle.std.specs.Prelude.{◌≡◌, ℕ, List, Option, is_some};
 ghost use Rattle.std.specs.Option.{option_map};
@@ -19,13 +19,11 @@ use std::alloc::Allocator;
 /// By what two devices of one name are one.
 #[derive(Clone, Copy, Debug, PartialEq, Eq)]
 pub(crate) enum Devices {
-    /// By their ids, as in maps of one cluster.
+    /// As in maps of one cluster.
     ById,
-    /// By their names alone.
     ByName,
 }
 
-/// Whether two devices of one name are one.
 fn is_one_device(devices: Devices, here: DeviceId, there: DeviceId) -> bool
     ensures { result ≡ is_one_device devices here there }
 {
@@ -35,7 +33,6 @@ fn is_one_device(devices: Devices, here: DeviceId, there: DeviceId) -> bool
     }
 }
 
-/// Whether two items of one name are one: two buckets, or two devices that are one.
 fn are_one(devices: Devices, here: &ItemId, there: &ItemId) -> bool
     ensures { result ≡ are_one devices here.now there.now }
 {
@@ -51,7 +48,7 @@ fn are_one(devices: Devices, here: &ItemId, there: &ItemId) -> bool
     }
 }
 
-/// Whether an item of the map is this one, or below it.
+/// This one, or below it.
 fn is_at<A: Allocator>(map: &CrushMap<A>, top: &ItemId, id: ItemId) -> bool
     ensures { (t : List Row) → Stands map.now.forest t → result ≡ is_at t top.now id }
 {
@@ -76,7 +73,7 @@ pub fn is_in<A: Allocator>(map: &CrushMap<A>, under: Option<&str>, id: ItemId) -
     }
 }
 
-/// Of an item of another map the one of its name here, if the two are one.
+/// The item here of the name of another map's, if the two are one.
 #[tactic(auto, unfolding(crate::specs::Named::counterpart))]
 pub(crate) fn counterpart<'a, A: Allocator>(
     devices: Devices,
@@ -93,7 +90,6 @@ pub(crate) fn counterpart<'a, A: Allocator>(
     if is_one { side.look_up(id) } else { None }
 }
 
-/// Whether the map has an item of this one's name, and the two are one.
 #[tactic(auto, unfolding(crate::specs::Named::counterpart))]
 pub(crate) fn has_counterpart<A: Allocator>(
     devices: Devices,

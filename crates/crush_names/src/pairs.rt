@@ -1,4 +1,4 @@
-//! What two maps have of each name, and what is told of it.
+//! What two maps have of each name, and the lines of it.
 
 ghost use Rattle.std.specs.Prelude.{◌≡◌, ◌||◌, [], ◌++◌, ℕ, List, None, Option, OnOk, flat_map, if◌then◌else◌};
 ghost use Rattle.std.specs.Option.{option_map};
@@ -20,31 +20,24 @@ use crush_since::Seen;
 use crush_view::{Step, walk};
 use std::alloc::{AllocError, Allocator, Global};
 
-/// What is told of two maps.
+/// What the lines say of two maps.
 #[derive(Clone, Copy, Debug)]
 pub(crate) enum Telling {
-    /// What stays between a map and the one that is wanted.
+    /// What stays between a map and the wanted one.
     Stays,
-    /// What has changed from one map to another.
     Changes,
 }
 
-/// Two maps whose items are told apart by their names.
+/// Two maps whose items are matched by their names.
 #[derive(Drop)]
 pub(crate) struct Comparison<'a, A: Allocator, B: Allocator> {
-    /// What is told of them.
     pub telling: Telling,
-    /// By what two devices of one name are one.
     pub devices: Devices,
-    /// The map before.
     pub old: Side<'a, A>,
-    /// The map after.
     pub new: Side<'a, B>,
 }
 
-/// What there is to tell of each name: of each item of the new map, in the order of its tree, with the
-/// one of its name in the old; and behind the last of them, in the order of its own, of those that the
-/// old map alone has.
+/// Of the new map's items, in the order of its tree, and then of those that the old map alone has.
 pub(crate) fn push_told<A: Allocator, B: Allocator>(
     alloc: Global,
     maps: &Comparison<'_, A, B>,
@@ -60,7 +53,6 @@ pub(crate) fn push_told<A: Allocator, B: Allocator>(
     push_old(alloc, maps, lines)
 }
 
-/// What there is to tell of the items of the new map.
 fn push_new<A: Allocator, B: Allocator>(
     alloc: Global,
     maps: &Comparison<'_, A, B>,
@@ -76,7 +68,6 @@ fn push_new<A: Allocator, B: Allocator>(
     push_each_new(alloc, maps, steps.as_slice(), lines)
 }
 
-/// What there is to tell of these items of the new map, each looked up by its name in the old.
 fn push_each_new<'a, A: Allocator, B: Allocator>(
     alloc: Global,
     maps: &Comparison<'a, A, B>,
@@ -98,7 +89,7 @@ fn push_each_new<'a, A: Allocator, B: Allocator>(
     Ok(())
 }
 
-/// Whether an item of the new map stands in the part, or stood there as this item of the old.
+/// It stands in the part, or stood there as `before`.
 pub(crate) fn is_of_part<A: Allocator, B: Allocator>(
     maps: &Comparison<'_, A, B>,
     before: &Option<Seen<'_>>,
@@ -112,7 +103,6 @@ pub(crate) fn is_of_part<A: Allocator, B: Allocator>(
     maps.new.has(after.view.id) || is_found_in(&maps.old, before)
 }
 
-/// Whether an item that was found is of the part.
 fn is_found_in<A: Allocator>(side: &Side<'_, A>, item: &Option<Seen<'_>>) -> bool
     ensures { (n : Option (List ℕ)) (t : List Row) → IsSide n t side.now
         → result ≡ is_found_in n t (option_map seen_data item.now) }
@@ -123,7 +113,6 @@ fn is_found_in<A: Allocator>(side: &Side<'_, A>, item: &Option<Seen<'_>>) -> boo
     }
 }
 
-/// What there is to tell of the items that the old map alone has.
 fn push_old<A: Allocator, B: Allocator>(
     alloc: Global,
     maps: &Comparison<'_, A, B>,
@@ -139,7 +128,6 @@ fn push_old<A: Allocator, B: Allocator>(
     push_each_old(alloc, maps, steps.as_slice(), lines)
 }
 
-/// What there is to tell of those of these items that the old map alone has.
 fn push_each_old<'a, A: Allocator, B: Allocator>(
     alloc: Global,
     maps: &Comparison<'a, A, B>,
@@ -160,7 +148,6 @@ fn push_each_old<'a, A: Allocator, B: Allocator>(
     Ok(())
 }
 
-/// Whether an item of the old map is of the part, and the new map has it no longer.
 fn is_gone<A: Allocator, B: Allocator>(maps: &Comparison<'_, A, B>, item: &Seen<'_>) -> bool
     ensures { (n : Option (List ℕ)) (t u : List Row) → IsSide n t maps.now.old
         → IsSide n u maps.now.new → result
@@ -170,7 +157,6 @@ fn is_gone<A: Allocator, B: Allocator>(maps: &Comparison<'_, A, B>, item: &Seen<
     maps.old.has(item.view.id) && !has_counterpart(maps.devices, &maps.new, &item.view)
 }
 
-/// What there is to tell of an item, if it is told.
 fn push_if<A: Allocator, B: Allocator>(
     alloc: Global,
     is_told: bool,
@@ -193,7 +179,6 @@ fn push_if<A: Allocator, B: Allocator>(
     push_pair(alloc, maps.telling, old, new, before, after, lines)
 }
 
-/// What there is to tell of an item.
 fn push_pair(
     alloc: Global,
     telling: Telling,
@@ -215,7 +200,7 @@ fn push_pair(
     }
 }
 
-/// The name of an item, after, or before of what is gone.
+/// The name after, or before of what is gone.
 pub(crate) fn pair_name<'a>(before: &Option<Seen<'a>>, after: &Option<Seen<'a>>) -> &'a [u8]
     ensures { result.now
         ≡ pair_name (option_map seen_data before.now) (option_map seen_data after.now) }

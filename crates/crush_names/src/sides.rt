@@ -20,21 +20,19 @@ use crush_units::{BucketId, DeviceId, ItemId};
 use crush_view::Step;
 use std::alloc::{AllocError, Allocator, Global};
 
-/// Which items of a map are of the part that is told.
+/// Which items of a map are in the part.
 #[derive(Drop)]
 pub(crate) enum Part {
-    /// All.
     Whole,
-    /// None: no item has the name.
+    /// No item has the name.
     Nothing,
-    /// This device.
     Device(DeviceId),
-    /// This bucket, and what is below it, whose ids these are.
+    /// With the ids of what is below it.
     Bucket(BucketId, Vec<ItemId>),
 }
 
 impl Part {
-    /// The item of this name and what is below it, without a name everything.
+    /// Without a name, everything.
     fn of<A: Allocator>(
         alloc: Global,
         map: &CrushMap<A>,
@@ -49,7 +47,6 @@ impl Part {
         }
     }
 
-    /// The item of this name and what is below it.
     fn called<A: Allocator>(
         alloc: Global,
         map: &CrushMap<A>,
@@ -64,7 +61,6 @@ impl Part {
         }
     }
 
-    /// The item of this id and what is below it.
     fn at<A: Allocator>(alloc: Global, map: &CrushMap<A>, top: &ItemId) -> Result<Part, AllocError>
         ensures { IfOk result (λ part. (t : List Row) → Stands map.now.forest t
             → IsPartAt top.now t part) }
@@ -78,7 +74,6 @@ impl Part {
         }
     }
 
-    /// Whether an item is of the part.
     fn has(&self, id: ItemId) -> bool
         ensures { (n : Option (List ℕ)) (t : List Row) → IsPart n t self.now
             → result ≡ is_in n t id }
@@ -92,7 +87,6 @@ impl Part {
     }
 }
 
-/// Whether an item is this bucket, or one of those below it.
 fn is_in_bucket(bucket: BucketId, below: &[ItemId], id: &ItemId) -> bool
     ensures { (t : List Row) → AreBelow t bucket below.now
         → result ≡ is_at t (Bucket bucket) id.now }
@@ -100,20 +94,14 @@ fn is_in_bucket(bucket: BucketId, below: &[ItemId], id: &ItemId) -> bool
     ItemId::Bucket(bucket).is_same(*id) || is_among(below, *id)
 }
 
-/// One of two maps that are compared.
 #[derive(Drop)]
 pub(crate) struct Side<'a, A: Allocator> {
-    /// The map, which knows its items by their names.
     pub map: &'a CrushMap<A>,
-    /// Its items by their ids.
     items: Listing<'a, A>,
-    /// Those that are told.
     part: Part,
 }
 
 impl<'a, A: Allocator> Side<'a, A> {
-    /// The map with its items, of which those are told that are, or stand below, the item of this
-    /// name; without a name all. An `Err` says that memory ran out.
     pub(crate) fn of(
         alloc: Global,
         map: &'a CrushMap<A>,
@@ -128,7 +116,6 @@ impl<'a, A: Allocator> Side<'a, A> {
         Ok(Side { map, items, part })
     }
 
-    /// Whether an item is of the part that is told.
     pub(crate) fn has(&self, id: ItemId) -> bool
         ensures { (n : Option (List ℕ)) (t : List Row) → IsSide n t self.now
             → result ≡ is_in n t id }
@@ -136,7 +123,6 @@ impl<'a, A: Allocator> Side<'a, A> {
         self.part.has(id)
     }
 
-    /// The id of the item of this name.
     pub(crate) fn locate(&self, name: &str) -> Option<ItemId>
         ensures { (n : Option (List ℕ)) (t : List Row) → IsSide n t self.now
             → result ≡ id_named t name.now }
@@ -144,7 +130,6 @@ impl<'a, A: Allocator> Side<'a, A> {
         self.map.locate(name)
     }
 
-    /// The item of this id.
     pub(crate) fn look_up(&self, id: ItemId) -> Option<Seen<'a>>
         ensures { (n : Option (List ℕ)) (t : List Row) → IsSide n t self.now
             → option_map seen_data result ≡ item_of t id }
@@ -152,7 +137,6 @@ impl<'a, A: Allocator> Side<'a, A> {
         self.items.look_up(id)
     }
 
-    /// The class ids of the item of this id, if it is a bucket.
     pub(crate) fn class_ids_of(&self, id: ItemId) -> &'a [ShadowId<A>]
         ensures { (n : Option (List ℕ)) (t : List Row) → IsSide n t self.now
             → each shadow_data result.now ≡ own_class_ids t id }
@@ -160,7 +144,6 @@ impl<'a, A: Allocator> Side<'a, A> {
         self.items.class_ids_of(id)
     }
 
-    /// The item of a step of the map's tree.
     pub(crate) fn step_seen(&self, step: &Step<'a, A>) -> Seen<'a>
         ensures { (n : Option (List ℕ)) (t : List Row) → IsSide n t self.now
             → seen_data result ≡ with_holder t (step_data step.now).item }

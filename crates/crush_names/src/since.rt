@@ -1,4 +1,5 @@
-//! What has changed from one map to another whose items are told apart by their names, as text.
+//! What has changed between two maps whose items are matched by names, laid out in memory before it
+//! is written.
 
 ghost use Rattle.std.specs.Prelude.{◌≡◌, ◌++◌, List, Some, Err, OnOk, IfOk};
 ghost use Rattle.std.specs.Io.KnownBytes.{Keeps};
@@ -24,14 +25,11 @@ use crush_since::{push_counts, push_totals};
 use std::alloc::{AllocError, Allocator, Global};
 use std::io::Write;
 
-/// Writes what has changed from the old map to the new, whose items are told apart by their names: a
-/// line for each item that differs, in the order of the new map's tree, and behind the last of them
-/// for those that the old map alone has, in the order of its own; a line each where tunables, types
-/// and rules differ, a bucket that a rule takes by its name; the totals; and how many items differ in
-/// which way. Ids aren't told.
-///
-/// The text is laid out in the given memory first. With [`WriteFault::OutOfMemory`] nothing is
-/// written, with [`WriteFault::Write`] a prefix of the text.
+/// Writes what has changed from the old map to the new, whose items are told apart by their names:
+/// a line for each item that differs, in the order of the new map's tree, and behind the last of
+/// them for those that the old map alone has, in the order of its own; a line each where tunables,
+/// types and rules differ, a bucket that a rule takes by its name; the totals; and how many items
+/// differ in which way. Ids are left out.
 pub fn write_since_by_name<A: Allocator, B: Allocator, W: Write>(
     alloc: Global,
     old: &CrushMap<A>,
@@ -51,13 +49,10 @@ pub fn write_since_by_name<A: Allocator, B: Allocator, W: Write>(
     }
 }
 
-/// Writes what has changed of a part of two maps whose items are told apart by their names: a line for
-/// each item that stands or stood at or below the one of this name and differs, in the order of the
-/// new map's tree, and behind the last of them for those that the old map alone has, in the order of
-/// its own. Ids aren't told, nor settings, totals and counts. Nothing where none differs.
-///
-/// The text is laid out in the given memory first. With [`WriteFault::OutOfMemory`] nothing is
-/// written, with [`WriteFault::Write`] a prefix of the text.
+/// Writes what has changed of a part of two maps whose items are told apart by their names: a line
+/// for each item that stands or stood at or below the one of this name and differs, in the order of
+/// the new map's tree, and behind the last of them for those that the old map alone has, in the
+/// order of its own. Ids, settings, totals and counts are left out.
 pub fn write_since_by_name_part<A: Allocator, B: Allocator, W: Write>(
     alloc: Global,
     old: &CrushMap<A>,
@@ -78,8 +73,7 @@ pub fn write_since_by_name_part<A: Allocator, B: Allocator, W: Write>(
     }
 }
 
-/// Whether an item of the part is told, or without a name of one any item or setting. An `Err` says
-/// that memory ran out.
+/// Whether an item of the part is told, or without a name of one any item or setting.
 pub fn is_changed_by_name<A: Allocator, B: Allocator>(
     alloc: Global,
     under: Option<&str>,
@@ -96,7 +90,6 @@ pub fn is_changed_by_name<A: Allocator, B: Allocator>(
     Ok(!text.is_empty())
 }
 
-/// The whole text.
 fn push_text<A: Allocator, B: Allocator>(
     alloc: Global,
     old: &CrushMap<A>,
@@ -113,7 +106,6 @@ fn push_text<A: Allocator, B: Allocator>(
     push_counts(&tally, out)
 }
 
-/// The items of a part, or without a name all and the settings.
 fn push_part<A: Allocator, B: Allocator>(
     alloc: Global,
     under: Option<&str>,
@@ -130,7 +122,6 @@ fn push_part<A: Allocator, B: Allocator>(
     push_beside(under, old, new, out)
 }
 
-/// The items of a part.
 fn push_items<A: Allocator, B: Allocator>(
     alloc: Global,
     under: Option<&str>,

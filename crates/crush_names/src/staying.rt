@@ -1,4 +1,4 @@
-//! What differs between a map and the one that is wanted, told by names.
+//! What differs, by names, between a map and the wanted one.
 
 ghost use Rattle.std.specs.Prelude.{◌≡◌, ◌++◌, List, OnOk, IfOk};
 ghost use Rattle.std.specs.Option.{option_map};
@@ -24,11 +24,9 @@ use rules::push_rules;
 use std::alloc::{AllocError, Allocator, Global};
 
 /// What differs, by names, between a map and the one that is wanted: a line for each item of the
-/// wanted map that the map lacks or has otherwise, in the order of its tree; one for each that isn't
-/// wanted, in the order of the map's; and one each where tunables, types and rules differ.
-///
-/// Weights that are at most one unit apart are no difference, nor are ids. An `Err` says that memory
-/// ran out.
+/// wanted map that the map lacks or has otherwise, in the order of its tree; one for each that
+/// isn't wanted, in the order of the map's; and one each where tunables, types and rules differ.
+/// Weights at most one unit apart are no difference, nor are ids.
 pub fn stays<A: Allocator, B: Allocator>(
     alloc: Global,
     map: &CrushMap<A>,
@@ -42,8 +40,7 @@ pub fn stays<A: Allocator, B: Allocator>(
 }
 
 /// What differs so of a part: of the items that stand in the map, or in the wanted one, at or below
-/// the one of this name, and of no settings. Without a name it is what differs of everything, as
-/// [`stays`] tells it. An `Err` says that memory ran out.
+/// the one of this name, and of no settings. Without a name it is [`stays`].
 pub fn stays_part<A: Allocator, B: Allocator>(
     alloc: Global,
     under: Option<&str>,
@@ -61,7 +58,6 @@ pub fn stays_part<A: Allocator, B: Allocator>(
     Ok(lines)
 }
 
-/// The lines of the items.
 fn push_lines<A: Allocator, B: Allocator>(
     alloc: Global,
     under: Option<&str>,
@@ -85,7 +81,6 @@ fn push_lines<A: Allocator, B: Allocator>(
     push_told(alloc, &maps, lines)
 }
 
-/// The line of an item, by what either map has of its name.
 pub(crate) fn push_stay_pair(
     alloc: Global,
     map: &Setting,
@@ -105,7 +100,6 @@ pub(crate) fn push_stay_pair(
     push_line(pair_name(here, there), parts.as_slice(), lines)
 }
 
-/// What there is to tell of an item, each part behind a semicolon.
 fn push_parts(
     alloc: Global,
     map: &Setting,
@@ -126,8 +120,6 @@ fn push_parts(
     }
 }
 
-/// What there is to tell of a wanted item, by what the map has of its name, each part behind a
-/// semicolon.
 fn push_wanted_parts(
     alloc: Global,
     map: &Setting,
@@ -145,7 +137,6 @@ fn push_wanted_parts(
     }
 }
 
-/// What there is to tell of an item that both maps have.
 fn push_differing(
     alloc: Global,
     map: &Setting,
@@ -165,7 +156,7 @@ fn push_differing(
     Ok(())
 }
 
-/// A name with its parts, which are each behind a semicolon and a space. Nothing where there are none.
+/// Each part is behind a semicolon and a space; without parts there is no line.
 pub(crate) fn push_line(name: &[u8], parts: &[u8], lines: &mut Vec<u8>) -> Result<(), AllocError>
     ensures { OnOk result (lines.new.items ≡ lines.old.items ++ stay_text_line name.now parts.now) }
 {
@@ -178,7 +169,6 @@ pub(crate) fn push_line(name: &[u8], parts: &[u8], lines: &mut Vec<u8>) -> Resul
     }
 }
 
-/// A line each where tunables, types and rules differ.
 #[tactic(auto, unfolding(crate::specs::Stays::named_setting_lines))]
 pub(crate) fn push_settings<A: Allocator, B: Allocator>(
     map: &CrushMap<A>,
@@ -194,7 +184,6 @@ pub(crate) fn push_settings<A: Allocator, B: Allocator>(
     push_rules(map, wanted, lines)
 }
 
-/// These lines beside those of everything, and of a part none.
 pub(crate) fn push_beside<A: Allocator, B: Allocator>(
     under: Option<&str>,
     map: &CrushMap<A>,

@@ -24,8 +24,7 @@ pub fn has_few_buckets<A: Allocator>(node: &Node<A>, most: u32) -> bool
     buckets_left(node, most).is_some()
 }
 
-/// Whether the place takes the node: buckets alone are roots, and devices alone, without weight,
-/// are unplaced.
+/// Whether the place takes the node: roots are buckets, and unplaced devices weigh nothing.
 pub fn takes<A: Allocator>(place: &Place, node: &Node<A>) -> bool
     ensures { result ≡ takes place.now (items_of (node.now ∷ [])) }
 {
@@ -42,7 +41,6 @@ pub fn takes<A: Allocator>(place: &Place, node: &Node<A>) -> bool
     }
 }
 
-/// How many devices may still come after those of the item, if there may be as many.
 fn devices_left<A: Allocator>(node: &Node<A>, most: u32) -> Option<u32>
     ensures some { IfSome result (λ left. left + devices_in (items_of (node.now ∷ [])) ≡ most) }
     ensures none { IfNone result (most < devices_in (items_of (node.now ∷ []))) }
@@ -64,7 +62,6 @@ fn devices_left<A: Allocator>(node: &Node<A>, most: u32) -> Option<u32>
     }
 }
 
-/// How many buckets may still come after those of the item, if there may be as many.
 fn buckets_left<A: Allocator>(node: &Node<A>, most: u32) -> Option<u32>
     ensures some { IfSome result (λ left. left + size_of (items_of (node.now ∷ [])) ≡ most) }
     ensures none { IfNone result (most < size_of (items_of (node.now ∷ []))) }

@@ -1,4 +1,4 @@
-//! Classes: what the devices of one weigh.
+//! What the devices of a class weigh.
 
 ghost use Rattle.std.specs.Prelude.{◌≡◌, ◌≤◌, ◌∷◌, [], IfSome};
 ghost use Rattle.crush_units.specs.Name.{IsName};
@@ -11,7 +11,7 @@ use crate::sums::with_more;
 use crush_units::{Name, Weight};
 use std::alloc::Allocator;
 
-/// What the devices of the class weigh together that are the item or stand below it.
+/// The weight of the class's devices in the item, at any depth.
 pub fn class_weight_in<A: Allocator>(node: &Node<A>, class: &[u8]) -> Weight
     requires { class_sum_in class.now (items_of (node.now ∷ [])) ≤ HEAVIEST_BUCKET }
     ensures { result ≡ class_sum_in class.now (items_of (node.now ∷ [])) }
@@ -30,7 +30,6 @@ pub fn class_weight_in<A: Allocator>(node: &Node<A>, class: &[u8]) -> Weight
     }
 }
 
-/// What one device adds to the weight of a class.
 fn leaf_class_weight<A: Allocator>(leaf: &Leaf<A>, class: &[u8]) -> Weight
     ensures { result ≡ leaf_class_weight class.now (leaf_data leaf.now) }
 {

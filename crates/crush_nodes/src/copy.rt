@@ -1,7 +1,6 @@
-//! Copies of a forest.
+//! Copies of items.
 //!
-//! As many calls stand on the stack as buckets in one another, so what a call needs beside the
-//! items below is done by calls that have returned before.
+//! Calls nest as deep as buckets do: hence `inline(never)` for what else they do.
 
 ghost use Rattle.std.specs.Prelude.{◌≡◌, ℕ, ◌<◌, ◌+◌, ◌∷◌, [], map, IfOk, OnOk, vec_len, vec_capacity};
 ghost use Rattle.crush_table.specs.Items.{bucket, device, none};
@@ -14,7 +13,7 @@ use crate::node::{Bucket, Header, Leaf, Node, ShadowId};
 use crush_units::Weight;
 use std::alloc::{AllocError, Allocator};
 
-/// Copies items with all that is below them, in memory for no more items than there are.
+/// Copies items with all that is below them, without spare room.
 pub fn copy_items<A: Allocator + Clone>(
     alloc: &A,
     items: &[Node<A>],
@@ -38,7 +37,6 @@ pub fn copy_items<A: Allocator + Clone>(
     Ok(copies)
 }
 
-/// Puts a copy of a device last.
 #[inline(never)]
 fn push_leaf<A: Allocator + Clone>(
     copies: &mut Vec<Node<A>, A>,
@@ -56,7 +54,6 @@ fn push_leaf<A: Allocator + Clone>(
     Ok(())
 }
 
-/// Puts a copy of a bucket last, with the copies of its items.
 #[inline(never)]
 fn push_bucket<A: Allocator + Clone>(
     copies: &mut Vec<Node<A>, A>,
@@ -76,7 +73,6 @@ fn push_bucket<A: Allocator + Clone>(
     Ok(())
 }
 
-/// A bucket of these parts.
 fn bucket_of_parts<A: Allocator + Clone>(
     alloc: &A,
     header: Header<A>,
@@ -94,7 +90,6 @@ fn bucket_of_parts<A: Allocator + Clone>(
     Ok(Node::Bucket(Box::new(alloc.clone()?, bucket)?))
 }
 
-/// Copies a device.
 fn copy_leaf<A: Allocator + Clone>(alloc: &A, leaf: &Leaf<A>) -> Result<Leaf<A>, AllocError>
     ensures { IfOk result (λ copy. leaf_data copy ≡ leaf_data leaf.now) }
 {
@@ -111,7 +106,6 @@ fn copy_leaf<A: Allocator + Clone>(alloc: &A, leaf: &Leaf<A>) -> Result<Leaf<A>,
     })
 }
 
-/// Copies what a bucket is, beside its weight and its items.
 fn copy_header<A: Allocator + Clone>(alloc: &A, header: &Header<A>) -> Result<Header<A>, AllocError>
     ensures { IfOk result (λ copy. header_data copy ≡ header_data header.now) }
 {
@@ -126,7 +120,6 @@ fn copy_header<A: Allocator + Clone>(alloc: &A, header: &Header<A>) -> Result<He
     })
 }
 
-/// Copies class ids, in order.
 fn copy_shadow_ids<A: Allocator + Clone>(
     alloc: &A,
     class_ids: &[ShadowId<A>],

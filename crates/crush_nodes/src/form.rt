@@ -1,4 +1,4 @@
-//! Whether each item of a node is of its form.
+//! Whether items are of their form.
 
 ghost use Rattle.std.specs.Prelude.{◌≡◌, ◌<◌, ◌≤◌, ◌∷◌, [], All, IfSome, map, nat_le, bytes_eq};
 ghost use Rattle.std.specs.Bool.{OnTrue};
@@ -15,7 +15,8 @@ use crate::node::{Bucket, Header, Leaf, Node, ShadowId};
 use crush_units::limits::{HEAVIEST_DEVICE, MOST_CLASS_IDS};
 use std::alloc::Allocator;
 
-/// Whether the item and each below it is of its form.
+/// Whether, at any depth, devices have weights in range, and buckets a type and at most 16 class
+/// ids of distinct classes.
 pub fn is_formed_node<A: Allocator>(node: &Node<A>) -> bool
     ensures tested { result ≡ are_formed (items_of (node.now ∷ [])) }
     ensures typed { OnTrue result (AreTyped (items_of (node.now ∷ []))) }
@@ -39,7 +40,6 @@ pub fn is_formed_node<A: Allocator>(node: &Node<A>) -> bool
     }
 }
 
-/// Whether the weight of a device is one that it may have.
 fn is_formed_leaf<A: Allocator>(leaf: &Leaf<A>) -> bool
     ensures tested { result ≡ nat_le leaf.now.weight HEAVIEST_DEVICE }
     ensures id { leaf.now.id < DEVICE_IDS }
@@ -52,7 +52,6 @@ fn is_formed_leaf<A: Allocator>(leaf: &Leaf<A>) -> bool
     leaf.weight.units() <= HEAVIEST_DEVICE
 }
 
-/// Whether a bucket has a type, and at most 16 class ids of distinct classes.
 fn is_formed<A: Allocator>(header: &Header<A>) -> bool
     ensures tested { result ≡ is_formed (header_data header.now) }
     ensures typed { OnTrue result (IsTyped (header_data header.now)) }
@@ -70,7 +69,6 @@ fn is_formed<A: Allocator>(header: &Header<A>) -> bool
     have_distinct_classes(class_ids)
 }
 
-/// Whether the classes of class ids are distinct.
 fn have_distinct_classes<A: Allocator>(class_ids: &[ShadowId<A>]) -> bool
     ensures { result ≡ are_apart (λ a b. bytes_eq b a) (shadow_classes class_ids.now) }
 {
@@ -82,7 +80,6 @@ fn have_distinct_classes<A: Allocator>(class_ids: &[ShadowId<A>]) -> bool
     true
 }
 
-/// Whether one of the class ids has the class of this one.
 fn has_class_of<A: Allocator>(class_ids: &[ShadowId<A>], class_id: &ShadowId<A>) -> bool
     ensures { result
         ≡ list_any (λ b. bytes_eq b class_id.now.class) (shadow_classes class_ids.now) }
@@ -90,7 +87,6 @@ fn has_class_of<A: Allocator>(class_ids: &[ShadowId<A>], class_id: &ShadowId<A>)
     has_class(class_ids, class_id.class.as_bytes())
 }
 
-/// A law of class ids: each has an id below 0 and a class that is a name.
 fn recall_shadow_ids<A: Allocator>(class_ids: &[ShadowId<A>])
     ensures { All IsShadowId (map shadow_data class_ids.now) }
 {
@@ -99,7 +95,6 @@ fn recall_shadow_ids<A: Allocator>(class_ids: &[ShadowId<A>])
     }
 }
 
-/// The law of one class id.
 fn recall_shadow_id<A: Allocator>(class_id: &ShadowId<A>)
     ensures { IsShadowId (shadow_data class_id.now) }
 {
@@ -107,7 +102,6 @@ fn recall_shadow_id<A: Allocator>(class_id: &ShadowId<A>)
     let _bytes = class_id.class.as_bytes();
 }
 
-/// Whether one of the class ids has the class.
 fn has_class<A: Allocator>(class_ids: &[ShadowId<A>], class: &[u8]) -> bool
     ensures { result ≡ list_any (λ c. bytes_eq c.class class.now) class_ids.now }
 {

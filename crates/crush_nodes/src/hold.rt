@@ -16,7 +16,7 @@ use std::alloc::Allocator;
 
 impl<A: Allocator> Node<A> {
     /// Whether the item is a bucket that has memory for one item more, so that [`Node::hold`] may
-    /// be called. No device has.
+    /// be called.
     pub fn has_room(&self) -> bool
         ensures { result ≡ nat_lt 0 (first_room (items_of (self.now ∷ []))) }
     {
@@ -30,9 +30,7 @@ impl<A: Allocator> Node<A> {
     }
 
     /// Puts a child last into a bucket that has room for it, which [`Node::has_room`] tests, and
-    /// adds its weight. The weights of both together are at most 4294967295 units. Where both store
-    /// their sums, the bucket still does. It has room for one item less, and the child's buckets
-    /// keep theirs. It takes no memory.
+    /// adds its weight.
     pub fn hold(&mut self, child: Node<A>)
         requires room { 0 < first_room (items_of (self.old ∷ [])) }
         requires fits { weight_sum (items_of (self.old ∷ []))

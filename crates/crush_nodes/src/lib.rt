@@ -1,20 +1,8 @@
-//! Items of the hierarchy, devices and buckets with what is below them, and walks over them that
-//! read, test or copy. A walk that changes items stands in `crush_changes`, the forest of all items
-//! in `crush_tree`.
+//! Items of the hierarchy, devices and buckets with what is below them, and walks that read, test
+//! or copy them.
 //!
-//! | Module | What it has |
-//! |---|---|
-//! | [`node`] | the types: [`Node`], [`Leaf`], [`Bucket`], [`Header`], [`ShadowId`]; new items |
-//! | [`place`] | where an item can stand |
-//! | [`view`] | what a read tells of an item |
-//! | [`search`] | an item by its id or name, the items of a bucket, counts |
-//! | [`child`], [`way`] | which item to enter on the way down to another |
-//! | [`guide`], [`path`] | where items stand, told from outside, and the way down by it |
-//! | [`hold`] | an item that is put into a bucket before both stand in a forest |
-//! | [`sums`], [`stored`] | sums of weights, and whether buckets store them |
-//! | [`classed`] | what the devices of a class weigh |
-//! | [`form`], [`apart`], [`attachable`] | whether an item can come to a forest |
-//! | [`copy`] | copies of items |
+//! [`node`] has the types, [`way`] the ways down to an item, [`path`] the one by a [`guide`].
+//! `crush_changes` changes items, and `crush_tree` has the forest of all.
 #![tactic(auto)]
 
 pub mod apart;

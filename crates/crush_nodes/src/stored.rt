@@ -10,8 +10,7 @@ use std::alloc::Allocator;
 
 impl<A: Allocator> Node<A> {
     /// Whether each bucket of the item, itself or at any depth below it, stores the sum of the
-    /// weights of its items, as a hierarchy requires of an item that comes into it. A sum above
-    /// 4294967295 units can't be stored.
+    /// weights of its items, as a hierarchy requires of an item that comes into it.
     pub fn stores_sums(&self) -> bool
         ensures { IsTrue result ↔ StoresSums (items_of (self.now ∷ [])) }
     {
@@ -31,7 +30,6 @@ impl<A: Allocator> Node<A> {
     }
 }
 
-/// Whether the items weigh so much together.
 fn is_sum_of<A: Allocator>(sum: Weight, items: &[Node<A>]) -> bool
     ensures { result ≡ (weight_sum (items_of items.now) == sum) }
 {

@@ -21,7 +21,7 @@ pub fn with_less(sum: Weight, less: Weight) -> Weight
     Weight::from_units(sum.units() - less.units())
 }
 
-/// A sum with a new weight for one of its weights.
+/// A sum with another weight for one of its weights.
 pub fn with_other(sum: Weight, old: Weight, new: Weight) -> Weight
     requires held { old ≤ sum }
     requires fits { sum - old + new ≤ HEAVIEST_BUCKET }

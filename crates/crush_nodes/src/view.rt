@@ -1,4 +1,4 @@
-//! What reads of a forest tell.
+//! What reads of a forest answer.
 
 ghost use Rattle.std.specs.Prelude.{◌≡◌};
 
@@ -9,28 +9,24 @@ use std::alloc::Allocator;
 /// An item of a forest with its place, without what is below it.
 #[derive(Clone, Copy, Debug)]
 pub struct View<'a> {
-    /// The item's id.
     pub id: ItemId,
     /// The number of its type, which is 0 for a device.
     pub kind: TypeId,
-    /// Its name.
     pub name: &'a str,
-    /// Its weight: of a device its own, of a bucket the sum over all devices below it.
+    /// Of a bucket the sum over all devices below it.
     pub weight: Weight,
-    /// The bucket that holds it, or `None` for a root and an unplaced device.
+    /// `None` for a root and an unplaced device.
     pub parent: Option<BucketId>,
-    /// A device's class, if it has one. A bucket has none.
+    /// A bucket has none.
     pub class: Option<&'a str>,
-    /// A bucket's algorithm. A device has none.
+    /// A device has none.
     pub alg: Option<Alg>,
 }
 
 /// How many items there are.
 #[derive(Clone, Copy, Debug, PartialEq, Eq)]
 pub struct Counts {
-    /// How many devices.
     pub devices: u32,
-    /// How many buckets.
     pub buckets: u32,
 }
 

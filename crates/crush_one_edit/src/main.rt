@@ -1,7 +1,6 @@
-//! An example for a program of one thread that uses the library: it makes an edit of a map's text.
-//!
-//! A text is edited twice: the first edit gives a device a new weight, the second asks for what is
-//! refused. What is printed is the text after the first, and a line for the answer of each.
+//! An example for a program of one thread that uses the library: it makes two edits of a map's
+//! text, of which the second is refused, and prints the text after the first and the answer of
+//! each.
 #![tactic(auto)]
 
 ghost use Rattle.std.specs.Prelude.{◌≡◌, ℕ, List, IfOk};
@@ -25,7 +24,7 @@ use std::alloc::Global;
 use std::io::Write;
 use thiserror::Error;
 
-/// The text that is edited. A printed one has a heading for each kind of line.
+/// A printed text has a heading for each kind of line.
 const MAP: &[u8] = b"device 0 osd.0
 device 1 osd.1
 type 1 host
@@ -34,16 +33,15 @@ host h1 { id -2 alg straw2 item osd.0 weight 1.0 item osd.1 weight 1.5 }
 root default { id -1 alg straw2 item h1 }
 ";
 
-/// Why the text after an edit isn't written.
 #[derive(Clone, Copy, Debug, PartialEq, Eq, Error)]
 enum Fault {
-    /// The text has a flaw, or there was no memory for its map.
+    /// A flaw of the text, or no memory for its map.
     #[error("{0}")]
     Text(TextFault),
-    /// The edit is refused, or there was no memory for it.
+    /// A refusal, or no memory for the edit.
     #[error("{0}")]
     Edit(EditFault),
-    /// The writer failed, or there was no memory for what was to be written.
+    /// The writer failed, or there was no memory for the text.
     #[error("{0}")]
     Write(WriteFault),
 }
@@ -56,8 +54,7 @@ fn main(rt: HostRuntime) -> anyhow::Result<()> {
     print_edited(&rt, MAP, &Edit::Remove { name: host })
 }
 
-/// Prints the text after the edit, and what was answered. A refusal is an answer; any other fault,
-/// as out of memory, ends the program, and `main` tells it.
+/// A refusal is an answer and printed; any other fault ends the program.
 fn print_edited(rt: &HostRuntime, text: &[u8], asked: &Edit) -> anyhow::Result<()> {
     match edit_text(rt.alloc(), text, asked, &mut rt.stdout()) {
         Ok(done) => {
@@ -71,22 +68,14 @@ fn print_edited(rt: &HostRuntime, text: &[u8], asked: &Edit) -> anyhow::Result<(
     Ok(())
 }
 
-/// Reads a map's text, makes the edit and writes the text of the map after it.
 fn edit_text<W: Write>(alloc: Global, text: &[u8], asked: &Edit, out: &mut W) -> Result<Done, Fault>
-    // Of the map that the text spells, the table after the edit is what was written.
     ensures done { (s : SettingData) (t : List Row) (n : ℕ) → IsMapText text.now s t n
         → IfOk result (λ d. (u : List Row) × (edit s t asked.now ≡ done d.changed d.made u)
         × Appends (W.contents out.old) (W.contents out.new) (map_text s u)) }
-
-    // A refusal is that of the table.
     ensures refused { (r : DeclaredRefusal) → result ≡ Err (Fault.Edit (EditFault.Refused r))
         → (s : SettingData) (t : List Row) (n : ℕ) → IsMapText text.now s t n
         → edit s t asked.now ≡ refused r }
-
-    // A fault that is told of the text is a flaw of it, or memory was refused.
     ensures flaw { (f : DeclaredFlaw) → result ≡ Err (Fault.Text f) → IsFlawOrOutOfMemory text.now f }
-
-    // Of an edit that isn't made nothing is written.
     ensures nothing { (f : DeclaredFault) → result ≡ Err (Fault.Edit f)
         → Keeps (W.contents out.old) (W.contents out.new) }
 {

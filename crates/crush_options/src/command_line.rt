@@ -11,14 +11,13 @@ use clap::{Arg, ArgAction, ArgMatches, Command, Error};
 use std::alloc::{AllocError, Global};
 use std::convert::AsStr;
 
-/// What the program does, in one line.
 const ABOUT: &str = "Edits the hierarchy of a CRUSH map by the scripts of its operators";
 
-/// The version, and the toolchain that it is proved with, as `rt version` tells it.
+/// The toolchain is that of the proofs, as `rt version` prints it.
 const VERSION: &str = "0.1.0 (rattle-kit-13f logic dac8208d650f15bf)";
 
-/// What the help tells beside the flags. `docs/manual.py` makes the manual page of it. No line of the
-/// help is longer than 80 columns, which leaves 55 for what is told of a flag.
+/// The help beside the flags, of which `docs/manual.py` makes the manual page. Its lines have at
+/// most 80 columns, which leaves 55 for the text of a flag.
 const MORE: &str = "\
 A job is the text of a CRUSH map, in the form of `crushtool --decompile`, and
 behind it the scripts of up to 16 operators, each a line `%operator NAME` and
@@ -111,33 +110,25 @@ Exit status:
     6    with --exit-code: there is something to tell
 ";
 
-/// What is told where words ask for two things to be printed.
 const TWO_PRINTED: &str =
     "error: at most one of --tree, --since, --as-ceph and --to, but --tree with --since and --to with --as-ceph\n";
 
-/// What is told where a tree of changes is asked for by a word that it doesn't take.
 const WHOLE_CHANGES: &str =
     "error: --tree with --since goes with none of --by-name, --under and --down-to\n";
 
-/// What is told where items are to be told by their names, and there is no other map.
 const NAMES_ALONE: &str = "error: --by-name goes with --since and --to\n";
 
-/// What is told where an item is named, and nothing is printed of which it is a part.
 const PART_ALONE: &str = "error: --under goes with --tree, --since and --to\n";
 
-/// What is told where a type is named, and no tree is printed.
 const TYPE_ALONE: &str = "error: --down-to goes with --tree\n";
 
-/// What is told where lines for a shell are to be a document.
 const JSON_LINES: &str = "error: --json doesn't go with --as-ceph\n";
 
-/// What is told where a document is to tell what has changed by names.
 const JSON_NAMES: &str = "error: --json and --since don't go with --by-name\n";
 
-/// How many files of scripts there can be: a job has as many operators.
+/// As many as a job has operators.
 const MOST_SCRIPTS: usize = 16;
 
-/// What is told where there are more files of scripts.
 const MANY_SCRIPTS: &str = "error: at most 16 times --script\n";
 
 /// A flag `--NAME`.
@@ -163,7 +154,6 @@ fn option<'a>(alloc: Global, name: &'a str, value: &'a str, help: &'a str) -> Ar
         .help(help)
 }
 
-/// The files of scripts, one for each `-s` or `--script`.
 fn scripts<'a>(alloc: Global) -> Arg<'a>
     ensures rule { rule_of result ≡ scripts }
     ensures own { result.global ≡ false }
@@ -176,7 +166,6 @@ fn scripts<'a>(alloc: Global) -> Arg<'a>
         .help("Put this file's script behind the job, up to 16 times")
 }
 
-/// The file that a job is read from.
 fn file<'a>(alloc: Global) -> Arg<'a>
     ensures rule { rule_of result ≡ file }
     ensures own { result.global ≡ false }
@@ -186,7 +175,6 @@ fn file<'a>(alloc: Global) -> Arg<'a>
         .help("The job; without FILE it is read from standard input")
 }
 
-/// The command with the words that say how a job is run.
 fn with_modes<'a>(alloc: Global) -> Result<Command<'a>, AllocError>
     ensures { IfOk result (λ command. app_of command ≡ with_modes) }
 {
@@ -205,7 +193,6 @@ fn with_modes<'a>(alloc: Global) -> Result<Command<'a>, AllocError>
         .arg(flag(alloc, "no-make", no_make))
 }
 
-/// The command with the words that say what is printed in the place of the map, too.
 fn with_printed<'a>(alloc: Global) -> Result<Command<'a>, AllocError>
     ensures { IfOk result (λ command. app_of command ≡ with_printed) }
 {
@@ -220,7 +207,6 @@ fn with_printed<'a>(alloc: Global) -> Result<Command<'a>, AllocError>
         .arg(option(alloc, "to", "MAP", to))
 }
 
-/// The command with the words that say how and of what it is printed, too.
 fn with_parts<'a>(alloc: Global) -> Result<Command<'a>, AllocError>
     ensures { IfOk result (λ command. app_of command ≡ with_parts) }
 {
@@ -235,7 +221,6 @@ fn with_parts<'a>(alloc: Global) -> Result<Command<'a>, AllocError>
         .arg(option(alloc, "down-to", "TYPE", down_to))
 }
 
-/// All words that the program takes.
 fn command<'a>(alloc: Global) -> Result<Command<'a>, AllocError>
     ensures { IfOk result (λ command. app_of command ≡ program) }
 {
@@ -248,14 +233,12 @@ fn command<'a>(alloc: Global) -> Result<Command<'a>, AllocError>
         .arg(file(alloc))
 }
 
-/// Whether the words have a flag.
 fn is_set(matches: &ArgMatches<'_>, name: &str) -> bool
     ensures { IsFlag (one_of name.now (rows_of (found_of matches.now))) result }
 {
     matches.get_flag(name)
 }
 
-/// A refusal with this text.
 fn refused(alloc: Global, text: &str) -> OptionsFault
     ensures { IsRefusedFor text.now result }
 {
@@ -278,7 +261,6 @@ struct Said<'a> {
     down_to: Option<&'a str>,
 }
 
-/// What the words say of what is printed.
 fn said_of<'a>(matches: &'a ArgMatches<'_>) -> Said<'a>
     ensures { AreSaid (rows_of (found_of matches.now)) (said_data result) }
 {
@@ -294,14 +276,12 @@ fn said_of<'a>(matches: &'a ArgMatches<'_>) -> Said<'a>
     }
 }
 
-/// Whether the words ask for two things to be printed.
 fn ask_for_two(said: Said<'_>) -> bool
     ensures { result ≡ ask_for_two (said_data said.entry) }
 {
     (said.tree || said.since.is_some()) && (said.as_ceph || said.to.is_some())
 }
 
-/// Whether the words ask for a tree of changes, but not of all.
 fn ask_for_some_changes(said: Said<'_>) -> bool
     ensures { result ≡ ask_for_some_changes (said_data said.entry) }
 {
@@ -310,28 +290,25 @@ fn ask_for_some_changes(said: Said<'_>) -> bool
         && (said.by_name || said.under.is_some() || said.down_to.is_some())
 }
 
-/// Whether the words have `--by-name` where there is no other map.
 fn have_names_alone(said: Said<'_>) -> bool
     ensures { result ≡ have_names_alone (said_data said.entry) }
 {
     said.by_name && said.since.is_none() && said.to.is_none()
 }
 
-/// Whether the words have `--under` where nothing is printed of which there are parts.
 fn have_part_alone(said: Said<'_>) -> bool
     ensures { result ≡ have_part_alone (said_data said.entry) }
 {
     said.under.is_some() && !said.tree && said.since.is_none() && said.to.is_none()
 }
 
-/// Whether the words have `--down-to` where no tree is printed.
 fn have_type_alone(said: Said<'_>) -> bool
     ensures { result ≡ have_type_alone (said_data said.entry) }
 {
     said.down_to.is_some() && !said.tree
 }
 
-/// Why the words of what is printed don't go together, in a line; nothing where they do.
+/// The error line of words that don't go together.
 fn complaint(said: Said<'_>) -> Option<&'static str>
     ensures { option_map (λ text. text.now) result ≡ complaint (said_data said.entry) }
 {
@@ -354,7 +331,6 @@ fn complaint(said: Said<'_>) -> Option<&'static str>
     }
 }
 
-/// A copy of a name, where there is one.
 fn copy_of(alloc: Global, name: Option<&str>) -> Result<Option<String>, AllocError>
     ensures { IfOk result (λ copy. name_text copy ≡ option_map (λ name. name.now) name.entry) }
 {
@@ -364,7 +340,6 @@ fn copy_of(alloc: Global, name: Option<&str>) -> Result<Option<String>, AllocErr
     }
 }
 
-/// What is printed of a tree.
 fn tree_by(alloc: Global, said: Said<'_>) -> Result<Printed, AllocError>
     requires together { complaint (said_data said) ≡ None }
     requires alone { (said.to ≡ None) × (said.since ≡ None) × (said.tree ≡ true) }
@@ -375,7 +350,6 @@ fn tree_by(alloc: Global, said: Said<'_>) -> Result<Printed, AllocError>
     Ok(Printed::Tree(Part { under, down_to }))
 }
 
-/// What is printed since the map of a file of this name.
 fn since_by(alloc: Global, said: Said<'_>, name: &str) -> Result<Printed, AllocError>
     requires together { complaint (said_data said) ≡ None }
     requires alone { (said.to ≡ None) × (said.since ≡ Some name) × (said.tree ≡ false) }
@@ -390,7 +364,6 @@ fn since_by(alloc: Global, said: Said<'_>, name: &str) -> Result<Printed, AllocE
     }))
 }
 
-/// What is printed where the map of a file of this name is wanted.
 fn wanted_by(alloc: Global, said: Said<'_>, name: &str) -> Result<Printed, AllocError>
     requires together { complaint (said_data said) ≡ None }
     requires wanted { said.to ≡ Some name }
@@ -406,7 +379,6 @@ fn wanted_by(alloc: Global, said: Said<'_>, name: &str) -> Result<Printed, Alloc
     }))
 }
 
-/// What is printed by words that go together.
 fn printed_by(alloc: Global, said: Said<'_>) -> Result<Printed, AllocError>
     requires { complaint (said_data said) ≡ None }
     ensures { IfOk result (λ printed. said_by said.entry.json printed ≡ said_data said.entry) }
@@ -421,7 +393,6 @@ fn printed_by(alloc: Global, said: Said<'_>) -> Result<Printed, AllocError>
     }
 }
 
-/// What the words ask to be printed, where they go together.
 fn printed_of(alloc: Global, said: Said<'_>) -> Result<Printed, OptionsFault>
     ensures asked { IfOk result (λ printed. said_by said.entry.json printed ≡ said_data said.entry) }
     ensures together { IfOk result (λ _. complaint (said_data said.entry) ≡ None) }
@@ -433,7 +404,6 @@ fn printed_of(alloc: Global, said: Said<'_>) -> Result<Printed, OptionsFault>
     }
 }
 
-/// Copies of names, in their order. An `Err` says that memory ran out.
 fn copies(alloc: Global, names: &[&str]) -> Result<Vec<String>, AllocError>
     ensures { IfOk result (λ copies. names_text copies.items ≡ map (λ name. name.now) names.now) }
 {
@@ -445,7 +415,6 @@ fn copies(alloc: Global, names: &[&str]) -> Result<Vec<String>, AllocError>
     Ok(copies)
 }
 
-/// The files of scripts that the words name, of which there are at most 16.
 fn scripts_of(alloc: Global, matches: &ArgMatches<'_>) -> Result<Vec<String>, OptionsFault>
     ensures asked { IfOk result (λ scripts. names_text scripts.items
         ≡ all_named (codes "script") (rows_of (found_of matches.now))) }
@@ -459,7 +428,6 @@ fn scripts_of(alloc: Global, matches: &ArgMatches<'_>) -> Result<Vec<String>, Op
     }
 }
 
-/// The file that the words name.
 fn file_of(alloc: Global, matches: &ArgMatches<'_>) -> Result<Option<String>, AllocError>
     ensures { IfOk result (λ file. name_text file
         ≡ first_of (codes "FILE") (rows_of (found_of matches.now))) }
@@ -467,7 +435,6 @@ fn file_of(alloc: Global, matches: &ArgMatches<'_>) -> Result<Option<String>, Al
     copy_of(alloc, matches.get_str("FILE"))
 }
 
-/// How a job is run by a parsed command line, which asks for a document or not.
 fn mode_of(matches: &ArgMatches<'_>, json: bool) -> Mode
     requires { IsFlag (one_of (codes "json") (rows_of (found_of matches.now))) json }
     ensures mode { IsModeOf (rows_of (found_of matches.now)) result }
@@ -484,7 +451,6 @@ fn mode_of(matches: &ArgMatches<'_>, json: bool) -> Mode
     }
 }
 
-/// The options that a parsed command line has.
 fn options_of(alloc: Global, matches: &ArgMatches<'_>) -> Result<Options, OptionsFault>
     ensures read { IfOk result (AreRead (rows_of (found_of matches.now))) }
     ensures fault { IfErr result (AsksTooMuch (rows_of (found_of matches.now))) }
@@ -502,7 +468,7 @@ fn options_of(alloc: Global, matches: &ArgMatches<'_>) -> Result<Options, Option
     })
 }
 
-/// An error of the command line's crate, with its text.
+/// An error of `clap`, with its text.
 fn fault_of(alloc: Global, error: &Error) -> OptionsFault
     ensures { IsFaultOf (kind_of error.now) result }
 {
@@ -516,13 +482,8 @@ fn fault_of(alloc: Global, error: &Error) -> OptionsFault
     }
 }
 
-/// Reads the words of a command line behind the program's name: `[--in-turn] [--no-history]
-/// [--strict] [--no-make] [--tree] [--since MAP] [--as-ceph] [--to MAP] [--by-name] [--json]
-/// [--under NAME] [--down-to TYPE] [--exit-code] [--explain] [-s SCRIPT].. [FILE]`, in any order, with
-/// up to 16 scripts. Of what is printed `--tree` goes with `--since` and `--to` with `--as-ceph`, and no
-/// other two; `--by-name` goes with `--since` and `--to`, `--under` with these and `--tree`, `--down-to`
-/// with `--tree`, but none of the three with `--tree` and `--since`; and `--json` goes with all but
-/// `--as-ceph`, and `--since` with `--by-name`. Each word is one of these or refused: none is ignored.
+/// Reads the words of a command line behind the program's name, in any order, by the rules that the
+/// help prints. Each word is one of the program's or refused: none is ignored.
 pub fn options<S: AsStr>(alloc: Global, words: &[S]) -> Result<Options, OptionsFault>
     ensures asked { IfOk result (IsAsked (map S.text words.now)) }
     ensures fault { IfErr result (IsFaultIn (map S.text words.now)) }

@@ -1,7 +1,7 @@
-//! The command line of `crushedit`: what its words ask for, and what its help says.
+//! The command line of `crushedit`: its words, its options and its help.
 //!
-//! [`options`] reads [`Options`] from words, or tells by an [`OptionsFault`] what stands in their
-//! place. `crush_run` runs what they ask for, `crush_report` tells the fault.
+//! [`options`] reads words into [`Options`], which `crush_run` runs, or an [`OptionsFault`], which
+//! `crush_report` prints.
 #![tactic(auto)]
 
 mod asked;

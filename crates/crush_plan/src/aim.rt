@@ -18,31 +18,25 @@ use std::alloc::{Allocator, Global};
 /// Which edits a plan may have.
 #[derive(Clone, Copy, PartialEq, Eq)]
 pub(crate) enum Extent {
-    /// All that are found.
     Whole,
     /// Those that leave each bucket there, with its name, and make none.
     SameBuckets,
 }
 
-/// What a plan is to lead to, and from where.
 #[derive(Drop)]
 pub(crate) struct Aim<'a, A: Allocator, B: Allocator> {
-    /// By what buckets are told apart.
     pub identity: Identity,
-    /// Which edits it may have.
     pub extent: Extent,
-    /// The name of the item that alone is to be changed with what is below it, if one is.
+    /// The item that alone is changed, with what is below it.
     pub under: Option<&'a str>,
     /// The map before all edits.
     pub before: &'a CrushMap<A>,
-    /// The wanted map.
     pub wanted: &'a CrushMap<B>,
     /// The items of the wanted map.
     pub there: Walked<'a, B>,
 }
 
 impl<A: Allocator, B: Allocator> Aim<'_, A, B> {
-    /// Whether the item stood in the part before.
     pub(crate) fn has_stood(&self, id: ItemId) -> bool
         ensures { (t : List Row) → Stands self.now.before.now.forest t
             → result ≡ is_in (option_map (λ n. n.now) self.now.under) t id }
@@ -50,7 +44,6 @@ impl<A: Allocator, B: Allocator> Aim<'_, A, B> {
         is_in(self.before, self.under, id)
     }
 
-    /// Whether the item of the name shall stand in the part.
     fn shall_stand(&self, name: &str) -> bool
         ensures { (u : List Row) → Stands self.now.wanted.now.forest u
             → result ≡ shall_stand u (option_map (λ n. n.now) self.now.under) name.now }
@@ -61,13 +54,11 @@ impl<A: Allocator, B: Allocator> Aim<'_, A, B> {
         }
     }
 
-    /// Whether an edit may give the item the name: where a part is asked for, the item stood there
-    /// before, or that of the name shall stand there.
+    /// Of a part, the item stood there before, or that of the name shall stand there.
     pub(crate) fn may_have(&self, id: ItemId, name: &str) -> bool {
         self.under.is_none() || self.has_stood(id) || self.shall_stand(name)
     }
 
-    /// Whether the edit of the map is of items of the part alone, if one is asked for.
     pub(crate) fn concerns(&self, map: &CrushMap<A>, edit: &Edit) -> bool
         ensures { (t u v : List Row) → Stands self.now.before.now.forest t
             → Stands self.now.wanted.now.forest u → Stands map.now.forest v
@@ -79,7 +70,6 @@ impl<A: Allocator, B: Allocator> Aim<'_, A, B> {
         }
     }
 
-    /// Whether the edit of the map is of items of the part alone.
     fn are_called_in(&self, map: &CrushMap<A>, edit: &Edit) -> bool
         ensures { (t u v : List Row) → Stands self.now.before.now.forest t
             → Stands self.now.wanted.now.forest u → Stands map.now.forest v
@@ -102,7 +92,6 @@ impl<A: Allocator, B: Allocator> Aim<'_, A, B> {
         }
     }
 
-    /// Whether the map's item of this name stood in the part before.
     fn was_called_in(&self, map: &CrushMap<A>, name: &Name<Global>) -> bool
         ensures { (t v : List Row) → Stands self.now.before.now.forest t → Stands map.now.forest v
             → result ≡ has_stood t (option_map (λ n. n.now) self.now.under) v name.now }
@@ -113,7 +102,6 @@ impl<A: Allocator, B: Allocator> Aim<'_, A, B> {
         }
     }
 
-    /// Whether the map's item of the one name, which has the other behind an edit, is of the part.
     fn is_called_in(&self, map: &CrushMap<A>, before: &Name<Global>, behind: &Name<Global>) -> bool
         ensures { (t u v : List Row) → Stands self.now.before.now.forest t
             → Stands self.now.wanted.now.forest u → Stands map.now.forest v

@@ -1,4 +1,4 @@
-//! Buckets that come.
+//! Buckets that the map lacks.
 
 ghost use Rattle.std.specs.Prelude.{OnOk};
 ghost use Rattle.crush_plan.specs.Draft.{GoesOn};
@@ -12,8 +12,7 @@ use crush_map::{CrushMap, Setting};
 use crush_units::{BucketId, ItemId, Name, TypeId};
 use std::alloc::{AllocError, Allocator, Global};
 
-/// Makes those of the wanted map's buckets that the map lacks, from -1 downward. Each gets the free
-/// id that is nearest to 0.
+/// From -1 downward, each with the free id that is nearest to 0.
 pub(crate) fn make_buckets<A: Allocator + Clone, B: Allocator>(
     draft: &mut Draft<A>,
     aim: &Aim<'_, A, B>,
@@ -28,7 +27,6 @@ pub(crate) fn make_buckets<A: Allocator + Clone, B: Allocator>(
     Ok(())
 }
 
-/// Those of the buckets that the map lacks, from -1 downward.
 fn coming_buckets<A: Allocator, B: Allocator>(
     alloc: Global,
     identity: Identity,
@@ -46,7 +44,7 @@ fn coming_buckets<A: Allocator, B: Allocator>(
     Ok(coming)
 }
 
-/// Makes the bucket, and frees its name before, where the map has its type.
+/// Frees its name before, where the map has its type.
 fn make_bucket<A: Allocator + Clone, B: Allocator>(
     draft: &mut Draft<A>,
     aim: &Aim<'_, A, B>,
@@ -64,7 +62,6 @@ fn make_bucket<A: Allocator + Clone, B: Allocator>(
     draft.add_bucket(aim, there.name.as_bytes(), kind)
 }
 
-/// A copy of the name of the type of this number, where the setting has it.
 fn kind_name(
     alloc: Global,
     setting: &Setting,

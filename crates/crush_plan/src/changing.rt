@@ -1,7 +1,4 @@
 //! The items of two maps for which there may be something to do.
-//!
-//! An item that is the same in both maps is listed as one that may come to stand elsewhere alone,
-//! since names of buckets change on the way.
 
 use crate::aim::{Aim, Extent};
 use crate::compare::is_same_kind;
@@ -11,47 +8,41 @@ use crush_tree::View;
 use crush_units::{BucketId, DeviceId, ItemId};
 use std::alloc::{AllocError, Allocator, Global};
 
-/// The items of the map, in the order of its tree: a bucket stands before what is below it.
+/// In the order of the map's tree: a bucket stands before what is below it.
 #[derive(Drop)]
 pub(crate) struct Here {
-    /// The buckets that the wanted map hasn't as they are called.
+    /// Those that the wanted map hasn't as they are called.
     pub buckets: Vec<BucketId>,
-    /// The devices that the wanted map lacks.
+    /// Those that the wanted map lacks.
     pub lost: Vec<DeviceId>,
-    /// The devices of both maps that aren't placed in both with one weight.
+    /// Those of both maps that aren't placed in both with one weight.
     pub reweighed: Vec<DeviceId>,
 }
 
-/// The items of the wanted map, in the order of its tree.
+/// In the order of the wanted map's tree.
 #[derive(Drop)]
 pub(crate) struct There {
-    /// All buckets.
+    /// All, since names of buckets change on the way: what is the same may come to stand elsewhere.
     pub buckets: Vec<BucketId>,
-    /// The buckets that the map hasn't as they are called.
+    /// Those that the map hasn't as they are called.
     pub coming: Vec<BucketId>,
-    /// All devices.
     pub placed: Vec<Placed>,
-    /// The devices that the map lacks, and those whose class is another.
+    /// Those that the map lacks, and those whose class is another.
     pub set: Vec<DeviceId>,
 }
 
-/// A device of the wanted map.
 #[derive(Clone, Copy)]
 pub(crate) struct Placed {
     pub id: DeviceId,
-    /// The bucket of the wanted map that holds it.
     pub parent: Option<BucketId>,
 }
 
-/// The items of both maps.
 #[derive(Drop)]
 pub(crate) struct Items {
     pub here: Here,
     pub there: There,
 }
 
-/// The items of both maps: of buckets that differ none, where they are to stay as they are. An `Err`
-/// says that memory ran out.
 pub(crate) fn items_of_both<A: Allocator, B: Allocator>(
     alloc: Global,
     aim: &Aim<'_, A, B>,
@@ -66,7 +57,6 @@ pub(crate) fn items_of_both<A: Allocator, B: Allocator>(
     Ok(Items { here, there })
 }
 
-/// The items of the map.
 fn items_here<A: Allocator, B: Allocator>(
     alloc: Global,
     map: &Walked<'_, A>,
@@ -83,7 +73,6 @@ fn items_here<A: Allocator, B: Allocator>(
     Ok(here)
 }
 
-/// The items of the wanted map.
 fn items_there<A: Allocator, B: Allocator>(
     alloc: Global,
     map: &Walked<'_, A>,
@@ -101,7 +90,7 @@ fn items_there<A: Allocator, B: Allocator>(
     Ok(there)
 }
 
-/// The item of this one's id and name that the map has.
+/// The map's item of this id and name.
 fn same_item<'a, M: Known>(map: &'a M, item: &View<'_>) -> Option<View<'a>> {
     match map.view(item.id) {
         Some(view) if view.name.as_bytes() == item.name.as_bytes() => Some(view),
@@ -109,7 +98,7 @@ fn same_item<'a, M: Known>(map: &'a M, item: &View<'_>) -> Option<View<'a>> {
     }
 }
 
-/// Whether the other map has the bucket too, of its id, its name and its type.
+/// Of its id, name and type.
 fn has_as_called<M: Known, N: Known>(other: &N, map: &M, bucket: &View<'_>) -> bool {
     match same_item(other, bucket) {
         Some(view) => is_same_kind(map, bucket.kind, other, view.kind),
@@ -117,13 +106,11 @@ fn has_as_called<M: Known, N: Known>(other: &N, map: &M, bucket: &View<'_>) -> b
     }
 }
 
-/// Whether both are placed, with weights that are the same for a plan.
 fn weigh_alike(here: &View<'_>, there: &View<'_>) -> bool {
     here.parent.is_some() && there.parent.is_some() && are_near(here.weight, there.weight)
 }
 
 impl Here {
-    /// Pushes an item of the map.
     fn push<M: Known, N: Known>(
         &mut self,
         map: &M,
@@ -144,7 +131,6 @@ impl Here {
 }
 
 impl There {
-    /// Pushes an item of the wanted map.
     fn push<M: Known, N: Known>(
         &mut self,
         map: &M,

@@ -1,4 +1,4 @@
-//! Items that go.
+//! Items that the wanted map lacks.
 
 ghost use Rattle.std.specs.Prelude.{OnOk};
 ghost use Rattle.crush_plan.specs.Draft.{GoesOn};
@@ -11,8 +11,7 @@ use crush_map::CrushMap;
 use crush_units::{BucketId, DeviceId, ItemId};
 use std::alloc::{AllocError, Allocator};
 
-/// Removes what the wanted map lacks of these items: devices first, and then the buckets that hold
-/// nothing, the lowest first.
+/// Devices first, then the buckets that hold nothing, the lowest first.
 pub(crate) fn clear<A: Allocator + Clone, B: Allocator>(
     draft: &mut Draft<A>,
     aim: &Aim<'_, A, B>,
@@ -24,7 +23,6 @@ pub(crate) fn clear<A: Allocator + Clone, B: Allocator>(
     clear_buckets(draft, aim, here.buckets.as_slice())
 }
 
-/// Removes the devices that the wanted map lacks.
 fn clear_devices<A: Allocator + Clone, B: Allocator>(
     draft: &mut Draft<A>,
     aim: &Aim<'_, A, B>,
@@ -38,7 +36,6 @@ fn clear_devices<A: Allocator + Clone, B: Allocator>(
     Ok(())
 }
 
-/// Removes the device, where the wanted map lacks it.
 fn clear_device<A: Allocator + Clone, B: Allocator>(
     draft: &mut Draft<A>,
     aim: &Aim<'_, A, B>,
@@ -52,7 +49,6 @@ fn clear_device<A: Allocator + Clone, B: Allocator>(
     draft.remove(aim, ItemId::Device(device))
 }
 
-/// Removes the buckets that the wanted map lacks, the last first. One that holds items stays.
 fn clear_buckets<A: Allocator + Clone, B: Allocator>(
     draft: &mut Draft<A>,
     aim: &Aim<'_, A, B>,
@@ -66,7 +62,6 @@ fn clear_buckets<A: Allocator + Clone, B: Allocator>(
     Ok(())
 }
 
-/// Removes the bucket, where the wanted map lacks it and it holds nothing.
 fn clear_bucket<A: Allocator + Clone, B: Allocator>(
     draft: &mut Draft<A>,
     aim: &Aim<'_, A, B>,

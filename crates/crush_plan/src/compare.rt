@@ -3,7 +3,6 @@
 use crate::walked::Known;
 use crush_units::{BucketId, DeviceId, ItemId, TypeId};
 
-/// Whether both texts are there, and the same.
 fn are_one(here: Option<&str>, there: Option<&str>) -> bool {
     match (here, there) {
         (Some(here), Some(there)) => here.as_bytes() == there.as_bytes(),
@@ -11,7 +10,6 @@ fn are_one(here: Option<&str>, there: Option<&str>) -> bool {
     }
 }
 
-/// The name of the item, if it is there.
 pub(crate) fn name_of<M: Known>(map: &M, id: ItemId) -> Option<&str> {
     match map.view(id) {
         Some(view) => Some(view.name),
@@ -19,7 +17,6 @@ pub(crate) fn name_of<M: Known>(map: &M, id: ItemId) -> Option<&str> {
     }
 }
 
-/// The number of the item's type, if it is there.
 fn kind_of<M: Known>(map: &M, id: ItemId) -> Option<TypeId> {
     match map.view(id) {
         Some(view) => Some(view.kind),
@@ -27,7 +24,6 @@ fn kind_of<M: Known>(map: &M, id: ItemId) -> Option<TypeId> {
     }
 }
 
-/// Whether both maps have the device, with one name.
 pub(crate) fn have_device<M: Known, N: Known>(map: &M, wanted: &N, device: DeviceId) -> bool {
     let here = name_of(map, ItemId::Device(device));
     let there = name_of(wanted, ItemId::Device(device));
@@ -37,13 +33,12 @@ pub(crate) fn have_device<M: Known, N: Known>(map: &M, wanted: &N, device: Devic
 /// By what buckets of two maps are told apart.
 #[derive(Clone, Copy, Debug, PartialEq, Eq)]
 pub enum Identity {
-    /// By their ids, as one cluster keeps them, and by names where an id is another bucket's.
+    /// As one cluster keeps them, and by names where an id is another bucket's.
     Ids,
-    /// By their names, for maps of two clusters.
+    /// For maps of two clusters.
     Names,
 }
 
-/// Whether a type of each map has one name.
 pub(crate) fn is_same_kind<M: Known, N: Known>(
     map: &M,
     here: TypeId,
@@ -59,7 +54,7 @@ pub(crate) fn is_same_kind<M: Known, N: Known>(
     }
 }
 
-/// Whether both maps have the bucket of this id, of one type.
+/// Of this id and of one type.
 pub(crate) fn have_bucket<M: Known, N: Known>(map: &M, wanted: &N, bucket: BucketId) -> bool {
     let here = kind_of(map, ItemId::Bucket(bucket));
     let there = kind_of(wanted, ItemId::Bucket(bucket));
@@ -69,12 +64,10 @@ pub(crate) fn have_bucket<M: Known, N: Known>(map: &M, wanted: &N, bucket: Bucke
     }
 }
 
-/// Whether the map has a device of this id that the wanted map lacks.
 pub(crate) fn loses_device<M: Known, N: Known>(map: &M, wanted: &N, device: DeviceId) -> bool {
     map.view(ItemId::Device(device)).is_some() && !have_device(map, wanted, device)
 }
 
-/// The bucket that this id is of, if it is of one.
 fn only_bucket(id: ItemId) -> Option<BucketId> {
     match id {
         ItemId::Bucket(bucket) => Some(bucket),
@@ -82,12 +75,11 @@ fn only_bucket(id: ItemId) -> Option<BucketId> {
     }
 }
 
-/// The bucket of this name, or `None` where none or a device has it.
 pub(crate) fn bucket_named<M: Known>(map: &M, name: &str) -> Option<BucketId> {
     only_bucket(map.id_of(name)?)
 }
 
-/// The bucket of the map that is to be as this one of the wanted map: the one of its name.
+/// The one of its name.
 pub(crate) fn counterpart<M: Known, N: Known>(
     map: &M,
     wanted: &N,
@@ -96,13 +88,13 @@ pub(crate) fn counterpart<M: Known, N: Known>(
     bucket_named(map, name_of(wanted, ItemId::Bucket(bucket))?)
 }
 
-/// The bucket of the map that is to hold what this item of the wanted map is.
+/// The one that is to hold the item of the wanted map.
 pub(crate) fn destination<M: Known, N: Known>(map: &M, wanted: &N, id: ItemId) -> Option<BucketId> {
     counterpart(map, wanted, wanted.holder(id)?)
 }
 
-/// The bucket of the wanted map that this one of the map is in all but its id, which no edit sets: of
-/// its name and its type. Where buckets are told apart by ids, neither map has the id of the other.
+/// The wanted map's bucket of this one's name and type, whose id alone differs, which no edit sets.
+/// With [`Identity::Ids`] neither map has the other's id.
 fn namesake<M: Known, N: Known>(
     identity: Identity,
     map: &M,
@@ -124,7 +116,7 @@ fn namesake<M: Known, N: Known>(
     }
 }
 
-/// Whether the map has a bucket of this id that the wanted map lacks, also by its name.
+/// Neither by id nor by name.
 pub(crate) fn loses_bucket<M: Known, N: Known>(
     identity: Identity,
     map: &M,

@@ -1,4 +1,4 @@
-//! Devices that come, and classes.
+//! Devices that the map lacks, and classes.
 
 ghost use Rattle.std.specs.Prelude.{OnOk};
 ghost use Rattle.crush_plan.specs.Draft.{GoesOn};
@@ -11,8 +11,6 @@ use crush_map::CrushMap;
 use crush_units::{DeviceId, ItemId};
 use std::alloc::{AllocError, Allocator};
 
-/// Puts those of the wanted map's devices that the map lacks, and gives each device of both its
-/// class.
 pub(crate) fn set_devices<A: Allocator + Clone, B: Allocator>(
     draft: &mut Draft<A>,
     aim: &Aim<'_, A, B>,
@@ -27,7 +25,6 @@ pub(crate) fn set_devices<A: Allocator + Clone, B: Allocator>(
     Ok(())
 }
 
-/// Puts the device, where the map lacks it.
 fn put_device<A: Allocator + Clone, B: Allocator>(
     draft: &mut Draft<A>,
     aim: &Aim<'_, A, B>,
@@ -47,7 +44,6 @@ fn put_device<A: Allocator + Clone, B: Allocator>(
     }
 }
 
-/// Gives the device its class, where both maps have it.
 fn set_class<A: Allocator + Clone, B: Allocator>(
     draft: &mut Draft<A>,
     aim: &Aim<'_, A, B>,

@@ -11,18 +11,16 @@ use crush_map::{CrushMap, Edit, EditFault, Location};
 use crush_units::{BucketId, DeviceId, ItemId, Name, Weight};
 use std::alloc::{AllocError, Allocator, Global};
 
-/// A map of which edits were made, and these edits.
 #[derive(Drop)]
 pub(crate) struct Draft<A: Allocator> {
-    /// In which memory edits are kept.
     pub alloc: Global,
     /// The map after the edits.
     pub map: CrushMap<A>,
-    /// The edits: each was done, and changed the map.
+    /// Each was done, and changed the map.
     pub edits: Vec<Edit>,
 }
 
-/// A copy of a name that an item has. An `Err` says that memory ran out.
+/// Of a name that an item has.
 pub(crate) fn copy_name(alloc: Global, name: &[u8]) -> Result<Name<Global>, AllocError> {
     match Name::read(alloc, name) {
         Ok(name) => Ok(name),
@@ -31,7 +29,7 @@ pub(crate) fn copy_name(alloc: Global, name: &[u8]) -> Result<Name<Global>, Allo
 }
 
 impl<A: Allocator + Clone> Draft<A> {
-    /// Makes the edit where it is allowed, and keeps it where it is done and has changed the map.
+    /// Keeps the edit where it is allowed, done, and has changed the map.
     pub(crate) fn give<B: Allocator>(
         &mut self,
         aim: &Aim<'_, A, B>,
@@ -46,7 +44,7 @@ impl<A: Allocator + Clone> Draft<A> {
         }
     }
 
-    /// Whether a script can say the edit, and it is of the part that is asked for.
+    /// A script can say the edit, and it is of the part.
     fn allows<B: Allocator>(&self, aim: &Aim<'_, A, B>, edit: &Edit) -> bool
         ensures { result ≡ true → (v : List Row) → Stands self.now.map.forest v
             → Allows aim.now v edit.now }
@@ -54,7 +52,6 @@ impl<A: Allocator + Clone> Draft<A> {
         is_said(edit) && aim.concerns(&self.map, edit)
     }
 
-    /// Makes the edit, and keeps it where it is done and has changed the map.
     fn make<B: Allocator>(&mut self, aim: &Aim<'_, A, B>, edit: Edit) -> Result<(), AllocError>
         requires allowed { (v : List Row) → Stands self.old.map.forest v → Allows aim.now v edit }
         ensures { OnOk result (GoesOn aim.now self.old self.new) }
@@ -66,7 +63,6 @@ impl<A: Allocator + Clone> Draft<A> {
         }
     }
 
-    /// Keeps an edit that has changed the map.
     fn keep(&mut self, edit: Edit, changed: bool) -> Result<(), AllocError>
         ensures map { self.new.map ≡ self.old.map }
         ensures edits { OnOk result (self.new.edits.items
@@ -78,7 +74,6 @@ impl<A: Allocator + Clone> Draft<A> {
         Ok(())
     }
 
-    /// A copy of the item's name, if it is there.
     pub(crate) fn name_of(&self, id: ItemId) -> Result<Option<Name<Global>>, AllocError> {
         match self.map.name_of(id) {
             Some(name) => Ok(Some(copy_name(self.alloc, name.as_bytes())?)),
@@ -86,7 +81,6 @@ impl<A: Allocator + Clone> Draft<A> {
         }
     }
 
-    /// The bucket, as the one pair of a location; no pair where it isn't there.
     fn place(&self, bucket: BucketId) -> Result<Location, AllocError> {
         let mut at = Location::new(self.alloc);
         let Some(view) = self.map.find(ItemId::Bucket(bucket)) else {
@@ -101,7 +95,6 @@ impl<A: Allocator + Clone> Draft<A> {
         }
     }
 
-    /// Removes the item.
     pub(crate) fn remove<B: Allocator>(
         &mut self,
         aim: &Aim<'_, A, B>,
@@ -115,7 +108,6 @@ impl<A: Allocator + Clone> Draft<A> {
         }
     }
 
-    /// Has two buckets exchange their names and items.
     pub(crate) fn swap<B: Allocator>(
         &mut self,
         aim: &Aim<'_, A, B>,
@@ -132,7 +124,6 @@ impl<A: Allocator + Clone> Draft<A> {
         }
     }
 
-    /// Gives the bucket another name.
     pub(crate) fn rename_bucket<B: Allocator>(
         &mut self,
         aim: &Aim<'_, A, B>,
@@ -148,7 +139,6 @@ impl<A: Allocator + Clone> Draft<A> {
         }
     }
 
-    /// Makes a bucket of this name and type.
     pub(crate) fn add_bucket<B: Allocator>(
         &mut self,
         aim: &Aim<'_, A, B>,
@@ -161,7 +151,6 @@ impl<A: Allocator + Clone> Draft<A> {
         self.give(aim, Edit::AddBucket { name, kind })
     }
 
-    /// Puts the item below the bucket.
     pub(crate) fn relocate<B: Allocator>(
         &mut self,
         aim: &Aim<'_, A, B>,
@@ -177,7 +166,6 @@ impl<A: Allocator + Clone> Draft<A> {
         self.give(aim, Edit::Move { name, at })
     }
 
-    /// Gives the device this weight.
     pub(crate) fn reweight<B: Allocator>(
         &mut self,
         aim: &Aim<'_, A, B>,
@@ -192,7 +180,6 @@ impl<A: Allocator + Clone> Draft<A> {
         }
     }
 
-    /// Gives each device below the bucket this weight.
     pub(crate) fn reweight_below<B: Allocator>(
         &mut self,
         aim: &Aim<'_, A, B>,
@@ -207,7 +194,6 @@ impl<A: Allocator + Clone> Draft<A> {
         }
     }
 
-    /// Puts a new device of this name below the bucket.
     pub(crate) fn insert<B: Allocator>(
         &mut self,
         aim: &Aim<'_, A, B>,
@@ -231,7 +217,6 @@ impl<A: Allocator + Clone> Draft<A> {
         )
     }
 
-    /// Takes the class of the device of this name away.
     pub(crate) fn remove_class<B: Allocator>(
         &mut self,
         aim: &Aim<'_, A, B>,
@@ -243,7 +228,6 @@ impl<A: Allocator + Clone> Draft<A> {
         self.give(aim, Edit::RemoveClass { name })
     }
 
-    /// Gives the device of this name this class.
     pub(crate) fn set_class<B: Allocator>(
         &mut self,
         aim: &Aim<'_, A, B>,

@@ -1,8 +1,8 @@
 //! Plans: the edits that lead from one map to another, and what stays that no edit changes.
 //!
-//! [`find_plan`] finds a [`Plan`], and [`plan_text`] prints one. Each edit is made on a copy of the
-//! map as it is found, and kept only where it is done and has changed the copy: whatever way is gone,
-//! what is told is true of the two maps. What stays is told by `crush_names`.
+//! [`find_plan`] finds a [`Plan`], [`plan_text`] prints it. Each edit is made on a copy of the map
+//! and kept only where it is done and has changed the copy, so that any plan is true of the two
+//! maps. An `Err` says that memory ran out.
 #![tactic(auto)]
 
 mod aim;

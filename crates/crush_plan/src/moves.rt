@@ -12,8 +12,7 @@ use crush_map::CrushMap;
 use crush_units::{BucketId, DeviceId, ItemId};
 use std::alloc::{AllocError, Allocator};
 
-/// Puts each of the wanted map's items below the bucket that is to hold it, each bucket behind what
-/// is above it: so what is above its place is in place already.
+/// A bucket comes behind what is above it, so that what is above its place is in place already.
 pub(crate) fn move_all<A: Allocator + Clone, B: Allocator>(
     draft: &mut Draft<A>,
     aim: &Aim<'_, A, B>,
@@ -25,7 +24,6 @@ pub(crate) fn move_all<A: Allocator + Clone, B: Allocator>(
     move_devices(draft, aim, there.placed.as_slice())
 }
 
-/// Puts the buckets.
 fn move_buckets<A: Allocator + Clone, B: Allocator>(
     draft: &mut Draft<A>,
     aim: &Aim<'_, A, B>,
@@ -39,7 +37,7 @@ fn move_buckets<A: Allocator + Clone, B: Allocator>(
     Ok(())
 }
 
-/// Puts the bucket that is to be as this one of the wanted map.
+/// The bucket is the wanted map's.
 fn move_bucket<A: Allocator + Clone, B: Allocator>(
     draft: &mut Draft<A>,
     aim: &Aim<'_, A, B>,
@@ -59,7 +57,6 @@ fn move_bucket<A: Allocator + Clone, B: Allocator>(
     draft.relocate(aim, ItemId::Bucket(item), place)
 }
 
-/// Puts the devices.
 fn move_devices<A: Allocator + Clone, B: Allocator>(
     draft: &mut Draft<A>,
     aim: &Aim<'_, A, B>,
@@ -73,7 +70,6 @@ fn move_devices<A: Allocator + Clone, B: Allocator>(
     Ok(())
 }
 
-/// Puts the device, where it is to stand in a bucket.
 fn move_device<A: Allocator + Clone, B: Allocator>(
     draft: &mut Draft<A>,
     aim: &Aim<'_, A, B>,
@@ -87,7 +83,6 @@ fn move_device<A: Allocator + Clone, B: Allocator>(
     }
 }
 
-/// Puts the device below the bucket, unless it stands there.
 fn put_device<A: Allocator + Clone, B: Allocator>(
     draft: &mut Draft<A>,
     aim: &Aim<'_, A, B>,
@@ -102,7 +97,6 @@ fn put_device<A: Allocator + Clone, B: Allocator>(
     draft.relocate(aim, ItemId::Device(device), place)
 }
 
-/// The bucket of the map that is to hold the device.
 fn place_of<A: Allocator, B: Allocator>(
     map: &CrushMap<A>,
     wanted: &Walked<'_, B>,

@@ -12,11 +12,10 @@ use crush_units::{BucketId, ItemId, Name};
 use itoa::Buffer;
 use std::alloc::{AllocError, Allocator, Global};
 
-/// How long what stands before the number of a free name is at most.
+/// How many bytes stand before the number of a free name at most.
 const LONGEST_STEM: usize = 240;
 
-/// Gives the buckets the names that they are to have. A bucket waits until its name is free; where
-/// names go round in a ring, one of them is freed.
+/// A bucket waits until its name is free; where names go round in a ring, one of them is freed.
 pub(crate) fn rename_all<A: Allocator + Clone, B: Allocator>(
     draft: &mut Draft<A>,
     aim: &Aim<'_, A, B>,
@@ -28,7 +27,7 @@ pub(crate) fn rename_all<A: Allocator + Clone, B: Allocator>(
     rename_rings(draft, aim, buckets)
 }
 
-/// Gives the buckets their names, where these are free or come free, or a bucket that goes has them.
+/// A bucket that goes gives up its name.
 fn rename_waiting<A: Allocator + Clone, B: Allocator>(
     draft: &mut Draft<A>,
     aim: &Aim<'_, A, B>,
@@ -44,7 +43,6 @@ fn rename_waiting<A: Allocator + Clone, B: Allocator>(
     Ok(())
 }
 
-/// Gives the other buckets their names.
 fn rename_rings<A: Allocator + Clone, B: Allocator>(
     draft: &mut Draft<A>,
     aim: &Aim<'_, A, B>,
@@ -61,8 +59,7 @@ fn rename_rings<A: Allocator + Clone, B: Allocator>(
     Ok(())
 }
 
-/// Frees the name of a bucket that is to have another, where some bucket is to have it, and gives it
-/// to that one.
+/// Frees the bucket's name for the one that is to have it.
 fn open_ring<A: Allocator + Clone, B: Allocator>(
     draft: &mut Draft<A>,
     aim: &Aim<'_, A, B>,
@@ -84,7 +81,7 @@ fn open_ring<A: Allocator + Clone, B: Allocator>(
     take_names(draft, aim, next, most)
 }
 
-/// The bucket that waits for the name of this one, which is to have another.
+/// The bucket that waits for this one's name.
 fn waiting<A: Allocator, B: Allocator>(
     map: &CrushMap<A>,
     aim: &Aim<'_, A, B>,
@@ -94,8 +91,7 @@ fn waiting<A: Allocator, B: Allocator>(
     counterpart(&aim.there, map, bucket)
 }
 
-/// Whether the ring of names may be opened at this bucket: of a part alone each bucket of the ring has
-/// to be given its name, so that none is left with a free one.
+/// In a part alone the whole ring must get its names, so that none is left with a free one.
 fn can_open<A: Allocator, B: Allocator>(
     map: &CrushMap<A>,
     aim: &Aim<'_, A, B>,
@@ -119,7 +115,7 @@ fn can_open<A: Allocator, B: Allocator>(
     false
 }
 
-/// The name that a bucket of both maps is to have, where it has another and may be given it.
+/// Where it has another and may be given it.
 fn wanted_name<'a, A: Allocator, B: Allocator>(
     map: &CrushMap<A>,
     aim: &'a Aim<'_, A, B>,
@@ -136,7 +132,6 @@ fn wanted_name<'a, A: Allocator, B: Allocator>(
     Some(there)
 }
 
-/// The same, where nothing has that name.
 fn free_name<'a, A: Allocator, B: Allocator>(
     map: &CrushMap<A>,
     aim: &'a Aim<'_, A, B>,
@@ -149,8 +144,7 @@ fn free_name<'a, A: Allocator, B: Allocator>(
     Some(name)
 }
 
-/// Gives the bucket its name, where it is free, then the name that it had to the bucket that is to
-/// have that, and so on, at most so many times.
+/// The name that it had goes to its heir, and so on.
 fn take_names<A: Allocator + Clone, B: Allocator>(
     draft: &mut Draft<A>,
     aim: &Aim<'_, A, B>,
@@ -171,7 +165,6 @@ fn take_names<A: Allocator + Clone, B: Allocator>(
     Ok(())
 }
 
-/// Gives the bucket the name, if there is one.
 fn take_name<A: Allocator + Clone, B: Allocator>(
     draft: &mut Draft<A>,
     aim: &Aim<'_, A, B>,
@@ -186,7 +179,7 @@ fn take_name<A: Allocator + Clone, B: Allocator>(
     }
 }
 
-/// The bucket that is to have the name that this one has, where this one gets another.
+/// The bucket that is to have this one's name.
 fn heir<A: Allocator, B: Allocator>(
     map: &CrushMap<A>,
     aim: &Aim<'_, A, B>,
@@ -196,7 +189,7 @@ fn heir<A: Allocator, B: Allocator>(
     counterpart(&aim.there, map, bucket)
 }
 
-/// Frees the name, if there is one, where a bucket has it that goes.
+/// Where a bucket that goes has it.
 pub(crate) fn free_of_lost<A: Allocator + Clone, B: Allocator>(
     draft: &mut Draft<A>,
     aim: &Aim<'_, A, B>,
@@ -210,7 +203,6 @@ pub(crate) fn free_of_lost<A: Allocator + Clone, B: Allocator>(
     }
 }
 
-/// The bucket that has the name and goes.
 fn lost_bucket<A: Allocator, B: Allocator>(
     identity: Identity,
     map: &CrushMap<A>,
@@ -225,7 +217,7 @@ fn lost_bucket<A: Allocator, B: Allocator>(
     }
 }
 
-/// Gives the bucket that has the name, if there is one, another, that neither map has.
+/// Its bucket gets one that neither map has.
 fn free<A: Allocator + Clone, B: Allocator>(
     draft: &mut Draft<A>,
     aim: &Aim<'_, A, B>,
@@ -261,7 +253,7 @@ fn spare_name<A: Allocator, B: Allocator>(
     Ok(None)
 }
 
-/// A name with a number behind it; of a long one the first bytes.
+/// Of a long name the first bytes.
 fn numbered_name(alloc: Global, name: &[u8], number: u32) -> Result<Name<Global>, AllocError> {
     let mut buffer = Buffer::new();
     let number = buffer.format(number).as_bytes();

@@ -28,20 +28,18 @@ use std::alloc::{AllocError, Allocator, Global};
 /// The edits that lead from one map towards another, and what differs then.
 #[derive(Debug, Drop)]
 pub struct Plan {
-    /// The edits: each is done and changes the map that those before it made.
+    /// Each is done and changes the map that those before it made.
     pub edits: Vec<Edit>,
-    /// What differs by names between the map after the edits and the wanted one: a line each.
+    /// What differs by names behind the edits, a line each.
     pub rest: Vec<u8>,
-    /// How many buckets of one name have other ids then, which no edit sets.
+    /// How many buckets of one name have other ids, which no edit sets.
     pub aside: Counts,
 }
 
-/// Finds the edits that lead from a map to another, each of which a script can say; of a part, those
-/// of items that stand or shall stand there: the item of its name, and what is below it. An `Err`
-/// says that memory ran out.
-///
-/// Where with all that are found no fewer differences stay than without, nor as many and fewer other
-/// ids, those are taken that leave all buckets as they are; and where these help no more, none.
+/// Finds the edits that lead from a map to another, each of which a script can say; of a part,
+/// those of items that stand or shall stand there: the item of its name, and what is below it.
+/// Where all of these leave no fewer differences than none, nor as many and fewer other ids, those
+/// are taken that leave all buckets as they are, or none.
 pub fn find_plan<A: Allocator + Clone, B: Allocator>(
     alloc: Global,
     identity: Identity,
@@ -69,7 +67,6 @@ pub fn find_plan<A: Allocator + Clone, B: Allocator>(
     Ok(before)
 }
 
-/// The plan that has no edits.
 fn without_edits<A: Allocator, B: Allocator>(
     alloc: Global,
     under: Option<&str>,
@@ -91,7 +88,6 @@ fn without_edits<A: Allocator, B: Allocator>(
     })
 }
 
-/// The plan of the edits that are found, of those that it may have.
 fn with_edits<A: Allocator + Clone, B: Allocator>(
     alloc: Global,
     extent: Extent,
@@ -116,7 +112,6 @@ fn with_edits<A: Allocator + Clone, B: Allocator>(
     to_aim(alloc, &aim)
 }
 
-/// The plan of the edits that are found, and what stays behind them.
 fn to_aim<A: Allocator + Clone, B: Allocator>(
     alloc: Global,
     aim: &Aim<'_, A, B>,
@@ -133,8 +128,7 @@ fn to_aim<A: Allocator + Clone, B: Allocator>(
     Ok(Plan { edits, rest, aside })
 }
 
-/// Whether with the one plan fewer differences stay than with the other, or as many and fewer other
-/// ids.
+/// Fewer differences stay, or as many and fewer other ids.
 fn is_better(after: &Plan, before: &Plan) -> bool
     ensures { result ≡ true → IsBetter (plan_data after.now) (plan_data before.now) }
 {
@@ -143,7 +137,6 @@ fn is_better(after: &Plan, before: &Plan) -> bool
 }
 
 impl Plan {
-    /// Whether there are no edits.
     fn has_no_edits(&self) -> bool
         ensures { result ≡ true → self.now.edits.items ≡ [] }
     {
@@ -158,7 +151,6 @@ impl Plan {
     }
 }
 
-/// How many lines a text has.
 pub(crate) fn count_lines(text: &[u8]) -> usize
     ensures { result ≡ line_count text.now }
 {
@@ -171,7 +163,6 @@ pub(crate) fn count_lines(text: &[u8]) -> usize
     count
 }
 
-/// The map before with all edits made that are found, and these edits.
 fn drafted<A: Allocator + Clone, B: Allocator>(
     alloc: Global,
     aim: &Aim<'_, A, B>,
@@ -188,10 +179,8 @@ fn drafted<A: Allocator + Clone, B: Allocator>(
     Ok(draft)
 }
 
-/// Makes all edits that are found.
-///
-/// What goes makes room first, and weights that are to be less are set before anything comes
-/// together, so that no sum is in the way.
+/// What goes makes room first, and weights that get less are set before anything comes together, so
+/// that no sum is in the way.
 fn go<A: Allocator + Clone, B: Allocator>(
     draft: &mut Draft<A>,
     aim: &Aim<'_, A, B>,
@@ -210,7 +199,7 @@ fn go<A: Allocator + Clone, B: Allocator>(
     set_devices(draft, aim, there.set.as_slice())
 }
 
-/// Swaps and renames buckets, where they are told apart by ids; where it is by names, each has its own.
+/// With [`Identity::Names`] each bucket has its own.
 fn give_names<A: Allocator + Clone, B: Allocator>(
     draft: &mut Draft<A>,
     aim: &Aim<'_, A, B>,

@@ -11,8 +11,7 @@ use crush_script::device_named;
 use crush_units::{DeviceId, Name, Weight};
 use std::alloc::Global;
 
-/// Whether a line of a script can say the edit: of a device that it puts the name is `osd.` and the
-/// device's number. All else has the forms that its types keep.
+/// The name of a device that the edit puts is `osd.` and its number.
 pub(crate) fn is_said(edit: &Edit) -> bool
     ensures { result ≡ true → IsSaid edit.now }
 {
@@ -75,8 +74,6 @@ pub(crate) fn is_said(edit: &Edit) -> bool
     }
 }
 
-/// Whether a line can say what an edit puts: the name is that of the device in a command, `osd.` and
-/// its number.
 fn is_said_placing(device: DeviceId, name: &Name<Global>, weight: Weight, at: &Location) -> bool
     ensures { result ≡ true → IsSaidPlacing device name.now weight at.now }
 {
@@ -88,14 +85,12 @@ fn is_said_placing(device: DeviceId, name: &Name<Global>, weight: Weight, at: &L
     }
 }
 
-/// A law of each name: it has the form of one.
 fn recall_name(name: &Name<Global>)
     ensures { IsName name.now }
 {
     let _bytes = name.as_bytes();
 }
 
-/// The same of two names.
 fn recall_names(first: &Name<Global>, second: &Name<Global>)
     ensures first { IsName first.now }
     ensures second { IsName second.now }
@@ -104,7 +99,6 @@ fn recall_names(first: &Name<Global>, second: &Name<Global>)
     let _second = second.as_bytes();
 }
 
-/// A law of each name and each weight: they have the forms and the range of such.
 fn recall_weighed(name: &Name<Global>, weight: Weight)
     ensures name { IsName name.now }
     ensures weight { weight < 2 ^ 32 }

@@ -12,8 +12,7 @@ use crush_tree::Node;
 use crush_units::BucketId;
 use std::alloc::{AllocError, Allocator};
 
-/// Swaps each two of the buckets that are to have one another's names, where more of their items
-/// are to change sides than to stay.
+/// Each two that are to have one another's names, where more of their items change sides than stay.
 pub(crate) fn swap_all<A: Allocator + Clone, B: Allocator>(
     draft: &mut Draft<A>,
     aim: &Aim<'_, A, B>,
@@ -27,7 +26,6 @@ pub(crate) fn swap_all<A: Allocator + Clone, B: Allocator>(
     Ok(())
 }
 
-/// Swaps the bucket, where there is another to swap it with.
 fn swap_one<A: Allocator + Clone, B: Allocator>(
     draft: &mut Draft<A>,
     aim: &Aim<'_, A, B>,
@@ -41,7 +39,6 @@ fn swap_one<A: Allocator + Clone, B: Allocator>(
     }
 }
 
-/// The bucket that this one is to be swapped with, if there is one.
 fn partner<A: Allocator, B: Allocator>(
     map: &CrushMap<A>,
     wanted: &Walked<'_, B>,
@@ -62,7 +59,6 @@ fn partner<A: Allocator, B: Allocator>(
     }
 }
 
-/// Whether more items of the two buckets are to change sides than to stay.
 fn is_worth<A: Allocator, B: Allocator>(
     map: &CrushMap<A>,
     wanted: &Walked<'_, B>,
@@ -76,7 +72,7 @@ fn is_worth<A: Allocator, B: Allocator>(
     a_stay + b_stay < a_leave + b_leave
 }
 
-/// How many items of the one bucket are to stand in the other.
+/// How many items of `from` are to stand in `to`.
 fn count_below<A: Allocator, B: Allocator>(
     map: &CrushMap<A>,
     wanted: &Walked<'_, B>,
@@ -89,7 +85,6 @@ fn count_below<A: Allocator, B: Allocator>(
     }
 }
 
-/// How many of the items are to stand in the bucket.
 fn count_in<A: Allocator, B: Allocator>(
     items: &[Node<A>],
     wanted: &Walked<'_, B>,

@@ -18,15 +18,12 @@ use std::alloc::{AllocError, Global};
 /// In which words the edits of a plan are printed.
 #[derive(Clone, Copy, Debug, PartialEq, Eq)]
 pub enum PlanWords {
-    /// As the lines of a script.
     Script,
-    /// As Ceph's own commands.
     Ceph,
 }
 
-/// Prints a plan: `# N commands`, each edit as a line; where anything differs then
-/// `# N differences stay` and a line for each, as a comment; and as comments how many buckets have
-/// other ids. An `Err` says that memory ran out.
+/// Prints a plan: `# N commands`, each edit as a line; where anything differs then `# N differences
+/// stay` and a line for each, as a comment; and as comments how many buckets have other ids.
 pub fn plan_text(alloc: Global, plan: &Plan, words: PlanWords) -> Result<Vec<u8>, AllocError>
     ensures { IfOk result (λ text. text.items ≡ plan_text words (plan_data plan.now)) }
 {
@@ -39,7 +36,6 @@ pub fn plan_text(alloc: Global, plan: &Plan, words: PlanWords) -> Result<Vec<u8>
     Ok(text)
 }
 
-/// How many buckets have other ids, as comments.
 fn push_ids(alloc: Global, counts: Counts, text: &mut Vec<u8>) -> Result<(), AllocError>
     ensures { OnOk result (text.new.items ≡ text.old.items ++ commented true (aside_text counts)) }
 {
@@ -48,7 +44,6 @@ fn push_ids(alloc: Global, counts: Counts, text: &mut Vec<u8>) -> Result<(), All
     push_comments(lines.as_slice(), text)
 }
 
-/// The lines of the edits.
 fn push_edits(edits: &[Edit], words: PlanWords, text: &mut Vec<u8>) -> Result<(), AllocError>
     ensures { OnOk result (text.new.items ≡ text.old.items ++ flat_map (plan_line words) edits.now) }
 {
@@ -58,7 +53,6 @@ fn push_edits(edits: &[Edit], words: PlanWords, text: &mut Vec<u8>) -> Result<()
     Ok(())
 }
 
-/// The line of an edit.
 fn push_edit(edit: &Edit, words: PlanWords, text: &mut Vec<u8>) -> Result<(), AllocError>
     ensures { OnOk result (text.new.items ≡ text.old.items ++ plan_line words edit.now) }
 {
@@ -68,7 +62,6 @@ fn push_edit(edit: &Edit, words: PlanWords, text: &mut Vec<u8>) -> Result<(), Al
     }
 }
 
-/// An edit as a line of a script.
 fn push_line(edit: &Edit, text: &mut Vec<u8>) -> Result<(), AllocError>
     ensures { OnOk result (text.new.items ≡ text.old.items ++ (edit_text edit.now ++ codes "\n")) }
 {
@@ -76,7 +69,6 @@ fn push_line(edit: &Edit, text: &mut Vec<u8>) -> Result<(), AllocError>
     text.extend_from_slice(b"\n")
 }
 
-/// What differs, as comments.
 fn push_rest(rest: &[u8], text: &mut Vec<u8>) -> Result<(), AllocError>
     ensures { OnOk result (text.new.items ≡ text.old.items ++ stay_text rest.now) }
 {
@@ -87,7 +79,6 @@ fn push_rest(rest: &[u8], text: &mut Vec<u8>) -> Result<(), AllocError>
     push_comments(rest, text)
 }
 
-/// How many differences there are.
 #[tactic(auto, unfolding(crate::specs::PlanText::stay_heading))]
 fn push_heading(count: usize, text: &mut Vec<u8>) -> Result<(), AllocError>
     ensures { OnOk result (text.new.items ≡ text.old.items ++ stay_heading count) }
@@ -101,7 +92,6 @@ fn push_heading(count: usize, text: &mut Vec<u8>) -> Result<(), AllocError>
     .map_err(|_| AllocError)
 }
 
-/// Lines, each behind `# `.
 fn push_comments(lines: &[u8], text: &mut Vec<u8>) -> Result<(), AllocError>
     ensures { OnOk result (text.new.items ≡ text.old.items ++ commented true lines.now) }
 {
@@ -113,7 +103,7 @@ fn push_comments(lines: &[u8], text: &mut Vec<u8>) -> Result<(), AllocError>
     Ok(())
 }
 
-/// A byte, behind `# ` at the head of a line.
+/// Behind `# ` at the head of a line.
 fn push_marked(at_head: bool, byte: u8, text: &mut Vec<u8>) -> Result<(), AllocError>
     ensures { OnOk result (text.new.items ≡ text.old.items ++ (mark at_head ++ byte ∷ [])) }
 {

@@ -1,8 +1,4 @@
 //! The items of a map, looked up by name and by id.
-//!
-//! A map on its way to another is asked itself: where an item stands is found by a climb through all
-//! buckets above it. Of a map that stays as it is the items are listed by one walk, so that a plan
-//! of many items deep below takes no climb for each.
 
 use crush_map::{CrushMap, Setting};
 use crush_tree::View;
@@ -10,18 +6,14 @@ use crush_units::{BucketId, ItemId};
 use crush_view::{Step, walk};
 use std::alloc::{AllocError, Allocator, Global};
 
-/// A map of which items are looked up.
+/// A map of which items are looked up; one that changes climbs through all buckets above an item.
 pub(crate) trait Known {
-    /// The id of the item of this name.
     fn id_of(&self, name: &str) -> Option<ItemId>;
 
-    /// The item of this id.
     fn view(&self, id: ItemId) -> Option<View<'_>>;
 
-    /// The bucket that holds the item.
     fn holder(&self, id: ItemId) -> Option<BucketId>;
 
-    /// What surrounds the items.
     fn surroundings(&self) -> &Setting;
 }
 
@@ -43,24 +35,24 @@ impl<A: Allocator> Known for CrushMap<A> {
     }
 }
 
-/// Which of the steps has the item of a key.
+/// `at` counts in the steps.
 #[derive(Clone, Copy)]
 struct Key {
     key: u64,
     at: usize,
 }
 
-/// A map with its items in the order of its tree, and by their ids.
+/// A map that stays as it is, listed by one walk, so that no item takes a climb.
 #[derive(Drop)]
 pub(crate) struct Walked<'a, A: Allocator> {
     map: &'a CrushMap<A>,
-    /// The items in the order of the map's tree.
+    /// In the order of the map's tree.
     pub steps: Vec<Step<'a, A>>,
-    /// Their keys, rising.
+    /// Rising.
     keys: Vec<Key>,
 }
 
-/// A number for each id: an even one for a bucket, an odd one for a device.
+/// Even for a bucket, odd for a device.
 fn key_of(id: ItemId) -> u64 {
     match id {
         ItemId::Bucket(bucket) => 2 * bucket.distance() as u64,
@@ -69,7 +61,6 @@ fn key_of(id: ItemId) -> u64 {
 }
 
 impl<'a, A: Allocator> Walked<'a, A> {
-    /// The map with its items, found by one walk. An `Err` says that memory ran out.
     pub(crate) fn new(alloc: Global, map: &'a CrushMap<A>) -> Result<Walked<'a, A>, AllocError> {
         let steps = walk(alloc, map)?;
         let mut keys = Vec::new(alloc);
@@ -79,7 +70,6 @@ impl<'a, A: Allocator> Walked<'a, A> {
     }
 }
 
-/// The keys of these items.
 fn push_keys<A: Allocator>(steps: &[Step<'_, A>], keys: &mut Vec<Key>) -> Result<(), AllocError> {
     for (at, step) in steps.iter().enumerate() {
         keys.push(Key {

@@ -1,4 +1,4 @@
-//! Weights.
+//! Weights of devices.
 
 ghost use Rattle.std.specs.Prelude.{OnOk};
 ghost use Rattle.crush_plan.specs.Draft.{GoesOn};
@@ -15,17 +15,13 @@ use crush_names::are_near;
 use crush_units::{DeviceId, ItemId, Weight};
 use std::alloc::{AllocError, Allocator};
 
-/// Which weights are set.
 #[derive(Clone, Copy, PartialEq, Eq)]
 pub(crate) enum Which {
-    /// Those that are to be less.
     Less,
-    /// All that are to be others.
     Other,
 }
 
 impl Which {
-    /// Whether the one weight is set to the other.
     pub(crate) fn sets(self, from: Weight, to: Weight) -> bool {
         match self {
             Which::Less => to.units() < from.units() && !are_near(from, to),
@@ -34,9 +30,8 @@ impl Which {
     }
 }
 
-/// Sets weights of devices that are placed in both maps: all below a bucket at once, where they are
-/// to have one weight and two or more have another, and then one by one. The devices are those whose
-/// weight may be another.
+/// All below a bucket at once, where all are to weigh the same and two or more don't yet, then one
+/// by one.
 pub(crate) fn set_weights<A: Allocator + Clone, B: Allocator>(
     draft: &mut Draft<A>,
     aim: &Aim<'_, A, B>,
@@ -53,7 +48,6 @@ pub(crate) fn set_weights<A: Allocator + Clone, B: Allocator>(
     set_one_by_one(draft, aim, devices, which)
 }
 
-/// Sets the weights below each of the buckets.
 fn set_below<A: Allocator + Clone, B: Allocator>(
     draft: &mut Draft<A>,
     aim: &Aim<'_, A, B>,
@@ -67,7 +61,6 @@ fn set_below<A: Allocator + Clone, B: Allocator>(
     Ok(())
 }
 
-/// Sets weights one by one.
 fn set_one_by_one<A: Allocator + Clone, B: Allocator>(
     draft: &mut Draft<A>,
     aim: &Aim<'_, A, B>,
@@ -82,7 +75,6 @@ fn set_one_by_one<A: Allocator + Clone, B: Allocator>(
     Ok(())
 }
 
-/// Sets the weight of the device.
 fn set_weight<A: Allocator + Clone, B: Allocator>(
     draft: &mut Draft<A>,
     aim: &Aim<'_, A, B>,
@@ -97,7 +89,6 @@ fn set_weight<A: Allocator + Clone, B: Allocator>(
     }
 }
 
-/// The weight that the device of both maps is to have and has not.
 fn other_weight<A: Allocator, B: Allocator>(
     map: &CrushMap<A>,
     wanted: &Walked<'_, B>,
@@ -116,7 +107,7 @@ fn other_weight<A: Allocator, B: Allocator>(
     }
 }
 
-/// What the device weighs, where a bucket holds it.
+/// Where a bucket holds it.
 fn placed_weight<M: Known>(map: &M, device: DeviceId) -> Option<Weight> {
     match map.view(ItemId::Device(device)) {
         Some(view) if view.parent.is_some() => Some(view.weight),

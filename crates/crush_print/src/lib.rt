@@ -1,8 +1,5 @@
-//! The printer of CRUSH maps: a map as its text.
-//!
-//! [`write_map`] writes the text, which `specs/MapText.antt` says. That it is read back as the
-//! same map is a law of `crush_laws`; `crush_view` writes what a person reads. [`devices`] and
-//! [`buckets`] are the ids of what a map has, in the order of its text.
+//! The printer of CRUSH maps: [`write_map`] writes the text that `specs/MapText.antt` says;
+//! [`devices`] and [`buckets`] are the ids in its order.
 #![tactic(auto)]
 
 mod lines;

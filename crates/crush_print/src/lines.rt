@@ -1,4 +1,4 @@
-//! The lines of a printed map, each pushed behind what a `Vec` holds.
+//! The lines of a printed map.
 
 ghost use Rattle.std.specs.Prelude.{◌≡◌, [], ◌∷◌, ◌++◌, None, OnOk, flat_map, map};
 ghost use Rattle.crush_table.specs.ItemRows.{device_row, bucket_row};
@@ -12,14 +12,12 @@ use crush_units::{ItemId, Weight};
 use itoa::Buffer;
 use std::alloc::{AllocError, Allocator};
 
-/// All parts, one after the other.
 pub(crate) fn push_all(parts: &[&[u8]], out: &mut Vec<u8>) -> Result<(), AllocError>
     ensures { OnOk result (out.new.items ≡ out.old.items ++ flat_map (λ part. part.now) parts.now) }
 {
     put_all(out, parts).map_err(|_| AllocError)
 }
 
-/// The line of a device.
 #[tactic(auto, unfolding(crate::specs::Lines::device_line))]
 pub(crate) fn push_device<A: Allocator>(
     device: &Leaf<A>,
@@ -48,7 +46,6 @@ pub(crate) fn push_device<A: Allocator>(
     }
 }
 
-/// The line of a type.
 #[tactic(auto, unfolding(crate::specs::Lines::kind_line))]
 pub(crate) fn push_kind(number: u16, name: &[u8], out: &mut Vec<u8>) -> Result<(), AllocError>
     ensures { OnOk result (out.new.items ≡ out.old.items ++ kind_line number name.now) }
@@ -67,7 +64,6 @@ pub(crate) fn push_kind(number: u16, name: &[u8], out: &mut Vec<u8>) -> Result<(
     )
 }
 
-/// The line of an item with this name and this weight.
 #[tactic(auto, unfolding(crate::specs::Lines::item_line))]
 fn push_line(name: &[u8], weight: Weight, out: &mut Vec<u8>) -> Result<(), AllocError>
     ensures { OnOk result (out.new.items ≡ out.old.items ++ item_line name.now weight) }
@@ -86,7 +82,6 @@ fn push_line(name: &[u8], weight: Weight, out: &mut Vec<u8>) -> Result<(), Alloc
     )
 }
 
-/// The line of an item of a bucket.
 fn push_item<A: Allocator>(node: &Node<A>, out: &mut Vec<u8>) -> Result<(), AllocError>
     ensures { OnOk result (out.new.items ≡ out.old.items ++ item_lines (items_of (node.now ∷ []))) }
 {
@@ -99,7 +94,6 @@ fn push_item<A: Allocator>(node: &Node<A>, out: &mut Vec<u8>) -> Result<(), Allo
     }
 }
 
-/// The lines of a bucket's items.
 fn push_items<A: Allocator>(items: &[Node<A>], out: &mut Vec<u8>) -> Result<(), AllocError>
     ensures { OnOk result (out.new.items ≡ out.old.items ++ item_lines (items_of items.now)) }
 {
@@ -109,7 +103,6 @@ fn push_items<A: Allocator>(items: &[Node<A>], out: &mut Vec<u8>) -> Result<(), 
     Ok(())
 }
 
-/// The line of a class id.
 #[tactic(auto, unfolding(crate::specs::Lines::class_id_line))]
 fn push_class_id<A: Allocator>(id: &ShadowId<A>, out: &mut Vec<u8>) -> Result<(), AllocError>
     ensures { OnOk result (out.new.items ≡ out.old.items ++ class_id_line (shadow_data id.now)) }
@@ -128,7 +121,6 @@ fn push_class_id<A: Allocator>(id: &ShadowId<A>, out: &mut Vec<u8>) -> Result<()
     )
 }
 
-/// The lines of a bucket's class ids.
 fn push_class_ids<A: Allocator>(ids: &[ShadowId<A>], out: &mut Vec<u8>) -> Result<(), AllocError>
     ensures { OnOk result (out.new.items ≡ out.old.items
         ++ flat_map class_id_line (map shadow_data ids.now)) }
@@ -139,7 +131,6 @@ fn push_class_ids<A: Allocator>(ids: &[ShadowId<A>], out: &mut Vec<u8>) -> Resul
     Ok(())
 }
 
-/// How a bucket begins, whose type has this name.
 #[tactic(auto, unfolding(crate::specs::Lines::bucket_head))]
 fn push_head<A: Allocator>(
     kind: &[u8],
@@ -162,7 +153,6 @@ fn push_head<A: Allocator>(
     )
 }
 
-/// The lines on how a bucket of this weight chooses.
 #[tactic(auto, unfolding(crate::specs::Lines::bucket_choice))]
 fn push_choice<A: Allocator>(
     header: &Header<A>,
@@ -187,7 +177,6 @@ fn push_choice<A: Allocator>(
     )
 }
 
-/// A bucket with this header, this weight and these items, whose type has this name.
 pub(crate) fn push_bucket<A: Allocator>(
     kind: &[u8],
     header: &Header<A>,

@@ -1,4 +1,4 @@
-//! The devices and the buckets of a map, in the order in which they are printed.
+//! Devices and buckets in the order in which they are printed.
 
 ghost use Rattle.std.specs.Prelude.{◌≡◌, List, [], ◌∷◌, ◌++◌, None, OnOk, IfOk, flat_map, map};
 ghost use Rattle.std.specs.List.Sorted.{IsPermutation};
@@ -16,10 +16,7 @@ use crush_tree::{Bucket, Forest, Leaf, Node};
 use crush_units::{BucketId, DeviceId, ItemId};
 use std::alloc::{AllocError, Allocator, Global};
 
-/// The ids of all devices of a map, upward, as they are printed. Go on from each by
-/// [`CrushMap::find`], and by [`CrushMap::parent`] to the bucket that holds it, if one does.
-///
-/// An `Err` says that memory ran out.
+/// The ids of all devices of a map, upward, as they are printed.
 pub fn devices<A: Allocator>(alloc: Global, map: &CrushMap<A>) -> Result<Vec<DeviceId>, AllocError>
     ensures { IfOk result (λ devices. (t : List Row) → Stands map.now.forest t
         → devices.items ≡ device_numbers t) }
@@ -29,11 +26,7 @@ pub fn devices<A: Allocator>(alloc: Global, map: &CrushMap<A>) -> Result<Vec<Dev
 }
 
 /// The ids of all buckets of a map as they are printed: the roots from -1 downward, each behind the
-/// buckets below it, and these in the order of the items. Go on from each by [`CrushMap::find`], by
-/// [`CrushMap::items`] to what is in it, and by [`CrushMap::parent`] to the bucket that holds it, if
-/// one does.
-///
-/// An `Err` says that memory ran out.
+/// buckets below it, and these in the order of the items.
 pub fn buckets<A: Allocator>(alloc: Global, map: &CrushMap<A>) -> Result<Vec<BucketId>, AllocError>
     ensures { IfOk result (λ buckets. (t : List Row) → Stands map.now.forest t
         → buckets.items ≡ bucket_numbers t) }
@@ -42,7 +35,6 @@ pub fn buckets<A: Allocator>(alloc: Global, map: &CrushMap<A>) -> Result<Vec<Buc
     ids_of_buckets(alloc, buckets.as_slice())
 }
 
-/// The ids of devices, in their order.
 fn ids_of_devices<A: Allocator>(
     alloc: Global,
     devices: &[&Leaf<A>],
@@ -52,7 +44,6 @@ fn ids_of_devices<A: Allocator>(
     devices.iter().map(|device| device.id).collect(alloc)
 }
 
-/// The ids of buckets, in their order.
 fn ids_of_buckets<A: Allocator>(
     alloc: Global,
     buckets: &[&Bucket<A>],
@@ -62,7 +53,7 @@ fn ids_of_buckets<A: Allocator>(
     buckets.iter().map(|bucket| bucket.header.id).collect(alloc)
 }
 
-/// The devices of the forest, by ascending id.
+/// By ascending id.
 pub(crate) fn devices_in_order<A: Allocator>(
     alloc: Global,
     forest: &Forest<A>,
@@ -80,7 +71,6 @@ pub(crate) fn devices_in_order<A: Allocator>(
     Ok(devices)
 }
 
-/// The devices among the nodes and below them, in order.
 fn find_devices<'a, A: Allocator>(
     nodes: &'a [Node<A>],
     found: &mut Vec<&'a Leaf<A>>,
@@ -100,7 +90,7 @@ fn find_devices<'a, A: Allocator>(
     Ok(())
 }
 
-/// The buckets of the forest: the roots by id from -1 downward, each behind the buckets below it.
+/// In the order of [`buckets`].
 pub(crate) fn buckets_in_order<A: Allocator>(
     alloc: Global,
     forest: &Forest<A>,
@@ -115,7 +105,6 @@ pub(crate) fn buckets_in_order<A: Allocator>(
     buckets_below(alloc, roots.as_slice())
 }
 
-/// The buckets among the nodes, node by node, each behind the buckets below it.
 fn buckets_below<'a, A: Allocator>(
     alloc: Global,
     nodes: &[&'a Node<A>],
@@ -130,7 +119,6 @@ fn buckets_below<'a, A: Allocator>(
     Ok(found)
 }
 
-/// A bucket behind the buckets below it. Of a device nothing.
 fn find_buckets<'a, A: Allocator>(
     node: &'a Node<A>,
     found: &mut Vec<&'a Bucket<A>>,
@@ -152,8 +140,7 @@ fn find_buckets<'a, A: Allocator>(
     }
 }
 
-/// References to the nodes, by the numbers of their ids from the least: roots from -1 downward,
-/// devices upward. An `Err` says that memory ran out.
+/// References to the nodes, by how far their ids are from 0.
 pub fn nodes_in_order<A: Allocator>(
     alloc: Global,
     nodes: &[Node<A>],
@@ -167,7 +154,6 @@ pub fn nodes_in_order<A: Allocator>(
     Ok(sorted)
 }
 
-/// References to the nodes, in their order.
 fn references<A: Allocator>(alloc: Global, nodes: &[Node<A>]) -> Result<Vec<&Node<A>>, AllocError>
     ensures { IfOk result (λ references. map (λ r. r.now) references.items ≡ nodes.now) }
 {
@@ -178,7 +164,6 @@ fn references<A: Allocator>(alloc: Global, nodes: &[Node<A>]) -> Result<Vec<&Nod
     Ok(references)
 }
 
-/// The number of an item's id: how far it is from 0.
 fn number_of<A: Allocator>(node: &Node<A>) -> u32
     ensures { result ≡ id_number (node_id node.now) }
 {

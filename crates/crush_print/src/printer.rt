@@ -25,10 +25,7 @@ use tunables::push_tunables;
 
 /// Writes the map's text, in Ceph's form, as docs/FORMATS.md says: its tunables, its devices, its
 /// types, its buckets and its rules, and the fixed lines round them. A step of a rule that takes a
-/// bucket names it as the map does now.
-///
-/// The text is laid out in the given memory first. With [`WriteFault::OutOfMemory`] nothing is
-/// written, with [`WriteFault::Write`] a prefix of the text.
+/// bucket names it as the map does now. The text is laid out in the given memory first.
 pub fn write_map<A: Allocator, W: Write>(
     alloc: Global,
     map: &CrushMap<A>,
@@ -45,24 +42,23 @@ pub fn write_map<A: Allocator, W: Write>(
     put(out, text.as_slice())
 }
 
-/// A map's text is that of its table, whatever the order of the table's rows: only the order of
-/// each bucket's items is told. There is nothing to run: the contract is the law.
+/// The law that maps of the same rows print alike, in whatever order these stand.
 pub fn same_tables_print_alike()
     ensures { SameTablesPrintAlike }
 {}
 
-/// A step of a rule that takes a bucket is printed with the name that this bucket has, for each
-/// setting that fits the table. There is nothing to run: the contract is the law.
+/// The law that a step that takes a bucket is printed with the bucket's name, for each setting that
+/// fits the table.
 pub fn taken_buckets_are_named()
     ensures { TakenBucketsAreNamed }
 {}
 
-/// How many bytes tell of a device, and of a bucket, as a rule of thumb.
+/// The bytes of a usual device, and of a usual bucket.
 const USUAL_DEVICE: usize = 56;
 
 const USUAL_BUCKET: usize = 112;
 
-/// The whole text of a map, for which memory is asked once, unless it is longer than usual.
+/// Memory is taken once, unless the text is longer than usual.
 fn map_text<A: Allocator>(alloc: Global, map: &CrushMap<A>) -> Result<Vec<u8>, AllocError>
     ensures { IfOk result (λ text. (t : List Row) → Stands map.now.forest t
         → text.items ≡ map_text map.now.setting t) }
@@ -74,7 +70,6 @@ fn map_text<A: Allocator>(alloc: Global, map: &CrushMap<A>) -> Result<Vec<u8>, A
     Ok(text)
 }
 
-/// The same, behind what there is.
 fn push_map<A: Allocator>(
     alloc: Global,
     map: &CrushMap<A>,

@@ -17,7 +17,6 @@ use crush_units::ItemId;
 use itoa::Buffer;
 use std::alloc::{AllocError, Global};
 
-/// How many edits of an entry are told: all of a call that changed the map.
 fn count_changing(entry: &Entry) -> u64
     ensures value { result ≡ length (changing_edits entry.now) }
     ensures few { result ≤ MOST_EDITS }
@@ -25,7 +24,6 @@ fn count_changing(entry: &Entry) -> u64
     changing_edits(entry).len() as u64
 }
 
-/// How many edits of a history are told.
 fn count_told(entries: &[Entry]) -> u64
     requires { length entries.now < 2 ^ 32 }
     ensures { result ≡ length (history_edits entries.now) }
@@ -37,7 +35,7 @@ fn count_told(entries: &[Entry]) -> u64
     count
 }
 
-/// The word that Ceph asks for before it swaps buckets that stand apart.
+/// The word that Ceph requires to swap buckets that stand apart.
 fn assent(edit: &Edit) -> &'static [u8]
     ensures { result.now ≡ assent edit.now }
 {
@@ -47,14 +45,12 @@ fn assent(edit: &Edit) -> &'static [u8]
     }
 }
 
-/// The command of an edit.
 fn push_edit(edit: &Edit, text: &mut Vec<u8>) -> Result<(), AllocError>
     ensures { OnOk result (text.new.items ≡ text.old.items ++ edit_text edit.now) }
 {
     write_edit(edit, text).map_err(|_| AllocError)
 }
 
-/// The end of a line.
 fn push_end(edit: &Edit, text: &mut Vec<u8>) -> Result<(), AllocError>
     ensures { OnOk result (text.new.items ≡ text.old.items ++ (assent edit.now ++ codes "\n")) }
 {
@@ -63,7 +59,7 @@ fn push_end(edit: &Edit, text: &mut Vec<u8>) -> Result<(), AllocError>
 }
 
 /// An edit as a line for a shell: `ceph osd crush`, its command, and of a swap
-/// `--yes-i-really-mean-it`. An `Err` says that memory ran out.
+/// `--yes-i-really-mean-it`.
 pub fn push_ceph_line(edit: &Edit, text: &mut Vec<u8>) -> Result<(), AllocError>
     ensures { OnOk result (text.new.items ≡ text.old.items ++ ceph_line edit.now) }
 {
@@ -72,7 +68,6 @@ pub fn push_ceph_line(edit: &Edit, text: &mut Vec<u8>) -> Result<(), AllocError>
     push_end(edit, text)
 }
 
-/// Whether the edit is a `set` of a device that no bucket of the map holds.
 fn sets_unplaced(map: &CrushMap<Global>, edit: &Edit) -> bool
     ensures { (t : List Row) → Stands map.now.forest t → result ≡ sets_unplaced t edit.now }
 {
@@ -102,7 +97,7 @@ fn added(edit: Edit) -> Edit
     }
 }
 
-/// The line of an edit, as Ceph is asked for it where its map is this one.
+/// The line that Ceph accepts where its map is this one.
 fn push_told(
     alloc: Global,
     map: &CrushMap<Global>,
@@ -119,7 +114,7 @@ fn push_told(
     push_ceph_line(edit, text)
 }
 
-/// The line of an edit, which is then made on the map that was before it.
+/// Pushes the line, then makes the edit.
 fn push_edit_of(
     alloc: Global,
     map: &mut CrushMap<Global>,
@@ -133,7 +128,6 @@ fn push_edit_of(
     make_edit(map, edit)
 }
 
-/// The lines of edits, each of the map that the ones before it made.
 fn push_edits(
     alloc: Global,
     map: &mut CrushMap<Global>,
@@ -148,7 +142,6 @@ fn push_edits(
     Ok(())
 }
 
-/// The lines of an entry that changed the map.
 fn push_entry(
     alloc: Global,
     map: &mut CrushMap<Global>,
@@ -161,7 +154,6 @@ fn push_entry(
     push_edits(alloc, map, changing_edits(entry), text)
 }
 
-/// The lines of a history.
 fn push_entries(
     alloc: Global,
     map: &mut CrushMap<Global>,
@@ -177,7 +169,7 @@ fn push_entries(
     Ok(())
 }
 
-/// How many commands there are: `# N commands`. An `Err` says that memory ran out.
+/// How many commands there are: `# N commands`.
 #[tactic(auto, unfolding(crate::specs::Ceph::ceph_heading))]
 pub fn push_ceph_heading(count: u64, text: &mut Vec<u8>) -> Result<(), AllocError>
     ensures { OnOk result (text.new.items ≡ text.old.items ++ ceph_heading count) }
@@ -188,15 +180,11 @@ pub fn push_ceph_heading(count: u64, text: &mut Vec<u8>) -> Result<(), AllocErro
 }
 
 /// The commands that changed the map, as lines for a shell: first `# N commands`, then for each
-/// `ceph osd crush ` and the command as a history line has it, in the order of the history.
-///
-/// A `set` of a device that no bucket held before it is told as `add`: Ceph's `set` refuses a device
-/// that its map doesn't hold, and its `add` gives one that is held a second place. A batch that
-/// changed the map shows as all of its edits, one that was refused or changed nothing as none. A
-/// swap ends in ` --yes-i-really-mean-it`, which Ceph asks for where the buckets stand apart.
-///
-/// The commands are made once more, on the map as it was before the first of them, which is used up.
-/// There are fewer than 2^32 entries. An `Err` says that memory ran out.
+/// `ceph osd crush ` and the command as a history line has it, in the order of the history. A `set`
+/// of a device that no bucket held before it becomes an `add`: Ceph's `set` refuses a device that
+/// its map doesn't hold, and its `add` gives one that is held a second place. A batch that changed
+/// the map shows as all of its edits. A swap ends in ` --yes-i-really-mean-it`, which Ceph requires
+/// where the buckets stand apart.
 pub fn ceph_text(
     alloc: Global,
     opening: CrushMap<Global>,

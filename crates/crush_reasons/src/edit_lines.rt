@@ -9,7 +9,7 @@ use crate::words::from_place;
 use crush_script::{LineWords, line_feeds, map_part};
 use std::alloc::{AllocError, Global};
 
-/// Whether a line says an edit: it has words, and begins or ends no batch.
+/// It has words, and begins or ends no batch.
 fn says_edit(line: &[u8]) -> bool
     ensures { result ≡ says_edit (line_words line.now) }
 {
@@ -20,14 +20,12 @@ fn says_edit(line: &[u8]) -> bool
     }
 }
 
-/// Whether a line begins a section.
 fn begins_section(line: &[u8]) -> bool
     ensures { result ≡ begins_section line.now }
 {
     matches!(line, [b'%', ..])
 }
 
-/// The sections of a job.
 fn section_part(job: &[u8]) -> &[u8]
     ensures value { result.now ≡ section_part job.now }
     ensures within { length result.now ≤ length job.now }
@@ -35,7 +33,6 @@ fn section_part(job: &[u8]) -> &[u8]
     from_place(map_part(job).len(), job)
 }
 
-/// The number of their first line.
 fn first_number(job: &[u8]) -> usize
     requires { length job.now < 2 ^ 32 }
     ensures value { result ≡ section_line job.now }
@@ -44,7 +41,7 @@ fn first_number(job: &[u8]) -> usize
     line_feeds(map_part(job)) + 1
 }
 
-/// The first line of a text, and what stands behind its line feed.
+/// The first line, and what stands behind its line feed.
 fn cut_line(text: &[u8]) -> (&[u8], &[u8])
     requires { 0 < length text.now }
     ensures cut { lines text.now ≡ result.0.now ∷ lines result.1.now }
@@ -54,14 +51,12 @@ fn cut_line(text: &[u8]) -> (&[u8], &[u8])
     (first_line(text), behind_line(text))
 }
 
-/// Whether a text has a line that begins no section.
 fn goes_on(text: &[u8]) -> bool
     ensures { result ≡ goes_on text.now }
 {
     !text.is_empty() && !begins_section(text)
 }
 
-/// Pushes the number of a line that says an edit.
 fn push_number(line: &[u8], number: usize, numbers: &mut Vec<usize>) -> Result<(), AllocError>
     ensures { OnOk result (numbers.new.items
         ≡ numbers.old.items ++ number_of number (line_words line.now)) }
@@ -75,8 +70,7 @@ fn push_number(line: &[u8], number: usize, numbers: &mut Vec<usize>) -> Result<(
     Ok(())
 }
 
-/// The numbers of the lines that say an edit, up to the next section, of lines that count from the
-/// first.
+/// Up to the next section; `first` is the number of the first line.
 fn edit_lines(alloc: Global, first: usize, text: &[u8]) -> Result<Vec<usize>, AllocError>
     requires { first + length text.now < 2 ^ 34 }
     ensures { IfOk result (λ numbers. numbers.items ≡ edit_lines first (lines text.now)) }
@@ -93,7 +87,6 @@ fn edit_lines(alloc: Global, first: usize, text: &[u8]) -> Result<Vec<usize>, Al
     Ok(numbers)
 }
 
-/// Pushes those of the section that a line begins, of which the lines behind it count from the first.
 fn push_section(
     alloc: Global,
     line: &[u8],
@@ -116,8 +109,7 @@ fn push_section(
     Ok(())
 }
 
-/// The numbers of the lines that say an edit, a list for each section of a job. Lines count from 1,
-/// the map's text included. An `Err` says that memory ran out.
+/// A list for each section; lines count from 1, the map's text included.
 pub(crate) fn job_edits(alloc: Global, job: &[u8]) -> Result<Vec<Vec<usize>>, AllocError>
     requires { length job.now < 2 ^ 32 }
     ensures { IfOk result (λ sections. each (λ numbers. numbers.items) sections.items

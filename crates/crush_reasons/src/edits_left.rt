@@ -10,16 +10,13 @@ use crate::replay::edits_of;
 use crush_calls::{Entry, Reply};
 use std::alloc::{AllocError, Global};
 
-/// Where an edit of a batch stands in a job.
 #[derive(Clone, Copy)]
 pub(crate) struct EditPlace<'a> {
-    /// Where its line comes from.
     pub(crate) origin: Origin<'a>,
-    /// Its line in the job, counted from 1.
+    /// Counted from 1 in the job.
     pub(crate) line: usize,
 }
 
-/// Where an edit stands, before its command, if that is known.
 pub(crate) fn push_place(
     place: &Option<EditPlace<'_>>,
     text: &mut Vec<u8>,
@@ -32,7 +29,6 @@ pub(crate) fn push_place(
     }
 }
 
-/// Which edit of a batch was refused.
 fn refused_index(reply: Reply) -> Option<usize>
     ensures { result ≡ refused_index reply }
 {
@@ -42,14 +38,13 @@ fn refused_index(reply: Reply) -> Option<usize>
     }
 }
 
-/// The lines of the edits of each section that are left behind the entries so far.
+/// Of each section the lines of the edits that no entry has passed yet.
 #[derive(Drop)]
 pub(crate) struct EditsLeft<'a> {
     lines: Vec<&'a [usize]>,
 }
 
 impl<'a> EditsLeft<'a> {
-    /// All of them.
     pub(crate) fn new(
         alloc: Global,
         sections: &'a [Vec<usize>],
@@ -66,7 +61,6 @@ impl<'a> EditsLeft<'a> {
         Ok(EditsLeft { lines })
     }
 
-    /// Those that are left of an operator.
     fn of(&self, operator: usize) -> &'a [usize]
         ensures { result.now ≡ slice_index_or (lines_left self.now) operator [] }
     {
@@ -77,14 +71,13 @@ impl<'a> EditsLeft<'a> {
         }
     }
 
-    /// The line of the edit of this number, counted from 0, of those that are left of an operator.
+    /// Counted from 0 among those that are left.
     fn line(&self, operator: usize, index: usize) -> Option<usize>
         ensures { result ≡ line_in (lines_left self.now) operator index }
     {
         line_of(self.of(operator), index)
     }
 
-    /// Leaves those of an entry behind.
     pub(crate) fn pass(&mut self, entry: &Entry)
         ensures { lines_left self.new ≡ left_behind (lines_left self.old) entry.now }
     {
@@ -95,7 +88,6 @@ impl<'a> EditsLeft<'a> {
     }
 }
 
-/// The line of an edit, of the lines of several.
 fn line_of(lines: &[usize], index: usize) -> Option<usize>
     ensures { result ≡ slice_get lines.now index }
 {
@@ -106,7 +98,6 @@ fn line_of(lines: &[usize], index: usize) -> Option<usize>
     }
 }
 
-/// The lines of the edits from one on.
 fn from_line(index: usize, lines: &[usize]) -> &[usize]
     ensures { result.now ≡ drop index lines.now }
 {
@@ -117,7 +108,6 @@ fn from_line(index: usize, lines: &[usize]) -> &[usize]
     }
 }
 
-/// Where a line of a job stands, if there is one.
 fn place_of<O: Locates>(origins: &O, line: Option<usize>) -> Option<EditPlace<'_>>
     ensures { told_place result ≡ line_place (O.origin origins.now) line }
 {
@@ -128,7 +118,6 @@ fn place_of<O: Locates>(origins: &O, line: Option<usize>) -> Option<EditPlace<'_
     })
 }
 
-/// Where the edit of an entry stands that was refused in its batch.
 pub(crate) fn refused_place<'a, O: Locates>(
     origins: &'a O,
     left: &EditsLeft<'_>,

@@ -26,14 +26,12 @@ use crush_map::CrushMap;
 use itoa::Buffer;
 use std::alloc::{AllocError, Global};
 
-/// The command of an edit.
 fn push_edit(edit: &Edit, text: &mut Vec<u8>) -> Result<(), AllocError>
     ensures { OnOk result (text.new.items ≡ text.old.items ++ edit_text edit.now) }
 {
     write_edit(edit, text).map_err(|_| AllocError)
 }
 
-/// The line of an entry.
 fn push_entry(
     number: u32,
     operator: &[u8],
@@ -46,7 +44,6 @@ fn push_entry(
     write_entry(number, operator, &entry.call, entry.reply, text).map_err(|_| AllocError)
 }
 
-/// The edits of a batch from one on.
 fn from_edit(index: usize, edits: &[Edit]) -> &[Edit]
     ensures { result.now ≡ drop index edits.now }
 {
@@ -57,7 +54,6 @@ fn from_edit(index: usize, edits: &[Edit]) -> &[Edit]
     }
 }
 
-/// The edits of a batch before one.
 fn before_edit(index: usize, edits: &[Edit]) -> &[Edit]
     ensures { result.now ≡ take index edits.now }
 {
@@ -68,8 +64,7 @@ fn before_edit(index: usize, edits: &[Edit]) -> &[Edit]
     }
 }
 
-/// An entry's number in its history, its operator's name, where its refused edit stands, and whether
-/// near names are looked for.
+/// `place` is of the refused edit; `looks` says whether near names are looked for.
 #[derive(Clone, Copy)]
 struct EntryHead<'a> {
     number: u32,
@@ -78,7 +73,6 @@ struct EntryHead<'a> {
     looks: bool,
 }
 
-/// What was wanted of an edit by the map, behind its command.
 fn push_refused(
     alloc: Global,
     looks: bool,
@@ -95,7 +89,6 @@ fn push_refused(
     push_edit_reason(alloc, looks, map, edit, refusal, text)
 }
 
-/// The same of the first of these edits, behind where it stands.
 fn push_first(
     alloc: Global,
     map: &CrushMap<Global>,
@@ -116,8 +109,7 @@ fn push_first(
     }
 }
 
-/// What was wanted where an edit of a batch was refused, which stands there: by a copy of the map, on
-/// which the edits before it are made.
+/// The edits before the refused one are made on a copy of the map.
 fn push_batched(
     alloc: Global,
     map: &CrushMap<Global>,
@@ -136,7 +128,6 @@ fn push_batched(
     push_first(alloc, &copy, head, from_edit(index, edits), refusal, text)
 }
 
-/// How many changes there were.
 #[tactic(auto, unfolding(crate::specs::Explained::so_far))]
 fn push_so_far(count: u32, text: &mut Vec<u8>) -> Result<(), AllocError>
     ensures { OnOk result (text.new.items ≡ text.old.items ++ so_far count) }
@@ -151,7 +142,6 @@ fn push_so_far(count: u32, text: &mut Vec<u8>) -> Result<(), AllocError>
     )
 }
 
-/// What a number of changes is that a guarded batch names, where there were fewer.
 fn push_too_high(seen: u32, count: u32, text: &mut Vec<u8>) -> Result<(), AllocError>
     ensures { OnOk result (text.new.items ≡ text.old.items ++ too_high seen count) }
 {
@@ -160,7 +150,7 @@ fn push_too_high(seen: u32, count: u32, text: &mut Vec<u8>) -> Result<(), AllocE
     push_so_far(count, text)
 }
 
-/// What is told of a guarded batch that names another number of changes than there were.
+/// `seen` is the number of changes that the batch names, `count` how many there were.
 fn push_stale(seen: u32, count: u32, text: &mut Vec<u8>) -> Result<(), AllocError>
     ensures { OnOk result (text.new.items ≡ text.old.items ++ stale_reason seen count) }
 {
@@ -171,7 +161,6 @@ fn push_stale(seen: u32, count: u32, text: &mut Vec<u8>) -> Result<(), AllocErro
     }
 }
 
-/// What was wanted of a call that the map refused.
 fn push_call_reason(
     alloc: Global,
     map: &CrushMap<Global>,
@@ -196,7 +185,6 @@ fn push_call_reason(
     }
 }
 
-/// The line of the reason of a call that the map refused.
 fn push_reply(
     alloc: Global,
     map: &CrushMap<Global>,
@@ -213,7 +201,6 @@ fn push_reply(
     text.extend_from_slice(b"\n")
 }
 
-/// The line of an entry and its reason, where the map refused it.
 fn push_explained(
     alloc: Global,
     map: &CrushMap<Global>,
@@ -232,7 +219,7 @@ fn push_explained(
     push_reply(alloc, map, head, &entry.call, entry.reply, text)
 }
 
-/// The lines of an entry that the map refused; one that changed it is made once more.
+/// An entry that changed the map is made once more.
 fn push_made(
     alloc: Global,
     map: &mut CrushMap<Global>,
@@ -251,7 +238,6 @@ fn push_made(
     make_entry(map, entry)
 }
 
-/// The lines of a history, of whose operators' edits these are the lines.
 fn push_entries<O: Locates>(
     alloc: Global,
     map: &mut CrushMap<Global>,
@@ -285,7 +271,6 @@ fn push_entries<O: Locates>(
     Ok(())
 }
 
-/// The scripts of a job, the lines of the edits of each of its sections, and where lines come from.
 #[derive(Clone, Copy)]
 struct ToldOf<'a, O> {
     scripts: &'a [Script],
@@ -295,14 +280,10 @@ struct ToldOf<'a, O> {
 
 /// The lines of the entries that were refused, each as the history has it, with its number there,
 /// and below each two spaces and what was wanted: by the name that was in the way, and by what the
-/// map said of it that refused. Of a batch that stands behind the file and the line of the edit that
-/// was refused, `FILE:LINE: ` or without a file `line LINE: `, and its command.
-///
-/// The text is that of the job whose scripts the calls come from, in the order of its sections. The
-/// commands that changed the map are made once more, on the map as it was before the first of them,
-/// which is used up; a batch that was refused is made on a copy up to its refused edit. Where a name
-/// isn't there, each name of the map is looked at, for the first 256 refused entries. There are fewer than 2^32 entries, so that each has
-/// a number; a job's are at most 65,536. An `Err` says that memory ran out.
+/// map said of it that refused. Of a batch the place of its refused edit comes first, `FILE:LINE: `
+/// or without a file `line LINE: `, and its command. `scripts` come from the text of `job`, in the
+/// order of its sections. Near names are looked for in the whole map, for the first 256 refused
+/// entries.
 pub fn explained_job<O: Locates>(
     alloc: Global,
     job: JobText<'_, O>,
@@ -346,7 +327,6 @@ pub fn explained_text(
     explained(alloc, opening, &told, entries)
 }
 
-/// The lines of a history before which this was the map.
 fn explained<O: Locates>(
     alloc: Global,
     opening: CrushMap<Global>,

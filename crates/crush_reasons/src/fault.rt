@@ -15,7 +15,6 @@ use crush_script::{JobFault, LineWords};
 use crush_text::TextFault;
 use std::alloc::{AllocError, Global};
 
-/// What is told of a line that isn't of its form.
 fn push_bad_line_reason(
     origin: Origin<'_>,
     bytes: &[u8],
@@ -33,7 +32,6 @@ fn push_bad_line_reason(
     push_line_reason(LineWords::of_line(first_line(line_at(bytes, line))), text)
 }
 
-/// A line that isn't of its form, and below it the form and the word that doesn't fit.
 fn push_bad_line(
     origin: Origin<'_>,
     bytes: &[u8],
@@ -50,7 +48,6 @@ fn push_bad_line(
     text.extend_from_slice(b"\n")
 }
 
-/// A line, and below it a sentence.
 fn push_line_fault(
     origin: Origin<'_>,
     bytes: &[u8],
@@ -65,7 +62,6 @@ fn push_line_fault(
     push_reason(sentence, text)
 }
 
-/// The place of a flaw of the map's text, and below it what was wanted.
 fn push_flaw(
     origin: Origin<'_>,
     bytes: &[u8],
@@ -82,7 +78,6 @@ fn push_flaw(
     text.extend_from_slice(b"\n")
 }
 
-/// Where a fault of a job stands, and what was wanted there.
 fn push_fault(
     origin: Origin<'_>,
     bytes: &[u8],
@@ -106,10 +101,8 @@ fn push_fault(
     }
 }
 
-/// The line of a job at which a fault is told, counted from 1, or 0 where it has none: of a map that
-/// ends too early the last with a word.
-///
-/// The bytes are the whole job. The line counts in them, whichever file it came from.
+/// The line of a job where a fault is, counted from 1 in the whole job, or 0 where it has none; of
+/// a map that ends too early the last line with a word.
 pub fn fault_line(bytes: &[u8], fault: JobFault) -> usize
     requires { length bytes.now < 2 ^ 32 }
     ensures { result ≡ fault_line bytes.now fault }
@@ -128,18 +121,12 @@ pub fn fault_line(bytes: &[u8], fault: JobFault) -> usize
 
 /// Where a fault of a job stands, and below it what was wanted: of a flaw of the map's text the
 /// line, the column, what the line has there and `^` below the place, of another fault the line
-/// alone. Of a fault without a place, as of bytes that are too many, it is what was wanted alone.
+/// alone. A fault without a place, as of too many bytes, shows what was wanted alone.
 ///
-/// What was wanted is told by the bytes, too: of a command its form and the first word that doesn't
-/// fit, of a word or a number of the map's text which are wanted and what is open there, and of a
-/// text that ends too early, at its last word, what isn't closed.
-///
-/// The bytes are the whole job, of which some lines stand before the file's own: the number that is
-/// told counts from 1 in that file, and a line that was put before its first is line 0. Columns
-/// count from 1. A line is shown from its beginning, or from 40 bytes before the place, and 72 bytes
-/// of it at most; a tab and a carriage return show as a space, another byte that isn't from 32 to 126
-/// as `?`. The name of the file stands before the line's number, unless it is empty. An `Err` says
-/// that memory ran out.
+/// `bytes` are the whole job; the line's number counts from 1 in the file of `origin`, and a line
+/// that was put before its first is 0. Columns count from 1. A line is shown from its beginning, or
+/// from 40 bytes before the place, and 72 bytes at most; tabs and carriage returns show as spaces,
+/// other bytes outside 32 to 126 as `?`.
 pub fn fault_text(
     alloc: Global,
     origin: Origin<'_>,

@@ -1,4 +1,4 @@
-//! What is told of a flaw of a map's text: what was wanted, by what stands at its place and before it.
+//! What was wanted at a flaw of a map's text, by what stands there and before it.
 
 ghost use Rattle.std.specs.Prelude.{◌≡◌, ◌++◌, ◌<◌, ◌^◌, OnOk, codes, drop, length};
 ghost use Rattle.std.specs.List.{list_all};
@@ -16,13 +16,10 @@ use crush_text::{TextFault, TextFaultKind};
 use itoa::Buffer;
 use std::alloc::AllocError;
 
-/// What is told where the first byte is at fault.
 const NOT_BEGUN: &str = "no text of a map begins so: is this what crushtool -d prints?";
 
-/// What is told of a line that begins as a command and stands in the map's text.
 const NO_OPERATOR: &str = "commands stand below a line %operator NAME";
 
-/// The word at a place.
 fn word_at(bytes: &[u8], place: usize) -> &[u8]
     ensures { result.now ≡ word_at bytes.now place }
 {
@@ -33,7 +30,6 @@ fn word_at(bytes: &[u8], place: usize) -> &[u8]
     }
 }
 
-/// The two words at a place.
 fn push_two(bytes: &[u8], place: usize, text: &mut Vec<u8>) -> Result<(), AllocError>
     ensures { OnOk result (text.new.items
         ≡ text.old.items ++ two_of (words 0 (drop place bytes.now)).words) }
@@ -49,7 +45,6 @@ fn push_two(bytes: &[u8], place: usize, text: &mut Vec<u8>) -> Result<(), AllocE
     push_all(&[b" ".as_slice(), second.text], text)
 }
 
-/// On which line a statement begins.
 #[tactic(auto, unfolding(crate::specs::Flaws::begins_at))]
 fn push_begins_at(line: usize, text: &mut Vec<u8>) -> Result<(), AllocError>
     ensures { OnOk result (text.new.items ≡ text.old.items ++ begins_at line) }
@@ -64,7 +59,6 @@ fn push_begins_at(line: usize, text: &mut Vec<u8>) -> Result<(), AllocError>
     )
 }
 
-/// The statement that is open: its first two words, and the line of its file on which it begins.
 fn push_open(
     origin: Origin<'_>,
     bytes: &[u8],
@@ -81,7 +75,7 @@ fn push_open(
     push_begins_at(line, text)
 }
 
-/// Whether a bucket or a rule is open that has a name.
+/// Whether a bucket or a rule with a name is open.
 fn is_open(wanted: Wanted) -> bool
     ensures { result ≡ is_open wanted }
 {
@@ -95,7 +89,6 @@ fn is_open(wanted: Wanted) -> bool
     }
 }
 
-/// Which words are wanted in a tunable, a type or a device.
 fn line_wanted(at: InLine) -> &'static str
     ensures { result.now ≡ line_wanted at }
 {
@@ -111,7 +104,6 @@ fn line_wanted(at: InLine) -> &'static str
     }
 }
 
-/// Which words are wanted in a bucket.
 fn bucket_wanted(at: InBucket) -> &'static str
     ensures { result.now ≡ bucket_wanted at }
 {
@@ -134,7 +126,6 @@ fn bucket_wanted(at: InBucket) -> &'static str
     }
 }
 
-/// Which words are wanted in a rule before its steps.
 fn rule_wanted(at: InRule) -> &'static str
     ensures { result.now ≡ rule_wanted at }
 {
@@ -152,7 +143,6 @@ fn rule_wanted(at: InRule) -> &'static str
     }
 }
 
-/// Which words are wanted in the steps of a rule.
 fn step_wanted(at: InStep) -> &'static str
     ensures { result.now ≡ step_wanted at }
 {
@@ -170,7 +160,6 @@ fn step_wanted(at: InStep) -> &'static str
     }
 }
 
-/// Which words are wanted.
 fn wanted_text(wanted: Wanted) -> &'static str
     ensures { result.now ≡ wanted_text wanted }
 {
@@ -186,7 +175,6 @@ fn wanted_text(wanted: Wanted) -> &'static str
     }
 }
 
-/// In which range a number is wanted.
 fn range_text(wanted: Wanted) -> &'static str
     ensures { result.now ≡ range_text wanted }
 {
@@ -208,14 +196,12 @@ fn is_blank(byte: u8) -> bool
     byte == b' ' || byte == b'\t' || byte == b'\n' || byte == b'\r'
 }
 
-/// Whether there are only blanks.
 fn all_blank(text: &[u8]) -> bool
     ensures { result ≡ list_all is_blank text.now }
 {
     text.iter().all(|byte| is_blank(*byte))
 }
 
-/// Whether a word behind these bytes is the first of its line.
 fn begins_line(before: &[u8]) -> bool
     requires { length before.now < 2 ^ 32 }
     ensures { result ≡ begins_line before.now }
@@ -224,7 +210,6 @@ fn begins_line(before: &[u8]) -> bool
     all_blank(line)
 }
 
-/// Whether the word at a place is the first of a line and of a command.
 fn is_command(bytes: &[u8], place: usize) -> bool
     requires { length bytes.now < 2 ^ 32 }
     ensures { result ≡ is_command bytes.now place }
@@ -232,7 +217,7 @@ fn is_command(bytes: &[u8], place: usize) -> bool
     begins_line(up_to(place, bytes)) && form_of(word_at(bytes, place)).is_some()
 }
 
-/// What is told of a part of Ceph's grammar that isn't read, by its word.
+/// Of a part of Ceph's grammar that isn't read.
 #[tactic(auto, unfolding(crate::specs::Flaws::left_out))]
 fn left_out(word: &[u8]) -> &'static str
     ensures { result.now ≡ left_out word.now }
@@ -246,7 +231,6 @@ fn left_out(word: &[u8]) -> &'static str
     }
 }
 
-/// In which statement a word is wanted, where a bucket or a rule is open.
 fn push_inside(
     origin: Origin<'_>,
     bytes: &[u8],
@@ -264,7 +248,6 @@ fn push_inside(
     push_open(origin, bytes, going.begun, text)
 }
 
-/// Which words are wanted, and in which statement.
 fn push_unexpected(
     origin: Origin<'_>,
     bytes: &[u8],
@@ -280,7 +263,6 @@ fn push_unexpected(
     push_inside(origin, bytes, going, text)
 }
 
-/// Where another word is wanted, also at the first byte.
 fn push_no_word(
     origin: Origin<'_>,
     bytes: &[u8],
@@ -298,7 +280,6 @@ fn push_no_word(
     }
 }
 
-/// Which statement isn't closed.
 fn push_unclosed(
     origin: Origin<'_>,
     bytes: &[u8],
@@ -316,7 +297,6 @@ fn push_unclosed(
     text.extend_from_slice(b" isn't closed")
 }
 
-/// In which range a number is wanted.
 fn push_range(going: Going, text: &mut Vec<u8>) -> Result<(), AllocError>
     ensures { OnOk result (text.new.items ≡ text.old.items
         ++ (codes "a whole number is wanted here: " ++ range_text going.wanted)) }
@@ -325,7 +305,6 @@ fn push_range(going: Going, text: &mut Vec<u8>) -> Result<(), AllocError>
     push_bytes(range_text(going.wanted).as_bytes(), text)
 }
 
-/// What is told of a byte that no text may have, or of a long word.
 fn bad_word(place: usize) -> &'static str
     ensures { result.now ≡ bad_word place }
 {
@@ -336,7 +315,6 @@ fn bad_word(place: usize) -> &'static str
     }
 }
 
-/// What is told of a word that names no type.
 fn unknown_type(bytes: &[u8], place: usize) -> &'static str
     requires { length bytes.now < 2 ^ 32 }
     ensures { result.now ≡ unknown_type bytes.now place }
@@ -348,7 +326,6 @@ fn unknown_type(bytes: &[u8], place: usize) -> &'static str
     }
 }
 
-/// What is told of a flaw of another kind.
 fn flaw_sentence(bytes: &[u8], fault: TextFault) -> &'static str
     requires { length bytes.now < 2 ^ 32 }
     ensures { result.now ≡ flaw_sentence bytes.now fault.kind fault.place }
@@ -361,7 +338,6 @@ fn flaw_sentence(bytes: &[u8], fault: TextFault) -> &'static str
     }
 }
 
-/// What was wanted where a text has a flaw.
 pub(crate) fn push_flaw_reason(
     origin: Origin<'_>,
     bytes: &[u8],
@@ -380,7 +356,7 @@ pub(crate) fn push_flaw_reason(
     }
 }
 
-/// The place that is shown: of a text that ends too early its last word's.
+/// Of a text that ends too early its last word's.
 pub(crate) fn flaw_place(bytes: &[u8], fault: TextFault) -> usize
     ensures { result ≡ flaw_place bytes.now fault.kind fault.place }
 {

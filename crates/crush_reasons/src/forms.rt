@@ -27,38 +27,33 @@ pub(crate) enum Form {
     RmDeviceClass,
 }
 
-/// What the next word of a line is to be, by which also those behind it are told.
+/// What the next word of a line is to be, which also fixes those behind it.
 #[derive(Clone, Copy)]
 pub(crate) enum Due {
-    /// A device; then its weight and pairs.
+    /// Then its weight and pairs.
     Device,
-    /// The weight of a device; then pairs.
+    /// Then pairs.
     DeviceWeight,
     /// A name; then pairs.
     Located,
-    /// A pair, or nothing, behind so many.
+    /// Or nothing, behind so many.
     Pairs(usize),
-    /// A name; then another.
+    /// Then another name.
     FirstName,
     /// A name; then a weight.
     Weighed,
-    /// A name; then nothing.
     LastName,
-    /// A weight; then nothing.
     LastWeight,
     /// `at`, or nothing; then a number of changes.
     At,
-    /// A number of changes; then nothing.
     Count,
     /// Nothing: an edit is whole.
     EditEnd,
-    /// Nothing: the line begins a batch.
     BeginEnd,
-    /// Nothing: the line ends a batch.
     CommitEnd,
 }
 
-/// The form of a line with this first word. `None` where it is no command's, nor begins a section.
+/// `None` where it is no command's, nor begins a section.
 #[tactic(auto, unfolding(crate::specs::Forms::form_of))]
 pub(crate) fn form_of(first: &[u8]) -> Option<Form>
     ensures { result ≡ form_of first.now }
@@ -98,7 +93,6 @@ pub(crate) fn form_of(first: &[u8]) -> Option<Form>
     }
 }
 
-/// A form as it is told.
 pub(crate) fn form_text(form: Form) -> &'static str
     ensures { result.now ≡ form_text form }
 {
@@ -121,7 +115,6 @@ pub(crate) fn form_text(form: Form) -> &'static str
     }
 }
 
-/// What the word behind the first one is to be.
 pub(crate) fn first_due(form: Form) -> Due
     ensures { result ≡ first_due form }
 {
@@ -144,7 +137,6 @@ pub(crate) fn first_due(form: Form) -> Due
     }
 }
 
-/// Whether a word is a weight.
 pub(crate) fn is_weight(word: &[u8]) -> bool
     ensures { result ≡ is_weight word.now }
 {
@@ -154,7 +146,6 @@ pub(crate) fn is_weight(word: &[u8]) -> bool
     }
 }
 
-/// Whether a word is a pair.
 fn is_pair(word: &[u8]) -> bool
     ensures { result ≡ is_pair word.now }
 {
@@ -162,14 +153,12 @@ fn is_pair(word: &[u8]) -> bool
     is_name(kind) && is_name(name)
 }
 
-/// What is due next, where the word fits.
 fn only_if(fits: bool, next: Due) -> Option<Due>
     ensures { result ≡ only_if fits next }
 {
     if fits { Some(next) } else { None }
 }
 
-/// What is due behind one pair more.
 fn after_pair(count: usize, word: &[u8]) -> Option<Due>
     ensures { result ≡ after (Due.Pairs count) word.now }
 {
@@ -180,7 +169,7 @@ fn after_pair(count: usize, word: &[u8]) -> Option<Due>
     }
 }
 
-/// What is due behind a word. `None` where the word isn't what was due.
+/// `None` where the word isn't what was due.
 pub(crate) fn after(due: Due, word: &[u8]) -> Option<Due>
     ensures { result ≡ after due word.now }
 {

@@ -1,10 +1,8 @@
-//! What is told of faults and refusals, and the commands of a history as Ceph's own.
+//! Reasons for faults and refusals, and the commands of a history as Ceph's own.
 //!
-//! [`explained_job`] tells of refused calls, [`fault_text`] where a fault of a job is and what
-//! was wanted, [`written_text`] which written weights are no sums, and [`ceph_text`] has the
-//! commands. The sentences stand in `specs/Sentences.antt`; `crush_run` calls these where
-//! `--explain` or `--as-ceph` asks for them. Those of a history take the map before it, on which
-//! they make its commands once more.
+//! The sentences stand in `specs/Sentences.antt`; `crush_run` prints them for `--explain`, and the
+//! commands for `--as-ceph`. Functions of a history take the map before it and make its commands on
+//! it once more. An `Err` says that memory ran out.
 #![tactic(auto)]
 
 mod ceph;

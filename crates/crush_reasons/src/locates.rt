@@ -1,4 +1,4 @@
-//! What tells where each line of a job comes from.
+//! Where each line of a job comes from.
 
 ghost use Rattle.std.specs.Prelude.{◌≡◌, ℕ};
 ghost use Rattle.crush_reasons.specs.Place.{OriginData, origin_data};
@@ -7,10 +7,9 @@ use crate::place::Origin;
 
 /// Tells where each line of a job comes from.
 pub trait Locates {
-    // Where a line comes from. Lines count from 1.
     ghost origin: { Self → ℕ → OriginData };
 
-    /// Where a line comes from. Lines count from 1.
+    /// Lines count from 1.
     fn at(&self, line: usize) -> Origin<'_>
         ensures { origin_data result ≡ origin self.now line };
 }
@@ -18,13 +17,12 @@ pub trait Locates {
 /// The text of a job, and what tells where its lines come from.
 #[derive(Clone, Copy)]
 pub struct JobText<'a, O> {
-    /// The bytes of the whole job.
+    /// The whole job.
     pub bytes: &'a [u8],
-    /// Where its lines come from.
     pub origins: &'a O,
 }
 
-/// Tells no file.
+/// Names no file.
 #[derive(Clone, Copy, Drop)]
 pub(crate) struct Nowhere;
 

@@ -1,4 +1,4 @@
-//! What is told of a line that isn't of its form: the form, and the first word that doesn't fit.
+//! The form of a line that isn't right, and the first word that doesn't fit.
 
 ghost use Rattle.std.specs.Prelude.{◌≡◌, ◌++◌, ◌&&◌, ◌||◌, ◌==◌, ◌≤◌, OnOk, decimal, length};
 ghost use Rattle.std.specs.List.{list_all, position_or_len};
@@ -22,7 +22,6 @@ fn is_quote(byte: u8) -> bool
     byte == b'"' || byte == b'\''
 }
 
-/// Whether quotation marks stand at both ends.
 fn is_quoted(word: &[u8]) -> bool
     ensures { result ≡ is_quoted word.now }
 {
@@ -32,7 +31,7 @@ fn is_quoted(word: &[u8]) -> bool
     is_quote(word[0]) && is_quote(word[word.len() - 1])
 }
 
-/// A word without the quotation marks at both ends.
+/// Without the quotation marks at both ends.
 fn bare(word: &[u8]) -> &[u8]
     ensures { result.now ≡ bare word.now }
 {
@@ -43,7 +42,6 @@ fn bare(word: &[u8]) -> &[u8]
     rest.split_at(word.len() - 2).0
 }
 
-/// The name that may be meant, or what a name has.
 fn push_name_meant(meant: &[u8], text: &mut Vec<u8>) -> Result<(), AllocError>
     ensures { OnOk result (text.new.items ≡ text.old.items ++ name_meant meant.now) }
 {
@@ -54,7 +52,6 @@ fn push_name_meant(meant: &[u8], text: &mut Vec<u8>) -> Result<(), AllocError>
     }
 }
 
-/// A word that is no name.
 fn push_no_name(word: &[u8], text: &mut Vec<u8>) -> Result<(), AllocError>
     ensures { OnOk result (text.new.items ≡ text.old.items ++ no_name word.now) }
 {
@@ -77,7 +74,6 @@ fn digits_of(word: &[u8]) -> &[u8]
     }
 }
 
-/// The number of the device that is meant, or N.
 fn push_device_meant(digits: &[u8], text: &mut Vec<u8>) -> Result<(), AllocError>
     ensures { OnOk result (text.new.items ≡ text.old.items ++ device_meant digits.now) }
 {
@@ -90,7 +86,6 @@ fn push_device_meant(digits: &[u8], text: &mut Vec<u8>) -> Result<(), AllocError
     }
 }
 
-/// A word that is no device.
 fn push_no_device(word: &[u8], text: &mut Vec<u8>) -> Result<(), AllocError>
     ensures { OnOk result (text.new.items ≡ text.old.items ++ no_device word.now) }
 {
@@ -105,7 +100,7 @@ fn is_separator(byte: u8) -> bool
     byte == b',' || byte == b'.'
 }
 
-/// The place of the first comma or point, or the length where there is none.
+/// Of the first comma or point, else the length.
 fn point_at(word: &[u8]) -> usize
     ensures place { result ≡ point_at word.now }
     ensures within { result ≤ length word.now }
@@ -118,14 +113,12 @@ fn point_at(word: &[u8]) -> usize
     word.len()
 }
 
-/// What stands before it.
 fn whole_of(word: &[u8]) -> &[u8]
     ensures { result.now ≡ whole_of word.now }
 {
     word.split_at(point_at(word)).0
 }
 
-/// What stands behind it.
 fn parts_of(word: &[u8]) -> &[u8]
     ensures { result.now ≡ parts_of word.now }
 {
@@ -136,14 +129,12 @@ fn parts_of(word: &[u8]) -> &[u8]
     }
 }
 
-/// Whether there are only digits.
 fn all_digits(text: &[u8]) -> bool
     ensures { result ≡ list_all is_ascii_digit text.now }
 {
     text.iter().all(|byte| byte.is_ascii_digit())
 }
 
-/// Whether the text is 1 to `most` digits.
 fn are_digits(most: usize, text: &[u8]) -> bool
     ensures { result ≡ are_digits most text.now }
 {
@@ -158,14 +149,12 @@ fn is_mistyped(word: &[u8]) -> bool
     (whole.is_empty() || are_digits(10, whole)) && are_digits(18, parts_of(word))
 }
 
-/// The digits before the point, or 0.
 fn front_of(whole: &[u8]) -> &[u8]
     ensures { result.now ≡ front_of whole.now }
 {
     if whole.is_empty() { b"0" } else { whole }
 }
 
-/// Such a word as a weight.
 #[tactic(auto, unfolding(crate::specs::Misfit::with_point))]
 fn push_with_point(word: &[u8], text: &mut Vec<u8>) -> Result<(), AllocError>
     ensures { OnOk result (text.new.items ≡ text.old.items ++ with_point word.now) }
@@ -175,7 +164,7 @@ fn push_with_point(word: &[u8], text: &mut Vec<u8>) -> Result<(), AllocError>
     push_all(&[whole, b".".as_slice(), parts], text)
 }
 
-/// A word without a T at its end.
+/// Without a T at its end.
 fn without_unit(word: &[u8]) -> &[u8]
     ensures { result.now ≡ without_unit word.now }
 {
@@ -185,7 +174,6 @@ fn without_unit(word: &[u8]) -> &[u8]
     }
 }
 
-/// The weight that may be meant.
 fn push_weight_meant(word: &[u8], text: &mut Vec<u8>) -> Result<(), AllocError>
     ensures { OnOk result (text.new.items ≡ text.old.items ++ weight_meant word.now) }
 {
@@ -199,7 +187,6 @@ fn push_weight_meant(word: &[u8], text: &mut Vec<u8>) -> Result<(), AllocError>
     }
 }
 
-/// Whether a word is the text of a weight that is too large.
 fn is_large(word: &[u8]) -> bool
     ensures { result ≡ is_large word.now }
 {
@@ -210,7 +197,6 @@ fn is_large(word: &[u8]) -> bool
     }
 }
 
-/// What is told of a word that is no weight's text.
 fn push_mistyped(word: &[u8], text: &mut Vec<u8>) -> Result<(), AllocError>
     ensures { OnOk result (text.new.items ≡ text.old.items ++ mistyped word.now) }
 {
@@ -218,7 +204,6 @@ fn push_mistyped(word: &[u8], text: &mut Vec<u8>) -> Result<(), AllocError>
     push_weight_meant(bare(word), text)
 }
 
-/// What is told of any word that is no weight.
 fn push_weight_said(word: &[u8], text: &mut Vec<u8>) -> Result<(), AllocError>
     ensures { OnOk result (text.new.items ≡ text.old.items ++ weight_said word.now) }
 {
@@ -229,7 +214,6 @@ fn push_weight_said(word: &[u8], text: &mut Vec<u8>) -> Result<(), AllocError>
     }
 }
 
-/// Such a word.
 fn push_no_weight(word: &[u8], text: &mut Vec<u8>) -> Result<(), AllocError>
     ensures { OnOk result (text.new.items ≡ text.old.items ++ no_weight word.now) }
 {
@@ -237,7 +221,6 @@ fn push_no_weight(word: &[u8], text: &mut Vec<u8>) -> Result<(), AllocError>
     push_weight_said(word, text)
 }
 
-/// What is told of a word that is no pair, or one pair more than a location may have.
 fn pair_said(count: usize) -> &'static str
     ensures { result.now ≡ pair_said count }
 {
@@ -248,7 +231,6 @@ fn pair_said(count: usize) -> &'static str
     }
 }
 
-/// Such a word.
 fn push_no_pair(count: usize, word: &[u8], text: &mut Vec<u8>) -> Result<(), AllocError>
     ensures { OnOk result (text.new.items ≡ text.old.items ++ no_pair count word.now) }
 {
@@ -256,7 +238,6 @@ fn push_no_pair(count: usize, word: &[u8], text: &mut Vec<u8>) -> Result<(), All
     text.extend_from_slice(pair_said(count).as_bytes())
 }
 
-/// A word where none is due.
 fn push_too_many(word: &[u8], text: &mut Vec<u8>) -> Result<(), AllocError>
     ensures { OnOk result (text.new.items ≡ text.old.items ++ too_many word.now) }
 {
@@ -264,7 +245,6 @@ fn push_too_many(word: &[u8], text: &mut Vec<u8>) -> Result<(), AllocError>
     text.extend_from_slice(b" is a word too many")
 }
 
-/// A word that is no number of changes.
 fn push_no_count(word: &[u8], text: &mut Vec<u8>) -> Result<(), AllocError>
     ensures { OnOk result (text.new.items ≡ text.old.items ++ no_count word.now) }
 {
@@ -272,7 +252,6 @@ fn push_no_count(word: &[u8], text: &mut Vec<u8>) -> Result<(), AllocError>
     text.extend_from_slice(b" is no number of changes, 0 to 65536")
 }
 
-/// A word that doesn't fit.
 fn push_wrong(due: Due, word: &[u8], text: &mut Vec<u8>) -> Result<(), AllocError>
     ensures { OnOk result (text.new.items ≡ text.old.items ++ wrong_text due word.now) }
 {
@@ -286,7 +265,7 @@ fn push_wrong(due: Due, word: &[u8], text: &mut Vec<u8>) -> Result<(), AllocErro
     }
 }
 
-/// What is told where no word is left: one is missing, or a line of its form stands where it may not.
+/// No word is left: one is missing, or the line may not stand here.
 fn left_text(due: Due) -> &'static str
     ensures { result.now ≡ left_text due }
 {
@@ -307,7 +286,6 @@ fn left_text(due: Due) -> &'static str
     }
 }
 
-/// The first word of a line that doesn't fit, by what its next one is to be.
 #[tactic(auto, unfolding(crate::specs::Misfit::misfit_text))]
 fn push_misfit(due: Due, words: LineWords<'_>, text: &mut Vec<u8>) -> Result<(), AllocError>
     ensures { OnOk result (text.new.items ≡ text.old.items ++ misfit_text due words.entry) }
@@ -323,7 +301,6 @@ fn push_misfit(due: Due, words: LineWords<'_>, text: &mut Vec<u8>) -> Result<(),
     push_bytes(left_text(due).as_bytes(), text)
 }
 
-/// The form of a line, and the first of its words that doesn't fit.
 pub(crate) fn push_line_reason(words: LineWords<'_>, text: &mut Vec<u8>) -> Result<(), AllocError>
     ensures { OnOk result (text.new.items ≡ text.old.items ++ line_reason words.entry) }
 {

@@ -1,4 +1,4 @@
-//! What is told of a refused edit: the name that was in its way, and what was wanted of it.
+//! What was wanted of the name that was in a refused edit's way.
 
 ghost use Rattle.std.specs.Prelude.{◌≡◌, ◌++◌, List, None, OnOk, Some, MatchOption};
 ghost use Rattle.crush_table.specs.Stands.{Stands};
@@ -16,8 +16,7 @@ use crush_map::CrushMap;
 use crush_units::Name;
 use std::alloc::{AllocError, Global};
 
-/// What is said behind the name by a refusal alone. `None` of a refusal that isn't about an item, or
-/// of which the map tells more.
+/// `None` of a refusal that isn't about an item, or of which the map says more.
 fn said_of(refusal: Refusal) -> Option<&'static str>
     ensures { MatchOption result (said_of refusal ≡ None) (λ said. said_of refusal ≡ Some said.now) }
 {
@@ -41,7 +40,6 @@ fn said_of(refusal: Refusal) -> Option<&'static str>
     }
 }
 
-/// The same of an edit of a class.
 fn said_of_class(refusal: Refusal) -> Option<&'static str>
     ensures { MatchOption result (said_of_class refusal ≡ None)
         (λ said. said_of_class refusal ≡ Some said.now) }
@@ -52,7 +50,6 @@ fn said_of_class(refusal: Refusal) -> Option<&'static str>
     }
 }
 
-/// The same of any edit.
 fn said_by(edit: &Edit, refusal: Refusal) -> Option<&'static str>
     ensures { MatchOption result (said_by edit.now refusal ≡ None)
         (λ said. said_by edit.now refusal ≡ Some said.now) }
@@ -63,7 +60,6 @@ fn said_by(edit: &Edit, refusal: Refusal) -> Option<&'static str>
     }
 }
 
-/// That, or the sentence of the refusal.
 fn push_said(
     edit: &Edit,
     name: &[u8],
@@ -80,7 +76,6 @@ fn push_said(
     text.extend_from_slice(said.as_bytes())
 }
 
-/// What the map says of the name that a refusal is about.
 fn push_reason_of(
     alloc: Global,
     looks: bool,
@@ -106,7 +101,7 @@ fn push_reason_of(
     }
 }
 
-/// What was wanted where an edit was refused by this map. Near names are looked for or not.
+/// `looks` says whether near names are looked for.
 pub(crate) fn push_edit_reason(
     alloc: Global,
     looks: bool,

@@ -13,11 +13,10 @@ use crush_map::CrushMap;
 use crush_view::{Step, walk};
 use std::alloc::{AllocError, Global};
 
-/// For how many refused entries of a history near names are looked for: each look is at all names of
-/// the map, and there are up to 65,536 such entries.
+/// The first refused entries for which near names are looked for: each look is at all names, and up
+/// to 65,536 entries are refused.
 pub(crate) const MOST_LOOKS: usize = 256;
 
-/// Whether two names have the same byte at a place.
 fn same_at(a: &[u8], b: &[u8], place: usize) -> bool
     ensures value { result ≡ same_heads (drop place a.now) (drop place b.now) }
     ensures within { IsTrue result → place < length a.now }
@@ -25,7 +24,7 @@ fn same_at(a: &[u8], b: &[u8], place: usize) -> bool
     place < a.len() && place < b.len() && a[place] == b[place]
 }
 
-/// How many bytes they have in common before the first that is another.
+/// How many bytes stand before the first that differs.
 fn shared(a: &[u8], b: &[u8]) -> usize
     ensures value { result ≡ shared a.now b.now }
     ensures within { result ≤ length a.now }
@@ -37,7 +36,7 @@ fn shared(a: &[u8], b: &[u8]) -> usize
     count
 }
 
-/// Whether the names differ by one byte: another one, or one that either has more.
+/// One byte differs, or either has one more.
 fn is_one_off(a: &[u8], b: &[u8]) -> bool
     ensures { result ≡ is_one_off a.now b.now }
 {
@@ -46,28 +45,24 @@ fn is_one_off(a: &[u8], b: &[u8]) -> bool
     behind_a == behind_b || behind_a == from_place(same, b) || from_place(same, a) == behind_b
 }
 
-/// Whether the names are one but for the case of their letters.
 fn is_other_case(a: &str, b: &str) -> bool
     ensures { result ≡ str_eq_ignore_ascii_case a.now b.now }
 {
     a.eq_ignore_ascii_case(b)
 }
 
-/// Whether the names differ by one byte, or by the case of letters alone.
 fn is_near(a: &str, b: &str) -> bool
     ensures { result ≡ is_near a.now b.now }
 {
     is_one_off(a.as_bytes(), b.as_bytes()) || is_other_case(a, b)
 }
 
-/// The name of the item of a step.
 fn name_of<'a>(step: &Step<'a, Global>) -> &'a str
     ensures { result.now ≡ (step_data step.now).item.name }
 {
     step.view().name
 }
 
-/// The first name of these items that is near.
 fn first_near<'a>(steps: &[Step<'a, Global>], name: &str) -> Option<&'a str>
     ensures { option_map (λ near. near.now) result
         ≡ first_near name.now (each step_data steps.now) }
@@ -81,8 +76,7 @@ fn first_near<'a>(steps: &[Step<'a, Global>], name: &str) -> Option<&'a str>
     None
 }
 
-/// The first name in the order of the map's tree that is near this one: with one letter more, less
-/// or other, or in another case. Each item of the map is looked at. An `Err` says that memory ran out.
+/// The first in the order of the map's tree.
 fn near_name<'a>(
     alloc: Global,
     map: &'a CrushMap<Global>,
@@ -95,7 +89,6 @@ fn near_name<'a>(
     Ok(first_near(steps.as_slice(), name))
 }
 
-/// That name, where it is looked for.
 pub(crate) fn near_if<'a>(
     alloc: Global,
     looks: bool,

@@ -9,21 +9,19 @@ use crush_script::line_feeds;
 use itoa::Buffer;
 use std::alloc::AllocError;
 
-/// How many of them stand before the place at most.
+/// The most bytes of a line that are shown before the place.
 const MOST_BEFORE: usize = 40;
 
 /// Where bytes of a job come from: the name of the file, empty where none is told, and how many
 /// lines of the job stand before the file's own.
 #[derive(Clone, Copy)]
 pub struct Origin<'a> {
-    /// The name of the file.
     pub name: &'a [u8],
-    /// How many lines of the job stand before those of the file.
     pub before: usize,
 }
 
 impl<'a> Origin<'a> {
-    /// The number of a line of the job in its own file. A line that was put before the first is 0.
+    /// A line that was put before the first is 0.
     pub(crate) fn own_line(self, line: usize) -> usize
         ensures { result ≡ own_line (origin_data self.entry) line }
     {
@@ -31,7 +29,7 @@ impl<'a> Origin<'a> {
     }
 }
 
-/// How many bytes stand before the first line feed.
+/// Bytes before the first line feed.
 pub(crate) fn to_feed(bytes: &[u8]) -> usize
     ensures value { result ≡ to_feed bytes.now }
     ensures within { result ≤ length bytes.now }
@@ -44,7 +42,6 @@ pub(crate) fn to_feed(bytes: &[u8]) -> usize
     bytes.len()
 }
 
-/// How many bytes stand behind the last line feed, one byte further.
 fn further(behind: usize, byte: u8) -> usize
     requires { behind < 2 ^ 32 }
     ensures value { result ≡ (if byte == 10 then 0 else behind + 1) }
@@ -53,7 +50,7 @@ fn further(behind: usize, byte: u8) -> usize
     if byte == b'\n' { 0 } else { behind + 1 }
 }
 
-/// How many bytes stand behind the last line feed.
+/// Bytes behind the last line feed.
 pub(crate) fn behind_feed(bytes: &[u8]) -> usize
     requires { length bytes.now < 2 ^ 32 }
     ensures value { result ≡ behind_feed bytes.now }
@@ -66,7 +63,7 @@ pub(crate) fn behind_feed(bytes: &[u8]) -> usize
     behind
 }
 
-/// The line at which a prefix of a job ends, counted from 1.
+/// Counted from 1.
 pub(crate) fn last_line(before: &[u8]) -> usize
     requires { length before.now < 2 ^ 32 }
     ensures { result ≡ last_line before.now }
@@ -74,7 +71,6 @@ pub(crate) fn last_line(before: &[u8]) -> usize
     line_feeds(before) + 1
 }
 
-/// The rest of a line, 72 bytes of it at most.
 fn push_line(bytes: &[u8], text: &mut Vec<u8>) -> Result<(), AllocError>
     ensures { OnOk result (text.new.items ≡ text.old.items ++ shown_line bytes.now) }
 {
@@ -84,7 +80,6 @@ fn push_line(bytes: &[u8], text: &mut Vec<u8>) -> Result<(), AllocError>
     text.extend_from_slice(b"\n")
 }
 
-/// So many spaces.
 fn push_spaces(count: usize, text: &mut Vec<u8>) -> Result<(), AllocError>
     ensures { OnOk result (text.new.items ≡ text.old.items ++ replicate count 32) }
 {
@@ -96,7 +91,6 @@ fn push_spaces(count: usize, text: &mut Vec<u8>) -> Result<(), AllocError>
     Ok(())
 }
 
-/// The sign below a place.
 fn push_sign(shown: usize, text: &mut Vec<u8>) -> Result<(), AllocError>
     requires { shown ≤ MOST_BEFORE }
     ensures { OnOk result (text.new.items ≡ text.old.items ++ sign_line shown) }
@@ -105,7 +99,6 @@ fn push_sign(shown: usize, text: &mut Vec<u8>) -> Result<(), AllocError>
     text.extend_from_slice(b"^\n")
 }
 
-/// The name of a file and a space, or nothing.
 fn push_name(name: &[u8], text: &mut Vec<u8>) -> Result<(), AllocError>
     ensures { OnOk result (text.new.items ≡ text.old.items ++ name_head name.now) }
 {
@@ -116,7 +109,6 @@ fn push_name(name: &[u8], text: &mut Vec<u8>) -> Result<(), AllocError>
     text.extend_from_slice(b" ")
 }
 
-/// The number of a line in its own file, and the column of a place in it.
 #[tactic(auto, unfolding(crate::specs::Place::column_line))]
 fn push_column_line(
     origin: Origin<'_>,
@@ -145,7 +137,6 @@ fn push_column_line(
     )
 }
 
-/// The number of a line in its own file.
 #[tactic(auto, unfolding(crate::specs::Place::number_line))]
 fn push_number_line(origin: Origin<'_>, line: usize, text: &mut Vec<u8>) -> Result<(), AllocError>
     ensures { OnOk result (text.new.items
@@ -158,7 +149,6 @@ fn push_number_line(origin: Origin<'_>, line: usize, text: &mut Vec<u8>) -> Resu
     push_all(&[b"line ".as_slice(), line, b"\n".as_slice()], text)
 }
 
-/// The place that a prefix of a text ends at: its line and column, what the line has, and the sign.
 fn push_end_of(
     origin: Origin<'_>,
     bytes: &[u8],
@@ -178,7 +168,6 @@ fn push_end_of(
     push_sign(shown, text)
 }
 
-/// A place in a text.
 pub(crate) fn push_place(
     origin: Origin<'_>,
     bytes: &[u8],
@@ -192,14 +181,12 @@ pub(crate) fn push_place(
     push_end_of(origin, bytes, up_to(place, bytes), text)
 }
 
-/// The first line of these.
 pub(crate) fn first_line(bytes: &[u8]) -> &[u8]
     ensures { result.now ≡ first_line bytes.now }
 {
     bytes.split_at(to_feed(bytes)).0
 }
 
-/// What stands behind the first line.
 pub(crate) fn behind_line(bytes: &[u8]) -> &[u8]
     ensures { result.now ≡ behind_line bytes.now }
 {
@@ -210,7 +197,7 @@ pub(crate) fn behind_line(bytes: &[u8]) -> &[u8]
     }
 }
 
-/// What stands from a line on, where lines count from 0.
+/// Lines count from 0.
 fn from_line(line: usize, bytes: &[u8]) -> &[u8]
     ensures { result.now ≡ from_line line bytes.now }
 {
@@ -221,14 +208,13 @@ fn from_line(line: usize, bytes: &[u8]) -> &[u8]
     rest
 }
 
-/// The line of this number, counted from 1, and all behind it.
+/// The line, counted from 1, and all behind it.
 pub(crate) fn line_at(bytes: &[u8], line: usize) -> &[u8]
     ensures { result.now ≡ line_at bytes.now line }
 {
     from_line(line.saturating_sub(1), bytes)
 }
 
-/// A line, counted from 1.
 pub(crate) fn push_at_line(
     origin: Origin<'_>,
     bytes: &[u8],
@@ -242,7 +228,6 @@ pub(crate) fn push_at_line(
     push_line(line_at(bytes, line), text)
 }
 
-/// The file of a command and the line there, or the line alone where no file is told.
 fn push_named_head(name: &[u8], line: usize, text: &mut Vec<u8>) -> Result<(), AllocError>
     ensures { OnOk result (text.new.items ≡ text.old.items ++ named_head name.now line) }
 {
@@ -254,7 +239,7 @@ fn push_named_head(name: &[u8], line: usize, text: &mut Vec<u8>) -> Result<(), A
     }
 }
 
-/// Where a command stands, before it. Its line counts in the job.
+/// The line counts in the job.
 #[tactic(auto, unfolding(crate::specs::Place::command_head))]
 pub(crate) fn push_command_head(
     origin: Origin<'_>,

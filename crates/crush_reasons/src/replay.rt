@@ -1,4 +1,4 @@
-//! The edits of a history that changed the map, made once more on a copy of the map before it.
+//! The edits of a history that changed the map, made once more.
 
 ghost use Rattle.std.specs.Prelude.{◌≡◌, ◌≤◌, List, OnOk, length};
 ghost use Rattle.crush_units.specs.declared.limits.TheConstants.{MOST_EDITS};
@@ -13,14 +13,11 @@ use crush_map::CrushMap;
 use std::alloc::{AllocError, Global};
 use std::slice;
 
-/// The edits that changed a map lead, one after the other, to the map after its history: so each is
-/// told of the map before it, and each refusal of the map that refused. There is nothing to run: the
-/// contract is the law.
+/// A law: the edits that changed a map lead, one after the other, to the map after its history.
 pub fn edits_lead_to_the_map_after()
     ensures { LeadsToTableAfter }
 {}
 
-/// The edits of a call, in order.
 pub(crate) fn edits_of(call: &Call) -> &[Edit]
     ensures value { result.now ≡ edits_of call.now }
     ensures few { length result.now ≤ MOST_EDITS }
@@ -32,7 +29,6 @@ pub(crate) fn edits_of(call: &Call) -> &[Edit]
     }
 }
 
-/// The edits of an entry that changed the map, of another entry none.
 pub(crate) fn changing_edits(entry: &Entry) -> &[Edit]
     ensures value { result.now ≡ changing_edits entry.now }
     ensures few { length result.now ≤ MOST_EDITS }
@@ -44,7 +40,7 @@ pub(crate) fn changing_edits(entry: &Entry) -> &[Edit]
     }
 }
 
-/// Makes an edit once more. One that is refused leaves the map. An `Err` says that memory ran out.
+/// One that is refused leaves the map as it is.
 pub(crate) fn make_edit(map: &mut CrushMap<Global>, edit: &Edit) -> Result<(), AllocError>
     ensures stands { OnOk result ((t : List Row) → Stands map.old.forest t
         → Stands map.new.forest (table_after_edit map.old.setting t edit.now)) }
@@ -57,7 +53,6 @@ pub(crate) fn make_edit(map: &mut CrushMap<Global>, edit: &Edit) -> Result<(), A
     }
 }
 
-/// Makes edits once more, in their order. An `Err` says that memory ran out.
 pub(crate) fn make_edits(map: &mut CrushMap<Global>, edits: &[Edit]) -> Result<(), AllocError>
     ensures stands { OnOk result ((t : List Row) → Stands map.old.forest t
         → Stands map.new.forest (table_after_edits map.old.setting t edits.now)) }
@@ -69,7 +64,6 @@ pub(crate) fn make_edits(map: &mut CrushMap<Global>, edits: &[Edit]) -> Result<(
     Ok(())
 }
 
-/// Makes an entry of a history once more. An `Err` says that memory ran out.
 pub(crate) fn make_entry(map: &mut CrushMap<Global>, entry: &Entry) -> Result<(), AllocError>
     ensures stands { OnOk result ((t : List Row) → Stands map.old.forest t
         → Stands map.new.forest (table_after_entry map.old.setting t entry.now)) }

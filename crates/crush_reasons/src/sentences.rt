@@ -1,4 +1,4 @@
-//! What is told of a fault or a refusal: what was wanted, in an operator's words.
+//! What was wanted at a fault or a refusal, in an operator's words.
 
 ghost use Rattle.std.specs.Prelude.{◌≡◌};
 ghost use Rattle.crush_reasons.specs.Sentences.{job_sentence, refusal_sentence, reply_sentence, stale_sentence, text_sentence};
@@ -8,11 +8,11 @@ use crush_edits::Refusal;
 use crush_script::JobFault;
 use crush_text::TextFaultKind;
 
-/// What is told of a guarded batch that came too late.
+/// Of a guarded batch that came too late.
 pub(crate) const STALE: &str =
     "the map has changed since: look at it again, and name the number of changes that is told";
 
-/// What is told of a fault of a map's text.
+/// What was wanted at a fault of a map's text.
 pub fn text_sentence(kind: TextFaultKind) -> &'static str
     ensures { result.now ≡ text_sentence kind }
 {
@@ -48,7 +48,7 @@ pub fn text_sentence(kind: TextFaultKind) -> &'static str
     }
 }
 
-/// What is told of a fault of a job: of one of its map's text as [`text_sentence`] has it.
+/// What was wanted at a fault of a job; of its map's text, [`text_sentence`].
 pub fn job_sentence(fault: JobFault) -> &'static str
     ensures { result.now ≡ job_sentence fault }
 {
@@ -69,7 +69,7 @@ pub fn job_sentence(fault: JobFault) -> &'static str
     }
 }
 
-/// What is told of a refused edit.
+/// What was wanted where an edit was refused.
 pub fn refusal_sentence(refusal: Refusal) -> &'static str
     ensures { result.now ≡ refusal_sentence refusal }
 {
@@ -108,7 +108,7 @@ pub fn refusal_sentence(refusal: Refusal) -> &'static str
     }
 }
 
-/// What is told of a reply: of one that is no refusal nothing.
+/// What was wanted where a call was refused; of another reply nothing.
 pub fn reply_sentence(reply: Reply) -> &'static str
     ensures { result.now ≡ reply_sentence reply }
 {

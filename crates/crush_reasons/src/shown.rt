@@ -6,10 +6,9 @@ ghost use Rattle.crush_reasons.specs.Shown.{shown_byte, told};
 use crate::words::push_all;
 use std::alloc::AllocError;
 
-/// How many bytes of a line or of a word are shown at most.
+/// Of a line or of a word, in bytes.
 pub(crate) const MOST_SHOWN: usize = 72;
 
-/// A byte as it is shown.
 fn shown_byte(byte: u8) -> u8
     ensures { result ≡ shown_byte byte }
 {
@@ -20,7 +19,6 @@ fn shown_byte(byte: u8) -> u8
     }
 }
 
-/// Bytes as they are shown.
 pub(crate) fn push_shown(bytes: &[u8], text: &mut Vec<u8>) -> Result<(), AllocError>
     ensures { OnOk result (text.new.items ≡ text.old.items ++ map shown_byte bytes.now) }
 {
@@ -32,7 +30,7 @@ pub(crate) fn push_shown(bytes: &[u8], text: &mut Vec<u8>) -> Result<(), AllocEr
     Ok(())
 }
 
-/// A word, 72 bytes of it at most, in backquotes.
+/// In backquotes, 72 bytes at most.
 #[tactic(auto, unfolding(crate::specs::Shown::told))]
 pub(crate) fn push_told(word: &[u8], text: &mut Vec<u8>) -> Result<(), AllocError>
     ensures { OnOk result (text.new.items ≡ text.old.items ++ told word.now) }

@@ -15,22 +15,17 @@ use std::alloc::{AllocError, Allocator, Global};
 /// A bucket, and the sum over all devices below it.
 #[derive(Clone, Copy)]
 pub(crate) struct Sum {
-    /// The bucket.
     pub(crate) bucket: BucketId,
-    /// What it weighs.
     pub(crate) weight: Weight,
 }
 
-/// A map, and what each of its buckets weighs.
 #[derive(Drop)]
 pub(crate) struct SummedMap<'a> {
-    /// The map.
     pub(crate) map: &'a CrushMap<Global>,
-    /// Its sums, by the distances of the buckets' ids, which rise.
+    /// By the distances of the buckets' ids, which rise.
     pub(crate) sums: Vec<Sum>,
 }
 
-/// Pushes the sum of a bucket.
 fn push_sum(bucket: BucketId, weight: Weight, sums: &mut Vec<Sum>) -> Result<(), AllocError>
     ensures { OnOk result (sums.new.items ≡ sums.old.items ++ sum bucket weight ∷ []) }
 {
@@ -40,7 +35,6 @@ fn push_sum(bucket: BucketId, weight: Weight, sums: &mut Vec<Sum>) -> Result<(),
     Ok(())
 }
 
-/// Pushes the sums of all buckets below a bucket and its own behind them. A device has none.
 fn push_node<A: Allocator>(node: &Node<A>, sums: &mut Vec<Sum>) -> Result<(), AllocError>
     ensures { OnOk result (sums.new.items
         ≡ sums.old.items ++ sums_of (items_of (node.now ∷ []))) }
@@ -58,7 +52,6 @@ fn push_node<A: Allocator>(node: &Node<A>, sums: &mut Vec<Sum>) -> Result<(), Al
     }
 }
 
-/// Pushes the sums of nodes and of all buckets below them.
 fn push_nodes<A: Allocator>(nodes: &[Node<A>], sums: &mut Vec<Sum>) -> Result<(), AllocError>
     ensures { OnOk result (sums.new.items ≡ sums.old.items ++ sums_of (items_of nodes.now)) }
 {
@@ -68,7 +61,6 @@ fn push_nodes<A: Allocator>(nodes: &[Node<A>], sums: &mut Vec<Sum>) -> Result<()
     Ok(())
 }
 
-/// What each bucket of a map weighs. An `Err` says that memory ran out.
 fn sums_of_map(alloc: Global, map: &CrushMap<Global>) -> Result<Vec<Sum>, AllocError>
     ensures { IfOk result (λ sums. (t : List Row) → Stands map.now.forest t
         → AreSums t sums.items) }
@@ -82,7 +74,6 @@ fn sums_of_map(alloc: Global, map: &CrushMap<Global>) -> Result<Vec<Sum>, AllocE
 }
 
 impl<'a> SummedMap<'a> {
-    /// A map with its sums, found by one walk. An `Err` says that memory ran out.
     pub(crate) fn new(alloc: Global, map: &'a CrushMap<Global>) -> Result<SummedMap<'a>, AllocError>
         ensures { IfOk result (λ summed. (t : List Row) → Stands map.now.forest t
             → IsSummed summed t) }
@@ -91,7 +82,6 @@ impl<'a> SummedMap<'a> {
         Ok(SummedMap { map, sums })
     }
 
-    /// What the bucket weighs, found by its id. `None` where it isn't there.
     pub(crate) fn sum_of(&self, bucket: BucketId) -> Option<Weight>
         ensures { (t : List Row) → IsSummed self.now t → result ≡ weight_of t (BucketItem bucket) }
     {

@@ -21,7 +21,6 @@ pub(crate) enum InLine {
     DeviceClass,
 }
 
-/// A word of a bucket.
 #[derive(Clone, Copy)]
 pub(crate) enum InBucket {
     Name,
@@ -41,7 +40,6 @@ pub(crate) enum InBucket {
     Weight,
 }
 
-/// A word of a rule before its steps.
 #[derive(Clone, Copy)]
 pub(crate) enum InRule {
     Name,
@@ -56,7 +54,6 @@ pub(crate) enum InRule {
     MaxSize,
 }
 
-/// A word of a rule's steps.
 #[derive(Clone, Copy)]
 pub(crate) enum InStep {
     StepOrEnd,
@@ -71,8 +68,7 @@ pub(crate) enum InStep {
     Number,
 }
 
-/// What a word is to be: the first of a statement, before the first bucket or rule or behind one,
-/// or one of a statement that is open.
+/// `Early` and `Late` are first words of statements, before the first bucket or rule and behind it.
 #[derive(Clone, Copy)]
 pub(crate) enum Wanted {
     Early,
@@ -83,7 +79,6 @@ pub(crate) enum Wanted {
     Step(InStep),
 }
 
-/// Behind the first word of a statement.
 #[tactic(auto, unfolding(crate::specs::Wanted::opened))]
 fn opened(word: &[u8]) -> Wanted
     ensures { result ≡ opened word.now }
@@ -101,7 +96,6 @@ fn opened(word: &[u8]) -> Wanted
     }
 }
 
-/// Behind a word of a tunable, a type or a device.
 fn in_line(at: InLine, word: &[u8]) -> Wanted
     ensures { result ≡ in_line at word.now }
 {
@@ -123,7 +117,6 @@ fn in_line(at: InLine, word: &[u8]) -> Wanted
     }
 }
 
-/// Behind a word that begins an item of a bucket, or ends the bucket.
 fn item_or_end(word: &[u8]) -> Wanted
     ensures { result ≡ item_or_end word.now }
 {
@@ -134,7 +127,6 @@ fn item_or_end(word: &[u8]) -> Wanted
     }
 }
 
-/// Behind a word of a bucket.
 fn in_bucket(at: InBucket, word: &[u8]) -> Wanted
     ensures { result ≡ in_bucket at word.now }
 {
@@ -175,7 +167,6 @@ fn in_bucket(at: InBucket, word: &[u8]) -> Wanted
     }
 }
 
-/// Behind a word that begins a step of a rule, or ends the rule.
 fn step_or_end(word: &[u8]) -> Wanted
     ensures { result ≡ step_or_end word.now }
 {
@@ -186,7 +177,6 @@ fn step_or_end(word: &[u8]) -> Wanted
     }
 }
 
-/// Behind a word where a rule's second size or a step may come.
 fn max_or_step(word: &[u8]) -> Wanted
     ensures { result ≡ max_or_step word.now }
 {
@@ -197,7 +187,6 @@ fn max_or_step(word: &[u8]) -> Wanted
     }
 }
 
-/// Behind a word of a rule before its steps.
 fn in_rule(at: InRule, word: &[u8]) -> Wanted
     ensures { result ≡ in_rule at word.now }
 {
@@ -221,14 +210,12 @@ fn in_rule(at: InRule, word: &[u8]) -> Wanted
     }
 }
 
-/// Whether a word begins with `set_`.
 fn sets(word: &[u8]) -> bool
     ensures { result ≡ starts_with nat_eq word.now (codes "set_") }
 {
     matches!(word, [b's', b'e', b't', b'_', ..])
 }
 
-/// Behind the first word of a step.
 #[tactic(auto, unfolding(crate::specs::Wanted::step_begun))]
 fn step_begun(word: &[u8]) -> Wanted
     ensures { result ≡ step_begun word.now }
@@ -244,7 +231,6 @@ fn step_begun(word: &[u8]) -> Wanted
     }
 }
 
-/// Behind a word of a step.
 fn in_step(at: InStep, word: &[u8]) -> Wanted
     ensures { result ≡ in_step at word.now }
 {
@@ -269,7 +255,6 @@ fn in_step(at: InStep, word: &[u8]) -> Wanted
 }
 
 impl Wanted {
-    /// Which word is wanted behind one that is right.
     fn behind(self, word: &[u8]) -> Wanted
         ensures { result ≡ behind self word.now }
     {
@@ -282,7 +267,6 @@ impl Wanted {
         }
     }
 
-    /// Whether a word that is right begins a statement.
     fn begins(self, word: &[u8]) -> bool
         ensures { result ≡ begins self word.now }
     {
@@ -294,7 +278,6 @@ impl Wanted {
     }
 }
 
-/// Whether a word that is right behind a tunable, a type or a device begins a statement.
 fn begins_line(at: InLine, word: &[u8]) -> bool
     ensures { result ≡ begins_line at word.now }
 {
@@ -304,10 +287,8 @@ fn begins_line(at: InLine, word: &[u8]) -> bool
     }
 }
 
-/// How far a text goes.
 #[derive(Clone, Copy)]
 pub(crate) struct Going {
-    /// What the next word is to be.
     pub(crate) wanted: Wanted,
     /// The place of the first word of the last statement.
     pub(crate) begun: usize,
@@ -316,7 +297,6 @@ pub(crate) struct Going {
 }
 
 impl Going {
-    /// Where the last statement begins, a word further.
     fn begun_behind(self, place: usize, word: &[u8]) -> usize
         ensures { result ≡ begun_behind self (record { place = place; text = word.now }) }
     {
@@ -327,7 +307,6 @@ impl Going {
         }
     }
 
-    /// How far it goes a word further.
     fn one_further(self, place: usize, word: &[u8]) -> Going
         ensures { result ≡ one_further self (record { place = place; text = word.now }) }
     {
@@ -339,7 +318,7 @@ impl Going {
     }
 }
 
-/// How far the words of a text go, which are right up to the last.
+/// The words are right up to the last.
 #[tactic(auto, unfolding(crate::specs::Wanted::further))]
 fn go_through(text: &[u8]) -> Going
     ensures { result ≡ further nothing_yet (words 0 text.now).words }
@@ -356,7 +335,6 @@ fn go_through(text: &[u8]) -> Going
     going
 }
 
-/// How far the words before a place go.
 pub(crate) fn going_at(bytes: &[u8], place: usize) -> Going
     ensures { result ≡ going_at bytes.now place }
 {

@@ -18,7 +18,6 @@ use crush_units::{BucketId, ItemId, Name};
 use itoa::Buffer;
 use std::alloc::{AllocError, Global};
 
-/// The question whether another name is meant.
 fn push_near(near: Option<&str>, text: &mut Vec<u8>) -> Result<(), AllocError>
     ensures { OnOk result (text.new.items
         ≡ text.old.items ++ near_asked (option_map (λ near. near.now) near.entry)) }
@@ -32,7 +31,6 @@ fn push_near(near: Option<&str>, text: &mut Vec<u8>) -> Result<(), AllocError>
     )
 }
 
-/// Of a name that no item has, and one that is near.
 fn push_asked(name: &[u8], near: Option<&str>, text: &mut Vec<u8>) -> Result<(), AllocError>
     ensures { OnOk result (text.new.items ≡ text.old.items
         ++ asked_reason name.now (option_map (λ near. near.now) near.entry)) }
@@ -42,7 +40,6 @@ fn push_asked(name: &[u8], near: Option<&str>, text: &mut Vec<u8>) -> Result<(),
     push_near(near, text)
 }
 
-/// Of a name that no item has, and one that is near, where that is looked for.
 pub(crate) fn push_absent(
     alloc: Global,
     looks: bool,
@@ -57,7 +54,6 @@ pub(crate) fn push_absent(
     push_asked(name.as_bytes(), near, text)
 }
 
-/// The bucket of this name. `None` where no bucket has it.
 fn bucket_named(map: &CrushMap<Global>, name: &Name<Global>) -> Option<BucketId>
     ensures { (t : List Row) → Stands map.now.forest t → result ≡ bucket_named t name.now }
 {
@@ -67,7 +63,6 @@ fn bucket_named(map: &CrushMap<Global>, name: &Name<Global>) -> Option<BucketId>
     }
 }
 
-/// How many items the bucket of this name holds.
 fn held_count(map: &CrushMap<Global>, name: &Name<Global>) -> usize
     ensures { (t : List Row) → Stands map.now.forest t → result ≡ held_count t name.now }
 {
@@ -80,7 +75,6 @@ fn held_count(map: &CrushMap<Global>, name: &Name<Global>) -> usize
     }
 }
 
-/// Of another number than one.
 #[tactic(auto, unfolding(crate::specs::Way::items_said))]
 fn push_items(count: usize, text: &mut Vec<u8>) -> Result<(), AllocError>
     ensures { OnOk result (text.new.items ≡ text.old.items ++ items_said count) }
@@ -96,7 +90,6 @@ fn push_items(count: usize, text: &mut Vec<u8>) -> Result<(), AllocError>
     )
 }
 
-/// Of a bucket that holds so many items.
 fn push_held(count: usize, text: &mut Vec<u8>) -> Result<(), AllocError>
     ensures { OnOk result (text.new.items ≡ text.old.items ++ held_said count) }
 {
@@ -106,7 +99,6 @@ fn push_held(count: usize, text: &mut Vec<u8>) -> Result<(), AllocError>
     push_items(count, text)
 }
 
-/// Of a bucket that holds items.
 pub(crate) fn push_holding(
     map: &CrushMap<Global>,
     name: &Name<Global>,
@@ -119,7 +111,6 @@ pub(crate) fn push_holding(
     push_held(held_count(map, name), text)
 }
 
-/// Whether a step takes the bucket.
 fn step_takes(step: &KeptStep, bucket: BucketId) -> bool
     ensures { result ≡ member bucket (bucket_taken (step_data step.now)) }
 {
@@ -129,21 +120,19 @@ fn step_takes(step: &KeptStep, bucket: BucketId) -> bool
     }
 }
 
-/// Whether one of the steps takes the bucket.
 fn steps_take(steps: &[KeptStep], bucket: BucketId) -> bool
     ensures { result ≡ list_any (λ step. member bucket (bucket_taken (step_data step))) steps.now }
 {
     steps.iter().any(|step| step_takes(step, bucket))
 }
 
-/// Whether a step of the rule takes the bucket, with or without a class.
+/// With or without a class.
 fn takes_it(rule: &KeptRule, bucket: BucketId) -> bool
     ensures { result ≡ takes_it bucket (rule_data rule.now) }
 {
     steps_take(rule.steps.as_slice(), bucket)
 }
 
-/// The first of these rules that takes the bucket.
 fn first_taking(rules: &[KeptRule], bucket: BucketId) -> Option<&KeptRule>
     ensures { option_map (λ rule. rule_data rule.now) result
         ≡ find (takes_it bucket) (each rule_data rules.now) }
@@ -156,7 +145,6 @@ fn first_taking(rules: &[KeptRule], bucket: BucketId) -> Option<&KeptRule>
     None
 }
 
-/// The name of the first rule that takes the bucket of this name.
 pub(crate) fn taking_rule<'a>(map: &'a CrushMap<Global>, name: &Name<Global>) -> Option<&'a [u8]>
     ensures { (t : List Row) → Stands map.now.forest t → option_map (λ rule. rule.now) result
         ≡ option_and_then (taking_rule map.now.setting) (bucket_named t name.now) }
@@ -166,7 +154,6 @@ pub(crate) fn taking_rule<'a>(map: &'a CrushMap<Global>, name: &Name<Global>) ->
     Some(rule.name.as_bytes())
 }
 
-/// Of a bucket that a rule takes.
 pub(crate) fn push_taken(
     name: &[u8],
     rule: Option<&[u8]>,
@@ -184,7 +171,6 @@ pub(crate) fn push_taken(
     )
 }
 
-/// The name of the bucket that holds the item of this name.
 pub(crate) fn holder_name<'a>(map: &'a CrushMap<Global>, name: &Name<Global>) -> Option<&'a str>
     ensures { (t : List Row) → Stands map.now.forest t
         → option_map (λ holder. holder.now) result ≡ holder_name t name.now }
@@ -194,7 +180,6 @@ pub(crate) fn holder_name<'a>(map: &'a CrushMap<Global>, name: &Name<Global>) ->
     map.name_of(ItemId::Bucket(holder))
 }
 
-/// Of an item that stands in a bucket.
 pub(crate) fn push_placed(
     name: &[u8],
     holder: Option<&str>,
@@ -223,7 +208,6 @@ pub(crate) fn push_placed(
     )
 }
 
-/// The class of the device of this name.
 pub(crate) fn class_named<'a>(map: &'a CrushMap<Global>, name: &Name<Global>) -> Option<&'a str>
     ensures { (t : List Row) → Stands map.now.forest t
         → option_map (λ class. class.now) result ≡ class_named t name.now }
@@ -231,7 +215,6 @@ pub(crate) fn class_named<'a>(map: &'a CrushMap<Global>, name: &Name<Global>) ->
     map.class_of(map.locate(name.as_str())?)
 }
 
-/// Of a device that has a class.
 pub(crate) fn push_bound(
     name: &[u8],
     class: Option<&str>,
@@ -260,7 +243,6 @@ pub(crate) fn push_bound(
     )
 }
 
-/// The name of the item that an edit moves.
 pub(crate) fn moved_name(edit: &Edit) -> &[u8]
     ensures { result.now ≡ moved_name edit.now }
 {
@@ -270,7 +252,6 @@ pub(crate) fn moved_name(edit: &Edit) -> &[u8]
     }
 }
 
-/// Of a bucket that is to come below itself, where the route ends.
 fn push_below(name: &[u8], end: &[u8], text: &mut Vec<u8>) -> Result<(), AllocError>
     ensures { OnOk result (text.new.items ≡ text.old.items ++ below_reason name.now end.now) }
 {
@@ -280,7 +261,6 @@ fn push_below(name: &[u8], end: &[u8], text: &mut Vec<u8>) -> Result<(), AllocEr
     push_bytes(b": a bucket cannot come below itself", text)
 }
 
-/// Of such a bucket, or of one that is to come into itself.
 pub(crate) fn push_loop(name: &[u8], end: &[u8], text: &mut Vec<u8>) -> Result<(), AllocError>
     ensures { OnOk result (text.new.items ≡ text.old.items ++ loop_reason name.now end.now) }
 {
@@ -291,7 +271,7 @@ pub(crate) fn push_loop(name: &[u8], end: &[u8], text: &mut Vec<u8>) -> Result<(
     }
 }
 
-/// The name of the type of the item of this name, empty where there is none.
+/// Empty where there is none.
 fn type_of_item<'a>(map: &'a CrushMap<Global>, name: &Name<Global>) -> &'a [u8]
     ensures { (t : List Row) → Stands map.now.forest t
         → result.now ≡ type_of_item map.now.setting t name.now }
@@ -302,7 +282,6 @@ fn type_of_item<'a>(map: &'a CrushMap<Global>, name: &Name<Global>) -> &'a [u8]
     }
 }
 
-/// The name of the type of the item of this name.
 fn kind_name_of<'a>(map: &'a CrushMap<Global>, name: &Name<Global>) -> Option<&'a Name<Global>>
     ensures { (t : List Row) → Stands map.now.forest t → option_copied result
         ≡ option_and_then (kind_name map.now.setting)
@@ -312,7 +291,7 @@ fn kind_name_of<'a>(map: &'a CrushMap<Global>, name: &Name<Global>) -> Option<&'
     map.setting().kind_name(map.kind_of(id)?)
 }
 
-/// The type of the pair that names the bucket, empty where none does.
+/// Empty where no pair names it.
 fn type_of_pair<'a>(at: &'a Location, name: &Name<Global>) -> &'a [u8]
     ensures { result.now ≡ type_of_pair at.now name.now }
 {
@@ -325,7 +304,6 @@ fn type_of_pair<'a>(at: &'a Location, name: &Name<Global>) -> &'a [u8]
     b""
 }
 
-/// Of a bucket that has another type than the one that is wanted.
 fn push_types(end: &[u8], own: &[u8], wanted: &[u8], text: &mut Vec<u8>) -> Result<(), AllocError>
     ensures { OnOk result (text.new.items
         ≡ text.old.items ++ types_reason end.now own.now wanted.now) }
@@ -337,7 +315,6 @@ fn push_types(end: &[u8], own: &[u8], wanted: &[u8], text: &mut Vec<u8>) -> Resu
     push_bytes(wanted, text)
 }
 
-/// Of such a bucket at which the route of a location ends.
 fn push_end(
     map: &CrushMap<Global>,
     at: &Location,
@@ -355,7 +332,6 @@ fn push_end(
     )
 }
 
-/// Where an edit puts an item.
 fn location_of(edit: &Edit) -> Option<&Location>
     ensures { option_map (λ at. at.now) result ≡ location_of edit.now }
 {
@@ -368,14 +344,12 @@ fn location_of(edit: &Edit) -> Option<&Location>
     }
 }
 
-/// Of the type of a new bucket.
 fn push_kind(kind: &[u8], text: &mut Vec<u8>) -> Result<(), AllocError>
     ensures { OnOk result (text.new.items ≡ text.old.items ++ kind_reason kind.now) }
 {
     push_all(&[kind, b" is the type of devices".as_slice()], text)
 }
 
-/// Of a bucket at which a route ends, or of the type of a new one.
 pub(crate) fn push_type(
     map: &CrushMap<Global>,
     edit: &Edit,

@@ -1,4 +1,4 @@
-//! Bytes, pushed behind what a `Vec` holds, and words and parts of a text.
+//! Pushed bytes, and words and parts of a text.
 
 ghost use Rattle.std.specs.Prelude.{◌≡◌, ◌≤◌, ◌++◌, ◌∷◌, [], MatchOption, OnOk, drop, flat_map, length, take};
 ghost use Rattle.crush_reasons.specs.Shown.{reason_line};
@@ -6,7 +6,6 @@ ghost use Rattle.crush_reasons.specs.Shown.{reason_line};
 use crush_bytes::{Reader, Token, put_all};
 use std::alloc::AllocError;
 
-/// All parts, one after the other.
 pub(crate) fn push_all(parts: &[&[u8]], text: &mut Vec<u8>) -> Result<(), AllocError>
     ensures { OnOk result (text.new.items
         ≡ text.old.items ++ flat_map (λ part. part.now) parts.now) }
@@ -14,14 +13,12 @@ pub(crate) fn push_all(parts: &[&[u8]], text: &mut Vec<u8>) -> Result<(), AllocE
     put_all(text, parts).map_err(|_| AllocError)
 }
 
-/// Bytes.
 pub(crate) fn push_bytes(bytes: &[u8], text: &mut Vec<u8>) -> Result<(), AllocError>
     ensures { OnOk result (text.new.items ≡ text.old.items ++ bytes.now) }
 {
     text.extend_from_slice(bytes)
 }
 
-/// A sentence on a line of its own.
 pub(crate) fn push_reason(sentence: &str, text: &mut Vec<u8>) -> Result<(), AllocError>
     ensures { OnOk result (text.new.items ≡ text.old.items ++ reason_line sentence.now) }
 {
@@ -31,7 +28,7 @@ pub(crate) fn push_reason(sentence: &str, text: &mut Vec<u8>) -> Result<(), Allo
     )
 }
 
-/// The bytes up to a place, all of them where it is beyond their end.
+/// All of them where the place is beyond their end.
 pub(crate) fn up_to(place: usize, bytes: &[u8]) -> &[u8]
     ensures value { result.now ≡ take place bytes.now }
     ensures within { length result.now ≤ length bytes.now }
@@ -43,7 +40,7 @@ pub(crate) fn up_to(place: usize, bytes: &[u8]) -> &[u8]
     }
 }
 
-/// The bytes from a place on, none where it is beyond their end.
+/// None where the place is beyond their end.
 pub(crate) fn from_place(place: usize, bytes: &[u8]) -> &[u8]
     ensures { result.now ≡ drop place bytes.now }
 {
@@ -54,14 +51,12 @@ pub(crate) fn from_place(place: usize, bytes: &[u8]) -> &[u8]
     }
 }
 
-/// A word of a text, and the place of its first byte.
 #[derive(Clone, Copy)]
 pub(crate) struct PlacedWord<'a> {
     pub(crate) place: usize,
     pub(crate) text: &'a [u8],
 }
 
-/// The next word of a text with its place, if there is one.
 pub(crate) fn next_placed<'a>(reader: &mut Reader<'a>) -> Option<PlacedWord<'a>>
     ensures next { MatchOption result (reader.old.words ≡ [])
         (λ word. reader.old.words ≡ (record { place = word.place; text = word.text.now }) ∷ reader.new.words) }

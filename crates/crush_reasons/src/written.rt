@@ -16,7 +16,6 @@ use crush_script::line_feeds;
 use crush_units::{ItemId, Weight};
 use std::alloc::{AllocError, Global};
 
-/// Whether a word is this one.
 fn is(word: &[u8], key: &[u8]) -> bool
     ensures { result ≡ bytes_eq word.now key.now }
 {
@@ -36,7 +35,6 @@ fn is_inside(inside: bool, word: &[u8]) -> bool
     }
 }
 
-/// What the bucket of this name weighs. `None` where no bucket has it.
 fn sum_named(summed: &SummedMap<'_>, name: &str) -> Option<Weight>
     ensures { (t : List Row) → IsSummed summed.now t
         → result ≡ bucket_sum t (id_named t name.now) }
@@ -48,7 +46,6 @@ fn sum_named(summed: &SummedMap<'_>, name: &str) -> Option<Weight>
     }
 }
 
-/// The same of the bytes of a name.
 fn bucket_sum(summed: &SummedMap<'_>, name: &[u8]) -> Option<Weight>
     ensures { (t : List Row) → IsSummed summed.now t
         → result ≡ bucket_sum t (id_named t name.now) }
@@ -59,7 +56,6 @@ fn bucket_sum(summed: &SummedMap<'_>, name: &[u8]) -> Option<Weight>
     sum_named(summed, name)
 }
 
-/// What is told behind a weight that was written: the sum.
 fn push_sum(sum: Weight, text: &mut Vec<u8>) -> Result<(), AllocError>
     ensures { OnOk result (text.new.items ≡ text.old.items ++ sum_told sum) }
 {
@@ -75,7 +71,6 @@ fn push_sum(sum: Weight, text: &mut Vec<u8>) -> Result<(), AllocError>
     )
 }
 
-/// The line of a bucket of which another weight was written than its sum.
 fn push_unequal(
     name: &[u8],
     written: &[u8],
@@ -89,7 +84,6 @@ fn push_unequal(
     push_sum(sum, text)
 }
 
-/// That line, unless the sum was written.
 fn push_weighed(
     name: &[u8],
     written: &[u8],
@@ -108,7 +102,6 @@ fn push_weighed(
     push_unequal(name, written, sum, text)
 }
 
-/// That line of an item of this name, where it is a bucket.
 fn push_item(
     summed: &SummedMap<'_>,
     name: &[u8],
@@ -124,7 +117,6 @@ fn push_item(
     }
 }
 
-/// The line of an item that goes on with these three words.
 fn push_item_line(
     summed: &SummedMap<'_>,
     name: &[u8],
@@ -141,7 +133,6 @@ fn push_item_line(
     push_item(summed, name, weight, text)
 }
 
-/// The next word of a text, if there is one.
 fn next_word<'a>(reader: &mut Reader<'a>) -> Option<&'a [u8]>
     ensures next { MatchOption result (reader.old.words ≡ [])
         (λ word. IsNextWord word.now reader.old.words reader.new.words) }
@@ -152,8 +143,8 @@ fn next_word<'a>(reader: &mut Reader<'a>) -> Option<&'a [u8]>
     }
 }
 
-/// A text that is read for such weights: three words of it, whether they begin between braces, and
-/// the words that follow.
+/// `item`, `name` and `key` are three words, `inside` whether they begin between braces; the reader
+/// has those that follow.
 #[derive(Drop)]
 struct Scan<'a> {
     inside: bool,
@@ -164,7 +155,6 @@ struct Scan<'a> {
 }
 
 impl<'a> Scan<'a> {
-    /// A whole text, behind three empty words.
     #[tactic(auto, using(crate::proofs::Scanning::empty_first))]
     fn new(bytes: &'a [u8]) -> Scan<'a>
         ensures { (t : List Row) → lines_left t result ≡ weights_text t bytes.now }
@@ -178,7 +168,7 @@ impl<'a> Scan<'a> {
         }
     }
 
-    /// Puts the line of the first word, where the word that follows the three is this one.
+    /// `weight` follows the three words.
     fn push_first(
         &self,
         summed: &SummedMap<'_>,
@@ -195,7 +185,7 @@ impl<'a> Scan<'a> {
         }
     }
 
-    /// Puts the line of the first word and goes on by one. False where no word follows the three.
+    /// False where no word follows the three.
     fn push_next(&mut self, summed: &SummedMap<'_>, text: &mut Vec<u8>) -> Result<bool, AllocError>
         ensures goes { IfOk result (λ more. (t : List Row) → IsSummed summed.now t
             → text.new.items ++ (if more then lines_left t self.new else [])
@@ -214,7 +204,6 @@ impl<'a> Scan<'a> {
         Ok(true)
     }
 
-    /// Puts the lines of all words that are left.
     fn push_left(&mut self, summed: &SummedMap<'_>, text: &mut Vec<u8>) -> Result<(), AllocError>
         ensures { OnOk result ((t : List Row) → IsSummed summed.now t
             → text.new.items ≡ text.old.items ++ lines_left t self.old) }
@@ -224,21 +213,18 @@ impl<'a> Scan<'a> {
     }
 }
 
-/// Whether a carriage return stands in a text.
 fn has_return(bytes: &[u8]) -> bool
     ensures { result ≡ list_any (λ b. b == 13) bytes.now }
 {
     bytes.iter().any(|byte| *byte == b'\r')
 }
 
-/// Whether carriage returns stand in a text, and no line feed.
 fn has_returns_alone(bytes: &[u8]) -> bool
     ensures { result ≡ has_returns_alone bytes.now }
 {
     line_feeds(bytes) == 0 && has_return(bytes)
 }
 
-/// The line of such a text.
 fn push_returns(bytes: &[u8], text: &mut Vec<u8>) -> Result<(), AllocError>
     ensures { OnOk result (text.new.items ≡ text.old.items ++ returns_text bytes.now) }
 {
@@ -252,10 +238,9 @@ fn push_returns(bytes: &[u8], text: &mut Vec<u8>) -> Result<(), AllocError>
 
 /// A line `NAME: W was written, the sum is W` for each `item NAME weight W` between braces of a
 /// map's text where NAME is a bucket of the map that weighs something else, in the order of the
-/// text. The weight that was written stands there as in the text, the sum with five decimals. Before
-/// them comes the line of a text in which carriage returns stand and no line feed.
-///
-/// The map is the one of that text, as it was read. An `Err` says that memory ran out.
+/// text. The written weight stands as in the text, the sum with five decimals. Before them comes
+/// the line of a text in which carriage returns stand and no line feed. `map` is that text's, as it
+/// was read.
 pub fn written_text(
     alloc: Global,
     map: &CrushMap<Global>,

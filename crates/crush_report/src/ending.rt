@@ -1,4 +1,4 @@
-//! What a run tells on standard error, and the status with which the program ends.
+//! The lines on standard error, and the status with which the program ends.
 
 ghost use Rattle.std.specs.Prelude.{◌≡◌, ◌++◌, [], codes, if◌then◌else◌};
 ghost use Rattle.crush_bytes.specs.Writes.{Writes, AppendsPrefix};
@@ -16,17 +16,14 @@ use crush_text::TextFault;
 use itoa::Buffer;
 use std::io::Write;
 
-/// The line of a run out of memory, wherever it was.
 const OUT_OF_MEMORY: &[u8] = b"crushedit: out of memory\n";
 
-/// What is told of it where reasons are asked for.
 const MEMORY_REASON: &[u8] = b"  there is less memory than the job wants\n";
 
-/// What is told of a write that failed, or of output that couldn't be stored.
+/// Of a failed write, or of output that couldn't be stored.
 const WRITE_REASON: &[u8] =
     b"  standard output took less than the whole, or did not store it: what stands there isn't to be used\n";
 
-/// Writes the line of a fault in a line of the job.
 fn write_line_fault<E: Write>(number: usize, name: &str, err: &mut E) -> Result<(), WriteFault>
     ensures { Writes result (E.contents err.old) (E.contents err.new)
         (line_fault number name.now) }
@@ -45,7 +42,6 @@ fn write_line_fault<E: Write>(number: usize, name: &str, err: &mut E) -> Result<
     )
 }
 
-/// Writes the line of a flaw of the map's text.
 fn write_text_fault<E: Write>(fault: TextFault, err: &mut E) -> Result<(), WriteFault>
     ensures { Writes result (E.contents err.old) (E.contents err.new) (text_fault fault) }
 {
@@ -64,7 +60,6 @@ fn write_text_fault<E: Write>(fault: TextFault, err: &mut E) -> Result<(), Write
     )
 }
 
-/// Writes the line of a fault of the job.
 fn write_job_fault<E: Write>(fault: JobFault, err: &mut E) -> Result<(), WriteFault>
     ensures { Writes result (E.contents err.old) (E.contents err.new) (job_fault fault) }
 {
@@ -81,7 +76,6 @@ fn write_job_fault<E: Write>(fault: JobFault, err: &mut E) -> Result<(), WriteFa
     }
 }
 
-/// The word that asks for another map.
 fn map_word(which: OtherMap) -> &'static [u8]
     ensures { result.now ≡ map_word which }
 {
@@ -91,7 +85,6 @@ fn map_word(which: OtherMap) -> &'static [u8]
     }
 }
 
-/// Writes the line of a flaw of the text of another map.
 fn write_other_text<E: Write>(
     which: OtherMap,
     fault: TextFault,
@@ -117,7 +110,6 @@ fn write_other_text<E: Write>(
     )
 }
 
-/// Writes the line of another map of which this is told.
 fn write_of_map<E: Write>(
     which: OtherMap,
     what: &'static [u8],
@@ -129,7 +121,6 @@ fn write_of_map<E: Write>(
     put_all(err, &[b"crushedit: ".as_slice(), map_word(which), what])
 }
 
-/// Writes the line of a fault of another map.
 fn write_other_fault<E: Write>(
     which: OtherMap,
     fault: OtherFault,
@@ -146,7 +137,6 @@ fn write_other_fault<E: Write>(
     }
 }
 
-/// Writes the line of what the map lacks, by its name.
 fn write_lacking<E: Write>(what: &'static [u8], name: &str, err: &mut E) -> Result<(), WriteFault>
     ensures { Writes result (E.contents err.old) (E.contents err.new)
         (lacking_line what.now name.now) }
@@ -162,7 +152,6 @@ fn write_lacking<E: Write>(what: &'static [u8], name: &str, err: &mut E) -> Resu
     )
 }
 
-/// Writes the line of a run that was not done.
 fn write_run_fault<E: Write>(
     words: Words<'_>,
     fault: RunFault,
@@ -187,7 +176,6 @@ fn write_run_fault<E: Write>(
     }
 }
 
-/// Writes how many calls of a strict run were refused.
 fn write_refused<E: Write>(count: u32, err: &mut E) -> Result<(), WriteFault>
     ensures { Writes result (E.contents err.old) (E.contents err.new)
         (refused_line count) }
@@ -200,7 +188,6 @@ fn write_refused<E: Write>(count: u32, err: &mut E) -> Result<(), WriteFault>
     )
 }
 
-/// Writes how many calls made buckets unasked in a run that was to make none.
 fn write_made<E: Write>(count: usize, err: &mut E) -> Result<(), WriteFault>
     ensures { Writes result (E.contents err.old) (E.contents err.new)
         (made_line count) }
@@ -213,7 +200,6 @@ fn write_made<E: Write>(count: usize, err: &mut E) -> Result<(), WriteFault>
     )
 }
 
-/// Writes how many differences stay behind the plan of a strict run.
 fn write_differs<E: Write>(count: usize, err: &mut E) -> Result<(), WriteFault>
     ensures { Writes result (E.contents err.old) (E.contents err.new)
         (differs_line count) }
@@ -226,7 +212,6 @@ fn write_differs<E: Write>(count: usize, err: &mut E) -> Result<(), WriteFault>
     )
 }
 
-/// Writes how many written weights were replaced.
 fn write_adjusted<E: Write>(adjusted: u32, err: &mut E) -> Result<(), WriteFault>
     ensures { Writes result (E.contents err.old) (E.contents err.new)
         (adjusted_line adjusted) }
@@ -243,7 +228,6 @@ fn write_adjusted<E: Write>(adjusted: u32, err: &mut E) -> Result<(), WriteFault
     )
 }
 
-/// Writes the one line, or nothing.
 fn write_report<E: Write>(
     words: Words<'_>,
     outcome: &Result<Summary, RunFault>,
@@ -259,7 +243,6 @@ fn write_report<E: Write>(
     }
 }
 
-/// Puts the line of a fault, or what of it standard error takes.
 fn put_fault<E: Write>(fault: RunFault, err: &mut E)
     ensures { AppendsPrefix (E.contents err.old) (E.contents err.new)
         (run_fault no_words fault) }
@@ -267,7 +250,6 @@ fn put_fault<E: Write>(fault: RunFault, err: &mut E)
     let _ = write_run_fault(Words::none(), fault, err);
 }
 
-/// What was wanted of another map that is too long.
 fn long_reason(which: OtherMap) -> &'static [u8]
     ensures { result.now ≡ long_reason which }
 {
@@ -277,7 +259,6 @@ fn long_reason(which: OtherMap) -> &'static [u8]
     }
 }
 
-/// What was wanted of another map that couldn't be read.
 fn unread_reason(which: OtherMap) -> &'static [u8]
     ensures { result.now ≡ unread_reason which }
 {
@@ -287,7 +268,6 @@ fn unread_reason(which: OtherMap) -> &'static [u8]
     }
 }
 
-/// What was wanted where another map was not read.
 fn other_reason(which: OtherMap, fault: OtherFault) -> &'static [u8]
     ensures { result.now ≡ other_reason which fault }
 {
@@ -299,7 +279,7 @@ fn other_reason(which: OtherMap, fault: OtherFault) -> &'static [u8]
     }
 }
 
-/// What was wanted where a run was not done, unless the run notes it.
+/// What was wanted where a run was not done, unless its notes say it.
 fn fault_reason(fault: RunFault) -> &'static [u8]
     ensures { result.now ≡ fault_reason fault }
 {
@@ -320,7 +300,6 @@ fn fault_reason(fault: RunFault) -> &'static [u8]
     }
 }
 
-/// What was wanted of an outcome.
 fn outcome_reason(outcome: &Result<Summary, RunFault>) -> &'static [u8]
     ensures { result.now ≡ outcome_reason outcome.now }
 {
@@ -330,7 +309,6 @@ fn outcome_reason(outcome: &Result<Summary, RunFault>) -> &'static [u8]
     }
 }
 
-/// What was wanted, where that is asked for.
 fn reason_asked(words: Words<'_>, outcome: &Result<Summary, RunFault>) -> &'static [u8]
     ensures { result.now ≡ (if words.entry.explain then outcome_reason outcome.now else []) }
 {
@@ -341,7 +319,6 @@ fn reason_asked(words: Words<'_>, outcome: &Result<Summary, RunFault>) -> &'stat
     }
 }
 
-/// Writes the one line, or nothing, and below it what was wanted, where that is asked for.
 fn write_lines<E: Write>(
     words: Words<'_>,
     outcome: &Result<Summary, RunFault>,
@@ -354,7 +331,6 @@ fn write_lines<E: Write>(
     put(err, reason_asked(words, outcome))
 }
 
-/// Writes those, and behind them the notes.
 fn write_told<E: Write>(
     words: Words<'_>,
     outcome: &Result<Summary, RunFault>,
@@ -368,14 +344,12 @@ fn write_told<E: Write>(
     put(err, notes)
 }
 
-/// Puts the bytes, or what of them standard error takes.
 fn put_prefix<E: Write>(bytes: &[u8], err: &mut E)
     ensures { AppendsPrefix (E.contents err.old) (E.contents err.new) bytes.now }
 {
     let _ = put(err, bytes);
 }
 
-/// The status of a run whose other map was not read.
 fn other_status(fault: OtherFault) -> u8
     ensures { result ≡ other_status fault }
 {
@@ -386,7 +360,6 @@ fn other_status(fault: OtherFault) -> u8
     }
 }
 
-/// The status of a run.
 fn status_of(outcome: &Result<Summary, RunFault>) -> u8
     ensures { result ≡ status outcome.now }
 {
@@ -407,29 +380,20 @@ fn status_of(outcome: &Result<Summary, RunFault>) -> u8
 pub struct Told {
     /// The status with which the program ends.
     pub status: u8,
-    /// Whether standard error took all that is told.
+    /// Whether standard error took the whole text.
     pub written: Result<(), WriteFault>,
 }
 
-/// Writes the one line of standard error, below it, where reasons are asked for, what was wanted of
-/// an outcome without notes, and then the notes of the run, and answers the status.
+/// Writes the one line of standard error, below it, where reasons are to be printed, what was
+/// wanted of an outcome without notes, and then the notes of the run, and answers the status.
 ///
-/// | Status | When | Line |
-/// |---|---|---|
-/// | 0 | the run was done | `crushedit: adjusted N` where N written weights of bucket items were replaced, else none |
-/// | 6 | the same, and there is something to tell, where the status is to tell it | the same |
-/// | 1 | the input is no job | `crushedit: line L: NAME`, `crushedit: byte P: NAME` or `crushedit: TooLong` |
-/// | 1 | the map of `--since` or `--to` is none | the same behind `crushedit: since: ` or `crushedit: to: ` |
-/// | 1 | there is no item of the name of `--under`, or no type of that of `--down-to` | `crushedit: no item NAME`, `crushedit: no type NAME` |
-/// | 3 | reading or writing failed | `crushedit: read fault`, `crushedit: since: read fault`, `crushedit: to: read fault`, `crushedit: write fault` |
-/// | 4 | a growth was refused, whatever the fault that says so | `crushedit: out of memory` |
-/// | 4 | a worker couldn't be started | `crushedit: no thread` |
-/// | 5 | calls of a strict run were refused | `crushedit: refused N`, and their lines in the notes |
-/// | 5 | calls made buckets unasked in a run that was to make none | `crushedit: made N`, and their lines in the notes |
-/// | 5 | differences stay behind the plan of a strict run | `crushedit: differs N`, and their lines in the notes |
+/// - 0: the run was done; 6: the same, with something to report, where the status is to say so.
+/// - 1: the input is no job, or a map, item or type of the command line is none.
+/// - 3: reading or writing failed.
+/// - 4: out of memory, or a worker couldn't be started.
+/// - 5: refusals, made buckets or differences ended the run; the notes have their lines.
 ///
-/// Where writing fails, the answer says so: a prefix of all that stands there, never the whole, and the
-/// status is the same.
+/// A failed write on standard error changes no status.
 pub fn report<E: Write>(
     words: Words<'_>,
     outcome: &Result<Summary, RunFault>,
@@ -447,9 +411,9 @@ pub fn report<E: Write>(
     }
 }
 
-/// Writes the text of a command line that asks for no run, and answers the status: of help, on
-/// standard output, 0 where all of it stands there, and 3 where a prefix of it does that isn't the
-/// whole; of a refusal, on standard error, 2; and 4 where there was no memory.
+/// Writes the text of a command line that starts no run, and answers the status: 0 where standard
+/// output took the help, and 3 where it didn't; 2 for a refusal, on standard error; and 4 out of
+/// memory.
 pub fn tell<W: Write, E: Write>(fault: &OptionsFault, out: &mut W, err: &mut E) -> u8
     ensures status { IsOptionsStatus fault.now result }
     ensures out { AppendsPrefix (W.contents out.old) (W.contents out.new)

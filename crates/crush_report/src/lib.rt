@@ -1,8 +1,7 @@
-//! How the end of a run is told: the line on standard error, and the status of the program; and the
-//! same of a command line that asks for no run.
+//! The end of a run: the text on standard error, and the status of the program.
 //!
-//! [`report`] tells the outcome of a run by `crush_run`, [`tell`] that of `crush_options`. Lines and
-//! statuses stand in `specs/`; `crushedit` calls both.
+//! [`report`] prints the outcome of a run by `crush_run`, [`tell`] that of a command line that
+//! starts no run. Lines and statuses stand in `specs/`; `crushedit` calls both.
 #![tactic(auto)]
 
 mod ending;

@@ -1,4 +1,4 @@
-//! What of the words of a command line is told of again.
+//! The words of a command line that its report repeats.
 
 ghost use Rattle.std.specs.Prelude.{◌≡◌, [], Bool, unwrap_or};
 ghost use Rattle.crush_options.specs.Printed.{name_text, said_by};
@@ -6,19 +6,19 @@ ghost use Rattle.crush_report.specs.Words.{no_words, words_data, words_of};
 
 use crush_options::{Options, Printed};
 
-/// What of the words of a command line is told of again where a run wasn't done.
+/// What of a command line the report of a run needs.
 #[derive(Clone, Copy, Debug)]
 pub struct Words<'a> {
-    /// Whether what was wanted is told below the one line.
+    /// Whether what was wanted is printed below the one line.
     pub explain: bool,
-    /// The name of the item below which is told, empty where there is none.
+    /// The name of `--under`, empty where there is none.
     pub under: &'a str,
-    /// The name of the type down to which is told, empty where there is none.
+    /// The name of `--down-to`, empty where there is none.
     pub down_to: &'a str,
 }
 
 impl<'a> Words<'a> {
-    /// Those of a command line that asks for no reasons and has no names.
+    /// No reasons, and no names.
     pub fn none() -> Words<'a>
         ensures { words_data result ≡ no_words }
     {
@@ -29,7 +29,7 @@ impl<'a> Words<'a> {
         }
     }
 
-    /// Those of a command line that asks for this.
+    /// Those of a command line with these options.
     pub fn of(options: &'a Options) -> Words<'a>
         ensures { words_data result ≡ words_of options.now }
     {
@@ -41,7 +41,6 @@ impl<'a> Words<'a> {
     }
 }
 
-/// The name, empty where there is none.
 fn name_or_empty(name: &Option<String>) -> &str
     ensures { result.now ≡ unwrap_or (name_text name.now) [] }
 {
@@ -51,7 +50,6 @@ fn name_or_empty(name: &Option<String>) -> &str
     }
 }
 
-/// The name of the item below which is told, empty where there is none.
 fn under_of(printed: &Printed) -> &str
     ensures { (json : Bool) → result.now ≡ unwrap_or (said_by json printed.now).under [] }
 {
@@ -63,7 +61,6 @@ fn under_of(printed: &Printed) -> &str
     }
 }
 
-/// The name of the type down to which is told, empty where there is none.
 fn down_to_of(printed: &Printed) -> &str
     ensures { (json : Bool) → result.now ≡ unwrap_or (said_by json printed.now).down_to [] }
 {

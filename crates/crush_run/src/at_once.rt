@@ -17,11 +17,8 @@ use std::marker::Brand;
 use std::sync::Wait;
 use std::thread::Threads;
 
-/// Runs the scripts of 1 to 16 operators at once from a map, and hands out the map after all calls, and
-/// the history in which they were made. Of the map before them nothing is kept.
-///
-/// [`RunFault::Thread`] where a worker can't be started; those that run finish. Else
-/// [`RunFault::Memory`] where memory ran out, for a worker or before.
+/// Where a worker can't be started, those that run finish. Nothing is kept of the map before the
+/// scripts.
 pub(crate) fn run_at_once<G: Gate + Sync, R: Threads + Wait + Sync>(
     rt: &R,
     alloc: Global,
@@ -42,7 +39,7 @@ pub(crate) fn run_at_once<G: Gate + Sync, R: Threads + Wait + Sync>(
     }
 }
 
-/// Runs the scripts by the editor of a name.
+/// Runs the scripts by the editor of the name `N`.
 fn operate<N: Desk + Send + Sync, G: Gate + Sync, R: Threads + Wait + Sync>(
     rt: &R,
     alloc: Global,
@@ -74,8 +71,8 @@ fn operate<N: Desk + Send + Sync, G: Gate + Sync, R: Threads + Wait + Sync>(
     Ok(editor.close(seats))
 }
 
-/// The seats of workers, none of which met a fault. A worker's fault is that it was out of memory: a
-/// history has room for all the calls of a job.
+/// A worker's one fault is that it was out of memory: a history has room for all the calls of a
+/// job.
 fn gather<N: Desk>(alloc: Global, finished: Vec<Finished<N>>) -> Result<Vec<Seat<N>>, RunFault>
     ensures count { IfOk result (λ seats. vec_len seats ≡ vec_len finished) }
     ensures each { IfOk result (λ seats. (k : ℕ) (d : _) (e : _) → k < vec_len seats

@@ -1,4 +1,4 @@
-//! Whether there is something to tell of a map, which the status may tell.
+//! Whether there is something to report of a map, for the status.
 
 ghost use Rattle.std.specs.Prelude.{◌≡◌, ◌≤◌, ◌&&◌, List, IfOk, length, true};
 ghost use Rattle.crush_input.specs.Options.{name_text};
@@ -20,7 +20,6 @@ use crush_since::{is_changed, is_part_changed};
 use crush_units::ItemId;
 use std::alloc::{AllocError, Global};
 
-/// Whether an item or a setting is told of what has changed since another map, or an item of a part.
 fn is_changed_by_id(
     alloc: Global,
     under: Option<ItemId>,
@@ -38,7 +37,6 @@ fn is_changed_by_id(
     }
 }
 
-/// The same by the names of items.
 fn is_named_changed(alloc: Global, old: &OldMap, map: &CrushMap<Global>) -> Result<bool, AllocError>
     ensures { IfOk result (λ is_told. (t : List Row) → Stands map.now.forest t
         → is_told ≡ has_changed true (name_text old.now.under)
@@ -48,8 +46,6 @@ fn is_named_changed(alloc: Global, old: &OldMap, map: &CrushMap<Global>) -> Resu
     is_changed_by_name(alloc, name_of(&old.under), &old.map, map)
 }
 
-/// Whether an item or a setting is told of what has changed since another map, in the way that is
-/// asked for.
 fn has_changed(alloc: Global, old: &OldMap, map: &CrushMap<Global>) -> Result<bool, AllocError>
     ensures { IfOk result (λ is_told. (t : List Row) → Stands map.now.forest t
         → is_told ≡ has_changed old.now.by_name (name_text old.now.under)
@@ -62,8 +58,6 @@ fn has_changed(alloc: Global, old: &OldMap, map: &CrushMap<Global>) -> Result<bo
     is_changed_by_id(alloc, under, &old.map, map)
 }
 
-/// Whether there is something to tell of the map: of changes since another map, of a plan, and else
-/// that a call changed it.
 fn differs(alloc: Global, asked: &Asked, left: &Left<'_>) -> Result<bool, AllocError>
     requires { length left.now.entries.now ≤ MOST_ENTRIES }
     ensures { IfOk result (λ differs. (t : List Row) → Stands left.now.map.now.forest t
@@ -81,7 +75,6 @@ fn differs(alloc: Global, asked: &Asked, left: &Left<'_>) -> Result<bool, AllocE
     }
 }
 
-/// The same, where the status is to tell it.
 pub(crate) fn differs_asked(
     alloc: Global,
     request: &Request,

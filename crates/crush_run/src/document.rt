@@ -29,7 +29,6 @@ use crush_units::ItemId;
 use std::alloc::Global;
 use std::io::Write;
 
-/// The history, where it is asked for.
 fn history_asked<'a>(history: bool, left: &Left<'a>) -> Option<History<'a>>
     requires few { length left.now.entries.now ≤ MOST_ENTRIES }
     requires operators { AreOf (length left.now.scripts.now) left.now.entries.now }
@@ -46,7 +45,6 @@ fn history_asked<'a>(history: bool, left: &Left<'a>) -> Option<History<'a>>
     None
 }
 
-/// Writes what has changed since another map, of all items or of a part, as one document.
 fn write_changed<W: Write>(
     alloc: Global,
     under: Option<ItemId>,
@@ -67,9 +65,8 @@ fn write_changed<W: Write>(
     write_since_document(alloc, old, map, under, history, writer)
 }
 
-/// Writes what is asked for of the map as one document, with the history in it where it is asked for.
-/// Of a tree of changes that is the document of the changes, by the ids of items; what has none, Ceph's
-/// own commands, is written as for a person.
+/// A tree of changes has the document of the changes, by ids. Ceph's own commands have none, and
+/// are written as for a person.
 pub(crate) fn write_document<W: Write>(
     alloc: Global,
     request: &Request,

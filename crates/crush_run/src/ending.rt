@@ -1,4 +1,4 @@
-//! How a run ended, and what is told of it below the one line on standard error.
+//! How a run ended, and what is printed of it below the one line on standard error.
 
 ghost use Rattle.std.specs.Prelude.{◌≡◌, [], Err};
 
@@ -10,16 +10,14 @@ use std::alloc::Global;
 pub struct Ending {
     /// What the run did, or why it was not done.
     pub outcome: Result<Summary, RunFault>,
-    /// What is told below the one line on standard error. Where reasons are asked for, of a fault of
-    /// the bytes its place and what was wanted there, of a file that can't be read its name and the
-    /// system's reason, and of a run its calls that were refused, each with what was wanted, and the
-    /// written weights of buckets that aren't their sums; in a strict run without reasons the lines of
-    /// what was refused; else nothing.
+    /// The lines below the one line on standard error: the reasons, where they are wanted, of a
+    /// fault, of refused calls and of written weights that aren't sums; without them, the lines of
+    /// what `strict` or `no_make` ended the run for.
     pub notes: Vec<u8>,
 }
 
 impl Ending {
-    /// A fault of which nothing is told.
+    /// A fault without notes.
     pub(crate) fn quietly(alloc: Global, fault: RunFault) -> Ending
         ensures outcome { result.outcome ≡ Err fault }
         ensures quiet { result.notes.items ≡ [] }

@@ -14,7 +14,6 @@ use crush_units::{ItemId, TypeId};
 use crush_view::Part as TreePart;
 use std::alloc::Global;
 
-/// The name, where there is one.
 pub(crate) fn name_of(name: &Option<String>) -> Option<&str>
     ensures { option_map (λ name. name.now) result ≡ name_text name.now }
 {
@@ -24,7 +23,6 @@ pub(crate) fn name_of(name: &Option<String>) -> Option<&str>
     }
 }
 
-/// The name of the item below which is told, where there is one.
 fn under_of(asked: &Asked) -> Option<&str>
     ensures { option_map (λ name. name.now) result ≡ under_of asked.now }
 {
@@ -36,7 +34,6 @@ fn under_of(asked: &Asked) -> Option<&str>
     }
 }
 
-/// The name of the type down to which is told, where there is one.
 fn down_to_of(asked: &Asked) -> Option<&str>
     ensures { option_map (λ name. name.now) result ≡ down_to_of asked.now }
 {
@@ -46,7 +43,6 @@ fn down_to_of(asked: &Asked) -> Option<&str>
     }
 }
 
-/// The id of the item of the name, where there is one.
 pub(crate) fn item_asked(name: Option<&str>, map: &CrushMap<Global>) -> Option<ItemId>
     ensures { (t : List Row) → Stands map.now.forest t
         → result ≡ item_asked t (option_map (λ name. name.now) name.entry) }
@@ -57,7 +53,6 @@ pub(crate) fn item_asked(name: Option<&str>, map: &CrushMap<Global>) -> Option<I
     }
 }
 
-/// The number of the type of the name, where there is one.
 fn kind_asked(name: Option<&str>, map: &CrushMap<Global>) -> Option<TypeId>
     ensures { result
         ≡ kind_asked map.now.setting (option_map (λ name. name.now) name.entry) }
@@ -68,7 +63,7 @@ fn kind_asked(name: Option<&str>, map: &CrushMap<Global>) -> Option<TypeId>
     }
 }
 
-/// The part of the tree that the words name: what the map lacks isn't named.
+/// The part of a tree, where names that the map lacks count as none.
 pub(crate) fn part_of(words: &Part, map: &CrushMap<Global>) -> TreePart
     ensures { (t : List Row) → Stands map.now.forest t
         → result ≡ part_of words.now map.now.setting t }
@@ -79,7 +74,6 @@ pub(crate) fn part_of(words: &Part, map: &CrushMap<Global>) -> TreePart
     }
 }
 
-/// Whether the map has an item of the name, where there is a name.
 fn has_item(name: Option<&str>, map: &CrushMap<Global>) -> bool
     ensures { (t : List Row) → Stands map.now.forest t
         → result ≡ has_item (option_map (λ name. name.now) name.entry) t }
@@ -90,7 +84,6 @@ fn has_item(name: Option<&str>, map: &CrushMap<Global>) -> bool
     }
 }
 
-/// Whether the map has a type of the name, where there is a name.
 fn has_kind(name: Option<&str>, map: &CrushMap<Global>) -> bool
     ensures { result
         ≡ has_kind (option_map (λ name. name.now) name.entry) map.now.setting }
@@ -101,7 +94,6 @@ fn has_kind(name: Option<&str>, map: &CrushMap<Global>) -> bool
     }
 }
 
-/// Looks both up: [`RunFault::NoItem`] or [`RunFault::NoType`] where the map lacks it.
 pub(crate) fn check_found(asked: &Asked, map: &CrushMap<Global>) -> Result<(), RunFault>
     ensures found { (t : List Row) → Stands map.now.forest t
         → IsFound asked.now map.now.setting t result }

@@ -1,10 +1,9 @@
-//! What stands before and after each call of a worker.
+//! What runs before and after each call of a worker.
 
 use std::sync::Wait;
 
-/// What a worker calls before and after each of its calls, with the number of its operator and of
-/// the call in the operator's script, both counted from 0. A test sets the order of calls by one;
-/// no clause speaks of it.
+/// What a worker calls before and after each of its calls, with the numbers of its operator and of
+/// the call in its script, from 0. Tests order calls by it; no clause speaks of it.
 pub trait Gate {
     /// Before the call is submitted.
     fn before<R: Wait>(&self, rt: &R, operator: usize, number: usize);

@@ -20,17 +20,13 @@ use std::sync::Wait;
 /// What the scripts of a run in turn share.
 #[derive(Drop)]
 struct InTurn<'t, G, R> {
-    /// By what the gate waits.
     rt: &'t R,
-    /// What stands round each call.
     gate: &'t G,
-    /// The gauge of the book.
     gauge: &'t MapGauge,
 }
 
 impl<'t, G: Gate, R: Wait> InTurn<'t, G, R> {
-    /// Makes the calls of one operator in order, each between the two calls of the gate, up to one
-    /// for which there is no memory. Each is moved into its entry.
+    /// Stops at a call for which there is no memory. Each call is moved into its entry.
     fn run_script(
         &self,
         book: &mut Book<Global, Unkept>,
@@ -63,11 +59,8 @@ impl<'t, G: Gate, R: Wait> InTurn<'t, G, R> {
     }
 }
 
-/// Runs the scripts one after the other on one book, which no lock holds and which keeps nothing of
-/// its opening.
-///
-/// A job has no more calls than a history has room for, so that a call is refused where
-/// memory runs out alone.
+/// Runs the scripts on one book, without a lock. A history has room for all the calls of a job, so
+/// that memory alone can run out.
 pub(crate) fn run_in_turn<G: Gate, R: Wait>(
     rt: &R,
     alloc: Global,
@@ -76,15 +69,10 @@ pub(crate) fn run_in_turn<G: Gate, R: Wait>(
     scripts: Vec<Script>,
 ) -> Result<Closed<Global, Unkept>, RunFault>
     requires few { length scripts.items ≤ MOST_OPERATORS }
-
-    // Each entry is of one of the scripts, whatever the map stands for.
     ensures operators { IfOk result (λ c. AreOf (length scripts.items) c.history.items) }
-
-    // The entries are the turns of the scripts, and the map stands for the table after them.
     ensures turns { IfOk result (λ c. (s : SettingData) (t : List Row) → MapStands map s t
         → (c.history.items ≡ turns s t (scripts_data scripts.items))
         × MapStands c.map s (table_after s t (turns s t (scripts_data scripts.items)))) }
-
     ensures few { IfOk result (λ c. length c.history.items ≤ MOST_ENTRIES) }
     ensures fault { IfErr result (λ fault. fault ≡ RunFault.Memory) }
 {

@@ -1,9 +1,10 @@
-//! The run of a job, from the bytes read to the bytes written: what it did, or why it was not done.
+//! The run of a job, from the bytes read to the bytes written.
 //!
-//! [`run_options`] runs what a command line asks for, [`run_job`] a job that a reader has. A job
-//! is read by `crush_script`, run by `crush_editor` and written by `crush_print`, `crush_view`,
-//! `crush_since`, `crush_reasons`, `crush_plan` or `crush_json`; how it ended is told by `crush_report`. What a run
-//! writes stands in `specs/Output.antt`, and how it ends in `specs/Run.antt`.
+//! [`run_options`] runs what a command line selects, [`run_job`] a job that a reader has.
+//! `crush_script` reads a job, `crush_editor` runs it, and `crush_print`, `crush_view`,
+//! `crush_since`, `crush_names`, `crush_reasons`, `crush_plan` or `crush_json` write the output;
+//! `crush_report` reports the end. `specs/Output.antt` says what is written, `specs/Run.antt` how a
+//! run ends.
 #![tactic(auto)]
 
 mod at_once;

@@ -1,4 +1,4 @@
-//! The run that a command line asks for.
+//! The run that a command line selects.
 
 ghost use Rattle.std.specs.Prelude.{◌≡◌, ◌≢◌, ℕ, List, None, Some, IfOk, IfErr, IfSome};
 ghost use Rattle.std.specs.Io.KnownBytes.{Keeps};
@@ -19,20 +19,17 @@ use std::sync::Wait;
 use std::thread::Threads;
 
 /// Runs the job of the file that the options name, or else of standard input, with the scripts of
-/// the files that they name behind it, as [`run_job`](crate::run_job) runs it. A file that can't be
-/// opened or read is told as [`RunFault::Read`]; where reasons are asked for, the notes are its name and
-/// the system's reason.
+/// their files behind it, as [`run_job`](crate::run_job) runs it. All files together may be as long
+/// as one job; a file that can't be opened or read is [`RunFault::Read`].
 ///
-/// A map since which changes are asked for, or to which commands, is read once the job is, and told of
-/// as [`RunFault::Other`]; its file may have as many bytes as a job. Of a flaw of its text the notes
-/// are the place, with the name of the file, where reasons are asked for.
+/// The map of `--since` or `--to` is read after the job, from a file that may be as long as a job;
+/// its faults are [`RunFault::Other`].
 ///
-/// Behind a job that doesn't end in a line feed comes one, and before a script whose first line with
-/// a word begins no section the line `%operator NAME`, NAME being the last part of the file's name
-/// up to its first `.`; where that is no name of an operator the line is `%operator` alone, which is
-/// [`BadLine`](crush_script::JobFault::BadLine). All files together are read up to the limit of one job.
-/// All else is as if the job had been one file; but where reasons are asked for, and there is a script
-/// in a file of its own, a fault's line is told as that of its own file, behind the file's name.
+/// Behind a job that doesn't end in a line feed comes one, and before a script whose first line
+/// with a word begins no section the line `%operator NAME`, NAME being the last part of the file's
+/// name up to its first `.`; where that is no name of an operator the line is `%operator` alone,
+/// which is [`BadLine`](crush_script::JobFault::BadLine). With scripts in files, reasons give a
+/// fault's line in its own file.
 pub fn run_options<H, F, R, W>(
     rt: &H,
     files: &F,
@@ -45,11 +42,8 @@ where
     F: Opens,
     R: Read,
     W: Write,
-    // Where the run is done, what was read is a job.
     ensures job { IfOk result.outcome (λ _.
         IfSome (job_bytes (F.content files.now) options.now (R.remaining input.old)) HasJob) }
-
-    // It is the run of what there is, in the mode that is asked for, with what is asked for.
     ensures output { (bytes : List ℕ) (job : JobData)
         → job_bytes (F.content files.now) options.now (R.remaining input.old) ≡ Some bytes
         → IsJob bytes job
@@ -58,18 +52,10 @@ where
         (W.contents output.old) (W.contents output.new) result.notes.items }
     ensures fault { IfErr result.outcome (IsOptionsFault (F.content files.now) options.now
         (job_bytes (F.content files.now) options.now (R.remaining input.old))) }
-
-    // With a file, standard input is left alone; without one, little more than the longest job is
-    // taken of it, however the run ends.
     ensures input { options.now.file ≢ None → R.remaining input.new ≡ R.remaining input.old }
     ensures taken { TakesFew (R.remaining input.old) (R.remaining input.new) }
-
-    // Only a failed write leaves anything.
     ensures nothing { IfErr result.outcome (λ fault. fault ≢ RunFault.Write
         → Keeps (W.contents output.old) (W.contents output.new)) }
-
-    // A fault of bytes is noted with its place in its own file, a file that can't be read with a
-    // reason, and without reasons refused calls alone are.
     ensures noted { IsNotedAsAsked (F.content files.now) options.now (R.remaining input.old)
         result.outcome result.notes.items }
 {

@@ -33,18 +33,17 @@ use crush_options::Mode;
 use std::alloc::{AllocError, Global};
 use std::io::Write;
 
-/// What may be told of a run below its one line, by how it ends.
+/// The notes of a run, by how it ends.
 #[derive(Drop)]
 pub(crate) struct Noted {
-    /// The calls that were refused, and the written weights.
+    /// The refused calls, and the written weights.
     pub(crate) calls: Vec<u8>,
-    /// Where the run is to make no buckets, before these the calls that made some unasked.
+    /// Of a run that is to make no buckets: the calls that made some, then `calls`.
     pub(crate) made: Vec<u8>,
-    /// Where it is strict, behind the first what stays behind its plan.
+    /// Of a strict run: `calls`, then what stays behind its plan.
     pub(crate) whole: Vec<u8>,
 }
 
-/// What a run did of which this is left.
 fn summary_of(left: &Left<'_>, differs: bool) -> Summary
     requires { length left.now.entries.now ≤ MOST_ENTRIES }
     ensures { result ≡ summed left.now.adjusted differs left.now.entries.now }
@@ -57,8 +56,6 @@ fn summary_of(left: &Left<'_>, differs: bool) -> Summary
     }
 }
 
-/// Ends a run by its refused calls, by calls that made buckets unasked, by names that its map doesn't
-/// have, or by what stays behind its plan, where it is asked to.
 fn check_left(request: &Request, left: &Left<'_>) -> Result<(), RunFault>
     requires { length left.now.entries.now ≤ MOST_ENTRIES }
     ensures fault { IfErr result (IsCheckFault request.now.mode) }
@@ -75,7 +72,6 @@ fn check_left(request: &Request, left: &Left<'_>) -> Result<(), RunFault>
     check_whole(mode.strict, left.plan)
 }
 
-/// Writes what is asked for of the map, with the history where it is asked for.
 fn write_output<W: Write>(
     alloc: Global,
     request: &Request,
@@ -101,7 +97,6 @@ fn write_output<W: Write>(
     write_text(alloc, request, left, writer)
 }
 
-/// Writes what is asked for, unless the run ends before.
 fn write_outcome<W: Write>(
     alloc: Global,
     request: &Request,
@@ -137,7 +132,6 @@ fn write_outcome<W: Write>(
     Ok(summary_of(left, differs))
 }
 
-/// What may be told of a run of which this is left.
 fn noted_of(alloc: Global, mode: Mode, left: &Left<'_>) -> Result<Noted, AllocError>
     requires few { length left.now.entries.now ≤ MOST_ENTRIES }
     requires operators { AreOf (length left.now.scripts.now) left.now.entries.now }
@@ -165,7 +159,6 @@ fn noted_of(alloc: Global, mode: Mode, left: &Left<'_>) -> Result<Noted, AllocEr
     Ok(Noted { calls, made, whole })
 }
 
-/// The end of a run by a fault, with what is told of it.
 fn end_by(alloc: Global, fault: RunFault, noted: Noted) -> Ending
     ensures outcome { result.outcome ≡ Err fault }
     ensures notes { result.notes.items ≡ told_by fault noted }
@@ -188,7 +181,6 @@ fn end_by(alloc: Global, fault: RunFault, noted: Noted) -> Ending
     }
 }
 
-/// The end of a run that came to this, with what is told of it.
 fn end_with(alloc: Global, outcome: Result<Summary, RunFault>, noted: Noted) -> Ending
     ensures outcome { result.outcome ≡ outcome }
     ensures notes { result.notes.items ≡ told_of outcome noted }
@@ -209,8 +201,7 @@ fn end_with(alloc: Global, outcome: Result<Summary, RunFault>, noted: Noted) -> 
     }
 }
 
-/// Writes what is asked for, and tells of the calls that were refused, of written weights, of calls that
-/// made buckets unasked and of what stays, where that is asked for.
+/// Lays the notes out before anything is written, so that memory doesn't run out for them later.
 pub(crate) fn end_run<W: Write>(
     alloc: Global,
     request: &Request,

@@ -18,7 +18,6 @@ use crush_plan::{Identity, Plan, PlanWords, find_plan, plan_text};
 use std::alloc::{AllocError, Global};
 use std::io::Write;
 
-/// By what the buckets of the two maps are told.
 fn identity_of(wanted: &WantedMap) -> Identity {
     if wanted.by_name {
         Identity::Names
@@ -27,7 +26,6 @@ fn identity_of(wanted: &WantedMap) -> Identity {
     }
 }
 
-/// The words in which a plan is printed.
 fn plan_words(as_ceph: bool) -> PlanWords
     ensures { result ≡ plan_words as_ceph }
 {
@@ -38,7 +36,6 @@ fn plan_words(as_ceph: bool) -> PlanWords
     }
 }
 
-/// A plan of which nothing is told.
 fn no_plan(alloc: Global) -> Plan
     ensures { result.rest.items ≡ [] }
 {
@@ -52,7 +49,7 @@ fn no_plan(alloc: Global) -> Plan
     }
 }
 
-/// The plan that leads from the map to the wanted one, where one is asked for.
+/// The plan that leads from the map to the wanted one; empty without one.
 pub(crate) fn plan_asked(
     alloc: Global,
     asked: &Asked,
@@ -71,7 +68,6 @@ pub(crate) fn plan_asked(
     }
 }
 
-/// Ends a strict run in which differences stay behind its plan: [`RunFault::Differs`] with how many.
 pub(crate) fn check_whole(strict: bool, plan: &Plan) -> Result<(), RunFault>
     ensures whole { IsWhole strict plan.now.rest.items result }
     ensures fault { IfErr result (IsDiffersFault strict) }
@@ -82,8 +78,7 @@ pub(crate) fn check_whole(strict: bool, plan: &Plan) -> Result<(), RunFault>
     Err(RunFault::Differs(plan.count_differences()))
 }
 
-/// Behind the notes of a strict run the lines of what stays, which are told where they end it; of any
-/// other run nothing.
+/// Behind the notes of a strict run the lines of what stays; of any other run nothing.
 pub(crate) fn whole_notes(
     alloc: Global,
     strict: bool,
@@ -101,7 +96,6 @@ pub(crate) fn whole_notes(
     Ok(lines)
 }
 
-/// Writes a plan.
 pub(crate) fn write_plan<W: Write>(
     alloc: Global,
     as_ceph: bool,

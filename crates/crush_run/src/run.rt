@@ -35,8 +35,7 @@ use std::random::RandomSource;
 use std::sync::Wait;
 use std::thread::Threads;
 
-/// The scripts without their calls, which a run moves into its history: their names are left to be
-/// written of.
+/// The names of the scripts, whose calls a run moves into its history.
 fn headings(alloc: Global, scripts: &[Script]) -> Result<Vec<Script>, AllocError>
     ensures count { IfOk result (λ left. length left.items ≡ length scripts.now) }
     ensures names { IfOk result (λ left. names_of (scripts_data left.items)
@@ -53,7 +52,6 @@ fn headings(alloc: Global, scripts: &[Script]) -> Result<Vec<Script>, AllocError
     Ok(left)
 }
 
-/// A copy of a map, which stands for the same.
 fn copy_of(map: &CrushMap<Global>) -> Result<CrushMap<Global>, AllocError>
     ensures { IfOk result (λ copy. (s : SettingData) (t : List Row) → MapStands map.now s t
         → MapStands copy s t) }
@@ -77,7 +75,6 @@ fn opening_asked(
     Ok(None)
 }
 
-/// Runs the scripts, at once where that is asked for and there are any.
 fn run_scripts<H: AllocGlobal + Threads + Wait + Sync, G: Gate + Sync>(
     rt: &H,
     gate: &G,
@@ -99,7 +96,6 @@ fn run_scripts<H: AllocGlobal + Threads + Wait + Sync, G: Gate + Sync>(
     run_at_once(rt, alloc, gate, map, scripts)
 }
 
-/// Runs the scripts of a job that was read, and writes what comes of them.
 pub(crate) fn run_read<H: AllocGlobal + Threads + Wait + Sync, G: Gate + Sync, W: Write>(
     rt: &H,
     gate: &G,
@@ -158,7 +154,6 @@ pub(crate) fn run_read<H: AllocGlobal + Threads + Wait + Sync, G: Gate + Sync, W
     end_run(alloc, request, &left, writer)
 }
 
-/// Runs a job of which these are the bytes, as [`run_job`] runs one that it reads.
 fn run_bytes<H, G, W>(rt: &H, gate: &G, request: &Request, bytes: Vec<u8>, writer: &mut W) -> Ending
 where
     H: AllocGlobal + RandomSource + Threads + Wait + Sync,
@@ -181,33 +176,19 @@ where
     }
 }
 
-/// Reads a job, runs the scripts of its operators, and writes what is asked for of the map after
-/// them and, where the mode asks for it, a line for each call with its reply.
+/// Reads a job, runs the scripts of its operators, and writes what the request selects.
 ///
-/// In turn the scripts run one after the other, in the order of their sections, so that what is
-/// written, but for a plan, is a function of the bytes read. Otherwise each operator has a thread of its own, and
-/// the calls come in an order that nothing but their scripts orders. The gate is called before and
-/// after each call.
+/// In turn, the output, but for a plan, is a function of the bytes read. Otherwise each operator
+/// has a thread of its own, and its script alone orders its calls. The gate runs before and after
+/// each call.
 ///
-/// A strict run in which calls were refused ends with [`RunFault::Refused`], and their lines are
-/// its notes: all calls were made and judged, and nothing is written. A run that is to make no buckets,
-/// and in which a call made more than its `add-bucket`s ask for, ends with [`RunFault::Made`], and
-/// notes the lines of such calls. A strict run in which differences to a
-/// wanted map stay behind its plan ends with [`RunFault::Differs`], and notes the lines of these. Where the mode asks for
-/// reasons, the notes say of each call that was refused, in whatever run, what was wanted, behind
-/// these which written weights of buckets aren't their sums, and of a fault of the bytes where it
-/// stands.
+/// A strict run makes all calls before it ends with [`RunFault::Refused`], or with
+/// [`RunFault::Differs`] where its plan leaves differences; a run that is to make no buckets ends
+/// with [`RunFault::Made`] where a call made more than its `add-bucket`s. The reader is asked for
+/// at most 16,777,217 bytes, at most that many times.
 ///
-/// After [`RunFault::Write`] a prefix of the output was written, and never the whole, after any other
-/// fault nothing.
-/// [`RunFault::Job`] says what is wrong with the bytes, and never that memory ran out, which is
-/// [`RunFault::Memory`], also where it ran out for the notes; of bytes that are no job it is never
-/// told that a write failed, nor that a thread couldn't be started, which is [`RunFault::Thread`]
-/// and never told in turn. The reader is asked for at most 16,777,217 bytes, at most that many
-/// times.
-///
-/// The names of a job come from strangers; so they are hashed with keys that the system draws, or
-/// without, where it draws none. Nothing that is written depends on them.
+/// Names come from strangers, so they are hashed with keys that the system draws, or without where
+/// it draws none. No output depends on them.
 pub fn run_job<H, G, R, W>(
     rt: &H,
     gate: &G,
@@ -220,30 +201,17 @@ where
     G: Gate + Sync,
     R: Read,
     W: Write,
-    // Where the run is done, what was read is a job.
     ensures job { IfOk result.outcome (λ _. IfSome (R.remaining reader.old) HasJob) }
-
-    // For whatever job the bytes are, there is a run of it whose output is written, or after a
-    // fault a prefix of that which isn't the whole, which the summary sums up, and whose refused
-    // calls are noted, with the written weights of the bytes.
     ensures output { (bytes : List ℕ) (job : JobData) → R.remaining reader.old ≡ Some bytes
         → IsJob bytes job
         → Ends request.now.mode request.now.asked job
         (text_of request.now.mode.explain no_origin bytes job.table) result.outcome
         (W.contents writer.old) (W.contents writer.new) result.notes.items }
-
-    // A fault of the bytes is noted with its place, and without reasons refused calls alone are.
     ensures noted { IsNoted request.now.mode.explain no_origin (R.remaining reader.old)
         result.outcome result.notes.items }
-
-    // Only a failed write leaves anything.
     ensures nothing { IfErr result.outcome (λ fault. fault ≢ RunFault.Write
         → Keeps (W.contents writer.old) (W.contents writer.new)) }
-
-    // However it ends, little more than the longest job is taken of the reader.
     ensures taken { TakesFew (R.remaining reader.old) (R.remaining reader.new) }
-
-    // Bytes are refused for what is wrong with them, and only a job's are run and written of.
     ensures fault { IfErr result.outcome (IsRunFault request.now.mode (R.remaining reader.old)) }
 {
     match read_bytes(rt.alloc(), reader) {

@@ -35,7 +35,6 @@ use crush_view::write_tree_part;
 use std::alloc::{AllocError, Global};
 use std::io::Write;
 
-/// The lines of the history, where they are asked for.
 fn lines_asked(
     alloc: Global,
     history: bool,
@@ -53,7 +52,6 @@ fn lines_asked(
     Ok(Vec::new(alloc))
 }
 
-/// The commands that changed a map, as Ceph's own, by a copy of the map before them.
 fn ceph_lines(
     alloc: Global,
     opening: &CrushMap<Global>,
@@ -67,7 +65,6 @@ fn ceph_lines(
     ceph_text(alloc, opening, entries)
 }
 
-/// Writes these commands. The map before them was kept.
 fn write_ceph<W: Write>(alloc: Global, left: &Left<'_>, writer: &mut W) -> Result<(), WriteFault>
     requires few { length left.now.entries.now ≤ MOST_ENTRIES }
     requires kept { is_some left.now.opening.now ≡ true }
@@ -86,7 +83,6 @@ fn write_ceph<W: Write>(alloc: Global, left: &Left<'_>, writer: &mut W) -> Resul
     put(writer, text.as_slice())
 }
 
-/// Writes what has changed of the part below an item.
 fn write_part<W: Write>(
     alloc: Global,
     old: &CrushMap<Global>,
@@ -106,7 +102,6 @@ fn write_part<W: Write>(
     put(writer, text.as_slice())
 }
 
-/// Writes what has changed by the ids of items, of a part or of all.
 fn write_by_id<W: Write>(
     alloc: Global,
     under: Option<ItemId>,
@@ -127,7 +122,6 @@ fn write_by_id<W: Write>(
     }
 }
 
-/// Writes what has changed by the names of items, of the part below the item of a name, or of all.
 fn write_by_name<W: Write>(
     alloc: Global,
     old: &OldMap,
@@ -148,7 +142,6 @@ fn write_by_name<W: Write>(
     }
 }
 
-/// Writes what has changed since another map.
 fn write_changed<W: Write>(
     alloc: Global,
     old: &OldMap,
@@ -169,7 +162,6 @@ fn write_changed<W: Write>(
     write_by_id(alloc, under, &old.map, map, writer)
 }
 
-/// Writes what is asked for of the map.
 fn write_asked<W: Write>(
     alloc: Global,
     request: &Request,
@@ -200,8 +192,7 @@ fn write_asked<W: Write>(
     }
 }
 
-/// Writes what is asked for of the map, and behind it the history where it is asked for. Both are laid
-/// out before anything is written.
+/// Lays all out before anything is written, so that memory doesn't run out between.
 pub(crate) fn write_text<W: Write>(
     alloc: Global,
     request: &Request,

@@ -11,19 +11,19 @@ use std::snapshot::Snapshot;
 use std::sync::Wait;
 use std::thread::Promise;
 
-/// What a worker hands back: its seat, with a slip for each call that was answered, and the fault
-/// that stopped it, if one did.
+/// What a worker hands back: its seat, with a slip for each answered call, and the fault that
+/// stopped it.
 #[derive(Drop)]
 pub(crate) struct Finished<N: Desk> {
     pub(crate) seat: Seat<N>,
     pub(crate) fault: Option<SubmitFault>,
 }
 
-/// What a worker promises: the calls of an operator's script, made by its seat. They are the worker's
-/// own, and contracts alone see them here.
+/// What a worker promises: the calls of an operator's script, made by its seat. The worker owns the
+/// calls; contracts alone see them here.
 #[derive(Drop)]
 pub(crate) struct Task {
-    /// The operator's number, counted from 0.
+    /// From 0.
     pub(crate) operator: usize,
     pub(crate) calls: Snapshot<Vec<Call>>,
 }
@@ -37,19 +37,15 @@ impl<N: Desk> Promise<Finished<N>> for Task {
 /// What the workers of a run share.
 #[derive(Drop)]
 pub(crate) struct Crew<'s, N: Desk, G, R> {
-    /// By what they are started, and wait.
     pub(crate) rt: &'s R,
     /// Where their slips lie.
     pub(crate) alloc: Global,
-    /// What they submit their calls to.
     pub(crate) editor: &'s Editor<N, Unkept>,
-    /// What stands round each call.
     pub(crate) gate: &'s G,
 }
 
 impl<'s, N: Desk, G: Gate, R: Wait> Crew<'s, N, G, R> {
-    /// Submits an operator's calls in order, up to the first that meets a fault. Each is moved into
-    /// its entry.
+    /// Stops at the first call that meets a fault. Each call is moved into its entry.
     pub(crate) fn work(&self, mut seat: Seat<N>, calls: Vec<Call>) -> Finished<N>
         requires { seat.slips ≡ [] }
         ensures { HasRun seat.operator calls.items result.seat result.fault }

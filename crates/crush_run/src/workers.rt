@@ -17,7 +17,7 @@ use std::thread;
 use std::thread::{PromisedHandle, Scope, Threads};
 
 impl<'s, N: Desk + Send + Sync, G: Gate + Sync, R: Threads + Wait + Sync> Crew<'s, N, G, R> {
-    /// Starts one worker, which owns its seat and its calls. `None` where no thread can be made.
+    /// `None` where no thread can be made.
     fn start<E>(
         &self,
         scope: &Scope<'s, E>,
@@ -48,8 +48,7 @@ impl<'s, N: Desk + Send + Sync, G: Gate + Sync, R: Threads + Wait + Sync> Crew<'
         scope.spawn_with(task, job).ok()
     }
 
-    /// Starts a worker for each seat, with the calls of its operator's script. Where one can't be
-    /// started, those that run go on.
+    /// Where a worker can't be started, those that run go on.
     fn start_all<E>(
         &self,
         scope: &Scope<'s, E>,
@@ -81,8 +80,8 @@ impl<'s, N: Desk + Send + Sync, G: Gate + Sync, R: Threads + Wait + Sync> Crew<'
         Ok(handles)
     }
 
-    /// Runs a worker for each seat, and waits for all that were started, also where one couldn't be:
-    /// that is [`RunFault::Thread`], whatever the others met.
+    /// Waits for all workers that were started, also where one couldn't be: that is
+    /// [`RunFault::Thread`], whatever the others met.
     pub(crate) fn run_all(
         &self,
         seats: Vec<Seat<N>>,
@@ -117,7 +116,6 @@ impl<'s, N: Desk + Send + Sync, G: Gate + Sync, R: Threads + Wait + Sync> Crew<'
     }
 }
 
-/// Waits for each worker, and takes what it hands back, in order.
 fn join_all<N: Desk, R: Threads>(
     rt: &R,
     handles: Vec<PromisedHandle<Finished<N>, Task>>,

@@ -1,7 +1,5 @@
-//! What operators read of one editor, and what its closed history has.
-//!
-//! The weights are in 65536ths: the map's devices weigh 1, 1 and a half, 163840 in all, and each call
-//! here sets one of the first two to 2.
+//! What operators read of one editor, and what its closed history has. Weights are in 65536ths: the
+//! devices weigh 1, 1 and 0.5, 163840 in all, and each call sets one of the first two to 2.
 
 ghost use Rattle.std.specs.Prelude.{◌≡◌, ◌<◌, ◌≤◌};
 ghost use Rattle.crush_units.specs.declared.limits.TheConstants.{MOST_OPERATORS};
@@ -27,7 +25,6 @@ mod guarded;
 mod no_memory;
 mod unkept;
 
-/// What an editor of the example map is opened with, for so many operators.
 fn started(rt: &(impl Abort + AllocGlobal), operators: usize) -> Started
     requires some { 0 < operators }
     requires few { operators ≤ MOST_OPERATORS }
@@ -37,7 +34,6 @@ fn started(rt: &(impl Abort + AllocGlobal), operators: usize) -> Started
     started_with(rt, map, operators)
 }
 
-/// The same of this map.
 fn started_with(rt: &(impl Abort + AllocGlobal), map: CrushMap<Global>, operators: usize) -> Started
     requires some { 0 < operators }
     requires few { operators ≤ MOST_OPERATORS }
@@ -52,7 +48,6 @@ fn started_with(rt: &(impl Abort + AllocGlobal), map: CrushMap<Global>, operator
     }
 }
 
-/// The editor, and its seats.
 fn opened<N: Desk>(rt: &(impl Abort + AllocGlobal), started: Started) -> (Editor<N>, Vec<Seat<N>>)
     requires gauge { started.table ≡ N.gauge }
     requires opening { started.opening ≡ N.opening }
@@ -69,7 +64,6 @@ fn opened<N: Desk>(rt: &(impl Abort + AllocGlobal), started: Started) -> (Editor
     }
 }
 
-/// Submits a call by the seat of this operator.
 fn submit_by<N: Desk>(
     rt: &(impl Abort + AllocGlobal + Wait),
     editor: &Editor<N>,
@@ -84,7 +78,6 @@ fn submit_by<N: Desk>(
     editor.submit(rt, rt.alloc(), seat, call)
 }
 
-/// What the seat of this operator reads.
 fn reading_by<N: Desk>(
     rt: &impl Abort,
     editor: &Editor<N>,
@@ -97,7 +90,6 @@ fn reading_by<N: Desk>(
     editor.reading(seats.get_mut(operator).expect(rt, "no seat"))
 }
 
-/// The edit that sets the weight of the device of this name to 2.
 fn weight_two(rt: &(impl Abort + AllocGlobal), device: &[u8]) -> Edit {
     Edit::Reweight {
         name: Name::read(rt.alloc(), device).expect(rt, "no name"),
@@ -105,7 +97,6 @@ fn weight_two(rt: &(impl Abort + AllocGlobal), device: &[u8]) -> Edit {
     }
 }
 
-/// Sets the weight of the device of this name to 2.
 fn weigh_two<N: Desk>(
     rt: &(impl Abort + AllocGlobal + Wait),
     editor: &Editor<N>,
@@ -118,7 +109,6 @@ fn weigh_two<N: Desk>(
     assert!(rt; answered);
 }
 
-/// Whether so many changes and this weight are read.
 fn reads(read: Reading, changes: u64, weight: u64) -> bool {
     read.changes == changes && read.weight == weight
 }

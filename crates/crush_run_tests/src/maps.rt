@@ -1,6 +1,5 @@
 //! The map from which runs and editors begin.
 
-/// The plain example map, with nothing behind it.
 pub const PLAIN: &[u8] = b"\
     # begin crush map\n\
     \n\

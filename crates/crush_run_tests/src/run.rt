@@ -25,7 +25,6 @@ mod scripts;
 mod since;
 mod strict;
 
-/// The same where osd.2 weighs 1.0.
 const REWEIGHED: &[u8] =
     b"# begin crush map\n\n# devices\ndevice 0 osd.0\ndevice 1 osd.1\ndevice 2 osd.2\n\n# types\ntype 0 osd\ntype 1 host\ntype 3 rack\ntype 11 root\n\n# buckets\nhost h1 {\n\tid -2\t\t# do not change unnecessarily\n\t# weight 2.00000\n\talg straw2\n\thash 0\t# rjenkins1\n\titem osd.0 weight 1.00000\n\titem osd.1 weight 1.00000\n}\nhost h2 {\n\tid -3\t\t# do not change unnecessarily\n\t# weight 1.00000\n\talg straw2\n\thash 0\t# rjenkins1\n\titem osd.2 weight 1.00000\n}\nroot default {\n\tid -1\t\t# do not change unnecessarily\n\t# weight 3.00000\n\talg straw2\n\thash 0\t# rjenkins1\n\titem h1 weight 2.00000\n\titem h2 weight 1.00000\n}\n\n# rules\n\n# end crush map\n";
 
@@ -39,7 +38,6 @@ const MODE: Mode = Mode {
     json: false,
 };
 
-/// The same where operators are at work at once.
 const AT_ONCE: Mode = Mode {
     in_turn: false,
     history: true,
@@ -50,18 +48,15 @@ const AT_ONCE: Mode = Mode {
     json: false,
 };
 
-/// The bytes of both, one behind the other.
 fn joined(rt: &(impl Abort + AllocGlobal), first: &[u8], second: &[u8]) -> Vec<u8> {
     let parts = [first, second];
     parts.concat(rt.alloc()).expect(rt, "no memory")
 }
 
-/// Puts the bytes behind a text.
 fn put_behind(rt: &impl Abort, text: &mut Vec<u8>, bytes: &[u8]) {
     text.extend_from_slice(bytes).expect(rt, "no memory");
 }
 
-/// Runs a job of which the map is asked for.
 fn run_map<H, G, R, W>(
     rt: &H,
     gate: &G,
@@ -84,8 +79,6 @@ where
     outcome
 }
 
-/// Whether a job that is run in this mode writes this map and these lines behind it, and is summed
-/// up like this.
 fn writes(
     rt: &(impl AllocGlobal + RandomSource + Threads + Wait + Sync),
     mode: Mode,
@@ -114,7 +107,6 @@ fn runs_one_operator_at_once(rt: HostRuntime) {
     );
 }
 
-/// What a run comes to of these numbers of weights that are replaced, calls, and changes.
 fn summary(adjusted: u32, calls: u32, changes: u32) -> Summary {
     Summary {
         adjusted,
@@ -124,7 +116,6 @@ fn summary(adjusted: u32, calls: u32, changes: u32) -> Summary {
     }
 }
 
-/// Whether standard error is told this line of an outcome, and the program ends with this status.
 fn is_told(
     rt: &impl AllocGlobal,
     outcome: &Result<Summary, RunFault>,

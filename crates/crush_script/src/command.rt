@@ -13,11 +13,8 @@ use std::alloc::Global;
 /// Why a line says nothing.
 #[derive(Clone, Copy)]
 pub(crate) enum LineFault {
-    /// The line isn't of the form that its first word asks for.
     BadLine,
-    /// The first word is no command.
     NoSuchCommand,
-    /// There was no memory for what the line says.
     OutOfMemory,
 }
 
@@ -26,15 +23,12 @@ pub(crate) enum LineFault {
 pub(crate) enum Command {
     /// There are no words.
     Nothing,
-    /// An edit.
     Edit(Edit),
-    /// A batch begins, which may name the number of changes that its operator has seen.
+    /// It may name the number of changes that its operator has seen.
     Begin(Option<u32>),
-    /// A batch ends.
     Commit,
 }
 
-/// The command that places a device.
 #[derive(Clone, Copy)]
 pub(crate) enum Placement {
     Add,
@@ -42,7 +36,6 @@ pub(crate) enum Placement {
     CreateOrMove,
 }
 
-/// The command that makes an edit.
 #[derive(Clone, Copy)]
 pub(crate) enum Keyword {
     Place(Placement),
@@ -57,7 +50,6 @@ pub(crate) enum Keyword {
     RmDeviceClass,
 }
 
-/// A device, and where it is to be put with which weight.
 #[derive(Drop)]
 pub(crate) struct Placing {
     pub(crate) device: DeviceId,
@@ -66,7 +58,6 @@ pub(crate) struct Placing {
     pub(crate) at: Location,
 }
 
-/// The location with one pair more, which the word says.
 #[tactic(auto, unfolding(crate::specs::Command::with_pair))]
 fn with_pair(at: Location, word: &[u8]) -> Result<Location, LineFault>
     ensures { ReadsAs result (with_pair at word.now) }
@@ -84,7 +75,6 @@ fn with_pair(at: Location, word: &[u8]) -> Result<Location, LineFault>
     }
 }
 
-/// The command that a first word names.
 #[tactic(auto, unfolding(crate::specs::Command::keyword_of))]
 fn keyword_of(first: &[u8]) -> Option<Keyword>
     ensures { result ≡ keyword_of first.now }
@@ -118,7 +108,6 @@ fn keyword_of(first: &[u8]) -> Option<Keyword>
     }
 }
 
-/// The edit of a command that places a device.
 fn edit_to_place(how: Placement, placing: Placing) -> Edit
     ensures { result ≡ edit_to_place how placing }
 {
@@ -151,7 +140,6 @@ fn edit_to_place(how: Placement, placing: Placing) -> Edit
 }
 
 impl LineWords<'_> {
-    /// Takes the next word as a name.
     #[tactic(auto, unfolding(crate::specs::Command::name_at))]
     fn name(&mut self, alloc: Global) -> Result<Name<Global>, LineFault>
         ensures { ReadsAndLeaves result self.new (name_at self.old) }
@@ -166,7 +154,6 @@ impl LineWords<'_> {
         }
     }
 
-    /// Takes the next word as a weight.
     #[tactic(auto, unfolding(crate::specs::Command::weight_at))]
     fn weight(&mut self) -> Result<Weight, LineFault>
         ensures { ReadsAndLeaves result self.new (weight_at self.old) }
@@ -191,7 +178,7 @@ impl LineWords<'_> {
         }
     }
 
-    /// Takes all words that are left, as the pairs of a location.
+    /// Takes all words that are left.
     #[tactic(auto, unfolding(crate::specs::Command::location_at, crate::specs::Command::with_pairs))]
     fn location(&mut self, alloc: Global) -> Result<Location, LineFault>
         ensures { ReadsAs result (location_at self.old) }
@@ -203,7 +190,6 @@ impl LineWords<'_> {
         Ok(at)
     }
 
-    /// A device, its weight and its location.
     #[tactic(auto, unfolding(crate::specs::Command::placing_at))]
     fn placing(&mut self, alloc: Global) -> Result<Placing, LineFault>
         ensures { ReadsAs result (placing_at self.old) }
@@ -222,7 +208,6 @@ impl LineWords<'_> {
         })
     }
 
-    /// A name and a location.
     #[tactic(auto, unfolding(crate::specs::Command::located_at))]
     fn located(&mut self, alloc: Global) -> Result<(Name<Global>, Location), LineFault>
         ensures { ReadsAs result (located_at self.old) }
@@ -232,7 +217,6 @@ impl LineWords<'_> {
         Ok((name, at))
     }
 
-    /// A name and nothing more.
     #[tactic(auto, unfolding(crate::specs::Command::one_name_at))]
     fn one_name(&mut self, alloc: Global) -> Result<Name<Global>, LineFault>
         ensures { ReadsAs result (one_name_at self.old) }
@@ -241,7 +225,6 @@ impl LineWords<'_> {
         self.end(name)
     }
 
-    /// Two names and nothing more.
     #[tactic(auto, unfolding(crate::specs::Command::two_names_at))]
     fn two_names(&mut self, alloc: Global) -> Result<(Name<Global>, Name<Global>), LineFault>
         ensures { ReadsAs result (two_names_at self.old) }
@@ -251,7 +234,6 @@ impl LineWords<'_> {
         self.end((first, second))
     }
 
-    /// A name, a weight and nothing more.
     #[tactic(auto, unfolding(crate::specs::Command::weighed_at))]
     fn weighed(&mut self, alloc: Global) -> Result<(Name<Global>, Weight), LineFault>
         ensures { ReadsAs result (weighed_at self.old) }
@@ -261,7 +243,6 @@ impl LineWords<'_> {
         self.end((name, weight))
     }
 
-    /// The edit of a command, by the words behind its first.
     fn edit_of(&mut self, alloc: Global, keyword: Keyword) -> Result<Edit, LineFault>
         ensures { ReadsAs result (edit_of keyword self.old) }
     {
@@ -309,7 +290,6 @@ impl LineWords<'_> {
         }
     }
 
-    /// The edit of a first word and the words behind it.
     #[tactic(auto, unfolding(crate::specs::Command::edit_at))]
     fn edit(&mut self, alloc: Global, first: &[u8]) -> Result<Edit, LineFault>
         ensures { ReadsAs result (edit_at first.now self.old) }
@@ -320,7 +300,6 @@ impl LineWords<'_> {
         }
     }
 
-    /// Takes the next word as a number of changes.
     #[tactic(auto, unfolding(crate::specs::Command::count_at))]
     fn count(&mut self) -> Result<u32, LineFault>
         ensures { ReadsAndLeaves result self.new (count_at self.old) }
@@ -334,7 +313,6 @@ impl LineWords<'_> {
         }
     }
 
-    /// What a line says that begins a batch, by the words behind `begin`.
     #[tactic(auto, unfolding(crate::specs::Command::begin_at))]
     fn begin(&mut self) -> Result<Command, LineFault>
         ensures { ReadsAs result (begin_at self.old) }
@@ -349,7 +327,6 @@ impl LineWords<'_> {
         self.end(Command::Begin(Some(seen)))
     }
 
-    /// What the words of a line say that begins no section.
     #[tactic(auto, unfolding(crate::specs::Command::command))]
     pub(crate) fn command(&mut self, alloc: Global) -> Result<Command, LineFault>
         ensures { ReadsAs result (command self.old) }
@@ -367,7 +344,6 @@ impl LineWords<'_> {
         Ok(Command::Edit(edit))
     }
 
-    /// The operator's name in the words of a line that begins a section.
     #[tactic(auto, unfolding(crate::specs::Command::operator, crate::specs::Command::one_name_at))]
     pub(crate) fn operator(&mut self, alloc: Global) -> Result<Name<Global>, LineFault>
         ensures { ReadsAs result (operator self.old) }

@@ -7,13 +7,11 @@ use crush_text::{TextFault, TextFaultKind};
 use std::alloc::AllocFailed;
 use thiserror::Error;
 
-/// Why bytes are no job. The length is judged first, then the map's text, then the lines of the
-/// sections in order. Lines count from 1, the map's text included.
+/// Why bytes are no job. Lines count from 1, the map's text included.
 #[derive(Clone, Copy, Debug, PartialEq, Eq, Error)]
 pub enum JobFault {
-    /// The line isn't of the form that its first word asks for, or begins with `%` and isn't
-    /// `%operator NAME`; or it is a `begin` inside a batch, a `commit` outside, or the 65,537th
-    /// edit of a batch.
+    /// The line isn't of the form of its command or of `%operator NAME`; or it is a `begin` in a
+    /// batch, a `commit` outside, or the 65,537th edit of a batch.
     #[error("line {0}: BadLine")]
     BadLine(usize),
     /// The line's first word is no command.
@@ -28,8 +26,7 @@ pub enum JobFault {
     /// The line begins a section with a name that an earlier section has.
     #[error("line {0}: DuplicateOperator")]
     DuplicateOperator(usize),
-    /// The map's text has a flaw, whose place is one in the job; or memory ran out for its map, at a
-    /// word that is right, as all before it.
+    /// The fault of the map's text, with a place in the job; also where memory ran out for the map.
     #[error("{0}")]
     Text(TextFault),
     /// The map was read, and there was no memory for the scripts.
@@ -83,7 +80,6 @@ impl<T: Drop> From<AllocFailed<T>> for JobFault {
 impl LineFault {
     ghost use Rattle.crush_script.specs.Sections.{fault_at};
 
-    /// The fault, told with the line's number.
     pub(crate) fn at(self, number: usize) -> JobFault
         ensures { result ≡ fault_at number self }
     {

@@ -1,8 +1,7 @@
 //! Jobs: a map's text, and behind it the scripts of its operators, a command a line.
 //!
-//! [`read_job`] reads one whole, or tells by a [`JobFault`] the first line that is wrong; the
-//! map's text is read by `crush_text`, the calls are those of `crush_calls`. What a job is stands
-//! in `specs/Job.antt`; `crush_run` runs it.
+//! [`read_job`] reads one whole, or answers its first [`JobFault`]; `crush_text` reads the map's
+//! text, and `crush_run` runs the job. `specs/Job.antt` says what a job is.
 #![tactic(auto)]
 
 mod command;

@@ -6,7 +6,7 @@ ghost use Rattle.crush_script.specs.Lines.{lines, length_to_section, line_feeds,
 
 use std::marker::Model;
 
-/// How many bytes stand before the first line that begins with `%`.
+/// The length before the first line that begins with `%`.
 fn length_to_section(job: &[u8]) -> usize
     ensures length { result ≡ length_to_section true job.now }
     ensures within { result ≤ length job.now }
@@ -21,14 +21,13 @@ fn length_to_section(job: &[u8]) -> usize
     job.len()
 }
 
-/// The map's text of a job: what stands before the first line whose first byte is `%`.
+/// The map's text of a job: all before the first line whose first byte is `%`.
 pub fn map_part(job: &[u8]) -> &[u8]
     ensures { result.now ≡ map_part job.now }
 {
     cut_job(job).0
 }
 
-/// The two parts of a job: the map's text, and the sections.
 pub(crate) fn cut_job(job: &[u8]) -> (&[u8], &[u8])
     ensures map { result.0.now ≡ map_part job.now }
     ensures sections { result.1.now ≡ section_part job.now }
@@ -46,7 +45,6 @@ pub fn line_feeds(text: &[u8]) -> usize
     text.iter().filter(|byte| **byte == b'\n').count()
 }
 
-/// The place of the first such byte, or the length where there is none.
 pub(crate) fn place_of(byte: u8, text: &[u8]) -> usize
     ensures place { result ≡ position_or_len (λ b. b == byte) text.now }
     ensures within { result ≤ length text.now }
@@ -59,7 +57,6 @@ pub(crate) fn place_of(byte: u8, text: &[u8]) -> usize
     text.len()
 }
 
-/// The first line of a text, and what stands behind its line feed.
 pub(crate) fn cut_line(text: &[u8]) -> (&[u8], &[u8])
     requires { 0 < length text.now }
     ensures cut { lines text.now ≡ result.0.now ∷ lines result.1.now }
@@ -73,14 +70,12 @@ pub(crate) fn cut_line(text: &[u8]) -> (&[u8], &[u8])
     }
 }
 
-/// Whether a line begins a section.
 pub(crate) fn begins_section(line: &[u8]) -> bool
     ensures { result ≡ begins_section line.now }
 {
     matches!(line, [b'%', ..])
 }
 
-/// The line without the carriage return at its end.
 fn without_return(line: &[u8]) -> &[u8]
     ensures { result.now ≡ without_return line.now }
 {
@@ -96,7 +91,6 @@ fn is_space_or_tab(byte: u8) -> bool
     byte == b' ' || byte == b'\t'
 }
 
-/// The place of the first blank, or the length where there is none.
 fn blank_at(text: &[u8]) -> usize
     ensures place { result ≡ position_or_len is_space_or_tab text.now }
     ensures within { result ≤ length text.now }
@@ -109,7 +103,6 @@ fn blank_at(text: &[u8]) -> usize
     text.len()
 }
 
-/// The place of the first byte that is no blank, or the length where there is none.
 fn word_at(text: &[u8]) -> usize
     ensures place { result ≡ position_or_len (λ b. not (is_space_or_tab b)) text.now }
     ensures within { result ≤ length text.now }
@@ -122,7 +115,7 @@ fn word_at(text: &[u8]) -> usize
     text.len()
 }
 
-/// The words of a line in a section that are left to read. Contracts see them as a list.
+/// The words of a line in a section that are left to read.
 #[derive(Drop)]
 pub struct LineWords<'a> {
     text: &'a [u8],

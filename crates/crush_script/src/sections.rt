@@ -18,26 +18,23 @@ use std::alloc::Global;
 /// A batch whose `commit` is still to come.
 #[derive(Drop)]
 pub(crate) struct BegunBatch {
-    /// The number of the line of its `begin`.
+    /// The line of its `begin`.
     pub(crate) line: usize,
     /// The number of changes that its `begin` names.
     pub(crate) seen: Option<u32>,
-    /// Its edits so far.
     pub(crate) edits: Edits,
 }
 
 /// What the lines so far say.
 #[derive(Drop)]
 pub(crate) struct Sections {
-    /// The scripts, the last of which goes on.
+    /// The last of them goes on.
     pub(crate) scripts: Vec<Script>,
-    /// How many calls they have in all, with the batch that is open.
+    /// How many calls they have in all, with the open batch.
     pub(crate) calls: usize,
-    /// The batch that is open.
     pub(crate) begun: Option<BegunBatch>,
 }
 
-/// Whether one of the scripts is that of an operator of this name.
 fn has_operator(scripts: &[Script], name: &Name<Global>) -> bool
     ensures { result ≡ has_operator (scripts_data scripts.now) name.now }
 {
@@ -49,7 +46,6 @@ fn has_operator(scripts: &[Script], name: &Name<Global>) -> bool
     false
 }
 
-/// The call of a batch, guarded where it names a number of changes.
 fn batch_call(seen: Option<u32>, edits: Edits) -> Call
     ensures { result ≡ batch_call seen edits }
 {
@@ -64,7 +60,6 @@ impl Sections {
     ghost use Rattle.crush_script.specs.Sections.{sections_data, closed, counted, with_section, with_call, with_edit, with_begin, with_commit, with_command, with_line};
     ghost use Rattle.crush_script.specs.Steps.{Steps};
 
-    /// The fault of a batch that is still open, told with the line of its `begin`.
     fn check_closed(&self) -> Result<(), JobFault>
         ensures { Steps result (sections_data self.now) (closed (sections_data self.now)) }
     {
@@ -74,7 +69,7 @@ impl Sections {
         }
     }
 
-    /// Begins the section of an operator.
+    /// Begins a section. `number`, here and below, is that of the line.
     fn begin(&mut self, alloc: Global, number: usize, name: Name<Global>) -> Result<(), JobFault>
         ensures steps { Steps result (sections_data self.new)
             (with_section number (sections_data self.old) name) }
@@ -91,7 +86,6 @@ impl Sections {
         Ok(())
     }
 
-    /// Counts one call more, whose first line has this number.
     fn count_call(&mut self, number: usize) -> Result<(), JobFault>
         ensures steps { Steps result (sections_data self.new)
             (counted number (sections_data self.old)) }
@@ -104,7 +98,6 @@ impl Sections {
         Ok(())
     }
 
-    /// Adds a call to the last script. There is one.
     fn add_call(&mut self, call: Call) -> Result<(), JobFault>
         requires begun { 0 < length self.old.scripts.items }
         ensures steps { Steps result (sections_data self.new)
@@ -116,7 +109,6 @@ impl Sections {
         Ok(())
     }
 
-    /// Adds an edit, to the batch that is open or as a call of the last script.
     fn add_edit(&mut self, number: usize, edit: Edit) -> Result<(), JobFault>
         requires begun { 0 < length self.old.scripts.items }
         ensures steps { Steps result (sections_data self.new)
@@ -133,7 +125,6 @@ impl Sections {
         self.add_single(number, edit)
     }
 
-    /// Adds an edit as a call of the last script, as where no batch is open.
     fn add_single(&mut self, number: usize, edit: Edit) -> Result<(), JobFault>
         requires begun { 0 < length self.old.scripts.items }
         ensures steps { Steps result (sections_data self.new)
@@ -144,7 +135,6 @@ impl Sections {
         self.add_call(Call::One(edit))
     }
 
-    /// Begins a batch.
     fn begin_batch(
         &mut self,
         alloc: Global,
@@ -168,7 +158,6 @@ impl Sections {
         Ok(())
     }
 
-    /// Ends a batch, which is then a call of the last script.
     fn commit_batch(&mut self, number: usize) -> Result<(), JobFault>
         requires begun { 0 < length self.old.scripts.items }
         ensures steps { Steps result (sections_data self.new)
@@ -181,7 +170,6 @@ impl Sections {
         self.add_call(batch_call(batch.seen, batch.edits))
     }
 
-    /// Does what a line says that begins no section.
     fn obey(&mut self, alloc: Global, number: usize, command: Command) -> Result<(), JobFault>
         requires begun { 0 < length self.old.scripts.items }
         ensures steps { Steps result (sections_data self.new)
@@ -196,7 +184,6 @@ impl Sections {
         }
     }
 
-    /// Reads a line. Where it begins no section, one is open.
     #[tactic(auto, unfolding(crate::specs::Sections::with_line))]
     fn read_line(&mut self, alloc: Global, number: usize, line: &[u8]) -> Result<(), JobFault>
         requires begun { begins_section line.now ≡ false → 0 < length self.old.scripts.items }
@@ -215,7 +202,7 @@ impl Sections {
     }
 }
 
-/// Reads the lines of the sections, the first of which has this number and begins a section.
+/// Reads the lines of the sections; `first` is the number of the first of them.
 #[tactic(auto, unfolding(crate::specs::Sections::with_lines))]
 pub(crate) fn read_sections(alloc: Global, first: usize, text: &[u8]) -> Result<Sections, JobFault>
     requires begins { 0 < length text.now → begins_section text.now ≡ true }

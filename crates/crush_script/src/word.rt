@@ -1,4 +1,4 @@
-//! What one word of a command says: a pair, a device's name, or a number of changes.
+//! What one word of a command says.
 
 ghost use Rattle.std.specs.Prelude.{◌≡◌, ◌==◌, ◌||◌, not, length, slice_index};
 ghost use Rattle.crush_script.specs.Words.{count_of, device_named, pair_of};
@@ -15,7 +15,7 @@ fn begins_plain(digits: &[u8]) -> bool
     !matches!(digits, [b'0', _, ..])
 }
 
-/// The id of the device `osd.N`, which is N, where the name is of that form.
+/// The id N of the device `osd.N`, where the name is of that form.
 pub fn device_named(name: &[u8]) -> Option<DeviceId>
     ensures { result ≡ device_named name.now }
 {
@@ -30,7 +30,8 @@ pub fn device_named(name: &[u8]) -> Option<DeviceId>
     DeviceId::from_number(number)
 }
 
-/// The number of changes that digits write, however many they are, where a history can have so many.
+/// The number of changes that digits write, however many they are, where a history can have so
+/// many.
 pub fn count_of(digits: &[u8]) -> Option<u32>
     ensures { result ≡ count_of digits.now }
 {

@@ -8,7 +8,6 @@ use crush_map::CrushMap;
 use std::alloc::Global;
 use std::process::Abort;
 
-/// The entries of one operator's calls, made one after the other.
 pub fn entries_of(
     rt: &(impl Abort + AllocGlobal),
     map: &mut CrushMap<Global>,

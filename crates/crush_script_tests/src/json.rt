@@ -1,7 +1,5 @@
-//! What is written for programs.
-//!
-//! Expected values are worked by hand from what `crushtool --dump` of Ceph 18 tells and from the
-//! forms in docs/FORMATS.md. What owns a map lets it go by `drop`.
+//! JSON documents. Expected values are worked by hand from what `crushtool --dump` of Ceph 18
+//! prints and from docs/FORMATS.md.
 
 mod maps;
 mod plans;
@@ -22,7 +20,6 @@ use maps::*;
 use std::alloc::Global;
 use std::process::Abort;
 
-/// Whether this is told of the map of the text.
 fn is_told(rt: &(impl Abort + AllocGlobal), text: &[u8], document: &[u8]) -> bool {
     let (map, _) = read_map(rt.alloc(), text).expect(rt, "no map");
     let mut told = Vec::new(rt.alloc());
@@ -46,7 +43,6 @@ fn an_empty_map_has_empty_members(rt: HostRuntime) {
     assert!(rt; is_told(&rt, b"", EMPTY_DOCUMENT));
 }
 
-/// Whether this is told of a map behind a history.
 fn is_told_behind(
     rt: &(impl Abort + AllocGlobal),
     map: &CrushMap<Global>,
@@ -63,7 +59,6 @@ fn is_told_behind(
     told.as_slice() == document
 }
 
-/// Whether this is told of the map and the history of a job with one script.
 fn is_run(rt: &(impl Abort + AllocGlobal), job: &mut Job, document: &[u8]) -> bool {
     let scripts = job.scripts.as_slice();
     if scripts.len() != 1 {

@@ -1,10 +1,9 @@
-//! Tests of texts and jobs, and of what is told of maps, by the crates that they test, through their
-//! public calls.
+//! Tests of texts, jobs and prints of maps, through public calls.
 //!
-//! `script` is of `crush_text`, `crush_print`, `crush_calls` and `crush_script`, with the words and writers
-//! of `crush_bytes`; `view` of `crush_view` and `crush_since`; `plan` of `crush_plan` and `crush_names`;
-//! `json` of `crush_json`; `reasons` of `crush_reasons`. What several of them need is in `maps` and
-//! `histories`.
+//! `script` tests `crush_text`, `crush_print`, `crush_calls`, `crush_script` and `crush_bytes`;
+//! `view` tests `crush_view` and `crush_since`; `plan` tests `crush_plan` and `crush_names`; `json`
+//! tests `crush_json`; `reasons` tests `crush_reasons`. What owns a map, a job or a call lets it go
+//! by `drop`, so that its parts are taken apart in one place, and not in each proof.
 #![tactic(auto)]
 
 #[cfg(test)]

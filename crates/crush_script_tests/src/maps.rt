@@ -1,17 +1,15 @@
-//! The map of a text, and the text of the map from which plans and documents begin.
+//! The map of a text, and the text from which plans and documents begin.
 
 use crush_map::CrushMap;
 use crush_text::read_map;
 use std::alloc::Global;
 use std::process::Abort;
 
-/// The map of a text that spells one.
 pub fn map_of(rt: &(impl Abort + AllocGlobal), text: &[u8]) -> CrushMap<Global> {
     let (map, _) = read_map(rt.alloc(), text).expect(rt, "no map");
     map
 }
 
-/// The example map: two hosts below a root.
 pub const EXAMPLE_MAP: &[u8] = b"\
     tunable choose_total_tries 50\n\
     device 0 osd.0\n\

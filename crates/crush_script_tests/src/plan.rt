@@ -1,7 +1,5 @@
-//! Plans from the example map to others, and back.
-//!
-//! Expected values are worked by hand from the steps of a plan in docs/plan.md. What owns a map
-//! lets it go by `drop`.
+//! Plans from the example map to others, and back. Expected values are worked by hand from the
+//! steps of a plan in docs/plan.md.
 
 mod maps;
 mod names_part;
@@ -13,7 +11,6 @@ use crush_plan::{Identity, PlanWords, find_plan, plan_text};
 use maps::*;
 use std::process::Abort;
 
-/// The plan from the map of the one text to that of the other.
 fn planned(
     rt: &(impl Abort + AllocGlobal),
     identity: Identity,
@@ -23,7 +20,6 @@ fn planned(
     planned_under(rt, identity, words, None, texts)
 }
 
-/// The same of the part of this name.
 fn planned_under(
     rt: &(impl Abort + AllocGlobal),
     identity: Identity,
@@ -41,12 +37,10 @@ fn planned_under(
     text
 }
 
-/// Whether the plan, told by ids and in the words of a script, is this text.
 fn is_planned(rt: &(impl Abort + AllocGlobal), texts: [&[u8]; 2], told: &[u8]) -> bool {
     planned(rt, Identity::Ids, PlanWords::Script, texts).as_slice() == told
 }
 
-/// Whether the plan of the part of this name, told by ids and in the words of a script, is this text.
 fn is_planned_under(
     rt: &(impl Abort + AllocGlobal),
     under: &str,

@@ -1,6 +1,5 @@
-//! Faults and histories of jobs, and what is told of them.
-//!
-//! Expected values are written from the forms in docs/FORMATS.md and the sentences in docs/RULES.md.
+//! Faults and histories of jobs, and their reasons. Expected values are written from the forms in
+//! docs/FORMATS.md and the sentences in docs/RULES.md.
 
 ghost use Rattle.std.specs.Prelude.{◌<◌, length};
 ghost use Rattle.crush_calls.specs.Entries.{AreOf};
@@ -16,15 +15,12 @@ use crush_script::{Job, JobFault, read_job};
 use std::alloc::Global;
 use std::process::Abort;
 
-/// The plain example map, where the type of the second host is misspelt.
 const MISSPELT: &[u8] =
     b"# begin crush map\ntunable choose_total_tries 50\n\n# devices\ndevice 0 osd.0\ndevice 1 osd.1\ndevice 2 osd.2\n\n# types\ntype 0 osd\ntype 1 host\ntype 3 rack\ntype 11 root\n\n# buckets\nhost h1 {\n\tid -2\t\t# do not change unnecessarily\n\t# weight 2.00000\n\talg straw2\n\thash 0\t# rjenkins1\n\titem osd.0 weight 1.00000\n\titem osd.1 weight 1.00000\n}\nhots h2 {\n\tid -3\t\t# do not change unnecessarily\n\t# weight 0.50000\n\talg straw2\n\thash 0\t# rjenkins1\n\titem osd.2 weight 0.50000\n}\nroot default {\n\tid -1\t\t# do not change unnecessarily\n\t# weight 2.50000\n\talg straw2\n\thash 0\t# rjenkins1\n\titem h1 weight 2.00000\n\titem h2 weight 0.50000\n}\n\n# rules\n\n# end crush map\n";
 
-/// The plain example map and a script, of which the first and the last command change it.
 const JOB: &[u8] =
     b"# begin crush map\ntunable choose_total_tries 50\n\n# devices\ndevice 0 osd.0\ndevice 1 osd.1\ndevice 2 osd.2\n\n# types\ntype 0 osd\ntype 1 host\ntype 3 rack\ntype 11 root\n\n# buckets\nhost h1 {\n\tid -2\t\t# do not change unnecessarily\n\t# weight 2.00000\n\talg straw2\n\thash 0\t# rjenkins1\n\titem osd.0 weight 1.00000\n\titem osd.1 weight 1.00000\n}\nhost h2 {\n\tid -3\t\t# do not change unnecessarily\n\t# weight 0.50000\n\talg straw2\n\thash 0\t# rjenkins1\n\titem osd.2 weight 0.50000\n}\nroot default {\n\tid -1\t\t# do not change unnecessarily\n\t# weight 2.50000\n\talg straw2\n\thash 0\t# rjenkins1\n\titem h1 weight 2.00000\n\titem h2 weight 0.50000\n}\n\n# rules\n\n# end crush map\n%operator a\nreweight osd.0 2\nreweight osd.0 2\nrm default\nmove h2 rack=r1 root=default\n";
 
-/// What is wrong with bytes that are no job.
 fn fault_of(rt: &(impl Abort + AllocGlobal), bytes: &[u8]) -> JobFault {
     match read_job(rt.alloc(), Hashing::plain(), bytes) {
         Ok(job) => {
@@ -35,7 +31,6 @@ fn fault_of(rt: &(impl Abort + AllocGlobal), bytes: &[u8]) -> JobFault {
     }
 }
 
-/// Whether this is told of a short text with a fault.
 fn is_told(rt: &(impl Abort + AllocGlobal), origin: Origin<'_>, bytes: &[u8], told: &[u8]) -> bool {
     if bytes.len() > 10_000 {
         return false;
@@ -68,10 +63,8 @@ fn a_fault_is_told_with_its_place(rt: HostRuntime) {
     );
 }
 
-/// A map that ends in a bucket.
 const CUT: &[u8] = b"type 1 host\nhost h1 {\n\tid -2\n%operator a\n";
 
-/// A bucket with a word that no bucket has.
 const ALGO: &[u8] = b"type 1 host\nhost h1 {\n\tid -2\n\talgo straw2\n}\n";
 
 #[test]
@@ -100,10 +93,10 @@ fn what_does_not_fit_is_told(rt: HostRuntime) {
     );
 }
 
-/// A map and two scripts that were joined: of each the line of its operator was put before it.
+/// Two scripts that were joined, each behind the line of its operator.
 const JOINED: &[u8] = b"# nothing\n%operator alice\nrm x\n%operator bob\nrm y\nfly z\n";
 
-/// The same, where the line that was put before the second is that of the first.
+/// The line that was put before the second script is that of the first.
 const DUPLICATE: &[u8] = b"# nothing\n%operator alice\nrm x\n%operator alice\nrm y\n";
 
 #[test]
@@ -127,7 +120,6 @@ fn a_line_is_told_as_that_of_its_own_file(rt: HostRuntime) {
     );
 }
 
-/// Whether the fault of a short text stands at this line of it.
 fn stands_at(rt: &(impl Abort + AllocGlobal), bytes: &[u8], line: usize) -> bool {
     bytes.len() <= 10_000 && fault_line(bytes, fault_of(rt, bytes)) == line
 }
@@ -137,7 +129,6 @@ fn the_line_of_a_fault_counts_in_the_job(rt: HostRuntime) {
     assert!(rt; stands_at(&rt, MISSPELT, 24) && stands_at(&rt, JOINED, 6));
 }
 
-/// Whether the commands that changed the map are these, and this is told of the others.
 fn are_printed(
     rt: &(impl Abort + AllocGlobal),
     opening: &CrushMap<Global>,
@@ -156,7 +147,6 @@ fn are_printed(
     commands.as_slice() == made && reasons.as_slice() == told
 }
 
-/// Whether that holds of the only script of a job.
 fn is_answered(rt: &(impl Abort + AllocGlobal), job: &Job, made: &[u8], told: &[u8]) -> bool {
     let scripts = job.scripts.as_slice();
     if scripts.len() != 1 {
@@ -185,7 +175,6 @@ fn commands_and_reasons_are_told(rt: HostRuntime) {
     drop(job);
 }
 
-/// A map of two hosts with a root that a rule takes, and a script of which three commands change it.
 const RULED: &[u8] =
     b"device 0 osd.0\ndevice 1 osd.1\ntype 1 host\ntype 2 rack\ntype 3 root\nhost h1 {\nid -2\nalg straw2\nitem osd.0 weight 1.00000\n}\nhost h2 {\nid -3\nalg straw2\n}\nroot default {\nid -1\nalg straw2\nitem h1 weight 1.00000\n}\nroot spare {\nid -4\nalg straw2\n}\nrule fast {\nid 0\ntype replicated\nstep take spare\nstep emit\n}\n%operator a\nset osd.1 1 host=h1\nset osd.1 2 host=h2\nrm h3\nrm h1\nmove h2 root=default\nrm default\nrm spare\nmove default host=h2\nmove h1 rack=spare\nadd osd.0 1 host=h2\nbegin\nrename-bucket h1 h4\nrm h1\ncommit\n";
 
@@ -202,7 +191,6 @@ fn each_is_told_of_the_map_before_it(rt: HostRuntime) {
     drop(job);
 }
 
-/// A host that was written with another weight than its sum.
 const WEIGHED: &[u8] =
     b"device 0 osd.0\ntype 1 host\ntype 2 root\nhost h1 {\nid -2\nalg straw2\nitem osd.0 weight 554.62\n}\nroot default {\nid -1\nalg straw2\nitem h1 weight 554.6\n}\n%operator a\n";
 
@@ -216,7 +204,6 @@ fn written_weights_are_told(rt: HostRuntime) {
     drop(job);
 }
 
-/// A map of a host, and the scripts of two operators, with a batch that is refused in each.
 const BATCHES: &[u8] =
     b"type 1 host\nhost h1 {\nid -1\nalg straw2\n}\n%operator a\n# one\nbegin\n\nadd-bucket h2 host\nadd osd.1000 1 rack=r1\ncommit\nrm h3\n%operator b\nrm h2\nbegin at 0\nrename-bucket h1 h5 # two\nrm h1\ncommit\n";
 
@@ -229,7 +216,6 @@ const BATCHES_OF_NO_FILE: &[u8] =
 const BATCHES_OF_B: &[u8] =
     b"# 1 b rm h2 = refused NoSuchItem 2\n  h2 isn't there: is it h1?\n# 2 b begin at 0 ; rename-bucket h1 h5 ; rm h1 ; commit = refused at 1 NoSuchItem 2\n  b.txt:4: rm h1: h1 isn't there: is it h5?\n";
 
-/// A file from which all lines come.
 #[derive(Drop)]
 struct Whole<'a> {
     name: &'a [u8],
@@ -248,7 +234,6 @@ impl Locates for Whole<'_> {
     }
 }
 
-/// Whether this is told of the calls of one operator of a short job, made alone.
 fn are_explained(
     rt: &(impl Abort + AllocGlobal),
     job: &Job,
@@ -270,7 +255,6 @@ fn are_explained(
     explained
 }
 
-/// Whether this is told of these entries.
 fn are_told(
     rt: &(impl Abort + AllocGlobal),
     opening: CrushMap<Global>,

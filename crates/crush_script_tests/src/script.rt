@@ -1,9 +1,5 @@
-//! Maps and jobs from their texts, and what is written of them.
-//!
-//! Expected values are written from the forms in docs/FORMATS.md. Texts that are refused, and jobs with
-//! what is written of them, are data of `crush_examples`: here stands what no data shows, and what
-//! would be a long file. What owns a map, a job or a call lets it go by `drop`: its parts are then
-//! taken apart in one place, and not in the proof of each function that owns one.
+//! Maps and jobs from their texts, and what is written of them. Expected values are written from
+//! the forms in docs/FORMATS.md. What a short file shows is data of `crush_examples`.
 
 mod heaps;
 mod jobs;
@@ -22,24 +18,20 @@ use crush_text::{TextFault, TextFaultKind, read_map};
 use std::alloc::Allocator;
 use std::process::Abort;
 
-/// The bytes of all parts, one behind the other.
 fn joined(rt: &(impl Abort + AllocGlobal), parts: &[&[u8]]) -> Vec<u8> {
     parts.concat(rt.alloc()).expect(rt, "no memory")
 }
 
-/// Puts the bytes behind a text.
 fn put_behind(rt: &impl Abort, text: &mut Vec<u8>, bytes: &[u8]) {
     text.extend_from_slice(bytes).expect(rt, "no memory");
 }
 
-/// The text of a map.
 fn text_of<A: Allocator>(rt: &(impl Abort + AllocGlobal), map: &CrushMap<A>) -> Vec<u8> {
     let mut text = Vec::new(rt.alloc());
     write_map(rt.alloc(), map, &mut text).expect(rt, "no text");
     text
 }
 
-/// What is wrong with the text, or `None` where nothing is.
 fn fault_of(rt: &impl AllocGlobal, text: &[u8]) -> Option<TextFault> {
     match read_map(rt.alloc(), text) {
         Ok((map, _)) => {
@@ -50,12 +42,10 @@ fn fault_of(rt: &impl AllocGlobal, text: &[u8]) -> Option<TextFault> {
     }
 }
 
-/// Whether the text is refused for this at this place.
 fn is_refused(rt: &impl AllocGlobal, text: &[u8], kind: TextFaultKind, place: usize) -> bool {
     fault_of(rt, text) == Some(TextFault { kind, place })
 }
 
-/// Whether the words are refused for this at their first behind the text.
 fn is_refused_behind(
     rt: &(impl Abort + AllocGlobal),
     before: &[u8],
@@ -66,18 +56,14 @@ fn is_refused_behind(
     is_refused(rt, text.as_slice(), kind, before.len())
 }
 
-/// A word of as many bytes as a word may have.
 const LONGEST: &[u8] = &[b'a'; 255];
 
-/// A word that is too long.
 const TOO_LONG: &[u8] = &[b'a'; 256];
 
-/// The job of a text that is one.
 fn job_of(rt: &(impl Abort + AllocGlobal), text: &[u8]) -> Job {
     read_job(rt.alloc(), Hashing::plain(), text).expect(rt, "no job")
 }
 
-/// Whether the text is no job, for that reason.
 fn is_no_job(rt: &impl AllocGlobal, text: &[u8], fault: &JobFault) -> bool {
     match read_job(rt.alloc(), Hashing::plain(), text) {
         Ok(job) => {
@@ -88,7 +74,7 @@ fn is_no_job(rt: &impl AllocGlobal, text: &[u8], fault: &JobFault) -> bool {
     }
 }
 
-/// The plain example map: two hosts below a root, without tunables and rules.
+/// The example map without tunables and rules.
 const PLAIN_EXAMPLE_MAP: &[u8] = b"\
     # begin crush map\n\
     \n\

@@ -1,7 +1,5 @@
-//! Trees of maps, and what has changed between two maps.
-//!
-//! Expected values are written from the forms in docs/FORMATS.md. What owns a map lets it go by
-//! `drop`.
+//! Trees, and what has changed between two maps. Expected values are written from the forms in
+//! docs/FORMATS.md.
 
 mod change_trees;
 mod changed_parts;
@@ -10,7 +8,6 @@ mod listings;
 mod parts;
 mod trees;
 
-/// The example map: two hosts below a root.
 const EXAMPLE_MAP: &[u8] = b"\
     tunable chooseleaf_stable 1\n\
     device 0 osd.0\n\

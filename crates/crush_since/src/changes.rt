@@ -30,12 +30,9 @@ use std::io::Write;
 
 /// Writes the tree of what has changed from the old map to the new: of the new map's tree each item
 /// of which [`write_since`](crate::write_since) tells, with all that is above it; behind a bucket's
-/// items those that stood below it and do no longer, with all that stood below what is gone; and then
-/// what stands there behind the items.
-///
-/// Beside an item stands what it weighed in this place and what it weighs there now. The text is laid
-/// out in the given memory first. With [`WriteFault::OutOfMemory`] nothing is written, with
-/// [`WriteFault::Write`] a prefix of the text.
+/// items those that stood below it and do no longer, with all that stood below what is gone; and
+/// then what stands there behind the items. Beside an item stands what it weighed in this place and
+/// what it weighs there now.
 pub fn write_changes<A: Allocator, B: Allocator, W: Write>(
     alloc: Global,
     old: &CrushMap<A>,
@@ -55,13 +52,11 @@ pub fn write_changes<A: Allocator, B: Allocator, W: Write>(
     }
 }
 
-/// A map since itself has no row, but the headings, its total and counts of nothing. There is nothing
-/// to run: the contract is the law.
+/// A law: a map since itself has no row, only the headings, its total and counts of nothing.
 pub fn no_row_changes_since_itself()
     ensures { NoRowSinceItself }
 {}
 
-/// The whole text.
 fn push_changes<A: Allocator, B: Allocator>(
     alloc: Global,
     old: &CrushMap<A>,
@@ -79,7 +74,6 @@ fn push_changes<A: Allocator, B: Allocator>(
     push_last(old, new, &counts, out)
 }
 
-/// Both maps, each with the list of its items.
 fn both_of<'a, A: Allocator, B: Allocator>(
     alloc: Global,
     old: &'a CrushMap<A>,

@@ -1,8 +1,7 @@
-//! What has changed from one map to another.
+//! What has changed from one map to another, whose items are matched by their ids, as CRUSH does.
 //!
-//! [`write_since`] prints it item by item, [`write_changes`] as a tree, [`since_part_text`] that of a
-//! part; [`told_ids`] hands out the ids, and [`is_changed`] says whether there is anything.
-//! [`listing_of`] lists a map's items by their ids, and [`all_below`] the ids of those below a bucket.
+//! [`write_since`] prints it item by item, [`write_changes`] as a tree. Texts are laid out in the
+//! given memory before any is written; an `AllocError` says that memory ran out.
 #![tactic(auto)]
 
 mod changes;

@@ -61,10 +61,6 @@ pub use words::{
 /// by id from -1 downward and then devices upward; a line each where tunables, types and rules
 /// differ, and for each rule that takes what weighed something and weighs nothing now; the totals;
 /// and how many items differ in which way.
-///
-/// Items are told apart by their ids, as CRUSH does. The text is laid out in the given memory
-/// first. With [`WriteFault::OutOfMemory`] nothing is written, with [`WriteFault::Write`] a prefix of
-/// the text.
 pub fn write_since<A: Allocator, B: Allocator, W: Write>(
     alloc: Global,
     old: &CrushMap<A>,
@@ -84,19 +80,16 @@ pub fn write_since<A: Allocator, B: Allocator, W: Write>(
     }
 }
 
-/// A map since itself tells its total and counts nothing, and no more. There is nothing to run: the
-/// contract is the law.
+/// A law: a map since itself prints its total and counts of nothing, and no more.
 pub fn nothing_changes_since_itself()
     ensures { NothingSinceItself }
 {}
 
-/// No item is told exactly where both tables have equal rows, in whatever order. There is nothing to
-/// run: the contract is the law.
+/// A law: no item has a line exactly where both tables have equal rows, in whatever order.
 pub fn no_item_is_told_where_rows_are_equal()
     ensures { NoItemWhereRowsAreEqual }
 {}
 
-/// The whole text.
 fn push_since<A: Allocator, B: Allocator>(
     alloc: Global,
     old: &CrushMap<A>,
@@ -113,8 +106,6 @@ fn push_since<A: Allocator, B: Allocator>(
     push_last(old, new, &counts, out)
 }
 
-/// What stands behind the items: a line each where tunables, types and rules differ, the rules that
-/// find nothing, the totals and these counts.
 pub(crate) fn push_last<A: Allocator, B: Allocator>(
     old: &CrushMap<A>,
     new: &CrushMap<B>,
@@ -132,7 +123,7 @@ pub(crate) fn push_last<A: Allocator, B: Allocator>(
     Ok(())
 }
 
-/// The lines of all items, of which the answer is how many differ in which way.
+/// The answer is how many differ in which way.
 fn push_all_items<A: Allocator, B: Allocator>(
     alloc: Global,
     old: &Listing<'_, A>,
@@ -149,7 +140,6 @@ fn push_all_items<A: Allocator, B: Allocator>(
     push_items(old, new, ids.as_slice(), out)
 }
 
-/// The lines of the items of these ids, of which the answer is how many differ in which way.
 fn push_items<A: Allocator, B: Allocator>(
     old: &Listing<'_, A>,
     new: &Listing<'_, B>,
@@ -169,7 +159,6 @@ fn push_items<A: Allocator, B: Allocator>(
     Ok(tally)
 }
 
-/// The line of the item of this id, and the counts with it.
 #[tactic(auto, unfolding(crate::specs::Since::id_line))]
 fn push_item<A: Allocator, B: Allocator>(
     old: &Listing<'_, A>,
@@ -196,7 +185,6 @@ fn push_item<A: Allocator, B: Allocator>(
     push_compared(*id, &item, tally, out)
 }
 
-/// The line of this item, and the counts with it.
 fn push_compared(
     id: ItemId,
     item: &Compared<'_>,

@@ -1,4 +1,4 @@
-//! Laws of the table, as contracts of functions that do nothing.
+//! Laws, as contracts of functions that do nothing.
 
 ghost use Rattle.std.specs.Prelude.{◌≡◌, ◌↔◌, ℕ, List, Option, ◌++◌, true};
 ghost use Rattle.crush_units.specs.declared.id.ItemId.{ItemId};
@@ -11,20 +11,18 @@ ghost use Rattle.crush_table.specs.Forest.{ForestData};
 ghost use Rattle.crush_table.specs.Table.{Row};
 ghost use Rattle.crush_table.specs.Tested.{is_lawful};
 
-/// A bucket weighs what its items weigh in all, and what is above an item ends.
+/// A bucket weighs what its items weigh; ways up end.
 pub fn sums_are_those_of_items()
     ensures sums { (t : List Row) → Lawful t → SumsItems t }
     ensures ends { (t : List Row) → Lawful t → ClimbEnds t }
 {}
 
-/// Whatever is read off a lawful table is equal on a table that is the same, and that one is lawful
-/// too: the order of the rows tells nothing but the order of each bucket's items.
+/// Tables that are the same are read alike.
 pub fn same_tables_are_read_alike()
     ensures { SameIsAlike }
 {}
 
-/// Each change of a table makes the same of tables that are the same, whatever the order of their
-/// rows.
+/// Changes make the same of tables that are the same.
 pub fn changes_keep_same()
     ensures weight { (i : ItemId) (w : ℕ) → KeepsSame (set_weight i w) }
     ensures subtree { (b w : ℕ) → KeepsSame (set_subtree b w) }
@@ -38,16 +36,12 @@ pub fn changes_keep_same()
     ensures swap { (a b : ℕ) → KeepsSame (swap_buckets a b) }
 {}
 
-/// The tables for which a forest stands are the same, and all that are the same as one of them.
+/// The tables for which a forest stands are the same.
 pub fn stands_for_one_table()
     ensures { (f : ForestData) → StandsForOne f }
 {}
 
-/// What leaves a table lawful.
-///
-/// That an item goes, with what is below it, and a device's class. Where the sums stay in range: new weights of placed
-/// devices, a bucket that isn't below it as the parent of an item, the items and names of two
-/// buckets exchanged. Where ids and names are fresh and there is room: new rows.
+/// Which changes leave a table lawful, and where.
 pub fn changes_keep_lawful()
     ensures without { (i : ItemId) → KeepsLawful (table_without i) }
     ensures weight { WeightKeepsLawful }
@@ -62,39 +56,35 @@ pub fn changes_keep_lawful()
     ensures part { PartKeepsLawful }
 {}
 
-/// A row keeps its form in another bucket, and a device's row also with another weight.
+/// Rows keep their form in other buckets.
 pub fn placed_rows_keep_their_form()
     ensures row { PlacedRowKeepsForm }
     ensures device { PlacedDeviceKeepsForm }
 {}
 
-/// An item that is taken out and put elsewhere is one row that gets another parent and comes last.
+/// An item that moves is one row with another parent, now the last.
 pub fn moves_are_of_one_row()
     ensures { (t : List Row) → Lawful t → Relocates t }
 {}
 
-/// A device that is taken out and put elsewhere with another weight is one row that gets another
-/// parent and weight and comes last.
+/// The same of a device that gets another weight.
 pub fn moves_of_devices_are_of_one_row()
     ensures { (t : List Row) → Lawful t → RelocatesDevice t }
 {}
 
-/// The first free ids are so many as are asked for, in the range of bucket ids, none in use, each
-/// once, as long as there are so many beside those that are used. A lawful table uses few.
+/// Free ids are unused and distinct bucket ids.
 pub fn free_ids_are_free()
     ensures free { FreeIdsAreFree }
     ensures few { FewIdsAreUsed }
 {}
 
-/// Whether sums are out of range, and whether rows are too many, is equal on tables that are the
-/// same, lawful or not. Of the sums each id must be there once.
+/// Tests of sums and room are alike on tables that are the same.
 pub fn tests_are_alike()
     ensures sums { HeavyIsAlike }
     ensures room { RoomIsAlike }
 {}
 
-/// A bucket without items is its one row, as a device is, and weighs nothing: that row leaves where
-/// it is taken out, and is what is taken out.
+/// A bucket without items is one row, and weighs nothing.
 pub fn empty_bucket_is_one_row()
     ensures bucket { EmptyIsRow }
     ensures device { DeviceIsRow }
@@ -103,12 +93,12 @@ pub fn empty_bucket_is_one_row()
     ensures sums { EmptyKeepsSums }
 {}
 
-/// Rows that come last add their own counts, weights and used ids.
+/// Rows that come last add their counts, weights and ids.
 pub fn counts_add()
     ensures { (t u : List Row) → AddsRows t u }
 {}
 
-/// A table is lawful exactly where it passes the test, which computes.
+/// A table is lawful exactly where it passes the test.
 pub fn lawful_is_what_passes()
     ensures { (t : List Row) → (is_lawful t ≡ true) ↔ Lawful t }
 {}

@@ -6,40 +6,38 @@ ghost use Rattle.crush_text.specs.Fault.{fault_name, fault_number};
 use std::fmt::{self, Display, Formatter};
 use thiserror::Error;
 
-/// What is wrong at a place of a text. Where several hold, the one of least number is told.
+/// What is wrong at a place of a text. Where several hold, the one of least number counts.
 #[derive(Clone, Copy, Debug, PartialEq, Eq)]
 pub enum TextFaultKind {
-    /// A byte that no text may have, or the first byte of a word of more than 255.
+    /// A byte that no text may have, or a word of more than 255 bytes.
     BadWord,
-    /// The text ends inside a statement.
+    /// Inside a statement.
     Ended,
-    /// A word or a brace that the grammar doesn't have there.
+    /// What the grammar doesn't have there.
     Unexpected,
-    /// No number of the form or the range that is due there.
+    /// No number of the form or the range due there.
     BadNumber,
-    /// No weight, one above 4294967295 units, or above 2147483647 units for a device.
+    /// No weight, above 4294967295 units, or a device's above 2147483647.
     BadWeight,
-    /// A number or an id that an earlier line has.
+    /// A number or an id of an earlier line.
     DuplicateId,
-    /// A name or a class that an earlier line has.
+    /// A name or a class of an earlier line.
     DuplicateName,
-    /// The name of no type, or of type 0 as that of a bucket's type.
+    /// No type, or type 0 for a bucket.
     UnknownType,
-    /// The name of no device and of no bucket that was closed before.
+    /// Neither a device nor a closed bucket.
     UnknownItem,
-    /// An item that a bucket holds already.
+    /// A bucket holds the item already.
     SecondParent,
-    /// Another algorithm than `straw`, `straw2` and `list`.
+    /// None of `straw`, `straw2` and `list`.
     OtherAlgorithm,
-    /// A part of Ceph's grammar that isn't read here.
+    /// A part of Ceph's grammar that isn't read.
     LeftOut,
-    /// A rule that takes what is no bucket.
     UnknownBucketInRule,
     /// One more than a limit allows.
     TooMany,
-    /// An item with which a bucket's sum or the total is out of range.
+    /// A bucket's sum or the total is out of range.
     SumTooLarge,
-    /// A growth was refused.
     OutOfMemory,
 }
 
@@ -48,9 +46,8 @@ pub enum TextFaultKind {
 #[derive(Clone, Copy, Debug, PartialEq, Eq, Error)]
 #[error("byte {place}: {kind}")]
 pub struct TextFault {
-    /// What is wrong.
     pub kind: TextFaultKind,
-    /// Where: a place in the text, or its length.
+    /// At most the text's length.
     pub place: usize,
 }
 

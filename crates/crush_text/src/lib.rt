@@ -1,8 +1,5 @@
-//! The text of a CRUSH map: its grammar, its faults and its reader.
-//!
-//! [`read_map`] reads a text by a builder of `crush_builder`, or tells by a [`TextFault`] where
-//! its first flaw is. The grammar stands in `specs/Grammar.antt`, `Flaw.antt` says what a flaw is;
-//! `crush_print` writes a map as a text, and `crush_script` reads scripts behind one.
+//! The text of a CRUSH map: its grammar (`specs/Grammar.antt`), its faults (`Flaw.antt`), and
+//! [`read_map`], which reads it by a builder of `crush_builder`.
 #![tactic(auto)]
 
 mod fault;

@@ -28,8 +28,8 @@ use crush_bytes::Reader;
 use crush_map::{CrushMap, Hashing};
 use std::alloc::{Allocator, Global};
 
-/// The text that is left to read, and the map that is built of what stood before it. A method reads
-/// what it is called after.
+/// What is left to read, and the map of what stood before it. A method reads what it is called
+/// after.
 #[derive(Drop)]
 struct MapReader<'a, A: Allocator> {
     text: Reader<'a>,
@@ -42,55 +42,36 @@ struct MapReader<'a, A: Allocator> {
 /// The second value counts the items that are buckets and whose weight in the text wasn't the sum
 /// over the devices below them; the map has the sum. Refused as [`TextFaultKind::LeftOut`] are
 /// weight sets (`choose_args`), the steps of MSR rules (`choosemsr`) and the positions of items
-/// (`pos`), and as [`TextFaultKind::OtherAlgorithm`] uniform and tree buckets. docs/FORMATS.md has
-/// the grammar, docs/RULES.md each fault with its place.
+/// (`pos`). docs/FORMATS.md has the grammar, docs/RULES.md each fault with its place.
 pub fn read_map(alloc: Global, text: &[u8]) -> Result<(CrushMap<Global>, u32), TextFault>
-    // What is read is a map that the text spells.
     ensures map { IfOk result (λ m. (t : List Row)
         × IsMapText text.now m.0.setting t m.1 × Stands m.0.forest t) }
-
-    // Each map that the text spells is the one that is read.
     ensures spelled { (s : SettingData) (t : List Row) (n : ℕ) → IsMapText text.now s t n
         → IfOk result (λ m. MapStands m.0 s t × (m.1 ≡ n)) }
-
-    // A text that spells a map is refused out of memory alone.
     ensures only { (s : SettingData) (t : List Row) (n : ℕ) → IsMapText text.now s t n
         → IfErr result IsOutOfMemory }
-
-    // Where none is read the text has a flaw, which is told.
     ensures flaw { IfErr result (IsFlawOrOutOfMemory text.now) }
-
-    // Out of memory is told at a word that is right, as all before it, or where no word stands.
     ensures memory { IfErr result (IsToldInTime text.now) }
 {
     read_map_in(alloc, Hashing::plain(), alloc, text)
 }
 
-/// Reads the text of a map, as [`read_map`] does. Its types, tunables and rules are kept in the
-/// machine's memory, all else in that of the allocator, and names and ids are hashed so: of a
-/// stranger's text they are hashed with keys that are drawn.
+/// Reads the text of a map, as [`read_map`] does. Types, tunables and rules are in the machine's
+/// memory, all else in the allocator's; for a stranger's text names and ids are hashed with drawn
+/// keys.
 pub fn read_map_in<A: Allocator + Clone>(
     machine: Global,
     hashing: Hashing,
     alloc: A,
     text: &[u8],
 ) -> Result<(CrushMap<A>, u32), TextFault>
-    // What is read is a map that the text spells.
     ensures map { IfOk result (λ m. (t : List Row)
         × IsMapText text.now m.0.setting t m.1 × Stands m.0.forest t) }
-
-    // Each map that the text spells is the one that is read.
     ensures spelled { (s : SettingData) (t : List Row) (n : ℕ) → IsMapText text.now s t n
         → IfOk result (λ m. MapStands m.0 s t × (m.1 ≡ n)) }
-
-    // A text that spells a map is refused out of memory alone.
     ensures only { (s : SettingData) (t : List Row) (n : ℕ) → IsMapText text.now s t n
         → IfErr result IsOutOfMemory }
-
-    // Where none is read the text has a flaw, which is told.
     ensures flaw { IfErr result (IsFlawOrOutOfMemory text.now) }
-
-    // Out of memory is told at a word that is right, as all before it, or where no word stands.
     ensures memory { IfErr result (IsToldInTime text.now) }
 {
     let mut words = Reader::new(text);

@@ -15,12 +15,9 @@ use std::marker::Brand;
 use std::sync::Wait;
 use std::thread::Threads;
 
-/// Lets two operators make their calls at once, and hands out what the editor has at its close: the
-/// map before, the map after, and the history between them, which one thread could have made. The
-/// calls in it are exactly those of the two, each operator's in order.
-///
-/// Beside it stands the later of what the two read after their last calls: who came last has read of
-/// all changes. An `Err` says that memory ran out, or that the history is full.
+/// Lets two operators make their calls at once, and hands out what the editor has at its close,
+/// with the later of what the two read after their last calls. An `Err` says that memory ran out,
+/// or that the history is full.
 pub fn edit_at_once<R: Threads + Wait + Sync>(
     rt: &R,
     alloc: Global,
@@ -31,15 +28,14 @@ pub fn edit_at_once<R: Threads + Wait + Sync>(
     ensures all { IfOk result (λ r. MakesAll map r.0.map r.0.history.items) }
     ensures calls { IfOk result (λ r. AreTheirs first.now second.now r.0.history.items) }
 {
-    // An editor has a name, by which contracts tell its gauge and its opening. It can be given only
-    // once these are there: so the work stands in a function that is generic in the name and is called
-    // at `Brand`, and proofs/at_once/edit_at_once/Invariants.antt says what the name stands for.
+    // The name of an editor stands for its gauge and opening, which are there only at run time: so
+    // the work is generic in the name and called at `Brand`, and
+    // proofs/at_once/edit_at_once/Invariants.antt says what the name stands for.
     let started = Started::new(map, 2, alloc).ok().context("out of memory")?;
     work_together::<Brand, R, Call>(rt, alloc, started, first, second)
 }
 
-/// The calls of a seat's operator are made one after the other. `None` says that memory ran out, or
-/// that the history is full.
+/// `None` says that memory ran out, or that the history is full.
 impl Work for Call {
     ghost use Rattle.crush_two_operators.specs.Calls.{HasMade};
 
@@ -56,7 +52,6 @@ impl Work for Call {
     }
 }
 
-/// Makes the calls, and reads after each.
 fn make_each<N: Desk, R: Wait>(
     rt: &R,
     alloc: Global,

@@ -1,11 +1,7 @@
-//! An example for a program that uses the library: two operators edit one map at once, each in a
-//! thread of its own, and what they made of it is printed.
-//!
-//! It reads a map's text from standard input. Operator 0 gives two devices new weights; operator 1
-//! adds a device, and asks for what is refused. Then both work through one plan, each of whose steps
-//! is to be made once, by whoever comes first. What is printed is the same in whichever order the two
-//! came: the map, each operator's part of the first history and what a seat then read, and the
-//! changes of the second.
+//! An example for a program that uses the library: two operators edit the map of standard input at
+//! once, each in a thread of its own, by calls of their own and then by one plan, of which each
+//! step is made once, by whoever comes first. The output is the same in whichever order the two
+//! came.
 #![tactic(auto)]
 
 ghost use Rattle.std.specs.Prelude.{◌<◌, ◌^◌, length};
@@ -47,14 +43,13 @@ fn main(rt: HostRuntime) -> anyhow::Result<()> {
     print_changes(&rt, followed.history.as_slice())
 }
 
-/// The map whose text standard input has.
 fn read_input(rt: &HostRuntime) -> anyhow::Result<CrushMap<Global>> {
     let text = io::read_to_string(rt.alloc(), rt.stdin())?;
     let (map, _adjusted) = read_map(rt.alloc(), text.as_bytes())?;
     Ok(map)
 }
 
-/// What operator 0 asks for.
+/// Two devices get new weights.
 fn first_calls(alloc: Global) -> anyhow::Result<Vec<Call>> {
     let mut calls = Vec::new(alloc);
     calls.push(Call::One(reweight(alloc, b"osd.0", "2")?))?;
@@ -62,7 +57,7 @@ fn first_calls(alloc: Global) -> anyhow::Result<Vec<Call>> {
     Ok(calls)
 }
 
-/// What operator 1 asks for.
+/// A device is added, and a removal is refused.
 fn second_calls(alloc: Global) -> anyhow::Result<Vec<Call>> {
     let mut calls = Vec::new(alloc);
     calls.push(Call::One(add(alloc, 3, b"osd.3", b"h2")?))?;
@@ -70,7 +65,7 @@ fn second_calls(alloc: Global) -> anyhow::Result<Vec<Call>> {
     Ok(calls)
 }
 
-/// The plan: a device is moved to a host by two edits, of which the second needs the first.
+/// A device moves to a host by two edits, of which the second needs the first.
 fn steps(alloc: Global) -> anyhow::Result<Vec<Edit>> {
     let mut steps = Vec::new(alloc);
     steps.push(remove(alloc, b"osd.3")?)?;
@@ -78,7 +73,6 @@ fn steps(alloc: Global) -> anyhow::Result<Vec<Edit>> {
     Ok(steps)
 }
 
-/// The edit that gives a device of this name another weight.
 fn reweight(alloc: Global, device: &[u8], weight: &str) -> anyhow::Result<Edit> {
     Ok(Edit::Reweight {
         name: Name::read(alloc, device)?,
@@ -86,7 +80,6 @@ fn reweight(alloc: Global, device: &[u8], weight: &str) -> anyhow::Result<Edit> 
     })
 }
 
-/// The edit that puts a new device into a host.
 fn add(alloc: Global, id: i32, name: &[u8], host: &[u8]) -> anyhow::Result<Edit> {
     let mut at = Location::new(alloc);
     at.push(b"host", host)?;
@@ -98,15 +91,14 @@ fn add(alloc: Global, id: i32, name: &[u8], host: &[u8]) -> anyhow::Result<Edit>
     })
 }
 
-/// The edit that removes an item.
 fn remove(alloc: Global, item: &[u8]) -> anyhow::Result<Edit> {
     Ok(Edit::Remove {
         name: Name::read(alloc, item)?,
     })
 }
 
-/// Prints the entries of one operator, which count from 1. What stands between them in the whole
-/// history may be another each time.
+/// Prints the entries of one operator, numbered among themselves: the calls between them differ
+/// from run to run.
 fn print_part(
     rt: &HostRuntime,
     history: &[Entry],
@@ -123,8 +115,7 @@ fn print_part(
     Ok(())
 }
 
-/// Prints the entries that changed the map, which count from 1. By whom each was made may be another
-/// each time.
+/// Prints the changes, numbered among themselves: who made each differs from run to run.
 fn print_changes(rt: &HostRuntime, history: &[Entry]) -> anyhow::Result<()> {
     let mut number = 0u32;
     for entry in history {
@@ -142,7 +133,6 @@ fn print_changes(rt: &HostRuntime, history: &[Entry]) -> anyhow::Result<()> {
     Ok(())
 }
 
-/// Prints the two numbers of a reading.
 fn print_reading(rt: &HostRuntime, reading: Reading) -> anyhow::Result<()> {
     println!(rt; "# changes {} weight {}", reading.changes, reading.weight)?;
     Ok(())

@@ -18,12 +18,9 @@ use std::marker::Brand;
 use std::sync::Wait;
 use std::thread::Threads;
 
-/// Lets two operators work through one plan at once: its first edit is to be the first change of the
-/// map, its next the second, and so on. Each is made exactly once and in its order, whichever of the
-/// two comes first: no step is made of a map that its operator hasn't seen.
-///
-/// An `Err` says that memory ran out, that the history is full, or that a step is refused or changes
-/// nothing.
+/// Lets two operators work through one plan at once: each step is made once and in its order, by
+/// whoever comes first, of a map that its operator has seen. An `Err` says that memory ran out,
+/// that the history is full, or that a step is refused or changes nothing.
 pub fn follow_at_once<R: Threads + Wait + Sync>(
     rt: &R,
     alloc: Global,
@@ -38,7 +35,7 @@ pub fn follow_at_once<R: Threads + Wait + Sync>(
     Ok(closed)
 }
 
-/// The steps of a plan are asked for until none is left. `None` says that one was not made.
+/// `None` says that a step was not made.
 impl Work for Edit {
     ghost use Rattle.crush_two_operators.specs.Plan.{HasFollowed};
 
@@ -55,9 +52,8 @@ impl Work for Edit {
     }
 }
 
-/// Works through a plan by a seat. It reads how many changes there are, asks for the step of that
-/// number only while there are no more, and reads again, until no step is left. Where the other
-/// operator came between, the step is stale, and nothing was made.
+/// Asks for the step of the number of changes read, while there are no more, and reads again; where
+/// the other operator came between, the step is stale.
 fn follow<N: Desk, R: Wait>(
     rt: &R,
     alloc: Global,
@@ -83,7 +79,6 @@ fn follow<N: Desk, R: Wait>(
     None
 }
 
-/// The call that asks for this edit while there are so many changes. `None` says that memory ran out.
 fn step(alloc: Global, seen: u32, edit: &Edit) -> Option<Call>
     ensures { IfSome result (λ call. call ≡ Guarded seen (edit.now ∷ [])) }
 {

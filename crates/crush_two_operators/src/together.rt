@@ -11,16 +11,16 @@ use std::alloc::Global;
 use std::sync::Wait;
 use std::thread::{Threads, join};
 
-/// What an operator is given a list of, to work through by a seat.
+/// What an operator has a list of, to work through by a seat.
 pub(crate) trait Work {
     ghost use Rattle.std.specs.Prelude.{◌≡◌, IfSome, List};
     ghost use Rattle.crush_editor.specs.Seat.{SeatData};
 
-    // What a seat has done that has worked through a list, as it was before and is after.
+    // What a seat has done by a list, by the seat before and after.
     ghost done: { List Self → SeatData → SeatData → Type 0 };
 
-    /// Works through a list by a seat, and reads after each call how far the map is. A reading takes no
-    /// lock, so it goes on while the other operator is inside a call.
+    /// Works through a list, and reads after each call. A reading takes no lock, so it goes on
+    /// while the other operator is inside a call.
     fn work<N: Desk, R: Wait>(
         rt: &R,
         alloc: Global,
@@ -32,15 +32,15 @@ pub(crate) trait Work {
         ensures done { IfSome result (λ w. done given.now seat w.seat) };
 }
 
-/// What a thread gives back: its seat, and what it read last.
+/// What a thread gives back.
 #[derive(Drop)]
 pub(crate) struct Worked<N: Desk> {
     pub(crate) seat: Seat<N>,
     pub(crate) last: Reading,
 }
 
-/// Lets two operators work at once by the editor of a name, each through a list of its own, and hands
-/// out what the editor has at its close. Beside it stands the later of what the two read last.
+/// Lets two operators work at once, each through a list of its own; the `Reading` is the later of
+/// their last.
 pub(crate) fn work_together<N: Desk + Send + Sync, R: Threads + Wait + Sync, W: Work + Sync>(
     rt: &R,
     alloc: Global,
@@ -63,8 +63,8 @@ pub(crate) fn work_together<N: Desk + Send + Sync, R: Threads + Wait + Sync, W: 
     let two = seats.pop().context("no seat")?;
     let one = seats.pop().context("no seat")?;
 
-    // Each thread owns its seat while it works, and gives it back; the editor is lent to both. That
-    // what a thread takes with it may cross threads is shown in proofs/Crossing.antt.
+    // Each thread owns its seat while it works; proofs/Crossing.antt shows that what it takes may
+    // cross threads.
     let shared = &editor;
     let (one, two) = join(
         rt,
@@ -81,13 +81,12 @@ pub(crate) fn work_together<N: Desk + Send + Sync, R: Threads + Wait + Sync, W: 
     let two = two.context("not all was made")?;
     let last = later(one.last, two.last);
 
-    // `close` wants all seats back, in the order in which `open` handed them out.
+    // `close` wants all seats, in the order in which `open` handed them out.
     seats.push(one.seat)?;
     seats.push(two.seat)?;
     Ok((editor.close(seats), last))
 }
 
-/// The reading with more changes.
 fn later(a: Reading, b: Reading) -> Reading {
     if a.changes < b.changes { b } else { a }
 }

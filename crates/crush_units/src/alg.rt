@@ -7,11 +7,11 @@ ghost use Rattle.crush_units.specs.Alg.{alg_text, alg_of_text, same_alg};
 /// that are kept here.
 #[derive(Clone, Copy, Debug, PartialEq, Eq)]
 pub enum Alg {
-    /// Draws straws of lengths that are computed from all weights.
+    /// Straws of lengths computed from all weights.
     Straw,
-    /// Draws straws that depend on one item's weight each; what new buckets have.
+    /// Straws of lengths that depend on one item's weight each; what new buckets have.
     Straw2,
-    /// Goes through the items as a linked list.
+    /// A linked list.
     List,
 }
 

@@ -1,4 +1,4 @@
-//! What `{}` writes of each value: the text that a map, a script and a history have for it.
+//! What `{}` writes of each value.
 
 ghost use Rattle.std.specs.Prelude.{Some};
 ghost use Rattle.crush_units.specs.Display.{bucket_text, device_text, item_text};
@@ -10,7 +10,6 @@ use crate::weight::Weight;
 use std::alloc::Allocator;
 use std::{fmt, str};
 
-/// The name's bytes.
 impl<A: Allocator> fmt::Display for Name<A> {
     ghost output = { λ name. Some name };
 
@@ -19,7 +18,6 @@ impl<A: Allocator> fmt::Display for Name<A> {
     }
 }
 
-/// The number, from 0 upward.
 impl fmt::Display for DeviceId {
     ghost output = { λ id. Some (device_text id) };
 
@@ -29,7 +27,6 @@ impl fmt::Display for DeviceId {
     }
 }
 
-/// The signed number, from -1 downward.
 impl fmt::Display for BucketId {
     ghost output = { λ id. Some (bucket_text id) };
 
@@ -39,7 +36,6 @@ impl fmt::Display for BucketId {
     }
 }
 
-/// The number of the device or of the bucket.
 impl fmt::Display for ItemId {
     ghost output = { λ id. Some (item_text id) };
 
@@ -51,7 +47,6 @@ impl fmt::Display for ItemId {
     }
 }
 
-/// A whole number, a point and five digits, as [`Weight::text`] writes it.
 impl fmt::Display for Weight {
     ghost output = { λ weight. Some (weight_text weight) };
 

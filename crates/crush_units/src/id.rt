@@ -7,9 +7,7 @@ ghost use Rattle.crush_units.specs.declared.limits.TheConstants.{DEVICE_IDS, FAR
 use crate::limits::{FARTHEST_BUCKET_ID, LAST_DEVICE_ID};
 use std::marker::Model;
 
-/// A device's id: a number from 0 to 2147483647. Contracts see that number.
-///
-/// In a CRUSH map devices have the ids from 0 upward and buckets those below 0.
+/// A device's id: a number from 0 to 2147483647.
 #[derive(Clone, Copy, Debug, PartialEq, Eq)]
 pub struct DeviceId {
     raw: u32,
@@ -28,8 +26,7 @@ impl Model for DeviceId {
     ghost inverse = { λ n. record { raw = n } };
 }
 
-/// A bucket's id: a number from -1 down to -2147483648. Contracts see how far it is below 0, so
-/// bucket 3 is the one with the id -3.
+/// A bucket's id: a number from -1 down to -2147483648. Contracts see how far it is below 0.
 #[derive(Clone, Copy, Debug, PartialEq, Eq)]
 pub struct BucketId {
     below: u32,
@@ -48,17 +45,14 @@ impl Model for BucketId {
     ghost inverse = { λ n. record { below = n } };
 }
 
-/// The id of an item of the hierarchy: a device's or a bucket's. The two never share a number.
+/// The id of an item of the hierarchy: a device's or a bucket's.
 #[derive(Clone, Copy, Debug, PartialEq, Eq)]
 pub enum ItemId {
-    /// A device, with an id from 0 upward.
     Device(DeviceId),
-    /// A bucket, with an id below 0.
     Bucket(BucketId),
 }
 
-/// The number of a type of item, from 0 to 65535. Devices have type 0, buckets another. Contracts
-/// see that number.
+/// The number of a type of item, from 0 to 65535. Devices have type 0, buckets another.
 #[derive(Clone, Copy, Debug, PartialEq, Eq, Hash)]
 pub struct TypeId {
     kind: u16,

@@ -1,4 +1,4 @@
-//! Names of devices, buckets, types, tunables, rules and classes.
+//! Names and classes.
 
 ghost use Rattle.std.specs.Prelude.{◌≡◌, ◌<◌, length, IsTrue, ◌↔◌, OnOk, IfOk, IfErr, MatchOption, MatchResult, bytes_eq, true};
 ghost use Rattle.std.specs.Cmp.Rules.{comparing, hashing};
@@ -16,19 +16,16 @@ use std::hash::{Hash, Hasher};
 use std::marker::Model;
 use thiserror::Error;
 
-/// Why bytes are no name. Where several hold, the one of least number is told.
+/// Why bytes are no name.
 #[derive(Clone, Copy, Debug, PartialEq, Eq, Error)]
 pub enum NameFault {
-    /// There are no bytes.
     #[error("a name is empty")]
     Empty,
-    /// The byte at this place, counted from 0, is none that a name may have. It is the first.
+    /// The place of the first bad byte, from 0.
     #[error("byte {0} of a name is no letter, digit, `-`, `_` or `.`")]
     BadByte(usize),
-    /// There are more than 255 bytes.
     #[error("a name has more than 255 bytes")]
     TooLong,
-    /// The bytes are a name, and there is no memory to keep them.
     #[error("out of memory")]
     OutOfMemory,
 }
@@ -47,7 +44,7 @@ impl NameFault {
     }
 }
 
-/// A name: 1 to 255 bytes, each an ASCII letter, a digit, `-`, `_` or `.`. Contracts see its bytes.
+/// A name: 1 to 255 bytes, each an ASCII letter, a digit, `-`, `_` or `.`.
 #[derive(Debug, Drop)]
 pub struct Name<A: Allocator> {
     text: Text<A>,
@@ -68,11 +65,6 @@ impl<A: Allocator> Model for Name<A> {
 
 impl<A: Allocator> Name<A> {
     /// The name that has these bytes.
-    ///
-    /// Refused where the bytes are none: [`NameFault::Empty`], then [`NameFault::BadByte`] with the
-    /// place of the first bad byte, then [`NameFault::TooLong`]. [`NameFault::OutOfMemory`] is told
-    /// only of bytes that are a name, and of more than [`LONGEST_SHORT_NAME`] of them: a name of at
-    /// most 30 bytes takes no memory.
     pub fn read(alloc: A, bytes: &[u8]) -> Result<Name<A>, NameFault>
         ensures value { IfOk result (λ name. name ≡ bytes.now) }
         ensures name { OnOk result (IsName bytes.now) }
@@ -110,9 +102,7 @@ impl<A: Allocator> Name<A> {
         self.text.as_bytes()
     }
 
-    /// A copy in memory of the given allocator, which may be another than the name's own. An
-    /// `Err` says that memory ran out there; a name of at most [`LONGEST_SHORT_NAME`] bytes takes
-    /// none.
+    /// A copy in memory of the given allocator, which may be another than the name's own.
     pub fn try_copy<B: Allocator>(&self, alloc: B) -> Result<Name<B>, AllocError>
         ensures { MatchResult result (λ copy. copy ≡ self.now)
             (λ _. LONGEST_SHORT_NAME < length self.now) }
@@ -154,7 +144,7 @@ impl<A: Allocator> Hash for Name<A> {
     }
 }
 
-/// A map whose keys are names is asked by a name's bytes too.
+/// Finds names by their bytes.
 impl<A: Allocator> Equivalent<Name<A>> for &[u8] {
     ghost equivalent = { λ bytes. bytes_eq bytes.now };
 
@@ -183,7 +173,6 @@ pub fn is_name_byte(byte: u8) -> bool
     matches!(byte, b'0'..=b'9' | b'A'..=b'Z' | b'a'..=b'z' | b'-' | b'_' | b'.')
 }
 
-/// The place of the first byte that no name may have.
 fn first_bad(bytes: &[u8]) -> Option<usize>
     ensures { MatchOption result (are_name_bytes bytes.now ≡ true) (IsFirstBad bytes.now) }
 {

@@ -1,4 +1,4 @@
-//! Text that stands inside its value while it is short, and in memory else.
+//! Text inside its value while it is short.
 
 ghost use Rattle.std.specs.Prelude.{◌≡◌, ◌≤◌, ◌<◌, IfOk, IfErr, OnErr, length};
 ghost use Rattle.std.specs.Str.{IsUtf8};
@@ -9,7 +9,6 @@ use std::alloc::{AllocError, Allocator};
 use std::marker::Model;
 use std::str;
 
-/// Up to [`LONGEST_SHORT_NAME`] bytes, with how many there are. Contracts see them.
 #[derive(Debug, Drop)]
 pub(crate) struct Short {
     count: u8,
@@ -28,7 +27,6 @@ impl Model for Short {
 }
 
 impl Short {
-    /// These bytes, inside.
     fn new(bytes: &[u8]) -> Short
         requires { length bytes.now ≤ LONGEST_SHORT_NAME }
         ensures { result ≡ bytes.now }
@@ -42,7 +40,6 @@ impl Short {
         }
     }
 
-    /// The same bytes.
     fn copy(&self) -> Short
         ensures { result ≡ self.now }
     {
@@ -52,7 +49,6 @@ impl Short {
         }
     }
 
-    /// The bytes.
     fn as_bytes(&self) -> &[u8]
         ensures { result.now ≡ self.now }
     {
@@ -60,18 +56,13 @@ impl Short {
     }
 }
 
-/// A text: inside where it has up to [`LONGEST_SHORT_NAME`] bytes, and in memory where it has more.
 #[derive(Debug, Drop)]
 pub(crate) enum Text<A: Allocator> {
-    /// The bytes stand here.
     Short(Short),
-    /// The bytes stand in memory.
     Long(String<A>),
 }
 
 impl<A: Allocator> Text<A> {
-    /// The text of these bytes. An `Err` says that memory ran out, for a text that doesn't stand
-    /// inside.
     pub(crate) fn new(alloc: A, bytes: &[u8]) -> Result<Text<A>, AllocError>
         requires { IsUtf8 bytes.now }
         ensures value { IfOk result (λ text. text_bytes text ≡ bytes.now) }
@@ -83,8 +74,6 @@ impl<A: Allocator> Text<A> {
         Ok(Text::Long(String::from_str(alloc, utf8(bytes))?))
     }
 
-    /// A copy in memory of the given allocator. An `Err` says that memory ran out there, for a text
-    /// of more than [`LONGEST_SHORT_NAME`] bytes.
     pub(crate) fn try_copy<B: Allocator>(&self, alloc: B) -> Result<Text<B>, AllocError>
         ensures value { IfOk result (λ copy. text_bytes copy ≡ text_bytes self.now) }
         ensures inside { OnErr result (LONGEST_SHORT_NAME < length (text_bytes self.now)) }
@@ -95,7 +84,6 @@ impl<A: Allocator> Text<A> {
         }
     }
 
-    /// The text's bytes.
     pub(crate) fn as_bytes(&self) -> &[u8]
         ensures { result.now ≡ text_bytes self.now }
     {
@@ -105,7 +93,6 @@ impl<A: Allocator> Text<A> {
         }
     }
 
-    /// The text as `str`.
     pub(crate) fn as_str(&self) -> &str
         requires { IsUtf8 (text_bytes self.now) }
         ensures { result.now ≡ text_bytes self.now }
@@ -117,7 +104,6 @@ impl<A: Allocator> Text<A> {
     }
 }
 
-/// Bytes that are known to be text, as `str`.
 fn utf8(bytes: &[u8]) -> &str
     requires { IsUtf8 bytes.now }
     ensures { result.now ≡ bytes.now }

@@ -1,4 +1,4 @@
-//! Weights: reading, printing and limits.
+//! Weights, read and printed.
 
 ghost use Rattle.std.specs.Prelude.{◌≡◌, ◌+◌, ◌*◌, ◌^◌, ◌<◌, ◌≤◌, ◌↔◌, IsTrue, true, length, take};
 ghost use Rattle.std.specs.Char.{is_ascii_digit};
@@ -15,10 +15,10 @@ use thiserror::Error;
 /// Why a text is no weight.
 #[derive(Clone, Copy, Debug, PartialEq, Eq, Error)]
 pub enum WeightFault {
-    /// The text isn't 1 to 10 digits, with or without a point and 1 to 18 digits behind it.
+    /// Not 1 to 10 digits, with or without a point and 1 to 18 digits.
     #[error("not a weight: expected digits, with at most one point between them")]
     Syntax,
-    /// The weight is above 4294967295 units.
+    /// Above 4294967295 units.
     #[error("a weight is above 65535.99999")]
     TooLarge,
 }
@@ -36,7 +36,7 @@ impl WeightFault {
 }
 
 /// A weight, from 0 to 4294967295 units. 65536 units are 1.0, as in Ceph, whose weights are fixed
-/// point numbers of 16 and 16 bits. Contracts see the units.
+/// point numbers of 16 and 16 bits.
 #[derive(Clone, Copy, Debug, PartialEq, Eq)]
 pub struct Weight {
     units: u32,
@@ -77,10 +77,6 @@ impl Weight {
 
     /// The weight that a text says, rounded to the nearest unit, a half going up: `1.0` and
     /// `1.00000` are 65536 units.
-    ///
-    /// The text is 1 to 10 digits, and optionally a point and 1 to 18 digits, else it is refused
-    /// as [`WeightFault::Syntax`]. More than 4294967295 units after rounding are
-    /// [`WeightFault::TooLarge`].
     pub fn read(text: &str) -> Result<Weight, WeightFault>
         ensures { result ≡ weight_of_text text.now }
     {
@@ -109,10 +105,8 @@ impl Weight {
     }
 
     /// Writes the weight to the head of the given bytes and returns the length of the text, 7 to
-    /// 11: a whole number, a point and five digits.
-    ///
-    /// It is rounded to the nearest hundred-thousandth of 1.0, a half going up. Nothing is said of
-    /// the bytes behind the text.
+    /// 11: a whole number, a point and five digits. It is rounded to the nearest hundred-thousandth
+    /// of 1.0, a half going up.
     #[tactic(auto, using(crate::proofs::Parts::whole_part_short))]
     pub fn text(&self, out: &mut [u8; 16]) -> usize
         ensures fits { result ≤ 16 }
@@ -137,13 +131,11 @@ impl Weight {
     }
 }
 
-/// What any weight prints as is read as the same weight. There is nothing to run: the contract is
-/// the law.
+/// What any weight prints as is read as the same weight.
 pub fn printed_is_read_back()
     ensures { PrintedIsReadBack }
 {}
 
-/// The place of the first point, or the length where there is none.
 fn point_at(text: &[u8]) -> usize
     ensures place { result ≡ position_or_len is_point text.now }
     ensures within { result ≤ length text.now }
@@ -155,7 +147,6 @@ fn point_at(text: &[u8]) -> usize
     place
 }
 
-/// Whether there are only digits.
 fn all_digits(text: &[u8]) -> bool
     ensures { result ≡ list_all is_ascii_digit text.now }
 {
@@ -167,14 +158,12 @@ fn all_digits(text: &[u8]) -> bool
     true
 }
 
-/// Whether there are 1 to `most` digits and nothing else.
 fn are_digits(most: usize, text: &[u8]) -> bool
     ensures { result ≡ are_digits most text.now }
 {
     !text.is_empty() && text.len() <= most && all_digits(text)
 }
 
-/// The number that the digits of `start` and then these write.
 fn value_after(start: u128, digits: &[u8]) -> u128
     requires digits { list_all is_ascii_digit digits.now ≡ true }
     requires room { (start + 1) * 10 ^ length digits.now ≤ 10 ^ 28 }
@@ -188,7 +177,6 @@ fn value_after(start: u128, digits: &[u8]) -> u128
     number
 }
 
-/// Ten to so many places.
 fn ten_to(places: usize) -> u128
     requires { places ≤ 18 }
     ensures value { result ≡ 10 ^ places }
@@ -202,7 +190,7 @@ fn ten_to(places: usize) -> u128
     power
 }
 
-/// The units nearest to the number that has so many digits after the point.
+/// `number` has `places` digits behind the point.
 fn round(number: u128, places: usize) -> Result<Weight, WeightFault>
     requires number { number < 10 ^ 28 }
     requires places { places ≤ 18 }

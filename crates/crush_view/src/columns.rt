@@ -1,4 +1,4 @@
-//! Words in columns, pushed behind what a `Vec` holds. An `Err` says that memory ran out.
+//! Words in columns.
 
 ghost use Rattle.std.specs.Prelude.{◌≡◌, ◌++◌, ◌-◌, OnOk, length};
 ghost use Rattle.crush_view.specs.TreeText.{spaces, at_left, at_right};

@@ -1,8 +1,6 @@
-//! The tree of a map, as a walk and as text.
-//!
-//! [`walk`], [`walk_below`] and [`walk_part`] list the items, [`write_tree`] and [`write_tree_part`]
-//! print them. The text that a reader takes is written by `crush_print`, what has changed since
-//! another map by `crush_since`.
+//! The tree of a map, as a walk ([`walk`], [`walk_below`], [`walk_part`]) and as text
+//! ([`write_tree`], [`write_tree_part`]), which is laid out in the given memory before anything is
+//! written.
 #![tactic(auto)]
 
 pub mod columns;

@@ -20,9 +20,9 @@ use std::alloc::{AllocError, Allocator, Global};
 /// A part of a map's tree.
 #[derive(Clone, Copy, Debug)]
 pub struct Part {
-    /// The item at the top of the part, `None` for the whole tree.
+    /// The item at its top, `None` for the whole tree.
     pub under: Option<ItemId>,
-    /// The type of the buckets below which the part has no items, `None` where it has all.
+    /// The type of the buckets below which it has no items, `None` where it has all.
     pub down_to: Option<TypeId>,
 }
 
@@ -38,12 +38,10 @@ impl Part {
     }
 }
 
-/// The items of a part of a map, in the order of its tree: as [`walk`] has them, or an item with all
-/// that is below it, whose own depth is then 0; and of these none that stands below a bucket of the
-/// type that the part goes down to. Nothing where the item at its top isn't there.
-///
-/// The map's index finds that item, so that a part costs no more than it has items beside it and
-/// below it. An `Err` says that memory ran out.
+/// The items of a part of a map, in the order of its tree: as [`walk`] has them, or an item with
+/// all that is below it, whose own depth is then 0; and of these none that stands below a bucket of
+/// the type that the part goes down to. It costs no more than the part has items beside it and
+/// below it.
 #[tactic(auto, unfolding(crate::specs::TreePart::part_steps))]
 pub fn walk_part<A: Allocator>(
     alloc: Global,
@@ -57,7 +55,6 @@ pub fn walk_part<A: Allocator>(
     cut(alloc, steps, part.down_to)
 }
 
-/// The items of a map, or one of them with what is below it, in order.
 fn walk_under<A: Allocator>(
     alloc: Global,
     map: &CrushMap<A>,
@@ -72,7 +69,6 @@ fn walk_under<A: Allocator>(
     }
 }
 
-/// An item and what is below it, in order. Nothing where it isn't there.
 fn walk_item<'a, A: Allocator>(
     alloc: Global,
     map: &'a CrushMap<A>,
@@ -93,8 +89,6 @@ fn walk_item<'a, A: Allocator>(
     }
 }
 
-/// The nodes among which an item stands, if it is there: those of the bucket that holds it, or those
-/// of its kind that no bucket holds.
 fn beside<'a, A: Allocator>(map: &'a CrushMap<A>, id: &ItemId) -> &'a [Node<A>]
     ensures few { size_of (items_of result.now) < 2 ^ 31 }
     ensures steps { (t : List Row) → Stands map.now.forest t
@@ -109,7 +103,6 @@ fn beside<'a, A: Allocator>(map: &'a CrushMap<A>, id: &ItemId) -> &'a [Node<A>]
     }
 }
 
-/// The items of a bucket.
 fn nodes_in<A: Allocator>(map: &CrushMap<A>, bucket: BucketId) -> &[Node<A>]
     ensures few { size_of (items_of result.now) < 2 ^ 31 }
     ensures steps { (t : List Row) → Stands map.now.forest t
@@ -124,7 +117,6 @@ fn nodes_in<A: Allocator>(map: &CrushMap<A>, bucket: BucketId) -> &[Node<A>]
     }
 }
 
-/// The nodes that no bucket holds: the roots, or for a device the unplaced ones.
 fn tops_like<'a, A: Allocator>(map: &'a CrushMap<A>, id: &ItemId) -> &'a [Node<A>]
     ensures few { size_of (items_of result.now) < 2 ^ 31 }
     ensures steps { (t : List Row) → Stands map.now.forest t
@@ -141,7 +133,6 @@ fn tops_like<'a, A: Allocator>(map: &'a CrushMap<A>, id: &ItemId) -> &'a [Node<A
     }
 }
 
-/// Where the item of this id stands among the nodes.
 fn place_of<A: Allocator>(nodes: &[Node<A>], id: &ItemId) -> Option<usize>
     ensures within { IfSome result (λ k. k < length nodes.now) }
     ensures id { IfSome result (λ k. (d : _) → node_id (slice_index_or nodes.now k d) ≡ id.now) }
@@ -156,7 +147,6 @@ fn place_of<A: Allocator>(nodes: &[Node<A>], id: &ItemId) -> Option<usize>
     None
 }
 
-/// The steps, or those that don't stand below a bucket of this type.
 fn cut<A: Allocator>(
     alloc: Global,
     steps: Vec<Step<'_, A>>,
@@ -170,7 +160,6 @@ fn cut<A: Allocator>(
     }
 }
 
-/// The steps that don't stand below a bucket of this type.
 fn steps_down_to<'a, A: Allocator>(
     alloc: Global,
     steps: &[Step<'a, A>],
@@ -187,8 +176,7 @@ fn steps_down_to<'a, A: Allocator>(
     Ok(kept)
 }
 
-/// Keeps a step, unless it stands below the bucket of this depth. The answer is the depth of the
-/// bucket below which nothing is kept from here on, if there is one.
+/// Answers the depth of the bucket below which nothing is kept from here on.
 fn keep_step<'a, A: Allocator>(
     step: &Step<'a, A>,
     kind: TypeId,
@@ -208,7 +196,6 @@ fn keep_step<'a, A: Allocator>(
     Ok(closed_by(kind, step))
 }
 
-/// The same step.
 fn copy_of<'a, A: Allocator>(step: &Step<'a, A>) -> Step<'a, A>
     ensures { step_data result ≡ step_data step.now }
 {
@@ -219,7 +206,6 @@ fn copy_of<'a, A: Allocator>(step: &Step<'a, A>) -> Step<'a, A>
     }
 }
 
-/// Whether a step stands below the bucket of this depth, if there is one.
 fn is_closed<A: Allocator>(closed: Option<u32>, step: &Step<'_, A>) -> bool
     ensures { result ≡ is_closed closed (step_data step.now) }
 {
@@ -229,7 +215,6 @@ fn is_closed<A: Allocator>(closed: Option<u32>, step: &Step<'_, A>) -> bool
     }
 }
 
-/// The depth of a step, if its item is of this type.
 fn closed_by<A: Allocator>(kind: TypeId, step: &Step<'_, A>) -> Option<u32>
     ensures { result ≡ closed_by kind (step_data step.now) }
 {

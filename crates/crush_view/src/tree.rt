@@ -24,21 +24,15 @@ use crush_units::{ItemId, Weight};
 use std::alloc::{AllocError, Allocator, Global};
 use std::io::Write;
 
-/// The widths of the columns before the names.
+/// Of the columns before the names, in bytes.
 #[derive(Clone, Copy, Debug)]
 pub(crate) struct Widths {
-    /// Of ids.
     pub id: usize,
-    /// Of classes.
     pub class: usize,
-    /// Of weights.
     pub weight: usize,
 }
 
 /// Writes the tree of a map: a heading, and a line for each item in the order of [`walk`].
-///
-/// The text is laid out in the given memory first. With [`WriteFault::OutOfMemory`] nothing is
-/// written, with [`WriteFault::Write`] a prefix of the text.
 pub fn write_tree<A: Allocator, W: Write>(
     alloc: Global,
     map: &CrushMap<A>,
@@ -58,9 +52,6 @@ pub fn write_tree<A: Allocator, W: Write>(
 
 /// Writes a part of the tree of a map: a heading, and a line for each item in the order of
 /// [`walk_part`].
-///
-/// The text is laid out in the given memory first. With [`WriteFault::OutOfMemory`] nothing is
-/// written, with [`WriteFault::Write`] a prefix of the text.
 pub fn write_tree_part<A: Allocator, W: Write>(
     alloc: Global,
     map: &CrushMap<A>,
@@ -79,19 +70,16 @@ pub fn write_tree_part<A: Allocator, W: Write>(
     put(out, text.as_slice())
 }
 
-/// The part of which nothing is said is the whole tree. There is nothing to run: the contract is the
-/// law.
+/// The law that [`Part::whole`] is the whole tree.
 pub fn whole_tree_is_a_part()
     ensures { WholeTreeIsAPart }
 {}
 
-/// A map's tree is that of its table, whatever the order of the table's rows: only the order of each
-/// bucket's items is told. There is nothing to run: the contract is the law.
+/// The law that maps of the same rows have one tree, in whatever order these stand.
 pub fn same_tables_have_one_tree()
     ensures { SameTablesHaveOneTree }
 {}
 
-/// The whole tree.
 #[tactic(auto, unfolding(crate::specs::TreeText::tree_text))]
 fn push_tree<A: Allocator>(
     alloc: Global,
@@ -105,7 +93,6 @@ fn push_tree<A: Allocator>(
     push_text(alloc, map.setting(), steps.as_slice(), out)
 }
 
-/// A part of the tree.
 #[tactic(auto, unfolding(crate::specs::TreePart::tree_part_text))]
 fn push_part<A: Allocator>(
     alloc: Global,
@@ -120,7 +107,6 @@ fn push_part<A: Allocator>(
     push_text(alloc, map.setting(), steps.as_slice(), out)
 }
 
-/// The heading and the lines of steps.
 #[tactic(auto, unfolding(crate::specs::TreeText::steps_text))]
 fn push_text<A: Allocator>(
     alloc: Global,
@@ -136,7 +122,6 @@ fn push_text<A: Allocator>(
     push_lines(alloc, setting, &widths, steps, out)
 }
 
-/// The lines of steps.
 fn push_lines<A: Allocator>(
     alloc: Global,
     setting: &Setting,
@@ -153,7 +138,6 @@ fn push_lines<A: Allocator>(
     Ok(())
 }
 
-/// The line of a step.
 #[tactic(auto, unfolding(crate::specs::TreeText::step_line))]
 fn push_line<A: Allocator>(
     alloc: Global,
@@ -179,7 +163,7 @@ fn push_line<A: Allocator>(
     )
 }
 
-/// An id in its column. An `Err` says that memory ran out.
+/// An id at the right end of its column.
 pub fn id_column(alloc: Global, width: usize, id: ItemId) -> Result<Vec<u8>, AllocError>
     ensures { IfOk result (λ column. column.items ≡ at_right width (id_text id)) }
 {
@@ -190,7 +174,6 @@ pub fn id_column(alloc: Global, width: usize, id: ItemId) -> Result<Vec<u8>, All
     Ok(column)
 }
 
-/// A class in its column.
 fn class_column(alloc: Global, width: usize, class: Option<&str>) -> Result<Vec<u8>, AllocError>
     ensures { IfOk result (λ column. column.items
         ≡ at_right width (unwrap_or (option_map (λ c. c.now) class.entry) [])) }
@@ -200,7 +183,6 @@ fn class_column(alloc: Global, width: usize, class: Option<&str>) -> Result<Vec<
     Ok(column)
 }
 
-/// A weight in its column.
 fn weight_column(alloc: Global, width: usize, weight: Weight) -> Result<Vec<u8>, AllocError>
     ensures { IfOk result (λ column. column.items ≡ at_right width (weight_text weight)) }
 {
@@ -211,7 +193,6 @@ fn weight_column(alloc: Global, width: usize, weight: Weight) -> Result<Vec<u8>,
     Ok(column)
 }
 
-/// A name behind its spaces, and of a bucket behind its type.
 fn name_column(
     alloc: Global,
     setting: &Setting,
@@ -229,7 +210,6 @@ fn name_column(
     Ok(column)
 }
 
-/// The headings.
 #[tactic(auto, unfolding(crate::specs::TreeText::heading))]
 fn push_heading(alloc: Global, widths: &Widths, out: &mut Vec<u8>) -> Result<(), AllocError>
     ensures { OnOk result (out.new.items ≡ out.old.items ++ heading widths.now) }
@@ -256,7 +236,7 @@ pub fn wider(width: usize, word: &[u8]) -> usize
     width.max(word.len())
 }
 
-/// A width, or the length of an id that is longer. An `Err` says that memory ran out.
+/// A width, or the length of an id that is longer.
 pub fn wider_id(alloc: Global, width: usize, id: ItemId) -> Result<usize, AllocError>
     ensures { IfOk result (λ wider. wider ≡ max width (length (id_text id))) }
 {
@@ -265,7 +245,6 @@ pub fn wider_id(alloc: Global, width: usize, id: ItemId) -> Result<usize, AllocE
     Ok(wider(width, word.as_slice()))
 }
 
-/// A width, or the length of a weight that is longer.
 fn wider_weight(alloc: Global, width: usize, weight: Weight) -> Result<usize, AllocError>
     ensures { IfOk result (λ wider. wider ≡ max width (length (weight_text weight))) }
 {
@@ -274,7 +253,6 @@ fn wider_weight(alloc: Global, width: usize, weight: Weight) -> Result<usize, Al
     Ok(wider(width, word.as_slice()))
 }
 
-/// How wide the columns of steps are.
 fn widths_of<A: Allocator>(alloc: Global, steps: &[Step<'_, A>]) -> Result<Widths, AllocError>
     ensures { IfOk result (λ widths. widths ≡ widths_of (each step_data steps.now)) }
 {

@@ -1,4 +1,4 @@
-//! The words of a tree's line, pushed behind what a `Vec` holds. An `Err` says that memory ran out.
+//! The words of a tree's line.
 
 ghost use Rattle.std.specs.Prelude.{◌≡◌, [], ◌++◌, OnOk, flat_map, unwrap_or};
 ghost use Rattle.std.specs.Option.{option_map};
@@ -21,7 +21,7 @@ pub fn push_all(parts: &[&[u8]], out: &mut Vec<u8>) -> Result<(), AllocError>
     put_all(out, parts).map_err(|_| AllocError)
 }
 
-/// An id: that of a bucket is below 0.
+/// An id, a bucket's below 0.
 pub fn push_id(id: ItemId, out: &mut Vec<u8>) -> Result<(), AllocError>
     ensures { OnOk result (out.new.items ≡ out.old.items ++ id_text id) }
 {
@@ -38,7 +38,7 @@ pub fn push_id(id: ItemId, out: &mut Vec<u8>) -> Result<(), AllocError>
     }
 }
 
-/// A text, or nothing where there is none.
+/// A text, empty for `None`.
 pub fn bytes_of<'a>(text: Option<&'a str>) -> &'a [u8]
     ensures { result.now ≡ unwrap_or (option_map (λ c. c.now) text.entry) [] }
 {
@@ -57,7 +57,6 @@ pub fn push_weight(weight: Weight, out: &mut Vec<u8>) -> Result<(), AllocError>
     push_all(&[&room[..len]], out)
 }
 
-/// The name of the type with this number, or nothing where the setting has none.
 #[tactic(auto, unfolding(crush_print::specs::MapText::kind_text))]
 fn kind_name(setting: &Setting, number: TypeId) -> &[u8]
     ensures { result.now ≡ kind_text setting.now number }
@@ -75,7 +74,7 @@ pub fn push_indent(depth: u32, out: &mut Vec<u8>) -> Result<(), AllocError>
     push_spaces(4 * depth.min(16) as usize, out)
 }
 
-/// Of a bucket the name of its type, and a space.
+/// A bucket's type, and a space.
 pub fn push_kind(
     setting: &Setting,
     id: ItemId,

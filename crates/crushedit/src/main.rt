@@ -9,7 +9,6 @@ use std::fs::OpenOptions;
 use std::io::ErrorKind;
 use std::process::ExitCode;
 
-/// The name by which a program opens what its standard output is.
 const OUTPUT: &str = "/dev/stdout";
 
 fn main(rt: HostRuntime) -> ExitCode {
@@ -39,8 +38,7 @@ fn main(rt: HostRuntime) -> ExitCode {
     ExitCode::from(status)
 }
 
-/// The outcome of a run that was done where its output is stored, and else a failed write: some file
-/// systems tell only behind the writes that they couldn't store what was written.
+/// Some file systems report only behind the writes that they couldn't store them.
 fn stored(rt: &HostRuntime, outcome: Result<Summary, RunFault>) -> Result<Summary, RunFault> {
     match outcome {
         Ok(_) if !is_stored(rt) => Err(RunFault::Write),
@@ -48,8 +46,7 @@ fn stored(rt: &HostRuntime, outcome: Result<Summary, RunFault>) -> Result<Summar
     }
 }
 
-/// Whether what was written to standard output is stored, where that is a file. A pipe or a terminal
-/// stores nothing, and what can't be opened once more isn't asked.
+/// A pipe or a terminal stores nothing; what can't be opened once more isn't synced.
 fn is_stored(rt: &HostRuntime) -> bool {
     match fs::metadata(rt, OUTPUT) {
         Ok(metadata) if metadata.is_file() => is_synced(rt),
@@ -57,7 +54,6 @@ fn is_stored(rt: &HostRuntime) -> bool {
     }
 }
 
-/// Whether the file that standard output is has been synced without an error.
 fn is_synced(rt: &HostRuntime) -> bool {
     match OpenOptions::new().write(true).open(rt, OUTPUT) {
         Ok(file) => file.sync_all().is_ok(),
@@ -65,13 +61,11 @@ fn is_synced(rt: &HostRuntime) -> bool {
     }
 }
 
-/// The options in the words behind the program's name.
 fn read_options(rt: &HostRuntime) -> Result<Options, OptionsFault> {
     let words = words_behind_name(rt)?;
     options(rt.alloc(), words.as_slice())
 }
 
-/// The words that the program was started with, behind its name.
 fn words_behind_name(rt: &HostRuntime) -> Result<Vec<String>, OptionsFault> {
     let alloc = rt.alloc();
     match std::env::args(rt) {

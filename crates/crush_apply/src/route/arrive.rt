@@ -1,5 +1,4 @@
-//! The end of each edit with a location: an item comes to its destination, where there is room and
-//! all sums stay in range.
+//! An item comes to its destination.
 
 ghost use Rattle.std.specs.Prelude.{◌≡◌, List, None, false, IfOk};
 ghost use Rattle.crush_units.specs.declared.id.ItemId.TheVariants.{Device};
@@ -24,10 +23,6 @@ use crush_tree::Leaf;
 use crush_units::ItemId;
 use std::alloc::{AllocError, Allocator};
 
-/// Puts an item that is there, with all that is below it, at the destination, or tells why it isn't
-/// put.
-///
-/// All memory is taken before the item moves. Where it lacks, the items are as before.
 pub(crate) fn place_item<A: Allocator + Clone>(
     hierarchy: &mut Hierarchy<A>,
     id: ItemId,
@@ -53,10 +48,7 @@ pub(crate) fn place_item<A: Allocator + Clone>(
     })
 }
 
-/// Puts a device with its new weight at the destination, and makes it where it isn't there, or tells
-/// why it isn't put. It keeps its class; a new one has none.
-///
-/// All memory is taken before the device moves. Where it lacks, the items are as before.
+/// A device that is there keeps its class; a new one has none.
 pub(crate) fn place_device<A: Allocator + Clone>(
     hierarchy: &mut Hierarchy<A>,
     arrival: &Arrival<'_>,
@@ -88,7 +80,6 @@ pub(crate) fn place_device<A: Allocator + Clone>(
     })
 }
 
-/// Makes a device that isn't there at the destination, or tells why it isn't made.
 fn place_new<A: Allocator + Clone>(
     hierarchy: &mut Hierarchy<A>,
     arrival: &Arrival<'_>,
@@ -122,7 +113,6 @@ fn place_new<A: Allocator + Clone>(
     })
 }
 
-/// A device without a class, its name in memory of the allocator.
 fn new_leaf<A: Allocator + Clone>(alloc: &A, arrival: &Arrival<'_>) -> Result<Leaf<A>, AllocError>
     ensures { IfOk result (λ leaf. leaf_data leaf
         ≡ record { id = arrival.now.device; name = arrival.now.name.now; weight = arrival.now.weight; class = None }) }

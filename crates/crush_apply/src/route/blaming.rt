@@ -16,8 +16,7 @@ use crush_hierarchy::Hierarchy;
 use crush_units::Name;
 use std::alloc::{Allocator, Global};
 
-/// The name for which a location can't be an edit's: that of a type that stands twice or is type 0,
-/// or else that of a bucket that stands twice.
+/// A type that stands twice or is type 0, else a bucket that stands twice.
 pub(crate) fn bad_name<'a>(setting: &Setting, at: &'a Location) -> Option<&'a Name<Global>>
     ensures { option_map (λ name. name.now) result ≡ bad_name setting.now at.now }
 {
@@ -28,7 +27,6 @@ pub(crate) fn bad_name<'a>(setting: &Setting, at: &'a Location) -> Option<&'a Na
     }
 }
 
-/// The first type of the pairs that is type 0 or that a later pair has too.
 fn wrong_type<'a>(setting: &Setting, pairs: &'a [Pair]) -> Option<&'a Name<Global>>
     ensures { option_map (λ name. name.now) result
         ≡ first_name (is_wrong_type setting.now) (λ (p : Pair). p.kind) pairs.now }
@@ -42,14 +40,12 @@ fn wrong_type<'a>(setting: &Setting, pairs: &'a [Pair]) -> Option<&'a Name<Globa
     None
 }
 
-/// Whether the type of a pair is type 0, or a later pair has it too.
 fn is_wrong_type(setting: &Setting, pair: &Pair, later: &[Pair]) -> bool
     ensures { result ≡ is_wrong_type setting.now pair.now later.now }
 {
     is_type_zero(setting, pair) || names_type(later, &pair.kind)
 }
 
-/// The first bucket's name of the pairs that a later pair has too.
 fn repeated_bucket(pairs: &[Pair]) -> Option<&Name<Global>>
     ensures { option_map (λ name. name.now) result
         ≡ first_name (λ (p : Pair) l. names_it l p.name) (λ (p : Pair). p.name) pairs.now }
@@ -63,7 +59,6 @@ fn repeated_bucket(pairs: &[Pair]) -> Option<&Name<Global>>
     None
 }
 
-/// The first type of a location that the setting doesn't have.
 pub(crate) fn unknown_type<'a>(setting: &Setting, at: &'a Location) -> Option<&'a Name<Global>>
     ensures { option_map (λ name. name.now) result ≡ unknown_type setting.now at.now }
 {
@@ -76,7 +71,6 @@ pub(crate) fn unknown_type<'a>(setting: &Setting, at: &'a Location) -> Option<&'
     None
 }
 
-/// The name at which the route of a location ends.
 pub(crate) fn end_name<'a, A: Allocator>(
     hierarchy: &Hierarchy<A>,
     setting: &Setting,

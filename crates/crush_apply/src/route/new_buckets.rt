@@ -16,7 +16,7 @@ use crush_tree::{Header, Node};
 use crush_units::{Alg, BucketId, Name, TypeId};
 use std::alloc::{AllocError, Allocator, Global};
 
-/// A bucket without items, with room for one, in memory of the allocator.
+/// With room for one item.
 pub(crate) fn empty_bucket<A: Allocator + Clone>(
     alloc: &A,
     id: BucketId,
@@ -34,7 +34,6 @@ pub(crate) fn empty_bucket<A: Allocator + Clone>(
     }
 }
 
-/// What is said of a new bucket, in memory of the allocator.
 fn new_header<A: Allocator + Clone>(
     alloc: &A,
     id: BucketId,
@@ -55,7 +54,6 @@ fn new_header<A: Allocator + Clone>(
     })
 }
 
-/// The new bucket of a stop.
 fn new_bucket<A: Allocator + Clone>(
     alloc: &A,
     id: BucketId,
@@ -73,8 +71,7 @@ fn new_bucket<A: Allocator + Clone>(
     empty_bucket(alloc, id, stop.kind, &pair.name)
 }
 
-/// The new buckets of stops, the lowest first, as one item: each in the next, and the lowest with
-/// room for one item. They weigh nothing. An Err says that memory ran out.
+/// The new buckets of stops, the lowest first, as one item: each in the next.
 pub(crate) fn new_buckets<A: Allocator + Clone>(
     alloc: &A,
     ids: &[BucketId],
@@ -91,8 +88,6 @@ pub(crate) fn new_buckets<A: Allocator + Clone>(
     in_new_buckets(alloc, &ids[1..], at, &stops[1..], lowest)
 }
 
-/// An item in the new buckets of stops, the lowest first, each in the next; where there are no
-/// stops, as it is. An Err says that memory ran out.
 pub(crate) fn in_new_buckets<A: Allocator + Clone>(
     alloc: &A,
     ids: &[BucketId],

@@ -1,5 +1,4 @@
-//! What refuses an edit for its location, for the device that is to come, or for what ends the
-//! route.
+//! What refuses a location, a device that is to come, or the end of a route.
 
 ghost use Rattle.std.specs.Prelude.{◌≡◌, ◌==◌, List, None, Some, IfOk, IfErr, OnOk, map, bytes_eq, not};
 ghost use Rattle.std.specs.List.{list_any};
@@ -18,8 +17,6 @@ use crush_hierarchy::Hierarchy;
 use crush_units::{BucketId, DeviceId, ItemId, Name, TypeId};
 use std::alloc::{Allocator, Global};
 
-/// Refuses a location that can't be an edit's: a type name or a bucket name stands twice in it, a
-/// type isn't known or is type 0, or there is no pair.
 pub(crate) fn check_location(setting: &Setting, at: &Location) -> Result<(), Refusal>
     ensures passes { OnOk result (first_refusal (location_tests setting.now at.now) ≡ None) }
     ensures refused { IfErr result
@@ -38,9 +35,7 @@ pub(crate) fn check_location(setting: &Setting, at: &Location) -> Result<(), Ref
     Ok(())
 }
 
-/// Refuses a device that can't come to a location, before its route is looked at: a bucket of the
-/// location has its name, the location can't be an edit's, no device has the weight, or the name is
-/// another item's or the id is there with another name.
+/// Refuses a device before its route is looked at.
 pub(crate) fn check_device<A: Allocator>(
     hierarchy: &Hierarchy<A>,
     setting: &Setting,
@@ -66,8 +61,6 @@ pub(crate) fn check_device<A: Allocator>(
     Ok(())
 }
 
-/// The bucket that ends a route at a pair of this type, or why no item can come there: the pair's
-/// name is that of a device, or of a bucket of another type.
 pub(crate) fn check_end<A: Allocator>(
     hierarchy: &Hierarchy<A>,
     kind: TypeId,
@@ -88,15 +81,12 @@ pub(crate) fn check_end<A: Allocator>(
     Ok(bucket)
 }
 
-/// Whether a type name or a bucket name stands twice, or the name of type 0 stands there as a type
-/// name.
 fn is_bad(setting: &Setting, pairs: &[Pair]) -> bool
     ensures { result ≡ is_bad_location setting.now pairs.now }
 {
     has_type_twice(pairs) || has_bucket_twice(pairs) || has_type_zero(setting, pairs)
 }
 
-/// Whether a type name stands twice.
 fn has_type_twice(pairs: &[Pair]) -> bool
     ensures { result ≡ has_twice (map (λ (p : Pair). p.kind) pairs.now) }
 {
@@ -109,7 +99,6 @@ fn has_type_twice(pairs: &[Pair]) -> bool
     false
 }
 
-/// Whether a bucket name stands twice.
 fn has_bucket_twice(pairs: &[Pair]) -> bool
     ensures { result ≡ has_twice (map (λ (p : Pair). p.name) pairs.now) }
 {
@@ -122,28 +111,24 @@ fn has_bucket_twice(pairs: &[Pair]) -> bool
     false
 }
 
-/// Whether a pair has the type name.
 pub(crate) fn names_type(pairs: &[Pair], name: &Name<Global>) -> bool
     ensures { result ≡ list_any (λ (p : Pair). bytes_eq p.kind name.now) pairs.now }
 {
     pairs.iter().any(|pair| pair.kind == *name)
 }
 
-/// Whether a pair has the bucket name.
 pub(crate) fn names_bucket(pairs: &[Pair], name: &Name<Global>) -> bool
     ensures { result ≡ names_it pairs.now name.now }
 {
     pairs.iter().any(|pair| pair.name == *name)
 }
 
-/// Whether the type of a pair is type 0.
 fn has_type_zero(setting: &Setting, pairs: &[Pair]) -> bool
     ensures { result ≡ list_any (is_type_zero setting.now) pairs.now }
 {
     pairs.iter().any(|pair| is_type_zero(setting, pair))
 }
 
-/// Whether the pair's type is type 0.
 pub(crate) fn is_type_zero(setting: &Setting, pair: &Pair) -> bool
     ensures { result ≡ is_type_zero setting.now pair.now }
 {
@@ -153,7 +138,6 @@ pub(crate) fn is_type_zero(setting: &Setting, pair: &Pair) -> bool
     }
 }
 
-/// Whether the setting lacks a type of the pairs.
 fn has_unknown_type(setting: &Setting, pairs: &[Pair]) -> bool
     ensures { result ≡ has_no_kind setting.now pairs.now }
 {
@@ -162,7 +146,6 @@ fn has_unknown_type(setting: &Setting, pairs: &[Pair]) -> bool
         .any(|pair| setting.kind_number(pair.kind.as_bytes()).is_none())
 }
 
-/// Whether the name belongs to another item, or the device is there with another name.
 fn is_taken<A: Allocator>(hierarchy: &Hierarchy<A>, device: DeviceId, name: &Name<Global>) -> bool
     ensures { (t : List Row) → Stands hierarchy.now t
         → result ≡ is_taken t (Device device) name.now }
@@ -170,7 +153,6 @@ fn is_taken<A: Allocator>(hierarchy: &Hierarchy<A>, device: DeviceId, name: &Nam
     is_name_of_other(hierarchy, device, name) || has_other_name(hierarchy, device, name)
 }
 
-/// Whether the name belongs to an item that isn't the device.
 fn is_name_of_other<A: Allocator>(
     hierarchy: &Hierarchy<A>,
     device: DeviceId,
@@ -185,7 +167,6 @@ fn is_name_of_other<A: Allocator>(
     }
 }
 
-/// Whether the device is there with another name.
 fn has_other_name<A: Allocator>(
     hierarchy: &Hierarchy<A>,
     device: DeviceId,
@@ -200,7 +181,6 @@ fn has_other_name<A: Allocator>(
     }
 }
 
-/// Whether the item is there with another type.
 fn is_of_other_type<A: Allocator>(hierarchy: &Hierarchy<A>, id: ItemId, kind: TypeId) -> bool
     ensures { (t : List Row) → Stands hierarchy.now t
         → result ≡ meets (λ k. not (k == kind)) (kind_of t id) }

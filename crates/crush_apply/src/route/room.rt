@@ -1,5 +1,4 @@
-//! Whether an item can come to a destination: whether there is room for it and for the new buckets,
-//! and whether all sums stay in range.
+//! Whether there is room at a destination, and whether all sums stay in range.
 
 ghost use Rattle.std.specs.Prelude.{◌≡◌, ℕ, ◌≤◌, List, Some, None, false, not};
 ghost use Rattle.crush_units.specs.declared.id.ItemId.TheVariants.{Device};
@@ -19,8 +18,6 @@ use crush_units::limits::{MOST_BUCKETS, MOST_DEVICES};
 use crush_units::{DeviceId, ItemId, Weight};
 use std::alloc::Allocator;
 
-/// Whether there would be too many buckets where an item that is there comes to the
-/// destination.
 pub(crate) fn lacks_room<A: Allocator>(hierarchy: &Hierarchy<A>, to: &Destination) -> bool
     ensures { (t : List Row) (r : Row) → Stands hierarchy.now t → Leads t to.now
         → row_of t r.id ≡ Some r → (w : ℕ)
@@ -30,8 +27,6 @@ pub(crate) fn lacks_room<A: Allocator>(hierarchy: &Hierarchy<A>, to: &Destinatio
     hierarchy.counts().buckets as usize + to.fresh() > MOST_BUCKETS as usize
 }
 
-/// Whether there would be too many buckets or devices where a device that isn't there comes to
-/// the destination.
 pub(crate) fn lacks_room_for_new<A: Allocator>(hierarchy: &Hierarchy<A>, to: &Destination) -> bool
     ensures { (t : List Row) (d : LeafData) → Stands hierarchy.now t → Leads t to.now
         → is_there t (Device d.id) ≡ false
@@ -43,8 +38,6 @@ pub(crate) fn lacks_room_for_new<A: Allocator>(hierarchy: &Hierarchy<A>, to: &De
     counts.devices >= MOST_DEVICES || counts.buckets as usize + fresh > MOST_BUCKETS as usize
 }
 
-/// Whether all sums stay in range where an item that is there, with all that is below it, comes to
-/// the destination, as it is.
 pub(crate) fn fits_put_item<A: Allocator>(
     hierarchy: &Hierarchy<A>,
     id: ItemId,
@@ -61,8 +54,6 @@ pub(crate) fn fits_put_item<A: Allocator>(
     hierarchy.fits_move(*id, to.place(), None)
 }
 
-/// Whether all sums stay in range where a device that is there comes to the destination with this
-/// weight, of up to 2147483647 units.
 pub(crate) fn fits_put_device<A: Allocator>(
     hierarchy: &Hierarchy<A>,
     device: DeviceId,
@@ -80,8 +71,6 @@ pub(crate) fn fits_put_device<A: Allocator>(
     hierarchy.fits_move(ItemId::Device(device), to.place(), Some(weight))
 }
 
-/// Whether all sums stay in range where a device that isn't there comes to the destination with
-/// this weight, of up to 2147483647 units.
 pub(crate) fn fits_put_new<A: Allocator>(
     hierarchy: &Hierarchy<A>,
     weight: Weight,

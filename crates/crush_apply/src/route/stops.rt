@@ -24,12 +24,11 @@ use crush_units::{BucketId, Name, TypeId};
 use std::alloc::{Allocator, Global};
 use std::marker::Model;
 
-/// A pair of a location with its type's number: the number, and where among the pairs it stands.
+/// A pair of a location with its type's number.
 #[derive(Clone, Copy, Debug, PartialEq, Eq)]
 pub(crate) struct Stop {
-    /// The number of the pair's type.
     pub(crate) kind: TypeId,
-    /// The index of the pair in the location, from 0.
+    /// Its index in the location, from 0.
     pub(crate) pair: usize,
 }
 
@@ -43,7 +42,7 @@ impl Default for Stop {
     }
 }
 
-/// The stops of a location, by ascending type number: at most 16. Contracts see their list.
+/// The stops of a location, by ascending type number.
 #[derive(Drop)]
 pub(crate) struct Route {
     stops: ArrayVec<Stop, MOST_PAIRS>,
@@ -59,7 +58,6 @@ impl Model for Route {
 }
 
 impl Route {
-    /// The stops, the one of the least type number first.
     pub(crate) fn stops(&self) -> &[Stop]
         ensures value { result.now ≡ self.now }
         ensures few { length result.now ≤ MOST_PAIRS }
@@ -68,7 +66,7 @@ impl Route {
     }
 }
 
-/// The stops of a location. A pair of a type that the setting doesn't have gives none.
+/// A pair of an unknown type has none.
 pub(crate) fn route_of(setting: &Setting, at: &Location) -> Route
     ensures stops { stops_data at.now result ≡ stops setting.now at.now }
     ensures pairs { All (IsPairOf at.now) result }
@@ -83,7 +81,6 @@ pub(crate) fn route_of(setting: &Setting, at: &Location) -> Route
     Route { stops }
 }
 
-/// Puts a stop before the first of no lesser type number.
 fn put_stop(stops: &mut ArrayVec<Stop, MOST_PAIRS>, stop: Stop)
     requires { array_vec_len stops.old < MOST_PAIRS }
     ensures put { stops.new.items ≡ put_stop stop stops.old.items }
@@ -93,7 +90,6 @@ fn put_stop(stops: &mut ArrayVec<Stop, MOST_PAIRS>, stop: Stop)
     stops.insert(index, stop);
 }
 
-/// The index of the first stop of no lesser type number, or how many stops there are.
 fn index_of(stops: &[Stop], kind: TypeId) -> usize
     ensures value { result ≡ position_or_len (λ (q : Stop). nat_le kind q.kind) stops.now }
     ensures within { result ≤ length stops.now }
@@ -106,7 +102,6 @@ fn index_of(stops: &[Stop], kind: TypeId) -> usize
     stops.len()
 }
 
-/// The bucket name of a stop.
 pub(crate) fn stop_name<'a>(at: &'a Location, stop: &Stop) -> &'a Name<Global>
     requires { IsPairOf at.now stop.now }
     ensures { result.now ≡ pair_name at.now stop.now.pair }
@@ -116,9 +111,7 @@ pub(crate) fn stop_name<'a>(at: &'a Location, stop: &Stop) -> &'a Name<Global>
     &pair.name
 }
 
-/// Where a route ends: how many stops come before the first whose bucket is there, and that bucket.
-/// Where none is there, all of them come before it, and there is no bucket. An Err tells why no item
-/// can come there.
+/// How many stops come before the first bucket that is there, and that bucket.
 pub(crate) fn route_end<A: Allocator>(
     hierarchy: &Hierarchy<A>,
     at: &Location,
@@ -140,7 +133,6 @@ pub(crate) fn route_end<A: Allocator>(
     Ok((stops.len(), None))
 }
 
-/// The name of the first stop whose bucket is there.
 pub(crate) fn first_there<'a, A: Allocator>(
     hierarchy: &Hierarchy<A>,
     at: &'a Location,

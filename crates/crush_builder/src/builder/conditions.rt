@@ -1,4 +1,4 @@
-//! The tests that tell whether a call of the builder may be made.
+//! Conditions of calls.
 
 ghost use Rattle.std.specs.Prelude.{◌≡◌, ◌==◌, ◌↔◌, IsTrue, IfSome, IfOk, map, bytes_eq, true, false};
 ghost use Rattle.std.specs.Option.{ok_or};
@@ -122,7 +122,6 @@ impl<A: Allocator> MapBuilder<A> {
         number.number() > 0 && self.has_kind_number(number)
     }
 
-    /// Whether buckets can have the type of this name.
     pub(super) fn names_bucket_kind(&self, name: &[u8]) -> bool
         ensures { (d : Draft) → IsDraft self.now d
             → result ≡ names_bucket_kind d.setting name.now }
@@ -152,7 +151,6 @@ impl<A: Allocator> MapBuilder<A> {
         self.closed_item(name).ok_or(BuildFault::UnknownItem)
     }
 
-    /// The device or the complete bucket of this name, or `None` where there is none.
     pub(super) fn closed_item(&self, name: &[u8]) -> Option<ItemId>
         ensures value { (d : Draft) → IsDraft self.now d → result ≡ item_named d name.now }
         ensures there { IfSome result (λ i. (d : Draft) → IsDraft self.now d
@@ -213,7 +211,6 @@ impl<A: Allocator> MapBuilder<A> {
         self.setting.tunables().len() >= MOST_TUNABLES
     }
 
-    /// Whether the bucket that waits for its algorithm, or one of its class ids, has the id.
     fn has_pending_id(&self, id: BucketId) -> bool
         ensures { result ≡ has_pending_id self.now.pending id }
     {
@@ -223,7 +220,6 @@ impl<A: Allocator> MapBuilder<A> {
         }
     }
 
-    /// The class ids of the bucket that waits for its algorithm, or none where none does.
     fn class_ids(&self) -> &[ShadowId<A>]
         ensures { map shadow_data result.now ≡ pending_class_ids self.now.pending }
     {
@@ -233,7 +229,6 @@ impl<A: Allocator> MapBuilder<A> {
         }
     }
 
-    /// Whether the bucket is the one that is being filled.
     pub(super) fn fills(&self, id: BucketId) -> bool
         ensures { result ≡ is_open self.now.pending (Bucket id) }
     {
@@ -244,14 +239,12 @@ impl<A: Allocator> MapBuilder<A> {
     }
 }
 
-/// Whether one of the class ids has the id.
 fn numbers_class_id<A: Allocator>(class_ids: &[ShadowId<A>], id: BucketId) -> bool
     ensures { result ≡ list_any (λ (c : DeclaredShadow _). c.id == id) class_ids.now }
 {
     class_ids.iter().any(|class_id| class_id.id == id)
 }
 
-/// Whether one of the class ids has the class.
 fn names_class<A: Allocator>(class_ids: &[ShadowId<A>], class: &[u8]) -> bool
     ensures { result
         ≡ list_any (λ (c : DeclaredShadow _). bytes_eq c.class class.now) class_ids.now }

@@ -1,4 +1,4 @@
-//! What speaks against a call of the builder.
+//! What speaks against a call.
 
 ghost use Rattle.std.specs.Prelude.{◌≡◌, ◌∷◌, [], ℕ, true, false, not};
 ghost use Rattle.crush_table.specs.Forest.{all_items, rows_of};
@@ -21,7 +21,6 @@ use crush_units::{BucketId, DeviceId, ItemId, TypeId, Weight};
 use std::alloc::Allocator;
 
 impl<A: Allocator> MapBuilder<A> {
-    /// What speaks against one more type.
     pub(super) fn kind_fault(&self, number: TypeId, name: &[u8]) -> Option<BuildFault>
         ensures { (d : Draft) → IsDraft self.now d → result ≡ kind_fault d number name.now }
     {
@@ -32,14 +31,12 @@ impl<A: Allocator> MapBuilder<A> {
         )
     }
 
-    /// What speaks against one more tunable.
     pub(super) fn tunable_fault(&self, name: &[u8]) -> Option<BuildFault>
         ensures { (d : Draft) → IsDraft self.now d → result ≡ tunable_fault d name.now }
     {
         taken(false, self.has_tunable(name), self.is_full_of_tunables())
     }
 
-    /// What speaks against one more device.
     pub(super) fn device_fault(&self, id: DeviceId, name: &[u8]) -> Option<BuildFault>
         ensures { (d : Draft) → IsDraft self.now d → result ≡ device_fault d id name.now }
     {
@@ -50,7 +47,6 @@ impl<A: Allocator> MapBuilder<A> {
         )
     }
 
-    /// What speaks against one more bucket.
     pub(super) fn begin_fault(&self, kind: &[u8], name: &[u8]) -> Option<BuildFault>
         ensures { (d : Draft) → IsDraft self.now d → result ≡ begin_fault d kind.now name.now }
     {
@@ -66,7 +62,6 @@ impl<A: Allocator> MapBuilder<A> {
         None
     }
 
-    /// What speaks against one more class id.
     pub(super) fn class_id_fault(&self, id: BucketId, class: &[u8]) -> Option<BuildFault>
         ensures { (d : Draft) → IsDraft self.now d → result ≡ class_id_fault d id class.now }
     {
@@ -77,7 +72,7 @@ impl<A: Allocator> MapBuilder<A> {
         )
     }
 
-    /// Whether the item is a device, or a bucket that is complete.
+    /// A device, or a complete bucket.
     pub(super) fn is_closed(&self, id: ItemId) -> bool
         ensures { (d : Draft) → IsDraft self.now d → result ≡ is_closed d id }
     {
@@ -89,7 +84,6 @@ impl<A: Allocator> MapBuilder<A> {
         self.hierarchy.kind(*item).is_some() && !open
     }
 
-    /// Whether all sums stay in range where the item is put into the bucket that is being filled.
     pub(super) fn fits_item(&self, bucket: BucketId, id: ItemId, weight: Weight) -> bool
         requires fills { self.now.pending ≡ filling bucket }
         requires closed { (d : Draft) → IsDraft self.now d → is_closed d id ≡ true }
@@ -104,8 +98,6 @@ impl<A: Allocator> MapBuilder<A> {
             .fits_move(*item, Place::Bucket(bucket), Some(coming))
     }
 
-    /// What an item weighs once it is put into a bucket with the weight: a device that, and a
-    /// bucket what it weighs.
     fn weight_to_come(&self, id: ItemId, weight: Weight) -> Weight
         requires { is_there (rows_of self.now.forest) id ≡ true }
         ensures { result
@@ -123,7 +115,6 @@ impl<A: Allocator> MapBuilder<A> {
         }
     }
 
-    /// 1 where the written weight of a bucket isn't its sum, else 0.
     pub(super) fn adjustment(&self, id: ItemId, written: Option<Weight>) -> u32
         ensures { (d : Draft) → IsDraft self.now d → is_there d.table id ≡ true
             → result ≡ adjustment d.table id written }
@@ -144,8 +135,6 @@ impl<A: Allocator> MapBuilder<A> {
     }
 }
 
-/// What speaks against one more: that its id is taken, else its name, else that there are as many as
-/// there may be.
 fn taken(id: bool, name: bool, full: bool) -> Option<BuildFault>
     ensures { result ≡ first_fault
         ((DuplicateId, id) ∷ ((DuplicateName, name) ∷ ((TooMany, full) ∷ []))) }
@@ -162,7 +151,6 @@ fn taken(id: bool, name: bool, full: bool) -> Option<BuildFault>
     None
 }
 
-/// Whether a device is to have a weight that no device has.
 pub(super) fn is_heavy_device(id: ItemId, written: Option<Weight>) -> bool
     ensures { result ≡ is_heavy_device id written }
 {

@@ -1,4 +1,4 @@
-//! Rules: what speaks against one, and how it is kept.
+//! Rules, tested and kept.
 
 ghost use Rattle.std.specs.Prelude.{◌≡◌, ◌==◌, None, OnOk, IfErr, IfOk, IfSome, All, map, bytes_eq};
 ghost use Rattle.std.specs.List.{list_any};
@@ -18,14 +18,7 @@ use crush_units::{BucketId, ItemId};
 use std::alloc::{AllocError, Allocator};
 
 impl<A: Allocator> MapBuilder<A> {
-    /// Adds a rule, as `rule NAME { .. }`. The map keeps the buckets that it takes by their ids.
-    ///
-    /// The fault of the first part is told that has one. Of the statement [`BuildFault::TooMany`]
-    /// with 256 rules; of the name [`BuildFault::DuplicateName`] and of the id
-    /// [`BuildFault::DuplicateId`] where a rule has it; of a step [`BuildFault::TooMany`] of the
-    /// 65th, [`BuildFault::UnknownType`] where it chooses of a type that no type is, and
-    /// [`BuildFault::UnknownBucketInRule`] where it takes what is no complete bucket. Out of memory
-    /// is told of the statement.
+    /// Adds a rule, as `rule NAME { .. }`.
     pub fn rule(&mut self, rule: &Rule) -> Result<(), RuleFault>
         requires idle { self.old.pending ≡ nothing }
         requires form { IsRuleForm rule.now }
@@ -68,7 +61,6 @@ impl<A: Allocator> MapBuilder<A> {
         self.setting.rules().len() >= MOST_RULES
     }
 
-    /// What speaks against the rule, at the first part that has a fault.
     fn rule_fault(&self, rule: &Rule) -> Option<RuleFault>
         ensures { (d : Draft) → IsDraft self.now d → result ≡ rule_fault d rule.now }
     {
@@ -93,7 +85,6 @@ impl<A: Allocator> MapBuilder<A> {
         self.steps_fault(&rule.steps)
     }
 
-    /// What speaks against the steps, at the first that has a fault.
     fn steps_fault(&self, steps: &[Step]) -> Option<RuleFault>
         ensures { (d : Draft) → IsDraft self.now d → result ≡ steps_fault d 0 steps.now }
     {
@@ -108,7 +99,6 @@ impl<A: Allocator> MapBuilder<A> {
         None
     }
 
-    /// What speaks against the step at a place.
     fn step_fault(&self, place: usize, step: &Step) -> Option<BuildFault>
         ensures { (d : Draft) → IsDraft self.now d → result ≡ step_fault d place step.now }
     {
@@ -118,7 +108,6 @@ impl<A: Allocator> MapBuilder<A> {
         self.word_fault(step)
     }
 
-    /// What speaks against the words of a step.
     fn word_fault(&self, step: &Step) -> Option<BuildFault>
         ensures { (d : Draft) → IsDraft self.now d → result ≡ word_fault d step.now }
     {
@@ -151,7 +140,6 @@ impl<A: Allocator> MapBuilder<A> {
         }
     }
 
-    /// The rule as the map keeps it.
     fn kept_rule(&self, rule: &Rule) -> Result<KeptRule, AllocError>
         requires clear { (d : Draft) → IsDraft self.now d → rule_fault d rule.now ≡ None }
         ensures { IfOk result (λ kept. (d : Draft) → IsDraft self.now d
@@ -170,7 +158,6 @@ impl<A: Allocator> MapBuilder<A> {
         })
     }
 
-    /// The steps as the map keeps them.
     fn kept_steps(&self, steps: &[Step]) -> Result<Vec<KeptStep>, AllocError>
         requires clear { (d : Draft) → IsDraft self.now d
             → All (λ x. word_fault d x ≡ None) steps.now }
@@ -185,7 +172,6 @@ impl<A: Allocator> MapBuilder<A> {
         Ok(kept)
     }
 
-    /// The step as the map keeps it.
     fn kept_step(&self, step: &Step) -> Result<KeptStep, AllocError>
         requires clear { (d : Draft) → IsDraft self.now d → word_fault d step.now ≡ None }
         ensures { IfOk result (λ kept. (d : Draft) → IsDraft self.now d
@@ -220,14 +206,12 @@ impl<A: Allocator> MapBuilder<A> {
     }
 }
 
-/// Whether one of the rules has the name.
 fn names_rule(rules: &[KeptRule], name: &[u8]) -> bool
     ensures { result ≡ list_any (λ (x : DeclaredRule). bytes_eq x.name name.now) rules.now }
 {
     rules.iter().any(|rule| rule.name.is(name))
 }
 
-/// Whether one of the rules has the id.
 fn numbers_rule(rules: &[KeptRule], id: u32) -> bool
     ensures { result ≡ list_any (λ (x : DeclaredRule). x.id == id) rules.now }
 {

@@ -1,4 +1,4 @@
-//! The types of a setting, looked up by their numbers and by their names.
+//! The types of a setting.
 
 ghost use Rattle.std.specs.Prelude.{◌≡◌, ◌∷◌, [], ◌++◌, map, None, OnOk, OnErr, IfOk};
 ghost use Rattle.std.specs.Option.{option_copied};
@@ -12,11 +12,7 @@ use std::alloc::{AllocError, Global};
 use std::collections::BTreeMap;
 use std::marker::Model;
 
-/// Types, in the order in which they were declared: no two of one number. Contracts see that list.
-///
-/// Beside it the number of each name is kept, of the first type where several have the name. Names
-/// come from strangers, so they are kept in order and not by a hash: no choice of them makes a
-/// look-up slow.
+/// Names come from strangers: kept in order, not by a hash, no choice of them makes a look-up slow.
 #[derive(Debug, Drop)]
 pub(super) struct Kinds {
     names: IndexMap<TypeId, Name<Global>>,
@@ -41,7 +37,6 @@ impl Model for Kinds {
 }
 
 impl Kinds {
-    /// No types. Takes no memory.
     pub(super) fn new(alloc: Global) -> Kinds
         ensures { result ≡ [] }
     {
@@ -51,8 +46,6 @@ impl Kinds {
         }
     }
 
-    /// Adds a type of a number that no type has, after those that are there. An `Err` says
-    /// that memory ran out; nothing has changed then.
     pub(super) fn push(&mut self, number: TypeId, name: Name<Global>) -> Result<(), AllocError>
         requires { first_name self.old number ≡ None }
         ensures ok { OnOk result (self.new ≡ self.old ++ kind_data (number, name) ∷ []) }
@@ -69,14 +62,12 @@ impl Kinds {
         }
     }
 
-    /// The name of each number, in the order in which the types were declared.
     pub(super) fn names(&self) -> &IndexMap<TypeId, Name<Global>>
         ensures { map kind_data result.now.entries ≡ self.now }
     {
         &self.names
     }
 
-    /// The number of the first type of this name.
     pub(super) fn number(&self, name: &[u8]) -> Option<TypeId>
         ensures { result ≡ first_number self.now name.now }
     {
@@ -86,19 +77,16 @@ impl Kinds {
         }
     }
 
-    /// The name of the type of this number.
     pub(super) fn name(&self, number: TypeId) -> Option<&Name<Global>>
         ensures { option_copied result ≡ first_name self.now number }
     {
         self.names.get(&number)
     }
 
-    /// The allocator that the types were made with. No contract tells one from another.
     pub(super) fn allocator(&self) -> Global {
         *self.names.allocator()
     }
 
-    /// A copy of the types. An `Err` says that memory ran out.
     pub(super) fn try_copy(&self, alloc: Global) -> Result<Kinds, AllocError>
         ensures { IfOk result (λ copy. copy ≡ self.now) }
     {
@@ -111,8 +99,6 @@ impl Kinds {
     }
 }
 
-/// Tells the number of a name that has none so far. An `Err` says that memory ran out; the
-/// same is told then.
 fn tell_first(
     numbers: &mut BTreeMap<Vec<u8>, TypeId>,
     name: Vec<u8>,

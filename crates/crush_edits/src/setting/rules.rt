@@ -1,4 +1,4 @@
-//! The rules of a setting, with the buckets that they take looked up by their ids.
+//! The rules of a setting.
 
 ghost use Rattle.std.specs.Prelude.{◌≡◌, ◌∷◌, [], ◌++◌, map, OnOk, OnErr, IfOk};
 ghost use Rattle.crush_table.specs.Table.{member};
@@ -12,10 +12,7 @@ use std::alloc::{AllocError, Global};
 use std::collections::BTreeSet;
 use std::marker::Model;
 
-/// Rules, in the order in which they were declared. Contracts see that list.
-///
-/// Beside it is kept which buckets their steps take, each as its distance below 0, once and in
-/// order.
+/// With the buckets that they take, as distances below 0.
 #[derive(Debug, Drop)]
 pub(super) struct Rules {
     rules: Vec<KeptRule>,
@@ -40,7 +37,6 @@ impl Model for Rules {
 }
 
 impl Rules {
-    /// No rules. Takes no memory.
     pub(super) fn new(alloc: Global) -> Rules
         ensures { result ≡ [] }
     {
@@ -50,8 +46,6 @@ impl Rules {
         }
     }
 
-    /// Adds a rule after those that are there. An `Err` says that memory ran out; nothing has
-    /// changed then.
     pub(super) fn push(&mut self, rule: KeptRule) -> Result<(), AllocError>
         ensures ok { OnOk result (self.new ≡ self.old ++ rule_data rule ∷ []) }
         ensures err { OnErr result (self.new ≡ self.old) }
@@ -63,21 +57,18 @@ impl Rules {
         Ok(())
     }
 
-    /// The rules.
     pub(super) fn as_slice(&self) -> &[KeptRule]
         ensures { map rule_data result.now ≡ self.now }
     {
         self.rules.as_slice()
     }
 
-    /// Whether a step of a rule takes the bucket, with or without a class.
     pub(super) fn takes(&self, bucket: BucketId) -> bool
         ensures { result ≡ member bucket (taken_by self.now) }
     {
         self.taken.contains(&bucket.distance())
     }
 
-    /// A copy of the rules. An `Err` says that memory ran out.
     pub(super) fn try_copy(&self, alloc: Global) -> Result<Rules, AllocError>
         ensures { IfOk result (λ copy. copy ≡ self.now) }
     {
@@ -88,8 +79,7 @@ impl Rules {
     }
 }
 
-/// Puts the buckets that the steps take among those that are taken. After an `Err`, which says that
-/// memory ran out, some of them may be missing.
+/// After an `Err` some may be missing.
 fn take_all(taken: &mut BTreeSet<u32>, steps: &[KeptStep]) -> Result<(), AllocError>
     ensures { OnOk result (ComeAsTaken steps.now taken.old taken.new) }
 {
@@ -101,7 +91,6 @@ fn take_all(taken: &mut BTreeSet<u32>, steps: &[KeptStep]) -> Result<(), AllocEr
     Ok(())
 }
 
-/// Copies of the rules, in their order.
 fn copy_rules(rules: &[KeptRule], alloc: Global) -> Result<Vec<KeptRule>, AllocError>
     ensures { IfOk result (λ copies. map rule_data copies.items ≡ map rule_data rules.now) }
 {

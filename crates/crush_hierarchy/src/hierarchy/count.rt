@@ -1,4 +1,4 @@
-//! How many items there are and what they weigh, known from change to change.
+//! Counts and weights, known from change to change.
 
 ghost use Rattle.std.specs.Prelude.{◌≡◌, ◌≤◌, ◌+◌, ◌∷◌, []};
 ghost use Rattle.crush_units.specs.declared.limits.TheConstants.{HEAVIEST_MAP};
@@ -9,7 +9,6 @@ use crush_tree::{Bucket, Counts, Node, counts_in};
 use crush_units::Weight;
 use std::alloc::Allocator;
 
-/// How many devices and buckets an item is, with all that is below it.
 pub(super) fn counts_of<A: Allocator>(node: &Node<A>) -> Counts
     requires { AreFew (items_of (node.now ∷ [])) }
     ensures { AreCountsIn (items_of (node.now ∷ [])) result }
@@ -30,7 +29,6 @@ pub(super) fn counts_of<A: Allocator>(node: &Node<A>) -> Counts
     }
 }
 
-/// The counts with those of items that have come.
 pub(super) fn with_counts(counts: Counts, come: Counts) -> Counts
     requires { AreFewTogether counts come }
     ensures { AddUp counts come result }
@@ -41,7 +39,6 @@ pub(super) fn with_counts(counts: Counts, come: Counts) -> Counts
     }
 }
 
-/// The counts without those of items that have gone.
 pub(super) fn without_counts(counts: Counts, gone: Counts) -> Counts
     requires { AreAtMost gone counts }
     ensures { AddUp result gone counts }
@@ -52,7 +49,6 @@ pub(super) fn without_counts(counts: Counts, gone: Counts) -> Counts
     }
 }
 
-/// The total with the weight of what has come.
 pub(super) fn with_units(total: u64, come: Weight) -> u64
     requires { total ≤ HEAVIEST_MAP }
     ensures { result ≡ total + come }
@@ -60,7 +56,6 @@ pub(super) fn with_units(total: u64, come: Weight) -> u64
     total + u64::from(come.units())
 }
 
-/// The total without the weight of what has gone.
 pub(super) fn without_units(total: u64, gone: Weight) -> u64
     requires { gone ≤ total }
     ensures { result + gone ≡ total }

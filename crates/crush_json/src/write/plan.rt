@@ -19,18 +19,13 @@ use crush_map::Edit;
 use std::alloc::{AllocError, Global};
 use std::io::Write;
 
-/// How many bytes tell of a command, as a rule of thumb.
+/// In bytes.
 const USUAL_COMMAND: usize = 96;
 
 /// Writes `{"history":H,"plan":[..],"stays":[..]}` and a line feed, or without a history the same
 /// without that member: each edit of a plan as the command that a monitor takes, with the keys of
-/// Ceph's own table of commands, and each line of what stays, the rest of the plan, as a text.
-///
-/// A weight is a decimal of five places here, as `ceph` itself is given one; every other number is
-/// whole.
-///
-/// The text is laid out in the given memory first. With [`WriteFault::OutOfMemory`] nothing is
-/// written, with [`WriteFault::Write`] a prefix of the text.
+/// Ceph's own table of commands, and each line of what stays, the rest of the plan, as a text. A
+/// weight is a decimal of five places, as `ceph` itself takes it.
 pub fn write_plan_document<W: Write>(
     alloc: Global,
     edits: &[Edit],
@@ -50,7 +45,6 @@ pub fn write_plan_document<W: Write>(
     put(out, text.as_slice())
 }
 
-/// The whole text.
 fn plan_text(
     alloc: Global,
     edits: &[Edit],
@@ -66,7 +60,6 @@ fn plan_text(
     line_of(document)
 }
 
-/// A plan and its history.
 fn push_document(
     alloc: Global,
     edits: &[Edit],
@@ -85,7 +78,6 @@ fn push_document(
     out.end_object()
 }
 
-/// The commands of edits, in their order.
 fn push_commands(alloc: Global, edits: &[Edit], out: &mut Document) -> Result<(), AllocError>
     ensures { OnOk result (out.new ≡ out.old
         ++ json_tokens (array (all_of (each command edits.now)))) }
@@ -95,7 +87,6 @@ fn push_commands(alloc: Global, edits: &[Edit], out: &mut Document) -> Result<()
     out.end_array()
 }
 
-/// The same, without brackets.
 fn push_each(alloc: Global, edits: &[Edit], out: &mut Document) -> Result<(), AllocError>
     ensures { OnOk result (out.new ≡ out.old
         ++ flat_map (λ e. json_tokens (command e)) edits.now) }

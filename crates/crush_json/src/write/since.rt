@@ -22,19 +22,14 @@ use crush_units::ItemId;
 use std::alloc::{AllocError, Allocator, Global};
 use std::io::Write;
 
-/// For how many bytes memory is asked at first.
+/// In bytes.
 const USUAL_CHANGES: usize = 4096;
 
 /// Writes `{"history":H,"since":S}` and a line feed, or without a history `{"since":S}`: what has
-/// changed from the old map to the new, an object for each item of
-/// `crush_since::told_ids` with what it was and what it is; how many items differ in which
-/// way; whether rules, tunables and types differ; and what all placed devices weighed, and weigh. Of
-/// what stands below an item or stood below it, it tells the items alone.
-///
-/// Weights are in units, of which 65536 are 1.0; a bucket's is its sum.
-///
-/// The text is laid out in the given memory first. With [`WriteFault::OutOfMemory`] nothing is
-/// written, with [`WriteFault::Write`] a prefix of the text.
+/// changed from the old map to the new, an object for each item of `crush_since::told_ids` with
+/// what it was and what it is; how many items differ in which way; whether rules, tunables and
+/// types differ; and what all placed devices weighed, and weigh. Under an item it has the items
+/// alone.
 pub fn write_since_document<A: Allocator, B: Allocator, W: Write>(
     alloc: Global,
     old: &CrushMap<A>,
@@ -57,7 +52,6 @@ pub fn write_since_document<A: Allocator, B: Allocator, W: Write>(
     put(out, text.as_slice())
 }
 
-/// The whole text.
 fn since_text<A: Allocator, B: Allocator>(
     alloc: Global,
     old: &CrushMap<A>,
@@ -76,7 +70,6 @@ fn since_text<A: Allocator, B: Allocator>(
     line_of(document)
 }
 
-/// What has changed and its history.
 fn push_document<A: Allocator, B: Allocator>(
     alloc: Global,
     old: &CrushMap<A>,

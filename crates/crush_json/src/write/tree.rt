@@ -23,18 +23,13 @@ use crush_view::{Part, Step, walk_part};
 use std::alloc::{AllocError, Allocator, Global};
 use std::io::Write;
 
-/// How many bytes tell of an item, as a rule of thumb.
+/// In bytes.
 const USUAL_NODE: usize = 96;
 
 /// Writes `{"history":H,"tree":T}` and a line feed, or without a history `{"tree":T}`: a node for
 /// each item of the part in the order of [`walk_part`], with the keys that `ceph osd tree` has, and
-/// in a list of their own the devices that no bucket holds.
-///
-/// Weights are in units, of which 65536 are 1.0; a bucket's is its sum. A bucket tells the ids of all its
-/// items, also of those that are no part.
-///
-/// The text is laid out in the given memory first. With [`WriteFault::OutOfMemory`] nothing is
-/// written, with [`WriteFault::Write`] a prefix of the text.
+/// in a list of their own the devices that no bucket holds. A bucket's children are all its items,
+/// also outside of the part.
 pub fn write_tree_document<A: Allocator, W: Write>(
     alloc: Global,
     map: &CrushMap<A>,
@@ -56,7 +51,6 @@ pub fn write_tree_document<A: Allocator, W: Write>(
     put(out, text.as_slice())
 }
 
-/// The whole text.
 fn tree_text<A: Allocator>(
     alloc: Global,
     map: &CrushMap<A>,
@@ -72,7 +66,6 @@ fn tree_text<A: Allocator>(
     steps_text(alloc, map, steps.as_slice(), history)
 }
 
-/// The text of a tree of these steps.
 fn steps_text<A: Allocator>(
     alloc: Global,
     map: &CrushMap<A>,
@@ -89,7 +82,6 @@ fn steps_text<A: Allocator>(
     line_of(document)
 }
 
-/// A tree of these steps and its history.
 fn push_document<A: Allocator>(
     alloc: Global,
     map: &CrushMap<A>,

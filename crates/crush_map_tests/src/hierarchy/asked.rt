@@ -1,7 +1,6 @@
-//! How often the calls of a forest that take a guide ask it: for each climb once for the item, and
-//! once for each bucket above it. Of an item that is 2 deep that is 3 times, of one that is 1 deep 2
-//! times, and of one that no bucket holds once. A call that searched for what the guide knows would
-//! ask less often, and one that climbed again more often.
+//! How often calls of a forest that take a guide use it: for each climb once for the item, and once
+//! for each bucket above it. A call that searched for what the guide knows would use it less often,
+//! one that climbed again more often.
 
 ghost use Rattle.std.specs.Option.{option_map};
 ghost use Rattle.std.specs.Prelude.{◌≡◌};
@@ -21,8 +20,7 @@ use std::alloc::Global;
 use std::cell::Cell;
 use std::process::Abort;
 
-/// A guide that counts how often it is asked. It tells where an item stands in the forest, which it
-/// searches, and nothing of which of the items there it is.
+/// Answers where an item stands, by a search of the forest, and not which of the items there it is.
 #[derive(Drop)]
 pub(super) struct Asked<'f> {
     pub(super) forest: &'f Forest<Global>,
@@ -42,7 +40,7 @@ impl Guide for Asked<'_> {
 }
 
 impl Asked<'_> {
-    /// Whether it was asked just so often. Then it counts anew.
+    /// Then it counts anew.
     pub(super) fn was_asked(&self, often: u32) -> bool {
         let times = self.times.get();
         self.times.set(0);
@@ -50,7 +48,6 @@ impl Asked<'_> {
     }
 }
 
-/// Whether the item is there.
 pub(super) fn has_item(forest: &Forest<Global>, id: &ItemId) -> bool
     ensures { result ≡ is_there (rows_of forest.now) id.now }
 {
@@ -58,7 +55,6 @@ pub(super) fn has_item(forest: &Forest<Global>, id: &ItemId) -> bool
     forest.find(*id).is_some()
 }
 
-/// Whether a bucket holds the item.
 pub(super) fn is_held(forest: &Forest<Global>, id: &ItemId) -> bool
     ensures { result ≡ is_placed (rows_of forest.now) id.now }
 {
@@ -66,7 +62,6 @@ pub(super) fn is_held(forest: &Forest<Global>, id: &ItemId) -> bool
     forest.parent(*id).is_some()
 }
 
-/// Where an item stands that a bucket holds, or none.
 fn place_under(id: &ItemId, parent: Option<BucketId>) -> Place
     ensures { result ≡ place_under (is_device_id id.now) parent }
 {
@@ -79,7 +74,6 @@ fn place_under(id: &ItemId, parent: Option<BucketId>) -> Place
     }
 }
 
-/// Where the item stands.
 fn spot_in(forest: &Forest<Global>, id: &ItemId) -> Option<Spot>
     ensures { option_map (λ spot. spot.place) result ≡ place_in (rows_of forest.now) id.now }
 {
@@ -91,27 +85,22 @@ fn spot_in(forest: &Forest<Global>, id: &ItemId) -> Option<Spot>
     Some(Spot { place, near: 0 })
 }
 
-/// Whether the item is found.
 fn finds(guide: &Asked<'_>, id: &ItemId) -> bool {
     guide.forest.find_by(guide, *id).is_some()
 }
 
-/// Whether a bucket holds the item.
 fn has_parent(guide: &Asked<'_>, id: &ItemId) -> bool {
     guide.forest.parent_by(guide, *id).is_some()
 }
 
-/// Whether the bucket has items.
 fn has_items(guide: &Asked<'_>, bucket: BucketId) -> bool {
     guide.forest.items_by(guide, bucket).is_some()
 }
 
-/// Whether the item is below the bucket.
 fn is_below(guide: &Asked<'_>, bucket: BucketId, id: &ItemId) -> bool {
     guide.forest.contains_by(guide, bucket, *id)
 }
 
-/// Whether the bucket has no class id.
 fn has_no_class_id(guide: &Asked<'_>, bucket: BucketId) -> bool {
     match guide.forest.class_ids_by(guide, bucket) {
         Some(ids) => ids.is_empty(),
@@ -119,12 +108,10 @@ fn has_no_class_id(guide: &Asked<'_>, bucket: BucketId) -> bool {
     }
 }
 
-/// Whether the devices of the class weigh so much that are the item or below it.
 fn weighs_of_class(guide: &Asked<'_>, id: &ItemId, class: &str, weight: Weight) -> bool {
     guide.forest.class_weight_by(guide, *id, class) == Some(weight)
 }
 
-/// Whether items of the weight can come to the bucket.
 fn can_receive(guide: &Asked<'_>, bucket: BucketId, weight: Weight) -> bool {
     guide.forest.recall_invariant();
     let total = guide.forest.total();
@@ -134,7 +121,6 @@ fn can_receive(guide: &Asked<'_>, bucket: BucketId, weight: Weight) -> bool {
             .fits_attach_by(guide, Place::Bucket(bucket), weight, total)
 }
 
-/// Whether the device can come to the bucket with the weight.
 fn can_move(guide: &Asked<'_>, device: DeviceId, bucket: BucketId, weight: Weight) -> bool {
     guide.forest.recall_invariant();
     let total = guide.forest.total();
@@ -148,8 +134,7 @@ fn can_move(guide: &Asked<'_>, device: DeviceId, bucket: BucketId, weight: Weigh
         )
 }
 
-/// Whether osd.0, which is 2 deep, is asked for 3 times: for itself, for h1 and for the root. What
-/// bucket holds it is told by the first answer.
+/// Three climbs: osd.0, h1 and the root. The first answer names the bucket that holds osd.0.
 fn asks_for_a_device(rt: &impl Abort, guide: &Asked<'_>) -> bool {
     let id = device_item(rt, 0);
     finds(guide, &id)
@@ -162,8 +147,7 @@ fn asks_for_a_device(rt: &impl Abort, guide: &Asked<'_>) -> bool {
         && guide.was_asked(3)
 }
 
-/// Whether h1, which is 1 deep, and the place in it are asked for 2 times: for h1 and for the root.
-/// Where osd.0 moves to h2, it is 3 times for osd.0 and 2 times for h2.
+/// Two climbs: h1 and the root; a move of osd.0 to h2 takes 3 for osd.0 and 2 for h2.
 fn asks_for_a_bucket(rt: &impl Abort, guide: &Asked<'_>) -> bool {
     let (h1, id, one) = (bucket(rt, 2), bucket_item(rt, 2), Weight::from_units(65536));
     finds(guide, &id)
@@ -180,7 +164,6 @@ fn asks_for_a_bucket(rt: &impl Abort, guide: &Asked<'_>) -> bool {
         && guide.was_asked(5)
 }
 
-/// Whether a guide to the forest is asked so often.
 fn asks_seldom(rt: &(impl Abort + AllocGlobal), hierarchy: &Hierarchy<Global>) -> bool {
     let guide = Asked {
         forest: hierarchy.forest(),

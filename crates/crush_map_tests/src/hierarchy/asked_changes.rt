@@ -1,4 +1,4 @@
-//! How often the calls of a forest that change it by a guide ask the guide. Each changes a copy.
+//! How often the calls that change a forest by a guide use the guide. Each changes a copy.
 
 ghost use Rattle.std.specs.Prelude.{◌≡◌, ◌<◌, false, IsTrue};
 ghost use Rattle.crush_units.specs.Name.{IsName};
@@ -18,14 +18,12 @@ use crush_units::{BucketId, DeviceId, ItemId, Name, Weight};
 use std::alloc::Global;
 use std::process::Abort;
 
-/// A copy of the forest that the guide searches.
 pub(super) fn copy_of(rt: &impl Abort, guide: &Asked<'_>) -> Forest<Global>
     ensures { rows_of result ≡ rows_of guide.now.forest.now }
 {
     guide.forest.try_copy().expect(rt, "memory")
 }
 
-/// Whether the second bucket is the first, or below it.
 fn is_inside(forest: &Forest<Global>, own: BucketId, bucket: BucketId) -> bool
     ensures { result ≡ is_part (rows_of forest.now) (BucketItem own) (BucketItem bucket) }
 {
@@ -33,14 +31,12 @@ fn is_inside(forest: &Forest<Global>, own: BucketId, bucket: BucketId) -> bool
     forest.contains(own, ItemId::Bucket(bucket))
 }
 
-/// Whether one of two buckets is the other or below it.
 fn are_nested(forest: &Forest<Global>, a: BucketId, b: BucketId) -> bool
     ensures { result ≡ are_nested (rows_of forest.now) a b }
 {
     is_inside(forest, a, b) || is_inside(forest, b, a)
 }
 
-/// Whether an item has the name.
 fn has_name(forest: &Forest<Global>, name: &Name<Global>) -> bool
     ensures named { result ≡ is_named (rows_of forest.now) name.now }
     ensures name { IsName name.now }
@@ -49,7 +45,6 @@ fn has_name(forest: &Forest<Global>, name: &Name<Global>) -> bool
     forest.id_of(name.as_str()).is_some()
 }
 
-/// Takes an item out. Whether that is done.
 fn take_out(guide: &Asked<'_>, forest: &mut Forest<Global>, id: &ItemId) -> bool
     requires { rows_of forest.old ≡ rows_of guide.now.forest.now }
 {
@@ -62,7 +57,6 @@ fn take_out(guide: &Asked<'_>, forest: &mut Forest<Global>, id: &ItemId) -> bool
     }
 }
 
-/// Makes room in a bucket, if it is there. Whether that is done.
 fn make_room(guide: &Asked<'_>, forest: &mut Forest<Global>, bucket: BucketId) -> bool
     requires { rows_of forest.old ≡ rows_of guide.now.forest.now }
     ensures same { rows_of forest.new ≡ rows_of guide.now.forest.now }
@@ -77,7 +71,6 @@ fn make_room(guide: &Asked<'_>, forest: &mut Forest<Global>, bucket: BucketId) -
     }
 }
 
-/// Gives a placed device another weight. Whether that is done.
 fn weigh(guide: &Asked<'_>, forest: &mut Forest<Global>, device: DeviceId, weight: Weight) -> bool
     requires { rows_of forest.old ≡ rows_of guide.now.forest.now }
 {
@@ -94,7 +87,6 @@ fn weigh(guide: &Asked<'_>, forest: &mut Forest<Global>, device: DeviceId, weigh
         .is_some()
 }
 
-/// Gives all devices below a bucket one weight. Whether that is done.
 fn weigh_all(
     guide: &Asked<'_>,
     forest: &mut Forest<Global>,
@@ -116,7 +108,6 @@ fn weigh_all(
         .is_some()
 }
 
-/// Gives an item another name, if no item has it. Whether that is done.
 fn give_name(
     guide: &Asked<'_>,
     forest: &mut Forest<Global>,
@@ -139,7 +130,6 @@ fn give_name(
     true
 }
 
-/// Gives a device another class, if it is there. Whether that is done.
 fn classify(
     guide: &Asked<'_>,
     forest: &mut Forest<Global>,
@@ -159,8 +149,7 @@ fn classify(
     is_first
 }
 
-/// Exchanges names and items of two buckets. Whether that is done, with so many questions for the
-/// test and so many again for the exchange.
+/// The guide is used `often` times for the test, and again for the exchange.
 fn exchange(
     guide: &Asked<'_>,
     forest: &mut Forest<Global>,
@@ -190,7 +179,6 @@ fn exchange(
     guide.was_asked(often)
 }
 
-/// Whether an item is taken out, with so many questions.
 fn detach_asks(rt: &impl Abort, guide: &Asked<'_>, id: &ItemId, often: u32) -> bool {
     let mut forest = copy_of(rt, guide);
     let asks = take_out(guide, &mut forest, id) && guide.was_asked(often);
@@ -198,7 +186,6 @@ fn detach_asks(rt: &impl Abort, guide: &Asked<'_>, id: &ItemId, often: u32) -> b
     asks
 }
 
-/// Whether there is room in a bucket, with so many questions.
 fn reserve_asks(rt: &impl Abort, guide: &Asked<'_>, bucket: BucketId, often: u32) -> bool {
     let mut forest = copy_of(rt, guide);
     let asks = make_room(guide, &mut forest, bucket) && guide.was_asked(often);
@@ -206,7 +193,6 @@ fn reserve_asks(rt: &impl Abort, guide: &Asked<'_>, bucket: BucketId, often: u32
     asks
 }
 
-/// Whether an item gets another name, with so many questions.
 fn rename_asks(
     rt: &(impl Abort + AllocGlobal),
     guide: &Asked<'_>,
@@ -219,7 +205,6 @@ fn rename_asks(
     asks
 }
 
-/// Whether a device gets another weight, with so many questions.
 fn weigh_asks(rt: &impl Abort, guide: &Asked<'_>, device: DeviceId, often: u32) -> bool {
     let mut forest = copy_of(rt, guide);
     let asks = weigh(guide, &mut forest, device, Weight::from_units(1)) && guide.was_asked(often);
@@ -227,7 +212,6 @@ fn weigh_asks(rt: &impl Abort, guide: &Asked<'_>, device: DeviceId, often: u32) 
     asks
 }
 
-/// Whether all devices of a bucket get another weight, with so many questions.
 fn weigh_all_asks(rt: &impl Abort, guide: &Asked<'_>, bucket: BucketId, often: u32) -> bool {
     let mut forest = copy_of(rt, guide);
     let asks = weigh_all(guide, &mut forest, bucket, Weight::from_units(1))
@@ -236,7 +220,6 @@ fn weigh_all_asks(rt: &impl Abort, guide: &Asked<'_>, bucket: BucketId, often: u
     asks
 }
 
-/// Whether a device gets a class, with so many questions.
 fn class_asks(
     rt: &(impl Abort + AllocGlobal),
     guide: &Asked<'_>,
@@ -249,7 +232,6 @@ fn class_asks(
     asks
 }
 
-/// Whether h1 and h2 are exchanged, and asked for before, each with so many questions.
 fn exchange_asks(rt: &impl Abort, guide: &Asked<'_>, often: u32) -> bool {
     let mut forest = copy_of(rt, guide);
     let asks = exchange(guide, &mut forest, bucket(rt, 2), bucket(rt, 3), often);
@@ -257,9 +239,8 @@ fn exchange_asks(rt: &impl Abort, guide: &Asked<'_>, often: u32) -> bool {
     asks
 }
 
-/// Whether osd.0, which is 2 deep, and h1, which is 1 deep, are asked for 3 and 2 times, and osd.3,
-/// which no bucket holds, once: for the item and for each bucket above it. Where h1 and h2 are
-/// exchanged, it is 2 times for each.
+/// One use for the item, and one for each bucket above it: osd.0 is 2 deep, h1 and h2 are 1 deep,
+/// and no bucket holds osd.3.
 pub(super) fn changes_ask(rt: &(impl Abort + AllocGlobal), guide: &Asked<'_>) -> bool {
     detach_asks(rt, guide, &device_item(rt, 0), 3)
         && detach_asks(rt, guide, &bucket_item(rt, 2), 2)
@@ -273,8 +254,7 @@ pub(super) fn changes_ask(rt: &(impl Abort + AllocGlobal), guide: &Asked<'_>) ->
         && exchange_asks(rt, guide, 4)
 }
 
-/// Whether a device comes into h1, which is 1 deep, with 2 questions, once room was made there by
-/// another call with as many.
+/// h1 is 1 deep: 2 uses for the room, and 2 for the device that comes.
 pub(super) fn attach_asks(
     rt: &(impl Abort + AllocGlobal),
     guide: &Asked<'_>,
@@ -289,7 +269,6 @@ pub(super) fn attach_asks(
     asks
 }
 
-/// Puts a device into a bucket, once there is room. Whether that is done with 2 questions for each.
 fn attaches(
     guide: &Asked<'_>,
     forest: &mut Forest<Global>,

@@ -1,4 +1,4 @@
-//! How often the calls that read, test and set a weight by a guide ask the guide, each by itself.
+//! How often the calls that read, test and set a weight by a guide use the guide.
 
 ghost use Rattle.std.specs.Prelude.{◌≡◌};
 ghost use Rattle.crush_table.specs.Forest.{rows_of};
@@ -11,13 +11,11 @@ use crush_units::{BucketId, DeviceId, ItemId, Weight};
 use std::alloc::Global;
 use std::process::Abort;
 
-/// Whether the item weighs so much, with so many questions.
 fn weighs(guide: &Asked<'_>, id: &ItemId, weight: Weight, often: u32) -> bool {
     guide.forest.weight_by(guide, *id) == Some(weight) && guide.was_asked(often)
 }
 
-/// Sets the weight of a placed device that fits. Whether that is done, with so many questions for
-/// the test and so many again for the change.
+/// The guide is used `often` times for the test, and again for the change.
 fn set_one(
     guide: &Asked<'_>,
     forest: &mut Forest<Global>,
@@ -45,8 +43,6 @@ fn set_one(
     guide.was_asked(often)
 }
 
-/// Sets the weight of each device below a bucket, which fits. Whether that is done, with so many
-/// questions for the test and so many again for the change.
 fn set_all(
     guide: &Asked<'_>,
     forest: &mut Forest<Global>,
@@ -74,7 +70,6 @@ fn set_all(
     guide.was_asked(often)
 }
 
-/// Whether a device gets a weight, and what is above it then weighs so much.
 fn sets_one(rt: &impl Abort, guide: &Asked<'_>, id: DeviceId, total: u64, often: u32) -> bool {
     let mut forest = copy_of(rt, guide);
     let is_set = set_one(guide, &mut forest, id, Weight::from_units(1), often);
@@ -83,7 +78,6 @@ fn sets_one(rt: &impl Abort, guide: &Asked<'_>, id: DeviceId, total: u64, often:
     is_set && is_summed
 }
 
-/// Whether all devices of a bucket get a weight, and what is above it then weighs so much.
 fn sets_all(rt: &impl Abort, guide: &Asked<'_>, id: BucketId, total: u64, often: u32) -> bool {
     let mut forest = copy_of(rt, guide);
     let is_set = set_all(guide, &mut forest, id, Weight::from_units(1), often);
@@ -92,8 +86,7 @@ fn sets_all(rt: &impl Abort, guide: &Asked<'_>, id: BucketId, total: u64, often:
     is_set && is_summed
 }
 
-/// Whether osd.0, which is 2 deep, and h1, which is 1 deep, are asked for 3 and 2 times: for the item
-/// and for each bucket above it.
+/// osd.0 is 2 deep, h1 is 1 deep: one use for the item and for each bucket above it.
 pub(super) fn weights_ask(rt: &impl Abort, guide: &Asked<'_>) -> bool {
     weighs(guide, &device_item(rt, 0), Weight::from_units(65536), 3)
         && weighs(guide, &bucket_item(rt, 2), Weight::from_units(131072), 2)

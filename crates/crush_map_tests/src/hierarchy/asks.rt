@@ -1,4 +1,4 @@
-//! What a caller asks before a change.
+//! What a caller tests before a change of a hierarchy.
 
 ghost use Rattle.std.specs.Prelude.{◌≡◌, false};
 ghost use Rattle.crush_units.specs.Name.{IsName};
@@ -12,7 +12,6 @@ use crush_tree::Place;
 use crush_units::{BucketId, DeviceId, ItemId, Name, Weight};
 use std::alloc::Global;
 
-/// Whether the item is there.
 pub(super) fn has_item(hierarchy: &Hierarchy<Global>, id: &ItemId) -> bool
     ensures { result ≡ is_there (rows_of hierarchy.now) id.now }
 {
@@ -20,7 +19,6 @@ pub(super) fn has_item(hierarchy: &Hierarchy<Global>, id: &ItemId) -> bool
     hierarchy.find(*id).is_some()
 }
 
-/// Whether a bucket holds the item.
 pub(super) fn is_held(hierarchy: &Hierarchy<Global>, id: &ItemId) -> bool
     ensures { result ≡ is_placed (rows_of hierarchy.now) id.now }
 {
@@ -28,7 +26,6 @@ pub(super) fn is_held(hierarchy: &Hierarchy<Global>, id: &ItemId) -> bool
     hierarchy.parent(*id).is_some()
 }
 
-/// Whether the second bucket is the first, or below it.
 pub(super) fn is_inside(hierarchy: &Hierarchy<Global>, own: BucketId, bucket: BucketId) -> bool
     ensures { result ≡ is_part (rows_of hierarchy.now) (BucketItem own) (BucketItem bucket) }
 {
@@ -36,14 +33,12 @@ pub(super) fn is_inside(hierarchy: &Hierarchy<Global>, own: BucketId, bucket: Bu
     hierarchy.contains(own, ItemId::Bucket(bucket))
 }
 
-/// Whether one of two buckets is the other or below it.
 pub(super) fn are_nested(hierarchy: &Hierarchy<Global>, a: BucketId, b: BucketId) -> bool
     ensures { result ≡ are_nested (rows_of hierarchy.now) a b }
 {
     is_inside(hierarchy, a, b) || is_inside(hierarchy, b, a)
 }
 
-/// Whether an item has the name.
 pub(super) fn has_name(hierarchy: &Hierarchy<Global>, name: &Name<Global>) -> bool
     ensures named { result ≡ is_named (rows_of hierarchy.now) name.now }
     ensures name { IsName name.now }
@@ -52,7 +47,6 @@ pub(super) fn has_name(hierarchy: &Hierarchy<Global>, name: &Name<Global>) -> bo
     hierarchy.id_of(name.as_str()).is_some()
 }
 
-/// Whether sums stay in range where items of this weight come to a bucket, if it is there.
 pub(super) fn fits_attach(
     hierarchy: &Hierarchy<Global>,
     bucket: BucketId,
@@ -65,8 +59,6 @@ pub(super) fn fits_attach(
     }
 }
 
-/// Whether sums stay in range where a device comes to a bucket with this weight, if the bucket is
-/// there.
 pub(super) fn fits_move(
     hierarchy: &Hierarchy<Global>,
     device: DeviceId,
@@ -80,8 +72,6 @@ pub(super) fn fits_move(
     }
 }
 
-/// Whether sums stay in range where two buckets exchange their items, if both are there and neither
-/// is in the other.
 pub(super) fn fits_swap(hierarchy: &Hierarchy<Global>, a: BucketId, b: BucketId) -> Option<bool> {
     if has_item(hierarchy, &ItemId::Bucket(a))
         && has_item(hierarchy, &ItemId::Bucket(b))

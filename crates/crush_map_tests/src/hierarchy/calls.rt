@@ -10,7 +10,6 @@ use crush_units::{Alg, DeviceId, ItemId, Name, TypeId, Weight};
 use std::alloc::Global;
 use std::process::Abort;
 
-/// Adds an empty root.
 fn add_root(
     rt: &(impl Abort + AllocGlobal),
     hierarchy: &mut Hierarchy<Global>,
@@ -21,7 +20,6 @@ fn add_root(
     assert!(rt; put_root(hierarchy, rt.alloc(), id, kind, name(rt, text)));
 }
 
-/// Adds an empty host to the root.
 fn add_host(
     rt: &(impl Abort + AllocGlobal),
     hierarchy: &mut Hierarchy<Global>,
@@ -32,7 +30,6 @@ fn add_host(
     assert!(rt; put_bucket(hierarchy, rt.alloc(), root, id, kind, name(rt, text)));
 }
 
-/// Adds a device of so many units to a bucket.
 fn add_device(
     rt: &(impl Abort + AllocGlobal),
     hierarchy: &mut Hierarchy<Global>,
@@ -50,7 +47,6 @@ fn add_device(
     drop(text);
 }
 
-/// Adds a device that no bucket holds.
 fn add_unplaced(
     rt: &(impl Abort + AllocGlobal),
     hierarchy: &mut Hierarchy<Global>,
@@ -60,8 +56,8 @@ fn add_unplaced(
     assert!(rt; put_unplaced(hierarchy, device(rt, number), name(rt, text)));
 }
 
-/// Puts the root `default`, h1 with osd.0 and osd.1 of 1.0 each, h2 with osd.2 of 0.5, and osd.3,
-/// which no bucket holds, into a hierarchy.
+/// The root `default`, h1 with osd.0 and osd.1 of 1.0 each, h2 with osd.2 of 0.5, and the unplaced
+/// osd.3.
 fn fill(rt: &(impl Abort + AllocGlobal), hierarchy: &mut Hierarchy<Global>) {
     add_root(rt, hierarchy, 1, "default");
     add_host(rt, hierarchy, 2, "h1");
@@ -72,25 +68,21 @@ fn fill(rt: &(impl Abort + AllocGlobal), hierarchy: &mut Hierarchy<Global>) {
     add_unplaced(rt, hierarchy, 3, "osd.3");
 }
 
-/// The hierarchy of all of them.
 pub(super) fn example(rt: &(impl Abort + AllocGlobal)) -> Hierarchy<Global> {
     let mut hierarchy = Hierarchy::new(rt.alloc(), Hashing::plain(), rt.alloc(), rt.alloc());
     fill(rt, &mut hierarchy);
     hierarchy
 }
 
-/// Whether there are so many devices and buckets, of so many units together.
 fn sums_up(hierarchy: &Hierarchy<Global>, devices: u32, buckets: u32, units: u64) -> bool {
     let counts = hierarchy.counts();
     counts.devices == devices && counts.buckets == buckets && hierarchy.total() == units
 }
 
-/// Whether the bucket weighs so many units.
 fn weighs(rt: &impl Abort, hierarchy: &Hierarchy<Global>, distance: u32, units: u32) -> bool {
     hierarchy.weight(bucket_item(rt, distance)) == Some(Weight::from_units(units))
 }
 
-/// Whether osd.2 is found by its name, in h2, which is found by its own.
 fn is_osd_2_in_h2(rt: &impl Abort, hierarchy: &Hierarchy<Global>) -> bool {
     hierarchy.id_of("osd.2") == Some(device_item(rt, 2))
         && hierarchy.id_of_bytes(b"h2") == Some(bucket_item(rt, 3))
@@ -98,7 +90,6 @@ fn is_osd_2_in_h2(rt: &impl Abort, hierarchy: &Hierarchy<Global>) -> bool {
         && hierarchy.parent(device_item(rt, 3)).is_none()
 }
 
-/// Whether the columns of h2 are told.
 fn tells_of_h2(rt: &impl Abort, hierarchy: &Hierarchy<Global>) -> bool {
     let kind = hierarchy.kind(bucket_item(rt, 3)).expect(rt, "h2");
     kind.number() == 1
@@ -106,8 +97,6 @@ fn tells_of_h2(rt: &impl Abort, hierarchy: &Hierarchy<Global>) -> bool {
         && weighs(rt, hierarchy, 3, 32768)
 }
 
-/// Whether h2 is found whole by its id, in the root, with no class id, and no item of an id that none
-/// has.
 fn finds_h2(rt: &impl Abort, hierarchy: &Hierarchy<Global>) -> bool {
     let has_no_class_id = match hierarchy.class_ids(bucket(rt, 3)) {
         Some(ids) => ids.is_empty(),
@@ -128,13 +117,11 @@ fn finds_h2(rt: &impl Abort, hierarchy: &Hierarchy<Global>) -> bool {
         && hierarchy.class_ids(bucket(rt, 9)).is_none()
 }
 
-/// Whether osd.2 is below the root and not below h1.
 fn tells_what_is_below(rt: &impl Abort, hierarchy: &Hierarchy<Global>) -> bool {
     hierarchy.contains(bucket(rt, 1), device_item(rt, 2))
         && !hierarchy.contains(bucket(rt, 2), device_item(rt, 2))
 }
 
-/// Whether the items have these ids in order, as the numbers that a map shows.
 fn are_numbered(items: &[Node<Global>], numbers: &[i32]) -> bool {
     items.len() == numbers.len()
         && items
@@ -143,13 +130,11 @@ fn are_numbered(items: &[Node<Global>], numbers: &[i32]) -> bool {
             .all(|(item, number)| item.id().number() == *number)
 }
 
-/// Whether the bucket whose id is so far below 0 holds the items of these numbers, in order.
 fn holds(rt: &impl Abort, hierarchy: &Hierarchy<Global>, distance: u32, numbers: &[i32]) -> bool {
     let items = hierarchy.items(bucket(rt, distance)).expect(rt, "a bucket");
     are_numbered(items, numbers)
 }
 
-/// Whether the ids -4 and -5 are told, which are free beside -1, -2 and -3.
 fn frees_two_ids(rt: &impl Abort, hierarchy: &Hierarchy<Global>) -> bool {
     let mut ids = [bucket(rt, 1); 2];
     hierarchy.free_ids(&mut ids);
@@ -159,7 +144,6 @@ fn frees_two_ids(rt: &impl Abort, hierarchy: &Hierarchy<Global>) -> bool {
         && !hierarchy.is_used(bucket(rt, 4))
 }
 
-/// Whether each item stands where it was put, in order.
 fn holds_all(rt: &impl Abort, hierarchy: &Hierarchy<Global>) -> bool {
     are_numbered(hierarchy.forest().roots(), &[-1])
         && holds(rt, hierarchy, 1, &[-2, -3])
@@ -168,7 +152,6 @@ fn holds_all(rt: &impl Abort, hierarchy: &Hierarchy<Global>) -> bool {
         && are_numbered(hierarchy.forest().unplaced(), &[3])
 }
 
-/// Whether a copy holds the same, and tells so.
 fn is_copied(rt: &impl Abort, hierarchy: &Hierarchy<Global>) -> bool {
     let copy = hierarchy.try_copy().expect(rt, "memory");
     let is_copied = holds_all(rt, &copy)
@@ -180,7 +163,6 @@ fn is_copied(rt: &impl Abort, hierarchy: &Hierarchy<Global>) -> bool {
     is_copied
 }
 
-/// Whether all is told.
 fn tells_all(rt: &impl Abort, hierarchy: &Hierarchy<Global>) -> bool {
     sums_up(hierarchy, 4, 3, 163840)
         && is_osd_2_in_h2(rt, hierarchy)
@@ -200,8 +182,7 @@ fn what_is_told(rt: HostRuntime) {
     assert!(rt; is_told);
 }
 
-/// Whether the root, which weighs 163840 units, can come to weigh 4294967295 by more items and by
-/// osd.0 in h2, and no unit more.
+/// The root weighs 163840 units, and may weigh 4294967295.
 fn tells_what_fits(rt: &impl Abort, hierarchy: &Hierarchy<Global>) -> bool {
     let (h2, osd_0) = (bucket(rt, 3), device(rt, 0));
     fits_attach(hierarchy, h2, Weight::from_units(4294803455)) == Some(true)
@@ -210,15 +191,15 @@ fn tells_what_fits(rt: &impl Abort, hierarchy: &Hierarchy<Global>) -> bool {
         && fits_move(hierarchy, osd_0, h2, Weight::from_units(4294868992)) == Some(false)
 }
 
-/// Whether 65536 units are the weights of both devices of h1, and one more is another.
+/// Both devices of h1 weigh 65536 units.
 fn tells_what_changes(rt: &impl Abort, hierarchy: &mut Hierarchy<Global>) -> bool {
     let h1 = bucket(rt, 2);
     weigh_all(hierarchy, h1, Weight::from_units(65536)) == Some(false)
         && weigh_all(hierarchy, h1, Weight::from_units(65537)) == Some(true)
 }
 
-/// Whether the root comes to weigh 4294967295 units by both devices of h1, beside the 32768 of h2,
-/// and then by osd.2, and no unit more.
+/// The root comes to weigh 4294967295 units, the most, by both devices of h1 beside the 32768 of
+/// h2, and then by osd.2.
 fn grows_as_far_as_it_fits(rt: &impl Abort, hierarchy: &mut Hierarchy<Global>) -> bool {
     let (h1, osd_2) = (bucket(rt, 2), device(rt, 2));
     weigh_all(hierarchy, h1, Weight::from_units(2147467264)).is_none()
@@ -230,8 +211,7 @@ fn grows_as_far_as_it_fits(rt: &impl Abort, hierarchy: &mut Hierarchy<Global>) -
         && sums_up(hierarchy, 4, 3, 4294967295)
 }
 
-/// Whether h1 can be exchanged with a root that weighs 4294967295 units less the 32768 of h2, and not
-/// with one that weighs a unit more.
+/// With the 32768 of h2 the root may weigh 4294967295 units.
 fn tells_what_can_be_exchanged(
     rt: &(impl Abort + AllocGlobal),
     hierarchy: &mut Hierarchy<Global>,
@@ -262,8 +242,6 @@ fn weights_as_far_as_they_fit(rt: HostRuntime) {
     assert!(rt; grows);
 }
 
-/// Whether each item is still there once the list of unplaced devices has given back the memory that
-/// it had to spare.
 fn gives_memory_back(rt: &impl Abort, hierarchy: &mut Hierarchy<Global>) -> bool {
     hierarchy.shrink();
     holds_all(rt, hierarchy)
@@ -279,7 +257,6 @@ fn memory_to_spare(rt: HostRuntime) {
     assert!(rt; is_given_back);
 }
 
-/// Whether the host h2 goes out with osd.2, of 32768 units.
 fn goes_out(rt: &impl Abort, hierarchy: &mut Hierarchy<Global>) -> bool {
     let h2 = hierarchy.detach(bucket_item(rt, 3)).expect(rt, "h2");
     let weight = h2.weight();
@@ -290,7 +267,6 @@ fn goes_out(rt: &impl Abort, hierarchy: &mut Hierarchy<Global>) -> bool {
         && hierarchy.id_of("osd.2").is_none()
 }
 
-/// Whether osd.3 comes into h1 once there is room, last, with 2.0.
 fn comes_in(rt: &impl Abort, hierarchy: &mut Hierarchy<Global>) -> bool {
     let h1 = bucket(rt, 2);
     let has_room = make_room(hierarchy, h1);
@@ -302,7 +278,6 @@ fn comes_in(rt: &impl Abort, hierarchy: &mut Hierarchy<Global>) -> bool {
         && weighs(rt, hierarchy, 1, 262144)
 }
 
-/// h2 goes out, osd.3 comes into h1, and osd.2 comes again, as a device that no bucket holds.
 #[test]
 fn items_come_and_go(rt: HostRuntime) {
     let mut hierarchy = example(&rt);
@@ -314,7 +289,6 @@ fn items_come_and_go(rt: HostRuntime) {
     assert!(rt; is_out && is_in && is_there);
 }
 
-/// Whether the sums follow new weights, of osd.2 and of all devices.
 fn sums_follow(rt: &impl Abort, hierarchy: &mut Hierarchy<Global>) -> bool {
     let is_weighed = weigh(hierarchy, device(rt, 2), Weight::from_units(65536));
     let follows = weighs(rt, hierarchy, 3, 65536) && sums_up(hierarchy, 4, 3, 196608);
@@ -326,7 +300,6 @@ fn sums_follow(rt: &impl Abort, hierarchy: &mut Hierarchy<Global>) -> bool {
         && sums_up(hierarchy, 4, 3, 3)
 }
 
-/// Gives a device a class or takes it away, if it is there, and tells whether it had none before.
 fn had_no_class(
     hierarchy: &mut Hierarchy<Global>,
     device: DeviceId,
@@ -343,12 +316,10 @@ fn had_no_class(
     had_none
 }
 
-/// Whether the devices of class `ssd` that are the item or below it weigh so many units.
 fn weighs_of_ssd(hierarchy: &Hierarchy<Global>, id: ItemId, units: u32) -> bool {
     hierarchy.class_weight(id, "ssd") == Some(Weight::from_units(units))
 }
 
-/// Whether a device without a class gets the class `ssd`.
 fn gets_ssd(
     rt: &(impl Abort + AllocGlobal),
     hierarchy: &mut Hierarchy<Global>,
@@ -358,8 +329,7 @@ fn gets_ssd(
     had_no_class(hierarchy, device(rt, number), class)
 }
 
-/// Whether osd.0 and osd.2, and no other device, are of the class `ssd`: they weigh 98304 units
-/// together in the root and 32768 in h2, and nothing is of another class.
+/// osd.0 and osd.2 are of the class: 98304 units in the root, 32768 in h2.
 fn tells_of_classes(rt: &impl Abort, hierarchy: &Hierarchy<Global>) -> bool {
     hierarchy.class(device_item(rt, 0)) == Some("ssd")
         && hierarchy.class(device_item(rt, 1)).is_none()
@@ -370,14 +340,12 @@ fn tells_of_classes(rt: &impl Abort, hierarchy: &Hierarchy<Global>) -> bool {
         && hierarchy.class_weight(bucket_item(rt, 9), "ssd").is_none()
 }
 
-/// Whether osd.0 and osd.2 get the class `ssd`, and are then told so.
 fn are_classed(rt: &(impl Abort + AllocGlobal), hierarchy: &mut Hierarchy<Global>) -> bool {
     let is_first = gets_ssd(rt, hierarchy, 0);
     let is_second = gets_ssd(rt, hierarchy, 2);
     is_first && is_second && tells_of_classes(rt, hierarchy)
 }
 
-/// Whether osd.0 loses its class, which then weighs 32768 units in the root.
 fn is_unclassed(rt: &impl Abort, hierarchy: &mut Hierarchy<Global>) -> bool {
     !had_no_class(hierarchy, device(rt, 0), None)
         && hierarchy.class(device_item(rt, 0)).is_none()
@@ -393,7 +361,6 @@ fn classes_of_devices(rt: HostRuntime) {
     assert!(rt; is_done);
 }
 
-/// Whether h1 gets the name h9.
 fn is_renamed(rt: &(impl Abort + AllocGlobal), hierarchy: &mut Hierarchy<Global>) -> bool {
     let h1 = bucket_item(rt, 2);
     give_name(hierarchy, &h1, name(rt, "h9"))
@@ -402,7 +369,6 @@ fn is_renamed(rt: &(impl Abort + AllocGlobal), hierarchy: &mut Hierarchy<Global>
         && hierarchy.id_of("h1").is_none()
 }
 
-/// Whether h9 and its devices have the id that h2 had, once they are exchanged.
 fn are_exchanged(rt: &impl Abort, hierarchy: &mut Hierarchy<Global>) -> bool {
     exchange(hierarchy, b"h9", b"h2")
         && hierarchy.id_of("h9") == Some(bucket_item(rt, 3))

@@ -1,16 +1,12 @@
-//! Names that collide under the plain hash.
-//!
-//! Each is of six letters and digits. They are the first, by the alphabet and then the digits, whose
-//! hash without keys (SipHash-1-3 with keys of zeros), folded to 32 bits as a table folds it, has the
-//! same lowest 16 bits and the same highest 8 as that of `aaaaaa`. The lowest bits choose where in
-//! the table a name is looked for, and the highest are the mark by which it is told from others
-//! there. So all are looked for in one place, and none is told from another by its mark.
+//! Names that collide under the plain hash: the first of six letters and digits, by the alphabet
+//! and then the digits, whose hash (SipHash-1-3 with keys of zeros, folded to 32 bits) has the
+//! lowest 16 bits and the highest 8 of that of `aaaaaa`. The lowest choose a name's place in the
+//! table, the highest are its mark there.
 
 use super::names::{add, device};
 use crush_index::{Hashing, Index};
 use std::alloc::Global;
 
-/// Adds a device of each name, the first with the id 0. Whether that was done.
 fn add_each(index: &mut Index, alloc: Global, texts: &[&str]) -> bool {
     for (number, text) in (0u32..32).zip(texts) {
         if !add(index, alloc, text.as_bytes(), device(number)) {
@@ -20,7 +16,6 @@ fn add_each(index: &mut Index, alloc: Global, texts: &[&str]) -> bool {
     true
 }
 
-/// Whether each name has its device, but one that has none.
 fn tell_each(index: &Index, texts: &[&str], gone: Option<u32>) -> bool {
     for (number, text) in (0u32..32).zip(texts) {
         let id = if gone == Some(number) {
@@ -35,7 +30,6 @@ fn tell_each(index: &Index, texts: &[&str], gone: Option<u32>) -> bool {
     true
 }
 
-/// Gives the item of one name another. Whether that was done.
 fn rename(index: &mut Index, alloc: Global, from: &str, to: &str) -> bool {
     let id = index.id_of(from.as_bytes());
     let done = add(index, alloc, to.as_bytes(), id);

@@ -1,4 +1,4 @@
-//! New items: each comes once it was asked whether it may.
+//! New items, each put in after a test that it may come.
 
 ghost use Rattle.std.specs.Prelude.{◌≡◌, ◌++◌, ◌∷◌, [], true, Some, None, IfSome, IsTrue};
 ghost use Rattle.crush_units.specs.Name.{IsName};
@@ -18,7 +18,6 @@ use crush_units::limits::{MOST_BUCKETS, MOST_DEVICES};
 use crush_units::{Alg, BucketId, DeviceId, ItemId, Name, TypeId, Weight};
 use std::alloc::Global;
 
-/// Whether a device of this name and weight may come into a bucket.
 pub(super) fn can_come(
     hierarchy: &Hierarchy<Global>,
     bucket: BucketId,
@@ -53,7 +52,6 @@ pub(super) fn can_come(
     true
 }
 
-/// Puts a new device last into a bucket, if it may come. Whether that is done.
 pub(super) fn put_placed(
     hierarchy: &mut Hierarchy<Global>,
     bucket: BucketId,
@@ -69,7 +67,6 @@ pub(super) fn put_placed(
     hierarchy.add(Place::Bucket(bucket), node).is_ok()
 }
 
-/// Puts a new device that no bucket holds, if it may come. Whether that is done.
 pub(super) fn put_unplaced(
     hierarchy: &mut Hierarchy<Global>,
     id: DeviceId,
@@ -93,7 +90,6 @@ pub(super) fn put_unplaced(
     hierarchy.add(Place::Unplaced, node).is_ok()
 }
 
-/// An empty bucket without class ids, if there is memory.
 fn empty_bucket(
     alloc: Global,
     id: BucketId,
@@ -119,7 +115,6 @@ fn empty_bucket(
     }
 }
 
-/// Puts a new empty bucket among the roots, if it may come. Whether that is done.
 pub(super) fn put_root(
     hierarchy: &mut Hierarchy<Global>,
     alloc: Global,
@@ -151,7 +146,6 @@ pub(super) fn put_root(
     hierarchy.add(Place::Root, node).is_ok()
 }
 
-/// Puts a new empty bucket last into another, if it may come. Whether that is done.
 pub(super) fn put_bucket(
     hierarchy: &mut Hierarchy<Global>,
     alloc: Global,

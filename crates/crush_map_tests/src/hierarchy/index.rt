@@ -24,7 +24,7 @@ fn name(rt: &impl Abort, alloc: Global, text: &[u8]) -> Name<Global> {
     Name::read(alloc, text).expect(rt, "a name")
 }
 
-/// The header of the bucket 2, h1, whose class id of `ssd` is 3.
+/// The bucket -2, whose class id of `ssd` is -3.
 fn header(rt: &impl Abort, alloc: Global) -> Header<Global> {
     let mut class_ids = Vec::new(alloc);
     let class = ShadowId {
@@ -41,14 +41,12 @@ fn header(rt: &impl Abort, alloc: Global) -> Header<Global> {
     }
 }
 
-/// The bucket of the header, without items.
 fn host(rt: &impl Abort, alloc: Global) -> Node<Global> {
     Node::bucket(alloc, header(rt, alloc))
         .ok()
         .expect(rt, "memory")
 }
 
-/// The device osd.0.
 fn leaf(rt: &impl Abort, alloc: Global) -> Node<Global> {
     let id = DeviceId::from_number(0).expect(rt, "the id of a device");
     Node::device(
@@ -59,7 +57,6 @@ fn leaf(rt: &impl Abort, alloc: Global) -> Node<Global> {
     )
 }
 
-/// Whether h1 and its ids are told, and osd.0 stands there.
 fn tells(index: &Index, rt: &impl Abort, host: Option<Spot>, leaf: Option<Spot>) -> bool {
     let id = bucket(rt, 2);
     let is_there = host.is_some();
@@ -169,7 +166,6 @@ fn a_name_is_another(rt: HostRuntime) {
     drop(index);
 }
 
-/// The bucket 1, h2, without class ids and items.
 fn other(rt: &impl Abort, alloc: Global) -> Node<Global> {
     let header = Header {
         id: bucket(rt, 1),
@@ -181,7 +177,6 @@ fn other(rt: &impl Abort, alloc: Global) -> Node<Global> {
     Node::bucket(alloc, header).ok().expect(rt, "memory")
 }
 
-/// The bucket of this name.
 fn named(index: &Index, name: &[u8]) -> Option<BucketId>
     ensures { IfSome result (λ b. id_told index.now.names name.now ≡ Some (BucketItem b)) }
 {
@@ -191,7 +186,6 @@ fn named(index: &Index, name: &[u8]) -> Option<BucketId>
     }
 }
 
-/// Exchanges the buckets h1 and h2, where they are there.
 pub(super) fn exchange_hosts(index: &mut Index) {
     let Some(first) = named(index, b"h1") else {
         return;

@@ -1,41 +1,34 @@
-//! Items as tests name them, in the machine's memory.
+//! Items as tests name them: a bucket by how far its id is below 0.
 
 use crush_tree::{Header, Node, Place};
 use crush_units::{Alg, BucketId, DeviceId, ItemId, Name, TypeId, Weight};
 use std::alloc::Global;
 use std::process::Abort;
 
-/// The bucket whose id is so far below 0.
 pub(super) fn bucket(rt: &impl Abort, distance: u32) -> BucketId {
     BucketId::below_zero(distance).expect(rt, "a bucket")
 }
 
-/// The device of a number.
 pub(super) fn device(rt: &impl Abort, number: u32) -> DeviceId {
     DeviceId::from_number(number).expect(rt, "a device")
 }
 
-/// The bucket whose id is so far below 0, as an item.
 pub(super) fn bucket_item(rt: &impl Abort, distance: u32) -> ItemId {
     ItemId::Bucket(bucket(rt, distance))
 }
 
-/// The device of a number, as an item.
 pub(super) fn device_item(rt: &impl Abort, number: u32) -> ItemId {
     ItemId::Device(device(rt, number))
 }
 
-/// The place inside the bucket whose id is so far below 0.
 pub(super) fn inside(rt: &impl Abort, distance: u32) -> Place {
     Place::Bucket(bucket(rt, distance))
 }
 
-/// A name for which there is memory.
 pub(super) fn name(rt: &(impl Abort + AllocGlobal), text: &str) -> Name<Global> {
     Name::read(rt.alloc(), text.as_bytes()).expect(rt, "a name")
 }
 
-/// An empty bucket of a type, whose id is so far below 0.
 pub(super) fn empty(
     rt: &(impl Abort + AllocGlobal),
     distance: u32,
@@ -52,7 +45,6 @@ pub(super) fn empty(
     Node::bucket(rt.alloc(), header).ok().expect(rt, "memory")
 }
 
-/// A device without a class, of so many units.
 pub(super) fn leaf(
     rt: &(impl Abort + AllocGlobal),
     number: u32,

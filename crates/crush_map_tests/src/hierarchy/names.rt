@@ -6,7 +6,6 @@ use crush_units::{BucketId, DeviceId, ItemId, Name};
 use std::alloc::{AllocGlobal, Global};
 use std::hash::RandomState;
 
-/// The bucket that a map shows as the id below 0.
 fn bucket(distance: u32) -> Option<ItemId> {
     let id = BucketId::below_zero(distance)?;
     Some(ItemId::Bucket(id))
@@ -17,7 +16,6 @@ pub(super) fn device(number: u32) -> Option<ItemId> {
     Some(ItemId::Device(id))
 }
 
-/// Adds an item of this name. Whether that was done.
 pub(super) fn add(index: &mut Index, alloc: Global, text: &[u8], id: Option<ItemId>) -> bool {
     let Some(id) = id else {
         return false;
@@ -28,14 +26,12 @@ pub(super) fn add(index: &mut Index, alloc: Global, text: &[u8], id: Option<Item
     }
 }
 
-/// Adds the host h1, the host h2 and osd.0.
 fn add_three(index: &mut Index, alloc: Global) -> bool {
     add(index, alloc, b"h1", bucket(2))
         && add(index, alloc, b"h2", bucket(3))
         && add(index, alloc, b"osd.0", device(0))
 }
 
-/// Whether these three names, and x, have these ids.
 fn tell(index: &Index, h1: Option<ItemId>, h2: Option<ItemId>, osd: Option<ItemId>) -> bool {
     index.id_of(b"h1") == h1
         && index.id_of(b"h2") == h2

@@ -9,7 +9,6 @@ use crush_units::{BucketId, ItemId};
 use std::alloc::{AllocGlobal, Global};
 use std::process::Abort;
 
-/// The spot below the bucket whose id is so far below 0.
 fn below(rt: &impl Abort, distance: u32, near: u32) -> Option<Spot> {
     Some(Spot {
         place: inside(rt, distance),
@@ -17,13 +16,11 @@ fn below(rt: &impl Abort, distance: u32, near: u32) -> Option<Spot> {
     })
 }
 
-/// Tells of an item that comes to a place as the one of this number there.
 fn add(rt: &impl Abort, index: &mut Index, place: Place, near: u32, node: Node<Global>) {
     index.insert_node(place, near, &node).expect(rt, "memory");
     drop(node);
 }
 
-/// Adds the root 1, the host 2 as its first item, and osd.0 and osd.2 below the host.
 fn add_four(rt: &(impl Abort + AllocGlobal), index: &mut Index) {
     add(rt, index, Place::Root, 0, empty(rt, 1, 11, "default"));
     add(rt, index, inside(rt, 1), 0, empty(rt, 2, 1, "h1"));
@@ -48,12 +45,10 @@ fn places_come_and_go(rt: HostRuntime) {
     assert!(rt; was_absent && are_there && is_absent);
 }
 
-/// Whether this is found of an item by a slot.
 fn finds(index: &Index, id: &ItemId, slot: u32, found: &Found) -> bool {
     index.places().spot_from(*id, slot) == *found
 }
 
-/// Whether an item is found there, and the slot of its bucket, by its own slot and by others.
 fn leads(index: &Index, id: ItemId, spot: Option<Spot>, slot: u32) -> bool {
     let id = &id;
     let found = Found { spot, slot };
@@ -72,7 +67,6 @@ fn a_slot_is_never_trusted(rt: HostRuntime) {
     assert!(rt; leads_there);
 }
 
-/// Puts an item into a bucket, where both are there. Whether that is done.
 fn put(index: &mut Index, id: &ItemId, bucket: &BucketId, near: u32) -> bool {
     if index.places().spot(*id).is_none() {
         return false;
@@ -90,7 +84,6 @@ fn put(index: &mut Index, id: &ItemId, bucket: &BucketId, near: u32) -> bool {
     true
 }
 
-/// Takes osd.0 out and puts osd.2 below the root. Whether that is done.
 fn change(rt: &(impl Abort + AllocGlobal), index: &mut Index) -> bool {
     let gone = leaf(rt, 0, "osd.0", 1);
     index.remove_node(&gone);

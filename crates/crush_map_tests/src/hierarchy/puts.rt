@@ -1,4 +1,4 @@
-//! Changes of a hierarchy: each is made once it was asked whether it may be.
+//! Changes of a hierarchy, each made after a test that it may be.
 
 ghost use Rattle.std.specs.Prelude.{◌≡◌, ◌<◌, true, Some, IfSome, IsTrue};
 ghost use Rattle.crush_units.specs.declared.id.ItemId.TheVariants.{Bucket as BucketItem};
@@ -13,7 +13,6 @@ use crush_tree::Place;
 use crush_units::{BucketId, DeviceId, ItemId, Name, Weight};
 use std::alloc::Global;
 
-/// Makes room for one item more at a place inside a bucket, if that is there. Whether that is done.
 pub(super) fn make_room(hierarchy: &mut Hierarchy<Global>, bucket: BucketId) -> bool
     ensures there { IsTrue result → (is_there (rows_of hierarchy.new) (BucketItem bucket) ≡ true) }
     ensures room { IsTrue result → (0 < room hierarchy.new (AtBucket bucket)) }
@@ -27,8 +26,6 @@ pub(super) fn make_room(hierarchy: &mut Hierarchy<Global>, bucket: BucketId) -> 
     }
 }
 
-/// Puts a device last into a bucket, with this weight, if both are there and there is memory. Whether
-/// that is done.
 pub(super) fn put_device(
     hierarchy: &mut Hierarchy<Global>,
     device: DeviceId,
@@ -53,7 +50,6 @@ pub(super) fn put_device(
     true
 }
 
-/// Gives a placed device another weight. Whether that is done.
 pub(super) fn weigh(hierarchy: &mut Hierarchy<Global>, device: DeviceId, weight: Weight) -> bool {
     hierarchy.recall_invariant();
     if !weight.is_device_weight() {
@@ -65,7 +61,7 @@ pub(super) fn weigh(hierarchy: &mut Hierarchy<Global>, device: DeviceId, weight:
     hierarchy.replace_weight(device, weight).is_some()
 }
 
-/// Gives all devices below a bucket one weight. Whether one had another weight, if that is done.
+/// Whether one had another weight; `None` where it isn't done.
 pub(super) fn weigh_all(
     hierarchy: &mut Hierarchy<Global>,
     bucket: BucketId,
@@ -84,7 +80,6 @@ pub(super) fn weigh_all(
     }
 }
 
-/// Gives an item another name, if no item has it. Whether that is done.
 pub(super) fn give_name(
     hierarchy: &mut Hierarchy<Global>,
     id: &ItemId,
@@ -102,7 +97,6 @@ pub(super) fn give_name(
     hierarchy.rename(*id, name).is_ok()
 }
 
-/// The bucket of this name.
 fn named(hierarchy: &Hierarchy<Global>, name: &[u8]) -> Option<BucketId>
     ensures { IfSome result (λ b. id_named (rows_of hierarchy.now) name.now ≡ Some (BucketItem b)) }
 {
@@ -116,7 +110,6 @@ fn named(hierarchy: &Hierarchy<Global>, name: &[u8]) -> Option<BucketId>
     Some(bucket)
 }
 
-/// Exchanges names and items of the two buckets of these names. Whether that is done.
 pub(super) fn exchange(hierarchy: &mut Hierarchy<Global>, first: &[u8], second: &[u8]) -> bool {
     hierarchy.recall_invariant();
     let Some(a) = named(hierarchy, first) else {

@@ -8,7 +8,6 @@ use crush_units::{Alg, TypeId};
 use std::alloc::{AllocGlobal, Global};
 use std::process::Abort;
 
-/// A class id, as a bucket has it.
 fn class_id(rt: &(impl Abort + AllocGlobal), distance: u32) -> ShadowId<Global> {
     ShadowId {
         id: bucket(rt, distance),
@@ -16,7 +15,6 @@ fn class_id(rt: &(impl Abort + AllocGlobal), distance: u32) -> ShadowId<Global> 
     }
 }
 
-/// An empty bucket that uses an id of its own and these class ids.
 fn user(
     rt: &(impl Abort + AllocGlobal),
     distance: u32,
@@ -33,7 +31,7 @@ fn user(
     Node::bucket(rt.alloc(), header).ok().expect(rt, "memory")
 }
 
-/// The bucket -1, which uses -2 too, those from -4 to -64, -66 and the furthest of all.
+/// -1, -2, those from -4 to -64, -66 and the furthest of all.
 fn user_of_most(rt: &(impl Abort + AllocGlobal)) -> Node<Global> {
     let mut class_ids = Vec::new(rt.alloc());
     class_ids.push(class_id(rt, 2)).expect(rt, "memory");
@@ -47,19 +45,17 @@ fn user_of_most(rt: &(impl Abort + AllocGlobal)) -> Node<Global> {
     user(rt, 1, "h1", class_ids)
 }
 
-/// The bucket -3, which uses the first id without a bit too.
+/// -3, and the first id for which there is no bit.
 fn user_of_two(rt: &(impl Abort + AllocGlobal)) -> Node<Global> {
     let mut class_ids = Vec::new(rt.alloc());
     class_ids.push(class_id(rt, 69_696)).expect(rt, "memory");
     user(rt, 3, "h2", class_ids)
 }
 
-/// Whether the id so far below 0 is in use.
 fn has(rt: &impl Abort, index: &Index, distance: u32) -> bool {
     index.is_used(bucket(rt, distance))
 }
 
-/// Whether the ids on both sides of these ends are told as they are.
 fn tells_ends(rt: &impl Abort, index: &Index) -> bool {
     has(rt, index, 1)
         && has(rt, index, 64)
@@ -71,7 +67,6 @@ fn tells_ends(rt: &impl Abort, index: &Index) -> bool {
         && has(rt, index, 2_147_483_648)
 }
 
-/// Whether the nearest free ids are told, from some ids on.
 fn tells_free(index: &Index) -> bool {
     index.first_free(1) == Some(65)
         && index.first_free(66) == Some(67)
@@ -98,7 +93,6 @@ fn ids_are_in_use(rt: HostRuntime) {
     assert!(rt; is_free && is_free_further_on && is_told);
 }
 
-/// Whether -3 and the first id without a bit are free again, and those beside -3 aren't.
 fn tells_what_is_free_again(rt: &impl Abort, index: &Index) -> bool {
     index.first_free(1) == Some(3)
         && index.first_free(4) == Some(65)

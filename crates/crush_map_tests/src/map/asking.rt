@@ -1,4 +1,4 @@
-//! Edits as they are asked for, and what may be true of a map.
+//! Edits as tests name them, and facts of a map.
 
 use crush_map::{BatchFault, CrushMap, Done, Dones, Edit, EditFault, Location};
 use crush_tree::Node;
@@ -7,10 +7,10 @@ use crush_units::{DeviceId, ItemId, Name, Weight};
 use std::alloc::{Allocator, Global};
 use std::process::Abort;
 
-/// The pairs of a location: a type name and a bucket name each.
+/// A type name and a bucket name each.
 pub(super) type Pairs = &'static [(&'static str, &'static str)];
 
-/// An edit as a script asks for it, with weights in units. A device N is named osd.N.
+/// Weights are in units. A device N is named osd.N.
 #[derive(Clone, Copy)]
 pub(super) enum Asked {
     Add(i32, u32, Pairs),
@@ -27,44 +27,34 @@ pub(super) enum Asked {
     RemoveClass(&'static str),
 }
 
-/// What may be true of a map, with weights in units.
+/// Weights are in units.
 #[derive(Clone, Copy)]
 pub(super) enum Fact {
-    /// The bucket of this name holds the items of these names, in order, and weighs so much.
+    /// A bucket, its items in order, and its weight.
     Holds(&'static str, &'static [&'static str], u32),
-    /// The item of this name has the id of this number.
     HasId(&'static str, i32),
-    /// The bucket of this name stands in no other.
     IsRoot(&'static str),
-    /// No item has this name.
     IsAbsent(&'static str),
-    /// The item of this name weighs so much.
     Weighs(&'static str, u32),
-    /// The device of this name has this class.
     HasClass(&'static str, &'static str),
-    /// All placed devices weigh so much.
     Total(u64),
-    /// There are so many devices and so many buckets.
+    /// Devices and buckets.
     Counts(u32, u32),
 }
 
-/// A name in the machine's memory.
 pub(super) fn name(rt: &impl Abort, alloc: Global, text: &str) -> Name<Global> {
     Name::read(alloc, text.as_bytes()).expect(rt, text)
 }
 
-/// The device of this number.
 fn device(rt: &impl Abort, number: i32) -> DeviceId {
     DeviceId::new(number).expect(rt, "a device")
 }
 
-/// The name of the device of this number.
 fn device_name(rt: &impl Abort, alloc: Global, number: i32) -> Name<Global> {
     let text = format!(in alloc; "osd.{number}").expect(rt, "memory");
     name(rt, alloc, text.as_str())
 }
 
-/// A location of these pairs.
 fn location(rt: &impl Abort, alloc: Global, pairs: Pairs) -> Location {
     let mut at = Location::new(alloc);
     for (kind, bucket) in pairs {
@@ -74,7 +64,6 @@ fn location(rt: &impl Abort, alloc: Global, pairs: Pairs) -> Location {
     at
 }
 
-/// The edit that is asked for.
 pub(super) fn edit(rt: &impl Abort, alloc: Global, asked: Asked) -> Edit {
     match asked {
         Asked::Add(number, units, pairs) => Edit::Insert {
@@ -132,7 +121,6 @@ pub(super) fn edit(rt: &impl Abort, alloc: Global, asked: Asked) -> Edit {
     }
 }
 
-/// The edits that are asked for.
 pub(super) fn edits(rt: &impl Abort, alloc: Global, all: &[Asked]) -> Vec<Edit> {
     let mut made = Vec::new(alloc);
     for asked in all {
@@ -141,7 +129,6 @@ pub(super) fn edits(rt: &impl Abort, alloc: Global, all: &[Asked]) -> Vec<Edit> 
     made
 }
 
-/// The name of an item.
 fn name_of<A: Allocator>(node: &Node<A>) -> &str {
     match node {
         Node::Device(leaf) => leaf.name.as_str(),
@@ -149,7 +136,6 @@ fn name_of<A: Allocator>(node: &Node<A>) -> &str {
     }
 }
 
-/// Whether these are the items of these names, in order.
 fn are_named<A: Allocator>(nodes: &[Node<A>], names: &[&str]) -> bool {
     nodes.len() == names.len()
         && nodes
@@ -158,7 +144,6 @@ fn are_named<A: Allocator>(nodes: &[Node<A>], names: &[&str]) -> bool {
             .all(|(node, name)| name_of(node) == *name)
 }
 
-/// Whether the bucket of this name holds the items of these names, in order.
 fn holds<A: Allocator>(map: &CrushMap<A>, bucket: &str, items: &[&str]) -> bool {
     let Some(id) = map.locate(bucket) else {
         return false;
@@ -172,7 +157,6 @@ fn holds<A: Allocator>(map: &CrushMap<A>, bucket: &str, items: &[&str]) -> bool 
     are_named(nodes, items)
 }
 
-/// Whether the item of this name has the id of this number.
 fn has_id<A: Allocator>(map: &CrushMap<A>, item: &str, number: i32) -> bool {
     match map.locate(item) {
         Some(id) => id.number() == number,
@@ -180,7 +164,6 @@ fn has_id<A: Allocator>(map: &CrushMap<A>, item: &str, number: i32) -> bool {
     }
 }
 
-/// Whether the bucket of this name stands in no other.
 fn is_root<A: Allocator>(map: &CrushMap<A>, bucket: &str) -> bool {
     match map.locate(bucket) {
         Some(id) => map.parent(id).is_none(),
@@ -188,12 +171,10 @@ fn is_root<A: Allocator>(map: &CrushMap<A>, bucket: &str) -> bool {
     }
 }
 
-/// Whether the item of this name weighs so many units.
 fn weighs<A: Allocator>(map: &CrushMap<A>, item: &str, units: u32) -> bool {
     map.weight_of(item) == Some(Weight::from_units(units))
 }
 
-/// Whether the device of this name has the class.
 pub(super) fn has_class<A: Allocator>(map: &CrushMap<A>, device: &str, class: &str) -> bool {
     match map.locate(device) {
         Some(id) => map.class_of(id) == Some(class),
@@ -201,13 +182,11 @@ pub(super) fn has_class<A: Allocator>(map: &CrushMap<A>, device: &str, class: &s
     }
 }
 
-/// Whether there are so many devices and so many buckets.
 fn counts<A: Allocator>(map: &CrushMap<A>, devices: u32, buckets: u32) -> bool {
     let counts = map.counts();
     counts.devices == devices && counts.buckets == buckets
 }
 
-/// Whether it is true of the map.
 fn is_true_of<A: Allocator>(map: &CrushMap<A>, fact: Fact) -> bool {
     match fact {
         Fact::Holds(bucket, items, units) => {
@@ -223,7 +202,6 @@ fn is_true_of<A: Allocator>(map: &CrushMap<A>, fact: Fact) -> bool {
     }
 }
 
-/// Asserts that all that is said in a line is true of the map.
 pub(super) fn are_true_of<A: Allocator>(
     rt: &impl Abort,
     map: &CrushMap<A>,
@@ -235,7 +213,6 @@ pub(super) fn are_true_of<A: Allocator>(
     }
 }
 
-/// Makes a batch that isn't longer than one may be.
 pub(super) fn make_batch<A: Allocator + Clone>(
     rt: &impl Abort,
     map: &mut CrushMap<A>,
@@ -245,16 +222,12 @@ pub(super) fn make_batch<A: Allocator + Clone>(
     map.apply_batch(edits)
 }
 
-/// What a call is answered.
 #[derive(Clone, Copy, PartialEq)]
 pub(super) enum Told {
-    /// Of an edit by itself.
     One(Result<Done, EditFault>),
-    /// Of a batch.
     Batch(Result<Dones, BatchFault>),
 }
 
-/// What the map answers to a call of these edits: of one by itself, else of a batch.
 pub(super) fn answer<A: Allocator + Clone>(
     rt: &impl Abort,
     map: &mut CrushMap<A>,
@@ -266,7 +239,6 @@ pub(super) fn answer<A: Allocator + Clone>(
     Told::Batch(make_batch(rt, map, edits))
 }
 
-/// The edit is made, and the map is another; no bucket is made.
 pub(super) const CHANGED: Told = Told::One(Ok(Done {
     changed: true,
     made: 0,

@@ -1,4 +1,4 @@
-//! Which name a refusal is about, on the example map.
+//! Which name a refusal is about.
 
 use crate::map::asking::{Asked, edit};
 use crate::map::whole::whole_example_map;
@@ -6,7 +6,7 @@ use crush_map::{CrushMap, Edit, EditFault, Refusal};
 use std::alloc::Global;
 use std::process::Abort;
 
-/// An edit, the refusal that it meets, and the name that is at fault.
+/// The last is the name at fault.
 type Row = (Asked, Refusal, &'static str);
 
 const ROWS: &[Row] = &[
@@ -42,13 +42,11 @@ const ROWS: &[Row] = &[
     (Asked::Remove("h1"), Refusal::NotEmpty, "h1"),
 ];
 
-/// Whether the map refuses the edit so, and blames the name.
 fn is_blamed(map: &mut CrushMap<Global>, edit: &Edit, refusal: Refusal, name: &str) -> bool {
     map.apply(edit) == Err(EditFault::Refused(refusal))
         && map.blamed(edit, refusal).as_str() == name
 }
 
-/// Asserts that the row is so.
 fn assert_blamed(rt: &impl Abort, alloc: Global, map: &mut CrushMap<Global>, row: &Row) {
     let edit = edit(rt, alloc, row.0);
     let is_right = is_blamed(map, &edit, row.1, row.2);

@@ -1,4 +1,4 @@
-//! The example map, statement by statement, and what a builder is asked.
+//! The example map, statement by statement, and what a builder answers.
 
 use crate::map::asking::{Fact, are_true_of};
 use crate::map::same::has_the_same;
@@ -9,7 +9,6 @@ use crush_units::{BucketId, DeviceId, ItemId, TypeId};
 use std::alloc::Global;
 use std::process::Abort;
 
-/// What is true of the example map.
 const MADE: &[Fact] = &[
     Fact::HasId("osd.0", 0),
     Fact::Weighs("osd.0", 65536),
@@ -28,7 +27,6 @@ const MADE: &[Fact] = &[
     Fact::Total(163840),
 ];
 
-/// The example map, and a copy of it.
 #[test]
 fn the_example_map_is_made_and_copied(rt: HostRuntime) {
     let map = whole_example_map(&rt, rt.alloc());
@@ -41,17 +39,14 @@ fn the_example_map_is_made_and_copied(rt: HostRuntime) {
     assert!(rt; is_same && is_set);
 }
 
-/// The device of this number.
 fn device(rt: &impl Abort, number: i32) -> DeviceId {
     DeviceId::new(number).expect(rt, "a device")
 }
 
-/// The bucket of this number.
 pub(super) fn bucket(rt: &impl Abort, number: i32) -> BucketId {
     BucketId::new(number).expect(rt, "a bucket")
 }
 
-/// Whether the builder of the example map knows its types, tunables and rules.
 fn knows_the_setting(builder: &MapBuilder<Global>) -> bool {
     let (osd, host) = (TypeId::new(0), TypeId::new(1));
     builder.has_kind_number(host)
@@ -67,12 +62,10 @@ fn knows_the_setting(builder: &MapBuilder<Global>) -> bool {
         && !builder.is_full_of_rules()
 }
 
-/// The host h2, as an item.
 fn h2(rt: &impl Abort) -> ItemId {
     ItemId::Bucket(bucket(rt, -3))
 }
 
-/// Whether the builder of the example map knows its items.
 fn knows_the_items(rt: &impl Abort, builder: &MapBuilder<Global>) -> bool {
     builder.has_device(device(rt, 2))
         && builder.has_name(b"osd.2")
@@ -84,7 +77,6 @@ fn knows_the_items(rt: &impl Abort, builder: &MapBuilder<Global>) -> bool {
         && !builder.is_full_of_buckets()
 }
 
-/// A device of a class, and a host with its id and a class id.
 const OPENED: &[Statement] = &[
     Statement::DeviceOfClass(9, "osd.9", "ssd"),
     Statement::Begin("host", "h9"),
@@ -92,7 +84,7 @@ const OPENED: &[Statement] = &[
     Statement::ClassId(-5, "ssd"),
 ];
 
-/// Whether the builder knows the open host with its class id, which is no item before its end.
+/// It is no item before its end.
 fn knows_the_open_host(rt: &impl Abort, builder: &MapBuilder<Global>) -> bool {
     !builder.is_idle()
         && builder.is_numbered()
@@ -103,7 +95,7 @@ fn knows_the_open_host(rt: &impl Abort, builder: &MapBuilder<Global>) -> bool {
         && builder.item_named(b"h9") == Err(BuildFault::UnknownItem)
 }
 
-/// The rest of that host, which holds the device, and a root that says one unit too much of it.
+/// The root's text says one unit more of the host than it weighs.
 const FILLED: &[Statement] = &[
     Statement::Alg,
     Statement::ItemAsItIs("osd.9"),

@@ -1,4 +1,4 @@
-//! Classes of devices, and what the devices of a class weigh, on the example map.
+//! Classes of devices, and what the devices of a class weigh.
 
 use crate::map::asking::{Asked, edit, edits, has_class, make_batch};
 use crate::map::statements::{Statement, finish, make_all};
@@ -8,11 +8,10 @@ use crush_units::Weight;
 use std::alloc::Global;
 use std::process::Abort;
 
-/// The name of an item, a class, and what the item's devices of that class weigh, in units, where it
-/// is there.
+/// An item, a class, and the units that the item's devices of that class weigh.
 type Row = (&'static str, &'static str, Option<u32>);
 
-/// With osd.0 and osd.2 of the class ssd.
+/// osd.0 and osd.2 are of the class ssd.
 const ROWS: &[Row] = &[
     ("default", "ssd", Some(98304)),
     ("h1", "ssd", Some(65536)),
@@ -21,7 +20,6 @@ const ROWS: &[Row] = &[
     ("x", "ssd", None),
 ];
 
-/// Whether the map weighs a class as the row says.
 fn is_weighed(map: &CrushMap<Global>, row: &Row) -> bool {
     match row.2 {
         Some(units) => map.weight_of_class(row.0, row.1) == Some(Weight::from_units(units)),
@@ -29,7 +27,6 @@ fn is_weighed(map: &CrushMap<Global>, row: &Row) -> bool {
     }
 }
 
-/// Whether an edit was made, and the map is another.
 fn is_changed(told: Result<Done, EditFault>) -> bool {
     match told {
         Ok(done) => done.changed,
@@ -37,7 +34,6 @@ fn is_changed(told: Result<Done, EditFault>) -> bool {
     }
 }
 
-/// Gives a device a class, and asserts that it had none.
 fn give(
     rt: &impl Abort,
     alloc: Global,
@@ -51,7 +47,6 @@ fn give(
     assert!(rt; is_changed(told), "{device}");
 }
 
-/// Whether each of the edits is made, in one batch, and changes the map.
 fn change_it(rt: &impl Abort, alloc: Global, map: &mut CrushMap<Global>, all: &[Asked]) -> bool {
     let batch = edits(rt, alloc, all);
     let told = make_batch(rt, map, batch.as_slice());
@@ -72,10 +67,8 @@ fn classes_are_weighed(rt: HostRuntime) {
     assert!(rt; are_weighed);
 }
 
-/// A device gets another class than it has.
 const ANOTHER: &[Asked] = &[Asked::RemoveClass("osd.0"), Asked::SetClass("osd.0", "ssd")];
 
-/// A device is made, and gets a class.
 const NEW: &[Asked] = &[
     Asked::Add(4, 65536, &[("host", "h1")]),
     Asked::SetClass("osd.4", "ssd"),

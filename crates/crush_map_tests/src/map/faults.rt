@@ -1,4 +1,4 @@
-//! What is written of a fault, and its number.
+//! The text of a fault, and its number.
 
 use crush_builder::BuildFault;
 use crush_map::{EditFault, Refusal};
@@ -6,7 +6,6 @@ use std::alloc::Global;
 use std::fmt::Display;
 use std::process::Abort;
 
-/// Whether this is what is written of a fault.
 fn is_written<F: Display + Drop>(rt: &impl Abort, alloc: Global, fault: F, text: &str) -> bool {
     let told = format!(in alloc; "{fault}").expect(rt, "memory");
     let is_text = told.as_str() == text;

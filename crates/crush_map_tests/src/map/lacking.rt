@@ -1,6 +1,5 @@
-//! Each edit, and batches, for which memory runs out at each of their growths: the map is then as
-//! before, and the same call, made again where there is memory, answers and does as ever. And a
-//! batch of as many edits as there may be.
+//! Edits and batches for which memory runs out at each of their growths: the map is then as before,
+//! and the same call does as ever where there is memory again.
 
 use crate::map::asking::{
     Asked, CHANGED, Fact, Told, answer, are_true_of, edit, edits, make_batch,
@@ -12,10 +11,9 @@ use linked_list_allocator::LocalHeap;
 use std::alloc::Global;
 use std::process::Abort;
 
-/// How many bytes a heap of these tests has.
 const HEAP: usize = 65536;
 
-/// The largest piece that the heap still has, in steps of 64 bytes.
+/// In steps of 64 bytes.
 fn largest_piece(heap: &LocalHeap) -> usize {
     for step in 0..1024 {
         let size = HEAP - 64 * step;
@@ -27,24 +25,21 @@ fn largest_piece(heap: &LocalHeap) -> usize {
     0
 }
 
-/// Takes a piece of the heap.
 fn ballast<'h>(rt: &impl Abort, heap: &'h LocalHeap, size: usize) -> Vec<u8, &'h LocalHeap> {
     Vec::with_capacity(heap, size).expect(rt, "a piece")
 }
 
-/// A call on the example map, of one edit by itself or of several as a batch.
+/// One edit, or several as a batch.
 struct Call {
     asked: &'static [Asked],
-    /// What it is answered where there is memory.
     told: Told,
-    /// What is then true of the map.
     then: &'static [Fact],
-    /// How often memory runs out for it at least.
+    /// How often memory runs out at least.
     least: usize,
 }
 
-/// What the map answers to the call where the largest piece of its heap is `spare` bytes. The piece
-/// that the map gave back when it was finished is filled before.
+/// The heap's largest piece is `spare` bytes: the one that the finished map gave back is filled
+/// first.
 fn answer_with(
     rt: &impl Abort,
     heap: &LocalHeap,
@@ -63,7 +58,6 @@ fn answer_with(
     told
 }
 
-/// Whether memory lacked.
 fn is_out_of_memory(told: Told) -> bool {
     match told {
         Told::One(answer) => answer == Err(EditFault::OutOfMemory),
@@ -71,13 +65,11 @@ fn is_out_of_memory(told: Told) -> bool {
     }
 }
 
-/// Asserts that the call is answered as where there is memory, and that the map is as it then is.
 fn is_made(rt: &impl Abort, map: &CrushMap<&LocalHeap>, place: usize, call: &Call, told: Told) {
     assert!(rt; told == call.told, "call {place}");
     are_true_of(rt, map, place, call.then);
 }
 
-/// Asserts that the map is the example map.
 fn is_the_example_map(rt: &impl Abort, alloc: Global, map: &CrushMap<&LocalHeap>) {
     let whole = whole_example_map(rt, alloc);
     let same = has_the_same(map, &whole);
@@ -85,7 +77,6 @@ fn is_the_example_map(rt: &impl Abort, alloc: Global, map: &CrushMap<&LocalHeap>
     assert!(rt; same);
 }
 
-/// One of the calls, with its place among them and its edits.
 #[derive(Clone, Copy)]
 struct Asking<'a> {
     place: usize,
@@ -93,8 +84,6 @@ struct Asking<'a> {
     edits: &'a [Edit],
 }
 
-/// Whether memory ran out for the call, which was answered so. The map is then as before. With
-/// memory again the same call is made.
 fn lacked(
     rt: &impl Abort,
     alloc: Global,
@@ -112,8 +101,6 @@ fn lacked(
     lacks
 }
 
-/// Whether memory runs out for the call on the example map in a heap whose largest piece is then
-/// `spare` bytes.
 fn lacks_with(rt: &impl Abort, alloc: Global, spare: usize, asking: &Asking<'_>) -> bool {
     let heap = LocalHeap::new(alloc, HEAP).expect(rt, "a heap");
     let mut map = whole_example_map_in(rt, alloc, &heap).expect(rt, "a map");
@@ -123,8 +110,7 @@ fn lacks_with(rt: &impl Abort, alloc: Global, spare: usize, asking: &Asking<'_>)
     lacks
 }
 
-/// Asserts how often memory runs out at least for the call in a heap that has hardly any memory left,
-/// then 64 bytes more, and so on until there is enough.
+/// Heaps have 64 bytes more each until there is enough.
 fn lacks_often(rt: &impl Abort, alloc: Global, asking: &Asking<'_>) {
     let place = asking.place;
     for times in 0..256 {
@@ -136,7 +122,6 @@ fn lacks_often(rt: &impl Abort, alloc: Global, asking: &Asking<'_>) {
     panic!(rt; "no heap has enough memory")
 }
 
-/// Asserts of each call, made on maps of its own, how often memory runs out for it at least.
 fn lack_at_each_growth(rt: &impl Abort, alloc: Global, calls: &[Call]) {
     for (place, call) in calls.iter().enumerate() {
         let edits = edits(rt, alloc, call.asked);
@@ -150,14 +135,13 @@ fn lack_at_each_growth(rt: &impl Abort, alloc: Global, calls: &[Call]) {
     }
 }
 
-/// [`CHANGED`] with a bucket that is made.
 const ADDED: Told = Told::One(Ok(Done {
     changed: true,
     made: 1,
 }));
 
-/// Items are put where a location leads: a device in new buckets, one that moves, one that gets
-/// another weight in its place, and a host that moves into a new bucket.
+/// A device in new buckets, one that moves, one with another weight in its place, and a host that
+/// moves into a new bucket.
 const PUTS: &[Call] = &[
     Call {
         asked: &[Asked::Add(
@@ -211,7 +195,7 @@ fn memory_lacks_for_what_is_put(rt: HostRuntime) {
     lack_at_each_growth(&rt, rt.alloc(), PUTS);
 }
 
-/// The other edits. An exchange, new weights and a removal need no memory.
+/// An exchange, new weights and a removal need no memory.
 const OTHERS: &[Call] = &[
     Call {
         asked: &[Asked::Swap("h1", "h2")],
@@ -289,8 +273,8 @@ fn memory_lacks_for_other_edits(rt: HostRuntime) {
     lack_at_each_growth(&rt, rt.alloc(), OTHERS);
 }
 
-/// A batch that is made, one that is refused at its third edit, and one that is made in place, of which
-/// the first and the last edit take memory.
+/// One is made, one refused at its third edit, and one made in place, whose first and last edit
+/// take memory.
 const BATCHES: &[Call] = &[
     Call {
         asked: &[
@@ -350,7 +334,6 @@ fn memory_lacks_for_batches(rt: HostRuntime) {
     lack_at_each_growth(&rt, rt.alloc(), BATCHES);
 }
 
-/// So many new weights of one device, from 0 units up.
 fn new_weights(rt: &impl Abort, alloc: Global, count: u32) -> Vec<Edit> {
     let mut made = Vec::new(alloc);
     for number in 0..count {
@@ -360,7 +343,6 @@ fn new_weights(rt: &impl Abort, alloc: Global, count: u32) -> Vec<Edit> {
     made
 }
 
-/// 64 new weights, and the same with a last edit that is refused.
 const WEIGHTS: &[Call] = &[
     Call {
         asked: &[],
@@ -386,7 +368,6 @@ const WEIGHTS: &[Call] = &[
     },
 ];
 
-/// Asserts of each call, behind 64 new weights, how often memory runs out for it at least.
 fn lack_behind_weights(rt: &impl Abort, alloc: Global, calls: &[Call]) {
     for (place, call) in calls.iter().enumerate() {
         let mut edits = new_weights(rt, alloc, 64);
@@ -408,7 +389,6 @@ fn memory_lacks_for_batches_of_weights(rt: HostRuntime) {
     lack_behind_weights(&rt, rt.alloc(), WEIGHTS);
 }
 
-/// What is true after as many of them as a batch may have.
 const LAST: &[Fact] = &[Fact::Holds("default", &["h1", "h2"], 163839)];
 
 #[test]

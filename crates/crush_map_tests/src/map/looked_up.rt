@@ -1,5 +1,4 @@
-//! What is looked up by name after each edit, beside what the plain table has and a search of the
-//! forest finds.
+//! What is looked up by name after each edit, beside a search of the forest.
 
 use crate::map::asking::{Asked, edit};
 use crate::map::whole::whole_example_map;
@@ -8,14 +7,12 @@ use crush_units::{BucketId, ItemId, Weight};
 use std::alloc::Global;
 use std::process::Abort;
 
-/// Each name that an item has before or after one of the edits, or that one of them asks for, and one
-/// that none has.
+/// Each name of an item before or after an edit, or in one, and a name of none.
 pub(super) const NAMES: &[&str] = &[
     "osd.0", "osd.1", "osd.2", "osd.3", "osd.10", "osd.11", "osd.12", "osd.13", "h1", "h2", "h3",
     "h9", "hq", "hx", "hy", "r1", "r9", "rx", "default", "other", "x",
 ];
 
-/// Edits of each kind, made one after the other.
 const EDITS: &[Asked] = &[
     Asked::SetClass("osd.1", "ssd"),
     Asked::RemoveClass("osd.1"),
@@ -36,7 +33,6 @@ const EDITS: &[Asked] = &[
     Asked::Remove("h9"),
 ];
 
-/// What an item weighs, where there is one.
 fn weight_found(map: &CrushMap<Global>, id: Option<ItemId>) -> Option<Weight> {
     match id {
         Some(id) => map.forest().weight(id),
@@ -44,7 +40,6 @@ fn weight_found(map: &CrushMap<Global>, id: Option<ItemId>) -> Option<Weight> {
     }
 }
 
-/// Whether the item of the id, if there is one, has the name.
 fn has_name(map: &CrushMap<Global>, id: Option<ItemId>, name: &str) -> bool {
     match id {
         Some(id) => map.name_of(id) == Some(name),
@@ -52,7 +47,6 @@ fn has_name(map: &CrushMap<Global>, id: Option<ItemId>, name: &str) -> bool {
     }
 }
 
-/// Whether the item of the id, if there is one, is found by it, with the bucket that holds it.
 fn is_found(map: &CrushMap<Global>, id: Option<ItemId>, name: &str) -> bool {
     let Some(id) = id else {
         return true;
@@ -68,7 +62,6 @@ fn is_found(map: &CrushMap<Global>, id: Option<ItemId>, name: &str) -> bool {
         && stands_in(map, id, view.parent)
 }
 
-/// Whether the item stands in the bucket, if one is told.
 fn stands_in(map: &CrushMap<Global>, id: &ItemId, parent: Option<BucketId>) -> bool {
     match parent {
         Some(bucket) => map.parent(*id) == parent && map.contains(bucket, *id),
@@ -76,8 +69,6 @@ fn stands_in(map: &CrushMap<Global>, id: &ItemId, parent: Option<BucketId>) -> b
     }
 }
 
-/// Whether the item of a name, and what it weighs, is looked up as a search finds it, and by its id
-/// the name.
 fn is_looked_up(map: &CrushMap<Global>, name: &str) -> bool {
     let id = map.forest().id_of(name);
     map.locate(name) == id
@@ -86,12 +77,10 @@ fn is_looked_up(map: &CrushMap<Global>, name: &str) -> bool {
         && is_found(map, id, name)
 }
 
-/// Whether all names are.
 pub(super) fn are_looked_up(map: &CrushMap<Global>) -> bool {
     NAMES.iter().all(|name| is_looked_up(map, name))
 }
 
-/// Whether an edit was made, and the map is another.
 fn is_changed(told: Result<Done, EditFault>) -> bool {
     match told {
         Ok(done) => done.changed,
@@ -99,7 +88,6 @@ fn is_changed(told: Result<Done, EditFault>) -> bool {
     }
 }
 
-/// Makes an edit, and asserts that all names are looked up then.
 fn make_and_look(
     rt: &impl Abort,
     alloc: Global,

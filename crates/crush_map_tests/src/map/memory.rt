@@ -1,5 +1,5 @@
-//! The example map in heaps of each size. Only its hierarchy is there: a setting is in the
-//! machine's memory, of which a test can refuse nothing.
+//! The example map in heaps of each size. Its setting is in the machine's memory, of which a test
+//! can refuse nothing.
 
 use crate::map::same::has_the_same;
 use crate::map::statements::make;
@@ -11,14 +11,14 @@ use linked_list_allocator::LocalHeap;
 use std::alloc::Global;
 use std::process::Abort;
 
-/// An item of the example map: after how many of the statements it is there, and held by a bucket.
+/// After how many statements it is there, and held by a bucket.
 struct Item {
     name: &'static str,
     there: usize,
     held: usize,
 }
 
-/// The items of the example map. Its root is held by none.
+/// The root is held by none.
 const ITEMS: &[Item] = &[
     Item {
         name: "osd.0",
@@ -52,12 +52,10 @@ const ITEMS: &[Item] = &[
     },
 ];
 
-/// Whether the builder has the item of this id as after so many statements.
 fn is_made(builder: &MapBuilder<&LocalHeap>, taken: usize, item: &Item, id: &ItemId) -> bool {
     taken >= item.there && builder.is_placed(*id) == (taken >= item.held)
 }
 
-/// Whether the builder has the item as after so many statements, which is none at first.
 fn is_there(builder: &MapBuilder<&LocalHeap>, taken: usize, item: &Item) -> bool {
     match builder.item_named(item.name.as_bytes()) {
         Ok(id) => is_made(builder, taken, item, &id),
@@ -65,13 +63,10 @@ fn is_there(builder: &MapBuilder<&LocalHeap>, taken: usize, item: &Item) -> bool
     }
 }
 
-/// Whether the builder has the items as after so many statements.
 fn are_there(builder: &MapBuilder<&LocalHeap>, taken: usize) -> bool {
     ITEMS.iter().all(|item| is_there(builder, taken, item))
 }
 
-/// Makes the statements up to the first for which memory runs out. After each, and after that one, the
-/// builder has the items of those that were taken.
 fn make_and_look(rt: &impl Abort, builder: &mut MapBuilder<&LocalHeap>) {
     for (taken, statement) in BEFORE_RULE.iter().enumerate() {
         assert!(rt; are_there(builder, taken), "statement {taken}");
@@ -83,7 +78,6 @@ fn make_and_look(rt: &impl Abort, builder: &mut MapBuilder<&LocalHeap>) {
     assert!(rt; are_there(builder, BEFORE_RULE.len()));
 }
 
-/// Makes as much of the map in the heap as it has memory for, and looks at it.
 fn look_at_what_is_made(rt: &impl Abort, alloc: Global, heap: &LocalHeap) {
     if let Ok(mut builder) = MapBuilder::new(alloc, heap) {
         make_and_look(rt, &mut builder);
@@ -91,12 +85,10 @@ fn look_at_what_is_made(rt: &impl Abort, alloc: Global, heap: &LocalHeap) {
     }
 }
 
-/// Whether the map has no memory for a copy.
 fn lacks_a_copy(map: &CrushMap<&LocalHeap>) -> bool {
     map.forest().try_copy().is_err()
 }
 
-/// Whether the map is this one, and has no memory for a copy.
 fn is_in_full_memory(
     rt: &impl Abort,
     map: &CrushMap<&LocalHeap>,
@@ -105,8 +97,6 @@ fn is_in_full_memory(
     has_the_setting(rt, map.setting()) && has_the_same(map, whole) && lacks_a_copy(map)
 }
 
-/// Whether the heap has the map that the machine's memory has. One that is too small has no memory for
-/// a statement of the map.
 fn holds_the_map(
     rt: &impl Abort,
     alloc: Global,
@@ -127,8 +117,6 @@ fn holds_the_map(
     }
 }
 
-/// Asserts that a heap holds the map, after those that are too small, in each of which what was made
-/// before memory lacked is as the statements say.
 fn is_held(rt: &impl Abort, alloc: Global, whole: &CrushMap<Global>) {
     for i in 1..1024 {
         let heap = LocalHeap::new(alloc, 64 * i).expect(rt, "a heap");

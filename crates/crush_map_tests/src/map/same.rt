@@ -6,7 +6,6 @@ use crush_tree::{Forest, Node, View};
 use crush_units::{BucketId, ItemId};
 use std::alloc::Allocator;
 
-/// Whether both are the same row of a table.
 fn is_same_row(view: &View<'_>, other: &View<'_>) -> bool {
     let is_named = view.name == other.name;
     let is_classed = view.class == other.class;
@@ -21,7 +20,6 @@ fn is_same_row(view: &View<'_>, other: &View<'_>) -> bool {
         && view.weight == other.weight
 }
 
-/// Whether both are items of the same ids, in order.
 fn are_same_ids<A: Allocator, B: Allocator>(items: &[Node<A>], others: &[Node<B>]) -> bool {
     items.len() == others.len()
         && items
@@ -30,7 +28,6 @@ fn are_same_ids<A: Allocator, B: Allocator>(items: &[Node<A>], others: &[Node<B>
             .all(|(item, other)| item.id() == other.id())
 }
 
-/// Whether both buckets of the id have the same items, in order.
 fn holds_the_same<A: Allocator, B: Allocator>(
     forest: &Forest<A>,
     other: &Forest<B>,
@@ -42,7 +39,6 @@ fn holds_the_same<A: Allocator, B: Allocator>(
     }
 }
 
-/// Whether both items of the id are the same row, and hold the same where they are buckets.
 fn is_same_item<A: Allocator, B: Allocator>(
     forest: &Forest<A>,
     other: &Forest<B>,
@@ -59,7 +55,6 @@ fn is_same_item<A: Allocator, B: Allocator>(
         }
 }
 
-/// Whether the name is that of the same item in both, or of none.
 fn is_same_name<A: Allocator, B: Allocator>(
     forest: &Forest<A>,
     other: &Forest<B>,
@@ -72,8 +67,7 @@ fn is_same_name<A: Allocator, B: Allocator>(
     }
 }
 
-/// Whether both maps have the same items, in order, of which the second has none without a name of
-/// the tests.
+/// Every item of `other` has to have a name of the tests.
 pub(super) fn has_the_same<A: Allocator, B: Allocator>(
     map: &CrushMap<A>,
     other: &CrushMap<B>,

@@ -1,4 +1,4 @@
-//! Statements of a map's text, with the conditions that their calls have.
+//! Statements of a map's text, with the conditions of their calls.
 
 use crush_builder::{BuildFault, MapBuilder};
 use crush_map::{CrushMap, is_reserved};
@@ -6,39 +6,26 @@ use crush_units::{Alg, BucketId, DeviceId, TypeId, Weight, is_name};
 use std::alloc::{Allocator, Global};
 use std::process::Abort;
 
-/// A statement of a map's text, with weights in units.
+/// Weights are in units.
 #[derive(Clone, Copy)]
 pub(super) enum Statement<'a> {
-    /// `type NUMBER NAME`
     Type(u16, &'a str),
-    /// `device NUMBER NAME`
     Device(i32, &'a str),
-    /// `device NUMBER NAME class CLASS`
     DeviceOfClass(i32, &'a str, &'a str),
-    /// `tunable NAME VALUE`
     Tunable(&'a str, u32),
-    /// `TYPE NAME {`
     Begin(&'a str, &'a str),
-    /// `id NUMBER`
     Id(i32),
-    /// `id NUMBER class CLASS`
     ClassId(i32, &'a str),
-    /// `alg straw2`
     Alg,
-    /// `item NAME weight WEIGHT`
     Item(&'a str, u32),
-    /// `item NAME`
     ItemAsItIs(&'a str),
-    /// `}`
     End,
 }
 
-/// A map without types and items.
 pub(super) fn empty(rt: &impl Abort, alloc: Global) -> MapBuilder<Global> {
     MapBuilder::new(alloc, alloc).expect(rt, "memory")
 }
 
-/// Makes the statement.
 pub(super) fn make<A: Allocator + Clone>(
     rt: &impl Abort,
     builder: &mut MapBuilder<A>,
@@ -73,7 +60,6 @@ pub(super) fn make<A: Allocator + Clone>(
     }
 }
 
-/// Makes the statements up to the first that isn't taken.
 pub(super) fn make_all<A: Allocator + Clone>(
     rt: &impl Abort,
     builder: &mut MapBuilder<A>,
@@ -85,7 +71,6 @@ pub(super) fn make_all<A: Allocator + Clone>(
     Ok(())
 }
 
-/// Asserts that the statements are taken.
 pub(super) fn takes_all(
     rt: &impl Abort,
     builder: &mut MapBuilder<Global>,
@@ -94,7 +79,6 @@ pub(super) fn takes_all(
     make_all(rt, builder, statements).expect(rt, "a statement");
 }
 
-/// The end of the text.
 pub(super) fn finish<A: Allocator>(rt: &impl Abort, builder: MapBuilder<A>) -> CrushMap<A> {
     assert!(rt; builder.is_idle());
     builder.finish()

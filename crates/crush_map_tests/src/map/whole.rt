@@ -13,7 +13,6 @@ use linked_list_allocator::LocalHeap;
 use std::alloc::{Allocator, Global};
 use std::process::Abort;
 
-/// A step as a rule's text has it.
 #[derive(Clone, Copy)]
 enum Said {
     Take(&'static str),
@@ -21,14 +20,12 @@ enum Said {
     Emit,
 }
 
-/// The steps of the example map's rule.
 const REPLICATED: &[Said] = &[
     Said::Take("default"),
     Said::ChooseLeaf(0, "host"),
     Said::Emit,
 ];
 
-/// The step in the machine's memory.
 fn step(rt: &impl Abort, alloc: Global, said: Said) -> Step
     ensures { IsStepForm result }
 {
@@ -44,7 +41,6 @@ fn step(rt: &impl Abort, alloc: Global, said: Said) -> Step
     }
 }
 
-/// The steps in the machine's memory.
 fn steps(rt: &impl Abort, alloc: Global, all: &[Said]) -> Vec<Step>
     ensures { All IsStepForm result.items }
 {
@@ -77,7 +73,6 @@ fn add_rule<A: Allocator>(
     told
 }
 
-/// The statements of the example map before its rule.
 pub(super) const BEFORE_RULE: &[Statement] = &[
     Statement::Tunable("choose_total_tries", 50),
     Statement::Device(0, "osd.0"),
@@ -106,8 +101,7 @@ pub(super) const BEFORE_RULE: &[Statement] = &[
     Statement::End,
 ];
 
-/// Makes the example map's statements up to the first that isn't taken. A rule is in the machine's
-/// memory, which doesn't lack.
+/// The rule is in the machine's memory, which doesn't lack.
 fn make_whole<A: Allocator + Clone>(
     rt: &impl Abort,
     alloc: Global,
@@ -118,20 +112,17 @@ fn make_whole<A: Allocator + Clone>(
     Ok(())
 }
 
-/// The example map in the making, after its rule.
 pub(super) fn map_in_the_making(rt: &impl Abort, alloc: Global) -> MapBuilder<Global> {
     let mut builder = empty(rt, alloc);
     make_whole(rt, alloc, &mut builder).expect(rt, "a statement");
     builder
 }
 
-/// The example map.
 pub(super) fn whole_example_map(rt: &impl Abort, alloc: Global) -> CrushMap<Global> {
     let builder = map_in_the_making(rt, alloc);
     finish(rt, builder)
 }
 
-/// The example map of a builder that has made nothing.
 fn made_whole<A: Allocator + Clone>(
     rt: &impl Abort,
     alloc: Global,
@@ -146,7 +137,6 @@ fn made_whole<A: Allocator + Clone>(
     }
 }
 
-/// The example map with its hierarchy in a heap.
 pub(super) fn whole_example_map_in<'h>(
     rt: &impl Abort,
     alloc: Global,
@@ -155,8 +145,6 @@ pub(super) fn whole_example_map_in<'h>(
     made_whole(rt, alloc, MapBuilder::new(alloc, heap)?)
 }
 
-/// Whether the setting has as many types, tunables and rules as that of the example map, the type
-/// `rack`, and a rule that takes the bucket which is taken there.
 pub(super) fn has_the_setting(rt: &impl Abort, setting: &Setting) -> bool {
     setting.kinds().len() == 4
         && setting.kind_number(b"rack") == Some(TypeId::new(3))

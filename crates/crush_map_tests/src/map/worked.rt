@@ -1,5 +1,5 @@
-//! Worked calls on the example map, refused ones among them: after each, every name is looked up as the
-//! plain table has it, and as a search of the forest finds it.
+//! Worked calls on the example map: after each, every name is looked up as a plain table has it,
+//! and as a search of the forest finds it.
 
 use crate::map::asking::{Asked, CHANGED, Told, answer, edits};
 use crate::map::looked_up::{NAMES, are_looked_up};
@@ -9,24 +9,22 @@ use crush_units::{BucketId, ItemId, Weight};
 use std::alloc::Global;
 use std::process::Abort;
 
-/// An item of the plain table: its name, the number of its id, and its weight in units.
+/// A name, the number of its id, and its weight in units.
 type Item = (&'static str, i32, u32);
 
-/// Items of the plain table that one bucket holds, or that none does.
 #[derive(Clone, Copy)]
 enum Kids {
     Roots(&'static [Item]),
     Of(&'static str, &'static [Item]),
 }
 
-/// A call on the map that the one before it left, what it is answered, and the plain table then.
+/// On the map that the call before it left.
 struct Line {
     asked: &'static [Asked],
     told: Told,
     then: &'static [Kids],
 }
 
-/// The items that are told.
 fn items(kids: &Kids) -> &'static [Item] {
     match kids {
         Kids::Roots(items) => items,
@@ -34,7 +32,6 @@ fn items(kids: &Kids) -> &'static [Item] {
     }
 }
 
-/// The name of the bucket that holds them.
 fn holder(kids: &Kids) -> Option<&'static str> {
     match kids {
         Kids::Roots(_) => None,
@@ -42,7 +39,6 @@ fn holder(kids: &Kids) -> Option<&'static str> {
     }
 }
 
-/// The name of a bucket, if there is one.
 fn name_of(map: &CrushMap<Global>, bucket: Option<BucketId>) -> Option<&str> {
     match bucket {
         Some(id) => map.name_of(ItemId::Bucket(id)),
@@ -50,7 +46,6 @@ fn name_of(map: &CrushMap<Global>, bucket: Option<BucketId>) -> Option<&str> {
     }
 }
 
-/// Whether the item is looked up by its name, in the bucket of this name.
 fn is_row(map: &CrushMap<Global>, item: &Item, holder: Option<&str>) -> bool {
     let (name, number, units) = *item;
     let Some(id) = map.locate(name) else {
@@ -62,32 +57,27 @@ fn is_row(map: &CrushMap<Global>, item: &Item, holder: Option<&str>) -> bool {
         && name_of(map, map.parent(*id)) == holder
 }
 
-/// Whether the items are.
 fn are_rows(map: &CrushMap<Global>, kids: &Kids) -> bool {
     items(kids)
         .iter()
         .all(|item| is_row(map, item, holder(kids)))
 }
 
-/// Whether the table has an item of the name.
 fn has_name(table: &[Kids], name: &str) -> bool {
     table
         .iter()
         .any(|kids| items(kids).iter().any(|item| item.0 == name))
 }
 
-/// Whether no item is looked up by a name that the table doesn't have.
 fn is_no_other(map: &CrushMap<Global>, table: &[Kids], name: &str) -> bool {
     has_name(table, name) || (map.locate(name).is_none() && map.weight_of(name).is_none())
 }
 
-/// Whether all names are looked up as the table has them.
 fn is_told(map: &CrushMap<Global>, table: &[Kids]) -> bool {
     table.iter().all(|kids| are_rows(map, kids))
         && NAMES.iter().all(|name| is_no_other(map, table, name))
 }
 
-/// Makes a call, and asserts its answer and how all names are looked up then.
 fn make_and_look(
     rt: &impl Abort,
     alloc: Global,
@@ -103,7 +93,6 @@ fn make_and_look(
     assert!(rt; are_looked_up(map), "line {place}");
 }
 
-/// Makes the calls one after the other on the example map.
 fn make_all(rt: &impl Abort, alloc: Global, lines: &[Line]) {
     let mut map = whole_example_map(rt, alloc);
     for (place, line) in lines.iter().enumerate() {
@@ -112,19 +101,16 @@ fn make_all(rt: &impl Abort, alloc: Global, lines: &[Line]) {
     drop(map);
 }
 
-/// The edit is made, and changes nothing.
 const KEPT: Told = Told::One(Ok(Done {
     changed: false,
     made: 0,
 }));
 
-/// The edit is made with two new buckets.
 const MADE_TWO: Told = Told::One(Ok(Done {
     changed: true,
     made: 2,
 }));
 
-/// The example map.
 const EXAMPLE: &[Kids] = &[
     Kids::Roots(&[("default", -1, 163840)]),
     Kids::Of("default", &[("h1", -2, 131072), ("h2", -3, 32768)]),
@@ -132,7 +118,6 @@ const EXAMPLE: &[Kids] = &[
     Kids::Of("h2", &[("osd.2", 2, 32768)]),
 ];
 
-/// A device comes by two new buckets.
 const IN_A_NEW_RACK: &[Line] = &[Line {
     asked: &[Asked::Add(
         3,
@@ -153,7 +138,7 @@ const IN_A_NEW_RACK: &[Line] = &[Line {
     ],
 }];
 
-/// A device comes where the first bucket of its location is.
+/// Later buckets of the location are not made.
 const IN_THE_FIRST_THERE: &[Line] = &[Line {
     asked: &[Asked::Add(
         3,
@@ -176,7 +161,7 @@ const IN_THE_FIRST_THERE: &[Line] = &[Line {
     ],
 }];
 
-/// A device stays where it is, and then moves with its weight; nothing goes below itself.
+/// Nothing goes below itself.
 const PLACED: &[Line] = &[
     Line {
         asked: &[Asked::CreateOrMove(0, 327680, &[("host", "h1"), ("root", "other")])],
@@ -212,7 +197,6 @@ fn what_is_put_is_looked_up(rt: HostRuntime) {
     make_all(&rt, rt.alloc(), PLACED);
 }
 
-/// Two buckets exchange their names and items.
 const EXCHANGED: &[Line] = &[Line {
     asked: &[Asked::Swap("h1", "h2")],
     told: CHANGED,
@@ -224,7 +208,7 @@ const EXCHANGED: &[Line] = &[Line {
     ],
 }];
 
-/// Devices and hosts are removed, and the root that a rule takes stays.
+/// The root that a rule takes stays.
 const REMOVED: &[Line] = &[
     Line {
         asked: &[Asked::Remove("default")],
@@ -285,7 +269,7 @@ fn what_is_exchanged_or_removed_is_looked_up(rt: HostRuntime) {
     make_all(&rt, rt.alloc(), REMOVED);
 }
 
-/// The example map with a rack that is as heavy as one can be.
+/// A bucket may weigh 4294967295 units.
 const HEAVY: &[Kids] = &[
     Kids::Roots(&[("default", -1, 163840), ("rx", -5, 4294967294)]),
     Kids::Of("rx", &[("hx", -4, 4294967294)]),
@@ -298,7 +282,6 @@ const HEAVY: &[Kids] = &[
     Kids::Of("h2", &[("osd.2", 2, 32768)]),
 ];
 
-/// Devices come into a rack until it would be too heavy.
 const HEAVIER: &[Line] = &[
     Line {
         asked: &[Asked::Add(10, 2147483647, &[("host", "hx"), ("rack", "rx")])],
@@ -339,7 +322,6 @@ fn what_is_too_heavy_is_not_looked_up(rt: HostRuntime) {
     make_all(&rt, rt.alloc(), HEAVIER);
 }
 
-/// The example map with an empty host.
 const WITH_A_HOST: &[Kids] = &[
     Kids::Roots(&[("default", -1, 163840)]),
     Kids::Of(
@@ -350,7 +332,6 @@ const WITH_A_HOST: &[Kids] = &[
     Kids::Of("h2", &[("osd.2", 2, 32768)]),
 ];
 
-/// A batch that is refused at its third edit, one that is made, and one without an edit.
 const BATCHES: &[Line] = &[
     Line {
         asked: &[
@@ -389,8 +370,8 @@ fn what_batches_do_is_looked_up(rt: HostRuntime) {
     make_all(&rt, rt.alloc(), BATCHES);
 }
 
-/// New weights, of one device two: a batch that is refused at its last edit, one that is refused
-/// before, and one that is made, whose last edit is an exchange.
+/// A batch refused at its last edit, one refused before, and one that is made, whose last edit is
+/// an exchange.
 const BATCHES_OF_WEIGHTS: &[Line] = &[
     Line {
         asked: &[

@@ -6,12 +6,10 @@ use crush_units::ItemId;
 use std::alloc::{Allocator, Global};
 use std::process::Abort;
 
-/// A copy of a forest.
 pub(super) fn copy_of(rt: &impl Abort, forest: &Forest<Global>) -> Forest<Global> {
     forest.try_copy().expect(rt, "memory")
 }
 
-/// Whether two items are seen alike.
 fn is_same_view(view: &View<'_>, other: &View<'_>) -> bool {
     let is_same_name = view.name == other.name;
     let is_same_class = view.class == other.class;
@@ -22,7 +20,6 @@ fn is_same_view(view: &View<'_>, other: &View<'_>) -> bool {
     is_same_name && is_same_class && is_same_parent && is_same_alg && is_same_kind && is_same_weight
 }
 
-/// Whether an item is seen like this one.
 fn is_seen<A: Allocator>(forest: &Forest<A>, id: ItemId, like: &View<'_>) -> bool {
     match forest.find(id) {
         Some(view) => is_same_view(&view, like),
@@ -30,7 +27,6 @@ fn is_seen<A: Allocator>(forest: &Forest<A>, id: ItemId, like: &View<'_>) -> boo
     }
 }
 
-/// Whether an item is seen alike in two forests, or in neither.
 fn is_seen_alike<A: Allocator, B: Allocator>(
     forest: &Forest<A>,
     other: &Forest<B>,
@@ -42,7 +38,6 @@ fn is_seen_alike<A: Allocator, B: Allocator>(
     }
 }
 
-/// Whether two lists have items of the same ids, in the same order.
 fn are_in_order<A: Allocator, B: Allocator>(items: &[Node<A>], others: &[Node<B>]) -> bool {
     items.len() == others.len()
         && items
@@ -51,7 +46,6 @@ fn are_in_order<A: Allocator, B: Allocator>(items: &[Node<A>], others: &[Node<B>
             .all(|(item, other)| item.id() == other.id())
 }
 
-/// Whether a bucket holds the same items in two forests, or is in neither.
 fn holds_alike<A: Allocator, B: Allocator>(
     rt: &impl Abort,
     forest: &Forest<A>,
@@ -66,7 +60,6 @@ fn holds_alike<A: Allocator, B: Allocator>(
     }
 }
 
-/// Whether two forests have the same of the items -1 to -3 and 0 to 3, in the same order.
 pub(super) fn is_same<A: Allocator, B: Allocator>(
     rt: &impl Abort,
     forest: &Forest<A>,

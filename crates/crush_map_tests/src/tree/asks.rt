@@ -1,4 +1,4 @@
-//! What a caller asks before a change.
+//! What a caller tests before a change of a forest.
 
 ghost use Rattle.std.specs.Prelude.{◌≡◌, false};
 ghost use Rattle.crush_units.specs.Name.{IsName};
@@ -12,7 +12,6 @@ use crush_tree::{Forest, Place};
 use crush_units::{BucketId, DeviceId, ItemId, Name, Weight};
 use std::alloc::Allocator;
 
-/// Whether the item is there.
 pub(super) fn has_item<A: Allocator>(forest: &Forest<A>, id: &ItemId) -> bool
     ensures { result ≡ is_there (rows_of forest.now) id.now }
 {
@@ -20,7 +19,6 @@ pub(super) fn has_item<A: Allocator>(forest: &Forest<A>, id: &ItemId) -> bool
     forest.find(*id).is_some()
 }
 
-/// Whether a bucket holds the item.
 pub(super) fn is_held<A: Allocator>(forest: &Forest<A>, id: &ItemId) -> bool
     ensures { result ≡ is_placed (rows_of forest.now) id.now }
 {
@@ -28,7 +26,6 @@ pub(super) fn is_held<A: Allocator>(forest: &Forest<A>, id: &ItemId) -> bool
     forest.parent(*id).is_some()
 }
 
-/// Whether the bucket is the item, or below it.
 pub(super) fn is_inside<A: Allocator>(forest: &Forest<A>, id: &ItemId, bucket: BucketId) -> bool
     ensures { result ≡ is_part (rows_of forest.now) id.now (BucketItem bucket) }
 {
@@ -39,14 +36,12 @@ pub(super) fn is_inside<A: Allocator>(forest: &Forest<A>, id: &ItemId, bucket: B
     }
 }
 
-/// Whether one of two buckets is the other or below it.
 pub(super) fn are_nested<A: Allocator>(forest: &Forest<A>, a: BucketId, b: BucketId) -> bool
     ensures { result ≡ are_nested (rows_of forest.now) a b }
 {
     is_inside(forest, &ItemId::Bucket(a), b) || is_inside(forest, &ItemId::Bucket(b), a)
 }
 
-/// Whether an item has the name.
 pub(super) fn has_name<A: Allocator>(forest: &Forest<A>, name: &Name<A>) -> bool
     ensures named { result ≡ is_named (rows_of forest.now) name.now }
     ensures name { IsName name.now }
@@ -55,7 +50,6 @@ pub(super) fn has_name<A: Allocator>(forest: &Forest<A>, name: &Name<A>) -> bool
     forest.id_of(name.as_str()).is_some()
 }
 
-/// Whether sums stay in range where items of this weight come to a bucket, if it is there.
 pub(super) fn fits<A: Allocator>(
     forest: &Forest<A>,
     bucket: BucketId,
@@ -68,7 +62,6 @@ pub(super) fn fits<A: Allocator>(
     }
 }
 
-/// Whether sums stay in range where a device comes to a bucket with this weight, if both are there.
 pub(super) fn fits_moved<A: Allocator>(
     forest: &Forest<A>,
     device: DeviceId,

@@ -1,4 +1,4 @@
-//! As many buckets as a map can have, each in the one before, on the main thread and on another.
+//! The most buckets of a map, each in the one before, on the main thread and on another.
 
 use super::alike::copy_of;
 use super::items::{Item, bucket, bucket_item, node, node_with};
@@ -8,7 +8,6 @@ use std::alloc::Global;
 use std::process::Abort;
 use std::thread;
 
-/// The bucket that is so far below 0, with the item in it.
 fn link(rt: &(impl Abort + AllocGlobal), distance: u32, item: Node<Global>) -> Node<Global> {
     let name = format!(in rt.alloc(); "b{}", distance).expect(rt, "memory");
     let bucket = node_with(rt, Item::Host(distance, name.as_str()), item);
@@ -16,7 +15,6 @@ fn link(rt: &(impl Abort + AllocGlobal), distance: u32, item: Node<Global>) -> N
     bucket
 }
 
-/// 4,096 buckets below one another, with a device in the last.
 fn links(rt: &(impl Abort + AllocGlobal)) -> Node<Global> {
     let mut item = node(rt, Item::Device(0, "osd.0", 65536));
     for i in 0..4096 {
@@ -25,14 +23,13 @@ fn links(rt: &(impl Abort + AllocGlobal)) -> Node<Global> {
     item
 }
 
-/// The forest of the buckets, which are held by one another before they come to it.
+/// The buckets are held by one another before they come to the forest.
 fn chain(rt: &(impl Abort + AllocGlobal)) -> Forest<Global> {
     let mut forest = Forest::new(rt.alloc(), rt.alloc());
     put(&mut forest, Place::Root, links(rt)).expect(rt, "a place");
     forest
 }
 
-/// Whether the chain is searched as it should be.
 fn is_searched(rt: &impl Abort, forest: &Forest<Global>) -> bool {
     let osd = forest.id_of("osd.0").expect(rt, "osd.0");
     forest.total() == 65536
@@ -41,7 +38,6 @@ fn is_searched(rt: &impl Abort, forest: &Forest<Global>) -> bool {
         && forest.items(bucket(rt, 4096)).is_some()
 }
 
-/// Whether the chain is searched and copied as it should be.
 fn is_sound(rt: &(impl Abort + AllocGlobal)) -> bool {
     let forest = chain(rt);
     let copy = copy_of(rt, &forest);

@@ -11,7 +11,6 @@ use linked_list_allocator::LocalHeap;
 use std::alloc::{Allocator, Global};
 use std::process::Abort;
 
-/// Puts the host h1 into a forest, and then osd.0 and osd.1 into it.
 fn put_h1<A: Allocator + Copy>(
     rt: &impl Abort,
     alloc: A,
@@ -24,7 +23,6 @@ fn put_h1<A: Allocator + Copy>(
     add_in(rt, alloc, forest, inside(rt, 2), osd_1)
 }
 
-/// Puts the root `default` and both hosts into a forest.
 fn put_all<A: Allocator + Copy>(
     rt: &impl Abort,
     alloc: A,
@@ -35,7 +33,7 @@ fn put_all<A: Allocator + Copy>(
     put_h2(rt, alloc, forest)
 }
 
-/// Puts the host h2 into a forest, which holds osd.2 before it comes.
+/// h2 holds osd.2 before it comes.
 fn put_h2<A: Allocator + Copy>(
     rt: &impl Abort,
     alloc: A,
@@ -50,8 +48,7 @@ fn put_h2<A: Allocator + Copy>(
     put(forest, inside(rt, 1), h2)
 }
 
-/// The hosts h1 and h2 in the root `default`: osd.0 and osd.1 in h1 weigh 1.0 each, osd.2 in h2
-/// weighs 0.5.
+/// osd.0 and osd.1 in h1 weigh 1.0 each, osd.2 in h2 weighs 0.5.
 fn example_in<A: Allocator + Copy>(rt: &impl Abort, alloc: A) -> Result<Forest<A>, Refused> {
     let mut forest = Forest::new(alloc, alloc);
     match put_all(rt, alloc, &mut forest) {
@@ -65,8 +62,6 @@ fn example_in<A: Allocator + Copy>(rt: &impl Abort, alloc: A) -> Result<Forest<A
     }
 }
 
-/// Whether the forest has the first so many of the devices 0 to 3, and of the buckets -1 to -3, and no
-/// other of these.
 fn has_first<A: Allocator>(
     rt: &impl Abort,
     forest: &Forest<A>,
@@ -86,7 +81,6 @@ fn has_first<A: Allocator>(
     true
 }
 
-/// Whether the forest has so many devices and buckets, of so many units together.
 fn has_so_many<A: Allocator>(
     rt: &impl Abort,
     forest: &Forest<A>,
@@ -97,8 +91,7 @@ fn has_so_many<A: Allocator>(
     has_first(rt, forest, devices, buckets) && forest.total() == units
 }
 
-/// Whether a forest into which not all of them came has the first of the root, h1, osd.0 and osd.1, and
-/// no other item.
+/// Items come in the order root, h1, osd.0, osd.1, and h2 with osd.2.
 fn is_begun<A: Allocator>(rt: &impl Abort, forest: &Forest<A>) -> bool {
     if !has_item(forest, &bucket_item(rt, 1)) {
         return has_so_many(rt, forest, 0, 0, 0);
@@ -115,31 +108,25 @@ fn is_begun<A: Allocator>(rt: &impl Abort, forest: &Forest<A>) -> bool {
     has_so_many(rt, forest, 2, 2, 131072)
 }
 
-/// The forest of the example map in the machine's memory.
 pub(super) fn example(rt: &(impl Abort + AllocGlobal)) -> Forest<Global> {
     example_in(rt, rt.alloc()).expect(rt, "memory")
 }
 
-/// Whether the bucket weighs so many units.
 fn weighs(rt: &impl Abort, forest: &Forest<Global>, distance: u32, units: u32) -> bool {
     forest.weight(bucket_item(rt, distance)) == Some(Weight::from_units(units))
 }
 
-/// Whether the forest counts and weighs what the example map does with a device more that no bucket
-/// holds.
 fn sums_up(rt: &impl Abort, forest: &Forest<Global>) -> bool {
     has_so_many(rt, forest, 4, 3, 163840)
         && weighs(rt, forest, 2, 131072)
         && weighs(rt, forest, 3, 32768)
 }
 
-/// Whether osd.2 is found by its name, in h2.
 fn is_osd_2_in_h2(rt: &impl Abort, forest: &Forest<Global>) -> bool {
     forest.id_of("osd.2") == Some(device_item(rt, 2))
         && forest.parent(device_item(rt, 2)) == Some(bucket(rt, 3))
 }
 
-/// Whether a copy of the forest is the same.
 fn is_copied(rt: &impl Abort, forest: &Forest<Global>) -> bool {
     let copy = copy_of(rt, forest);
     let is_copied = is_same(rt, &copy, forest);
@@ -147,7 +134,6 @@ fn is_copied(rt: &impl Abort, forest: &Forest<Global>) -> bool {
     is_copied
 }
 
-/// Whether the device is there, of the class or of none.
 fn is_of_class(rt: &impl Abort, forest: &Forest<Global>, number: u32, class: Option<&str>) -> bool {
     match forest.find(device_item(rt, number)) {
         Some(view) => view.class == class,
@@ -155,12 +141,10 @@ fn is_of_class(rt: &impl Abort, forest: &Forest<Global>, number: u32, class: Opt
     }
 }
 
-/// Whether the class of osd.3 is told, and no item that isn't there.
 fn tells_of_columns(rt: &impl Abort, forest: &Forest<Global>) -> bool {
     is_of_class(rt, forest, 3, Some("ssd")) && forest.find(device_item(rt, 4)).is_none()
 }
 
-/// Whether the host h2 is seen in this bucket.
 fn is_h2(view: &View<'_>, parent: BucketId) -> bool {
     view.id.number() == -3
         && view.kind.number() == 1
@@ -171,7 +155,6 @@ fn is_h2(view: &View<'_>, parent: BucketId) -> bool {
         && view.parent == Some(parent)
 }
 
-/// Whether the host h2 is found in the root.
 fn finds_h2(rt: &impl Abort, forest: &Forest<Global>) -> bool {
     match forest.find(bucket_item(rt, 3)) {
         Some(view) => is_h2(&view, bucket(rt, 1)),
@@ -179,7 +162,6 @@ fn finds_h2(rt: &impl Abort, forest: &Forest<Global>) -> bool {
     }
 }
 
-/// Whether osd.2 is below the root and h1 is in itself, and neither osd.2 nor the root is below h1.
 fn tells_what_is_below(rt: &impl Abort, forest: &Forest<Global>) -> bool {
     let (root, h1) = (bucket(rt, 1), bucket(rt, 2));
     forest.contains(root, device_item(rt, 2))
@@ -188,7 +170,6 @@ fn tells_what_is_below(rt: &impl Abort, forest: &Forest<Global>) -> bool {
         && !forest.contains(h1, ItemId::Bucket(root))
 }
 
-/// Whether the items have these ids in order, as the numbers that a map shows.
 fn are_numbered(items: &[Node<Global>], numbers: &[i32]) -> bool {
     items.len() == numbers.len()
         && items
@@ -197,13 +178,11 @@ fn are_numbered(items: &[Node<Global>], numbers: &[i32]) -> bool {
             .all(|(item, number)| item.id().number() == *number)
 }
 
-/// Whether the bucket whose id is so far below 0 holds the items of these numbers, in order.
 fn holds(rt: &impl Abort, forest: &Forest<Global>, distance: u32, numbers: &[i32]) -> bool {
     let items = forest.items(bucket(rt, distance)).expect(rt, "a bucket");
     are_numbered(items, numbers)
 }
 
-/// Whether the forest has its items in order, osd.3 among the unplaced ones.
 fn is_in_order(rt: &impl Abort, forest: &Forest<Global>) -> bool {
     are_numbered(forest.roots(), &[-1])
         && are_numbered(forest.unplaced(), &[3])
@@ -212,7 +191,6 @@ fn is_in_order(rt: &impl Abort, forest: &Forest<Global>) -> bool {
         && forest.items(bucket(rt, 4)).is_none()
 }
 
-/// Whether a name is read into the forest's memory.
 fn has_memory_for_a_name(rt: &impl Abort, forest: &Forest<Global>) -> bool {
     let name = name(rt, *forest.allocator(), "osd.3");
     let is_read = name.as_str() == "osd.3";
@@ -220,7 +198,6 @@ fn has_memory_for_a_name(rt: &impl Abort, forest: &Forest<Global>) -> bool {
     is_read
 }
 
-/// Whether all is told of the example map's forest with osd.3.
 fn tells_all(rt: &impl Abort, forest: &Forest<Global>) -> bool {
     sums_up(rt, forest)
         && is_osd_2_in_h2(rt, forest)
@@ -232,7 +209,6 @@ fn tells_all(rt: &impl Abort, forest: &Forest<Global>) -> bool {
         && has_memory_for_a_name(rt, forest)
 }
 
-/// Of the example map's forest with the device osd.3 of a class, which no bucket holds.
 #[test]
 fn what_is_told(rt: HostRuntime) {
     let mut forest = example(&rt);
@@ -243,7 +219,6 @@ fn what_is_told(rt: HostRuntime) {
     assert!(rt; is_told);
 }
 
-/// Whether the forest has no memory for a copy.
 fn lacks_a_copy(forest: &Forest<&LocalHeap>) -> bool {
     match forest.try_copy() {
         Ok(copy) => {
@@ -254,8 +229,6 @@ fn lacks_a_copy(forest: &Forest<&LocalHeap>) -> bool {
     }
 }
 
-/// Whether the heap has the forest that the machine's memory has, and no memory for a copy. One that is
-/// too small has no memory for it.
 fn holds_the_forest(rt: &impl Abort, heap: &LocalHeap, whole: &Forest<Global>) -> bool {
     match example_in(rt, heap) {
         Ok(forest) => {
@@ -271,7 +244,6 @@ fn holds_the_forest(rt: &impl Abort, heap: &LocalHeap, whole: &Forest<Global>) -
     }
 }
 
-/// Asserts that a heap holds the forest, after those that are too small.
 fn is_held_by_a_heap(rt: &(impl Abort + AllocGlobal), whole: &Forest<Global>) {
     for i in 1..1024 {
         let heap = LocalHeap::new(rt.alloc(), 64 * i).expect(rt, "a heap");
@@ -282,8 +254,6 @@ fn is_held_by_a_heap(rt: &(impl Abort + AllocGlobal), whole: &Forest<Global>) {
     panic!(rt; "no heap holds the forest")
 }
 
-/// Heaps that are too small have no memory for the forest. The first that holds it has none for a
-/// copy, and the forest is then as it was.
 #[test]
 fn in_heaps_of_each_size(rt: HostRuntime) {
     let whole = example(&rt);
@@ -291,7 +261,6 @@ fn in_heaps_of_each_size(rt: HostRuntime) {
     drop(whole);
 }
 
-/// Takes the host h2 out of the example map's forest, and answers what it weighs.
 fn take_h2_out(rt: &impl Abort, forest: &mut Forest<Global>) -> Weight {
     let h2 = forest.detach(bucket_item(rt, 3)).expect(rt, "h2");
     let weight = h2.weight();
@@ -299,14 +268,12 @@ fn take_h2_out(rt: &impl Abort, forest: &mut Forest<Global>) -> Weight {
     weight
 }
 
-/// Whether the example map's forest is without the host h2.
 fn is_without_h2(rt: &impl Abort, forest: &Forest<Global>) -> bool {
     forest.total() == 131072
         && !has_item(forest, &device_item(rt, 2))
         && holds(rt, forest, 1, &[-2])
 }
 
-/// Whether the host h2 goes out and comes in again, and the forest is then as before.
 fn comes_again(rt: &(impl Abort + AllocGlobal), forest: &mut Forest<Global>) -> bool {
     let whole = copy_of(rt, forest);
     let weight = take_h2_out(rt, forest);
@@ -317,7 +284,6 @@ fn comes_again(rt: &(impl Abort + AllocGlobal), forest: &mut Forest<Global>) -> 
     is_out && is_whole && weight == Weight::from_units(32768)
 }
 
-/// Whether h1 has the id and the weight that h2 had, once they are exchanged.
 fn is_h1_at_h2(rt: &impl Abort, forest: &mut Forest<Global>) -> bool {
     exchange(forest, bucket(rt, 2), bucket(rt, 3)).expect(rt, "an exchange");
     forest.id_of("h1") == Some(bucket_item(rt, 3))
@@ -325,7 +291,6 @@ fn is_h1_at_h2(rt: &impl Abort, forest: &mut Forest<Global>) -> bool {
         && forest.total() == 163840
 }
 
-/// The host h2 goes out and comes in again, and changes places with h1.
 #[test]
 fn items_move(rt: HostRuntime) {
     let mut forest = example(&rt);
@@ -334,7 +299,6 @@ fn items_move(rt: HostRuntime) {
     assert!(rt; is_moved);
 }
 
-/// Whether the sums follow new weights, of osd.2 and of all devices.
 fn sums_follow(rt: &impl Abort, forest: &mut Forest<Global>) -> bool {
     weigh(forest, device(rt, 2), Weight::from_units(65536)).expect(rt, "a weight");
     let follows = forest.total() == 196608 && weighs(rt, forest, 3, 65536);
@@ -342,7 +306,6 @@ fn sums_follow(rt: &impl Abort, forest: &mut Forest<Global>) -> bool {
     follows && forest.total() == 3 && weighs(rt, forest, 2, 2)
 }
 
-/// Whether h1 gets a name that is free.
 fn gets_a_free_name(rt: &(impl Abort + AllocGlobal), forest: &mut Forest<Global>) -> bool {
     let h1 = bucket_item(rt, 2);
     let old = give_name(forest, &h1, name(rt, rt.alloc(), "h9")).expect(rt, "a free name");
@@ -360,12 +323,10 @@ fn weights_and_names(rt: HostRuntime) {
     assert!(rt; is_weighed && is_named);
 }
 
-/// Whether the devices of class `ssd` that are the item or below it weigh so many units.
 fn weighs_of_ssd(forest: &Forest<Global>, id: ItemId, units: u32) -> bool {
     forest.class_weight(id, "ssd") == Some(Weight::from_units(units))
 }
 
-/// Whether osd.0 gets the class `ssd`, and then weighs alone of that class.
 fn gets_a_class(rt: &(impl Abort + AllocGlobal), forest: &mut Forest<Global>) -> bool {
     let class = Some(name(rt, rt.alloc(), "ssd"));
     let old = classify(forest, device(rt, 0), class).expect(rt, "osd.0");
@@ -379,7 +340,6 @@ fn gets_a_class(rt: &(impl Abort + AllocGlobal), forest: &mut Forest<Global>) ->
         && forest.class_weight(bucket_item(rt, 4), "ssd").is_none()
 }
 
-/// Whether osd.3, which no bucket holds, loses the class `ssd`.
 fn loses_its_class(rt: &impl Abort, forest: &mut Forest<Global>) -> bool {
     let old = classify(forest, device(rt, 3), None).expect(rt, "osd.3");
     let was_ssd = match &old {
@@ -400,7 +360,6 @@ fn classes_of_devices(rt: HostRuntime) {
     assert!(rt; is_done);
 }
 
-/// Whether osd.3 stays among the unplaced where these get memory for one more, and give it back.
 fn keeps_osd_3(rt: &impl Abort, forest: &mut Forest<Global>) -> bool {
     forest.reserve(Place::Unplaced).expect(rt, "memory");
     let is_there = are_numbered(forest.unplaced(), &[3]);
@@ -418,8 +377,8 @@ fn memory_to_spare(rt: HostRuntime) {
     assert!(rt; is_kept);
 }
 
-/// Whether h2 and the root above it can come to weigh so much more, and no unit more, unless a device
-/// of the root is moved.
+/// The root weighs 163840 units, and may weigh 4294967295; a device of the root that moves counts
+/// once.
 fn tells_what_fits(rt: &impl Abort, forest: &Forest<Global>) -> bool {
     let (h2, osd_0) = (bucket(rt, 3), device(rt, 0));
     let too_much = Weight::from_units(4294803456);
@@ -436,8 +395,7 @@ fn sums_that_fit(rt: HostRuntime) {
     assert!(rt; is_told);
 }
 
-/// Whether a host with new ids and a new name can be a root and not be unplaced, and one with an id
-/// that is there can be neither.
+/// -3 is the id of h2.
 fn can_be_a_root(rt: &(impl Abort + AllocGlobal), forest: &Forest<Global>) -> bool {
     let host = node(rt, Item::HostOfClass(4, "h3", 5));
     let other = node(rt, Item::HostOfClass(4, "h3", 3));

@@ -1,4 +1,4 @@
-//! Items as tests name them, made in the memory of any allocator.
+//! Items as tests name them: a bucket by how far its id is below 0, a device by its number.
 
 use super::puts::Refused;
 use crush_tree::{Header, Node, Place, ShadowId};
@@ -6,52 +6,42 @@ use crush_units::{Alg, BucketId, DeviceId, ItemId, Name, TypeId, Weight};
 use std::alloc::{Allocator, Global};
 use std::process::Abort;
 
-/// An item: a bucket by how far its id is below 0, a device by its number.
+/// Weights are in units.
 #[derive(Clone, Copy)]
 pub(super) enum Item<'a> {
-    /// An empty root and its name.
     Root(u32, &'a str),
-    /// An empty host and its name.
     Host(u32, &'a str),
-    /// An empty host, its name, and how far its class id of `ssd` is below 0.
+    /// With how far its class id of `ssd` is below 0.
     HostOfClass(u32, &'a str, u32),
-    /// A device, its name, and its weight in units.
     Device(u32, &'a str, u32),
-    /// A device of the class `ssd`, its name, and its weight in units.
+    /// Of the class `ssd`.
     DeviceOfClass(u32, &'a str, u32),
 }
 
-/// The bucket whose id is so far below 0.
 pub(super) fn bucket(rt: &impl Abort, distance: u32) -> BucketId {
     BucketId::below_zero(distance).expect(rt, "a bucket")
 }
 
-/// The device of a number.
 pub(super) fn device(rt: &impl Abort, number: u32) -> DeviceId {
     DeviceId::from_number(number).expect(rt, "a device")
 }
 
-/// The bucket whose id is so far below 0, as an item.
 pub(super) fn bucket_item(rt: &impl Abort, distance: u32) -> ItemId {
     ItemId::Bucket(bucket(rt, distance))
 }
 
-/// The place inside the bucket whose id is so far below 0.
 pub(super) fn inside(rt: &impl Abort, distance: u32) -> Place {
     Place::Bucket(bucket(rt, distance))
 }
 
-/// The device of a number, as an item.
 pub(super) fn device_item(rt: &impl Abort, number: u32) -> ItemId {
     ItemId::Device(device(rt, number))
 }
 
-/// A name for which there is memory.
 pub(super) fn name<A: Allocator>(rt: &impl Abort, alloc: A, text: &str) -> Name<A> {
     Name::read(alloc, text.as_bytes()).expect(rt, "a name")
 }
 
-/// The header of a bucket without class ids.
 fn header<A: Allocator + Copy>(
     rt: &impl Abort,
     alloc: A,
@@ -68,7 +58,6 @@ fn header<A: Allocator + Copy>(
     }
 }
 
-/// A class id of `ssd`.
 fn class_id<A: Allocator>(rt: &impl Abort, alloc: A, distance: u32) -> ShadowId<A> {
     ShadowId {
         id: bucket(rt, distance),
@@ -76,7 +65,6 @@ fn class_id<A: Allocator>(rt: &impl Abort, alloc: A, distance: u32) -> ShadowId<
     }
 }
 
-/// The header of a host with a class id of `ssd`.
 fn header_of_class<A: Allocator + Copy>(
     rt: &impl Abort,
     alloc: A,
@@ -92,7 +80,6 @@ fn header_of_class<A: Allocator + Copy>(
     header
 }
 
-/// A device of the class `ssd`.
 fn device_of_class<A: Allocator + Copy>(
     rt: &impl Abort,
     alloc: A,
@@ -106,12 +93,10 @@ fn device_of_class<A: Allocator + Copy>(
     Node::device(id, name, Weight::from_units(units), Some(class))
 }
 
-/// An empty bucket.
 fn empty<A: Allocator + Copy>(alloc: A, header: Header<A>) -> Result<Node<A>, Refused> {
     Node::bucket(alloc, header).ok().ok_or(Refused::NoMemory)
 }
 
-/// An empty bucket of a type, without class ids.
 fn empty_of_kind<A: Allocator + Copy>(
     rt: &impl Abort,
     alloc: A,
@@ -123,7 +108,6 @@ fn empty_of_kind<A: Allocator + Copy>(
     empty(alloc, header(rt, alloc, distance, kind, name))
 }
 
-/// A device without a class.
 fn device_without_class<A: Allocator + Copy>(
     rt: &impl Abort,
     alloc: A,
@@ -136,7 +120,6 @@ fn device_without_class<A: Allocator + Copy>(
     Ok(Node::device(id, name, Weight::from_units(units), None))
 }
 
-/// The item by itself.
 pub(super) fn made<A: Allocator + Copy>(
     rt: &impl Abort,
     alloc: A,
@@ -155,7 +138,6 @@ pub(super) fn made<A: Allocator + Copy>(
     }
 }
 
-/// Puts a child into a bucket, if it has room and their weights stay in range.
 fn hold<A: Allocator>(bucket: &mut Node<A>, child: Node<A>) -> Result<(), Refused> {
     if !bucket.has_room() || bucket.weight().units() > u32::MAX - child.weight().units() {
         drop(child);
@@ -165,7 +147,6 @@ fn hold<A: Allocator>(bucket: &mut Node<A>, child: Node<A>) -> Result<(), Refuse
     Ok(())
 }
 
-/// Puts an item into a bucket.
 fn hold_item<A: Allocator + Copy>(
     rt: &impl Abort,
     alloc: A,
@@ -176,7 +157,6 @@ fn hold_item<A: Allocator + Copy>(
     hold(bucket, child)
 }
 
-/// A bucket that holds an item before both come to a forest.
 pub(super) fn holding<A: Allocator + Copy>(
     rt: &impl Abort,
     alloc: A,
@@ -193,12 +173,10 @@ pub(super) fn holding<A: Allocator + Copy>(
     }
 }
 
-/// The item by itself, in the machine's memory.
 pub(super) fn node(rt: &(impl Abort + AllocGlobal), item: Item) -> Node<Global> {
     made(rt, rt.alloc(), item).expect(rt, "memory")
 }
 
-/// A bucket that holds a child before both come to a forest, in the machine's memory.
 pub(super) fn node_with(
     rt: &(impl Abort + AllocGlobal),
     bucket: Item,

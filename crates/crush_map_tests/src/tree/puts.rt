@@ -1,4 +1,4 @@
-//! A forest item by item: each change is made once it was asked whether it may be.
+//! Changes of a forest, each made after a test that it may be.
 
 use super::asks::{are_nested, has_item, has_name, is_held};
 use super::items::{Item, made};
@@ -7,18 +7,13 @@ use crush_units::{BucketId, DeviceId, ItemId, Name, NameFault, Weight};
 use std::alloc::{AllocError, Allocator, Global};
 use std::process::Abort;
 
-/// Why a change isn't made.
 #[derive(Clone, Copy, Debug, PartialEq, Eq)]
 pub(super) enum Refused {
-    /// There is no memory.
     NoMemory,
-    /// A text is no name.
     Malformed,
-    /// An item that has to be there isn't.
     Missing,
-    /// An item can't come to its place, a name is there, or a weight isn't one of a device.
+    /// An item can't come to its place, a name is taken, or a weight is no device's.
     Unfit,
-    /// A sum would be out of range.
     TooHeavy,
 }
 
@@ -37,7 +32,6 @@ impl From<NameFault> for Refused {
     }
 }
 
-/// Puts an item last at a place, if it can come there.
 pub(super) fn put<A: Allocator>(
     forest: &mut Forest<A>,
     place: Place,
@@ -57,7 +51,6 @@ pub(super) fn put<A: Allocator>(
     })
 }
 
-/// Puts a new item last at a place, if it can come there.
 pub(super) fn add_in<A: Allocator + Copy>(
     rt: &impl Abort,
     alloc: A,
@@ -69,7 +62,6 @@ pub(super) fn add_in<A: Allocator + Copy>(
     put(forest, place, node)
 }
 
-/// Puts a new item last at a place where it can come, in the machine's memory.
 pub(super) fn add(
     rt: &(impl Abort + AllocGlobal),
     forest: &mut Forest<Global>,
@@ -79,7 +71,6 @@ pub(super) fn add(
     add_in(rt, rt.alloc(), forest, place, item).expect(rt, "a place");
 }
 
-/// Gives a placed device another weight.
 pub(super) fn weigh<A: Allocator>(
     forest: &mut Forest<A>,
     device: DeviceId,
@@ -99,7 +90,6 @@ pub(super) fn weigh<A: Allocator>(
     Ok(())
 }
 
-/// Gives all devices below a bucket one weight.
 pub(super) fn weigh_all<A: Allocator>(
     forest: &mut Forest<A>,
     bucket: BucketId,
@@ -119,7 +109,6 @@ pub(super) fn weigh_all<A: Allocator>(
     Ok(())
 }
 
-/// Gives an item another name, and answers the old one.
 pub(super) fn give_name<A: Allocator>(
     forest: &mut Forest<A>,
     id: &ItemId,
@@ -137,7 +126,6 @@ pub(super) fn give_name<A: Allocator>(
     Ok(forest.rename(*id, name))
 }
 
-/// Gives a device a class, or takes its class away, and answers the old one.
 pub(super) fn classify<A: Allocator>(
     forest: &mut Forest<A>,
     device: DeviceId,
@@ -151,7 +139,6 @@ pub(super) fn classify<A: Allocator>(
     Ok(forest.set_class(device, class))
 }
 
-/// Exchanges names and items of two buckets.
 pub(super) fn exchange<A: Allocator>(
     forest: &mut Forest<A>,
     a: BucketId,

@@ -20,7 +20,7 @@ use crush_since::{Seen, Tally, is_made, is_reclassed, is_reweighed};
 use crush_view::{Step, walk};
 use std::alloc::{AllocError, Allocator, Global};
 
-/// How many items differ in which way. None has another name.
+/// None is renamed, as names match the items.
 pub(crate) fn tally_of<A: Allocator, B: Allocator>(
     alloc: Global,
     old: &CrushMap<A>,
@@ -38,7 +38,6 @@ pub(crate) fn tally_of<A: Allocator, B: Allocator>(
     Ok(Tally { removed, ..tally })
 }
 
-/// How many of these items of the old map the new one hasn't.
 fn count_gone<A: Allocator, B: Allocator>(new: &Side<'_, B>, steps: &[Step<'_, A>]) -> usize
     ensures { (n : Option (List ℕ)) (t u : List Row) → IsSide n u new.now
         → result ≡ count_by (λ s. is_gone_by_name t u (step_data s)) steps.now }
@@ -50,7 +49,6 @@ fn count_gone<A: Allocator, B: Allocator>(new: &Side<'_, B>, steps: &[Step<'_, A
     count
 }
 
-/// Whether the new map hasn't this item of the old.
 fn is_gone<A: Allocator, B: Allocator>(new: &Side<'_, B>, step: &Step<'_, A>) -> bool
     ensures { (n : Option (List ℕ)) (t u : List Row) → IsSide n u new.now
         → result ≡ is_gone_by_name t u (step_data step.now) }
@@ -59,7 +57,6 @@ fn is_gone<A: Allocator, B: Allocator>(new: &Side<'_, B>, step: &Step<'_, A>) ->
     !has_counterpart(Devices::ByName, new, &view)
 }
 
-/// How many of these items of the new map differ in which way.
 fn count_new<'a, A: Allocator, B: Allocator>(
     old: &Side<'a, A>,
     new: &Side<'a, B>,
@@ -84,7 +81,6 @@ fn count_new<'a, A: Allocator, B: Allocator>(
     tally
 }
 
-/// The counts with one item more.
 fn with(tally: &Tally, before: &Option<Seen<'_>>, after: &Option<Seen<'_>>) -> Tally
     requires { HasRoom tally.now }
     ensures { result ≡ tally_plus tally.now (option_map seen_data before.now)
@@ -100,7 +96,6 @@ fn with(tally: &Tally, before: &Option<Seen<'_>>, after: &Option<Seen<'_>>) -> T
     }
 }
 
-/// A count with one more, where the test says so.
 fn more(count: usize, test: bool) -> usize
     requires { count + 1 < 2 ^ 64 }
     ensures sum { result ≡ count + one_if test }
@@ -109,7 +104,7 @@ fn more(count: usize, test: bool) -> usize
     if test { count + 1 } else { count }
 }
 
-/// Whether both maps have the item, in buckets of other names.
+/// Both maps have it, in buckets of other names.
 fn is_moved(before: &Option<Seen<'_>>, after: &Option<Seen<'_>>) -> bool
     ensures { result
         ≡ is_moved_by_name (option_map seen_data before.now) (option_map seen_data after.now) }

@@ -1,4 +1,4 @@
-//! What there is to tell of an item whose maps tell their items apart by names.
+//! The line of an item that is matched by its name.
 
 ghost use Rattle.std.specs.Prelude.{◌≡◌, ◌++◌, OnOk, codes, flat_map};
 ghost use Rattle.std.specs.Option.{option_map};
@@ -16,7 +16,6 @@ use crush_map::Setting;
 use crush_since::{Seen, push_with_class, weight_of};
 use std::alloc::{AllocError, Global};
 
-/// The line of an item, by what either map has of its name.
 pub(crate) fn push_changed_pair(
     alloc: Global,
     old: &Setting,
@@ -36,7 +35,7 @@ pub(crate) fn push_changed_pair(
     push_line(pair_name(before, after), parts.as_slice(), out)
 }
 
-/// What there is to tell of an item, each part behind a semicolon.
+/// Each part stands behind a semicolon.
 fn push_parts(
     alloc: Global,
     old: &Setting,
@@ -60,7 +59,6 @@ fn push_parts(
     }
 }
 
-/// What an item is that the new map alone has.
 fn push_made(
     alloc: Global,
     setting: &Setting,
@@ -74,7 +72,6 @@ fn push_made(
     push_whole(alloc, setting, item, parts)
 }
 
-/// What an item was that the old map alone has.
 fn push_removed(
     alloc: Global,
     setting: &Setting,
@@ -88,7 +85,6 @@ fn push_removed(
     push_whole(alloc, setting, item, parts)
 }
 
-/// What is another of an item that both maps have.
 fn push_changed(
     alloc: Global,
     old: &Setting,
@@ -108,7 +104,6 @@ fn push_changed(
     Ok(())
 }
 
-/// The weights, where they differ.
 fn push_other_weight(
     alloc: Global,
     before: &Seen<'_>,
@@ -122,7 +117,6 @@ fn push_other_weight(
     push_weight(alloc, same, b" to ", before, after, parts)
 }
 
-/// What an item is that one of the maps alone has.
 #[tactic(auto, unfolding(crate::specs::SinceNames::whole_word))]
 fn push_whole(
     alloc: Global,
@@ -139,7 +133,6 @@ fn push_whole(
     push_with_class(item.view.class, parts)
 }
 
-/// All of these, one after the other.
 fn push_bytes(words: &[&[u8]], parts: &mut Vec<u8>) -> Result<(), AllocError>
     ensures { OnOk result (parts.new.items ≡ parts.old.items
         ++ flat_map (λ w. w.now) words.now) }

@@ -14,7 +14,6 @@ use crush_since::{
 use crush_units::{BucketId, ItemId, Weight};
 use std::alloc::{AllocError, Global};
 
-/// Where an item stands: in the bucket that holds it, whose name is given, or in none.
 fn place_in<'a>(id: ItemId, parent: Option<BucketId>, holder: Option<&'a str>) -> &'a [u8]
     ensures { result.now ≡ place_in id parent (option_map (λ n. n.now) holder.entry) }
 {
@@ -30,7 +29,6 @@ fn place_in<'a>(id: ItemId, parent: Option<BucketId>, holder: Option<&'a str>) -
     }
 }
 
-/// Where an item stands.
 #[tactic(auto, unfolding(crate::specs::Stays::place_word))]
 fn place_of<'a>(item: &Seen<'a>) -> &'a [u8]
     ensures { result.now ≡ place_word (seen_data item.now) }
@@ -38,14 +36,13 @@ fn place_of<'a>(item: &Seen<'a>) -> &'a [u8]
     place_in(item.view.id, item.view.parent, item.holder)
 }
 
-/// The name of an item's type.
 fn type_of<'a>(setting: &'a Setting, item: &Seen<'_>) -> &'a [u8]
     ensures { result.now ≡ item_type setting.now (seen_data item.now) }
 {
     type_bytes(setting, item.view.id, item.view.kind)
 }
 
-/// Whether an item has one type in both maps, by its name; a device has that of devices.
+/// A device has that of devices.
 fn same_type(id: ItemId, here: &[u8], there: &[u8]) -> bool
     ensures { result ≡ same_type id here.now there.now }
 {
@@ -63,7 +60,7 @@ pub fn are_near(here: Weight, there: Weight) -> bool
         || (there.units() as u64) + 1 < here.units() as u64)
 }
 
-/// Whether an item has one weight in both maps; that of a bucket is what is in it.
+/// That of a bucket is what is in it.
 fn same_weight(id: ItemId, here: Weight, there: Weight) -> bool
     ensures { result ≡ same_weight id here there }
 {
@@ -73,7 +70,6 @@ fn same_weight(id: ItemId, here: Weight, there: Weight) -> bool
     }
 }
 
-/// As what and where an item is wanted that the map lacks.
 pub(crate) fn push_lacking(
     wanted: &Setting,
     there: &Seen<'_>,
@@ -86,7 +82,6 @@ pub(crate) fn push_lacking(
     push_wanted_word(wanted, there, parts)
 }
 
-/// As what and where an item is wanted.
 #[tactic(auto, unfolding(crate::specs::Stays::wanted_word))]
 pub(crate) fn push_wanted_word(
     wanted: &Setting,
@@ -101,7 +96,6 @@ pub(crate) fn push_wanted_word(
     put_all(parts, &[kind, b" in ".as_slice(), place]).map_err(|_| AllocError)
 }
 
-/// A part of two words, with others before and between them, where a column differs.
 fn push_both(
     same: bool,
     word: &[u8],
@@ -116,7 +110,6 @@ fn push_both(
     push_part(same, &[word, here, between, there], parts)
 }
 
-/// The types, with a word between.
 pub(crate) fn push_type(
     between: &[u8],
     map: &Setting,
@@ -140,7 +133,6 @@ pub(crate) fn push_type(
     )
 }
 
-/// Whether two items stand in buckets of one name.
 #[tactic(auto, unfolding(crate::specs::Stays::same_place))]
 pub(crate) fn same_place(here: &Seen<'_>, there: &Seen<'_>) -> bool
     ensures { result ≡ same_place (seen_data here.now) (seen_data there.now) }
@@ -150,7 +142,6 @@ pub(crate) fn same_place(here: &Seen<'_>, there: &Seen<'_>) -> bool
     here == there
 }
 
-/// The places, by the names of the buckets above, behind a word and with one between.
 pub(crate) fn push_place(
     word: &[u8],
     between: &[u8],
@@ -166,7 +157,6 @@ pub(crate) fn push_place(
     push_both(same_place(here, there), word, from, between, to, parts)
 }
 
-/// The weights, unless they are the same, with a word between.
 pub(crate) fn push_weight(
     alloc: Global,
     same: bool,
@@ -193,7 +183,7 @@ pub(crate) fn push_weight(
     )
 }
 
-/// The weights of a device that are more than one unit apart.
+/// More than one unit apart.
 pub(super) fn push_far_weight(
     alloc: Global,
     here: &Seen<'_>,
@@ -207,7 +197,6 @@ pub(super) fn push_far_weight(
     push_weight(alloc, same, b", wanted ".as_slice(), here, there, parts)
 }
 
-/// The classes, with a word between.
 pub(crate) fn push_class(
     between: &[u8],
     here: &Seen<'_>,
@@ -227,7 +216,6 @@ pub(crate) fn push_class(
     )
 }
 
-/// The algorithms of a bucket, with a word between.
 pub(crate) fn push_alg(
     between: &[u8],
     here: &Seen<'_>,

@@ -13,7 +13,6 @@ use crush_since::{same_class, same_step, tell_unless};
 use crush_units::{BucketId, ItemId};
 use std::alloc::{AllocError, Allocator};
 
-/// A line where the rules differ.
 #[tactic(auto, unfolding(crate::specs::NamedRules::named_rules_line))]
 pub(super) fn push_rules<A: Allocator, B: Allocator>(
     map: &CrushMap<A>,
@@ -28,7 +27,6 @@ pub(super) fn push_rules<A: Allocator, B: Allocator>(
     tell_unless(same, b"rules differ\n", lines)
 }
 
-/// Whether these rules are the same, in order.
 fn same_rules<A: Allocator, B: Allocator>(
     map: &CrushMap<A>,
     wanted: &CrushMap<B>,
@@ -49,7 +47,6 @@ fn same_rules<A: Allocator, B: Allocator>(
     true
 }
 
-/// Whether both are the same rule.
 fn same_rule<A: Allocator, B: Allocator>(
     map: &CrushMap<A>,
     wanted: &CrushMap<B>,
@@ -67,7 +64,6 @@ fn same_rule<A: Allocator, B: Allocator>(
         && same_steps(map, wanted, here.steps.as_slice(), there.steps.as_slice())
 }
 
-/// Whether these steps are the same, in order.
 fn same_steps<A: Allocator, B: Allocator>(
     map: &CrushMap<A>,
     wanted: &CrushMap<B>,
@@ -88,7 +84,7 @@ fn same_steps<A: Allocator, B: Allocator>(
     true
 }
 
-/// Whether both are the same step. A bucket is compared by its name.
+/// A bucket is compared by its name.
 fn is_same_step<A: Allocator, B: Allocator>(
     map: &CrushMap<A>,
     wanted: &CrushMap<B>,
@@ -109,7 +105,6 @@ fn is_same_step<A: Allocator, B: Allocator>(
     }
 }
 
-/// Whether a bucket of each map has one name.
 fn same_bucket<A: Allocator, B: Allocator>(
     map: &CrushMap<A>,
     wanted: &CrushMap<B>,

@@ -13,7 +13,6 @@ use crush_map::Setting;
 use crush_tree::{Bucket, Forest};
 use std::alloc::{AllocError, Allocator, Global};
 
-/// The buckets: the roots by id from -1 downward, each behind the buckets below it.
 #[tactic(auto, unfolding(crate::specs::MapText::bucket_section))]
 pub(crate) fn push_roots<A: Allocator>(
     alloc: Global,
@@ -29,7 +28,6 @@ pub(crate) fn push_roots<A: Allocator>(
     push_buckets(setting, buckets.as_slice(), out)
 }
 
-/// The buckets, in their order.
 fn push_buckets<A: Allocator>(
     setting: &Setting,
     buckets: &[&Bucket<A>],
@@ -44,7 +42,6 @@ fn push_buckets<A: Allocator>(
     Ok(())
 }
 
-/// A bucket.
 fn push_bucket<A: Allocator>(
     setting: &Setting,
     bucket: &Bucket<A>,

@@ -13,7 +13,6 @@ use crate::order::devices_in_order;
 use crush_tree::{Forest, Leaf};
 use std::alloc::{AllocError, Allocator, Global};
 
-/// The devices, by ascending id.
 #[tactic(auto, unfolding(crate::specs::MapText::device_section))]
 pub(crate) fn push_devices<A: Allocator>(
     alloc: Global,
@@ -28,7 +27,6 @@ pub(crate) fn push_devices<A: Allocator>(
     push_leaves(devices.as_slice(), out)
 }
 
-/// The devices, in their order.
 fn push_leaves<A: Allocator>(devices: &[&Leaf<A>], out: &mut Vec<u8>) -> Result<(), AllocError>
     ensures { OnOk result (out.new.items ≡ out.old.items
         ++ flat_map (λ d. device_line (device_row None (leaf_data d.now))) devices.now) }

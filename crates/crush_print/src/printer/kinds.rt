@@ -11,7 +11,7 @@ use crush_units::{Name, TypeId};
 use indexmap::IndexMap;
 use std::alloc::{AllocError, Global};
 
-/// The types, by ascending number.
+/// By ascending number.
 #[tactic(auto, unfolding(crate::specs::MapText::kind_section))]
 pub(crate) fn push_kinds(
     alloc: Global,
@@ -25,7 +25,6 @@ pub(crate) fn push_kinds(
     push_numbers(setting, numbers.as_slice(), out)
 }
 
-/// The types of these numbers, in their order.
 fn push_numbers(setting: &Setting, numbers: &[u16], out: &mut Vec<u8>) -> Result<(), AllocError>
     ensures { OnOk result (out.new.items ≡ out.old.items
         ++ flat_map (λ n. kind_line n (kind_text setting.now n)) numbers.now) }
@@ -36,7 +35,6 @@ fn push_numbers(setting: &Setting, numbers: &[u16], out: &mut Vec<u8>) -> Result
     Ok(())
 }
 
-/// The numbers of the types, from the least to the greatest.
 fn numbers_in_order(alloc: Global, setting: &Setting) -> Result<Vec<u16>, AllocError>
     ensures { IfOk result (λ numbers. numbers.items ≡ kind_numbers setting.now) }
 {
@@ -45,14 +43,12 @@ fn numbers_in_order(alloc: Global, setting: &Setting) -> Result<Vec<u16>, AllocE
     Ok(numbers)
 }
 
-/// The numbers of the types.
 fn numbers_of(alloc: Global, kinds: &IndexMap<TypeId, Name<Global>>) -> Result<Vec<u16>, AllocError>
     ensures { IfOk result (λ numbers. numbers.items ≡ keys kinds.now) }
 {
     kinds.keys().map(|number| number.number()).collect(alloc)
 }
 
-/// The name of the type with this number, or nothing where the setting has none.
 #[tactic(auto, unfolding(crate::specs::MapText::kind_text))]
 pub(crate) fn kind_name(setting: &Setting, number: TypeId) -> &[u8]
     ensures { result.now ≡ kind_text setting.now number }

@@ -14,8 +14,6 @@ use crush_units::{BucketId, ItemId, Name};
 use itoa::Buffer;
 use std::alloc::{AllocError, Allocator, Global};
 
-/// The rules, in their order, behind their heading. A bucket that a step takes has the name that it
-/// has in the map.
 #[tactic(auto, unfolding(crate::specs::MapText::rule_section))]
 pub(crate) fn push_rules<A: Allocator>(
     setting: &Setting,
@@ -30,7 +28,6 @@ pub(crate) fn push_rules<A: Allocator>(
     push_all_rules(rules, from, out)
 }
 
-/// The rules, in their order.
 fn push_all_rules<A: Allocator>(
     rules: &[KeptRule],
     from: &CrushMap<A>,
@@ -45,7 +42,6 @@ fn push_all_rules<A: Allocator>(
     Ok(())
 }
 
-/// A rule.
 #[tactic(auto, unfolding(crate::specs::RuleLines::rule_lines))]
 fn push_rule<A: Allocator>(
     rule: &KeptRule,
@@ -62,7 +58,6 @@ fn push_rule<A: Allocator>(
     out.extend_from_slice(b"}\n")
 }
 
-/// How a rule begins.
 #[tactic(auto, unfolding(crate::specs::RuleLines::rule_head))]
 fn push_head(rule: &KeptRule, out: &mut Vec<u8>) -> Result<(), AllocError>
     ensures { OnOk result (out.new.items ≡ out.old.items ++ rule_head (rule_data rule.now)) }
@@ -83,7 +78,6 @@ fn push_head(rule: &KeptRule, out: &mut Vec<u8>) -> Result<(), AllocError>
     )
 }
 
-/// The line of a size that is there, behind this key.
 #[tactic(auto, unfolding(crate::specs::RuleLines::size_line))]
 fn push_size(key: &[u8], size: Option<u32>, out: &mut Vec<u8>) -> Result<(), AllocError>
     ensures { OnOk result (out.new.items ≡ out.old.items ++ size_line key.now size) }
@@ -98,7 +92,6 @@ fn push_size(key: &[u8], size: Option<u32>, out: &mut Vec<u8>) -> Result<(), All
     }
 }
 
-/// The lines of a rule's steps.
 fn push_steps<A: Allocator>(
     steps: &[KeptStep],
     from: &CrushMap<A>,
@@ -113,7 +106,6 @@ fn push_steps<A: Allocator>(
     Ok(())
 }
 
-/// The line of a step.
 fn push_step<A: Allocator>(
     step: &KeptStep,
     from: &CrushMap<A>,
@@ -135,7 +127,6 @@ fn push_step<A: Allocator>(
     }
 }
 
-/// The name that a bucket has now.
 #[tactic(auto, unfolding(crate::specs::RuleLines::bucket_name))]
 fn name_of<A: Allocator>(from: &CrushMap<A>, bucket: BucketId) -> &[u8]
     ensures { (t : List Row) → Stands from.now.forest t → result.now ≡ bucket_name t bucket }
@@ -146,7 +137,6 @@ fn name_of<A: Allocator>(from: &CrushMap<A>, bucket: BucketId) -> &[u8]
     }
 }
 
-/// The line of a step that takes a bucket of this name.
 #[tactic(auto, unfolding(crate::specs::RuleLines::take_line))]
 fn push_take(name: &[u8], class: &Option<Name<Global>>, out: &mut Vec<u8>) -> Result<(), AllocError>
     ensures { OnOk result (out.new.items ≡ out.old.items ++ take_line name.now class.now) }
@@ -161,7 +151,6 @@ fn push_take(name: &[u8], class: &Option<Name<Global>>, out: &mut Vec<u8>) -> Re
     }
 }
 
-/// How a step that chooses begins.
 #[tactic(auto, unfolding(crate::specs::RuleLines::choice_text))]
 fn choice(leaf: bool, firstn: bool) -> &'static [u8]
     ensures { result.now ≡ choice_text leaf firstn }
@@ -179,7 +168,6 @@ fn choice(leaf: bool, firstn: bool) -> &'static [u8]
     }
 }
 
-/// The line of a step that chooses so many items of a type.
 #[tactic(auto, unfolding(crate::specs::RuleLines::choose_line))]
 fn push_choice(
     leaf: bool,
@@ -205,7 +193,6 @@ fn push_choice(
     )
 }
 
-/// The line of a step that sets a tunable.
 #[tactic(auto, unfolding(crate::specs::RuleLines::set_line))]
 fn push_set(name: &Name<Global>, value: u32, out: &mut Vec<u8>) -> Result<(), AllocError>
     ensures { OnOk result (out.new.items ≡ out.old.items ++ set_line name.now value) }

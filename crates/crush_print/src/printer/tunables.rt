@@ -12,7 +12,7 @@ use indexmap::IndexMap;
 use itoa::Buffer;
 use std::alloc::{AllocError, Global};
 
-/// The beginning of a map, and the tunables in their order.
+/// With the first line of a map.
 #[tactic(auto, unfolding(crate::specs::MapText::tunable_section))]
 pub(crate) fn push_tunables(setting: &Setting, out: &mut Vec<u8>) -> Result<(), AllocError>
     ensures { OnOk result (out.new.items ≡ out.old.items ++ tunable_section setting.now) }
@@ -22,7 +22,6 @@ pub(crate) fn push_tunables(setting: &Setting, out: &mut Vec<u8>) -> Result<(), 
     push_all_tunables(tunables, out)
 }
 
-/// The tunables, in their order.
 fn push_all_tunables(
     tunables: &IndexMap<Name<Global>, u32>,
     out: &mut Vec<u8>,
@@ -36,7 +35,6 @@ fn push_all_tunables(
     Ok(())
 }
 
-/// The line of a tunable.
 #[tactic(auto, unfolding(crate::specs::Lines::tunable_line))]
 fn push_tunable(name: &Name<Global>, value: u32, out: &mut Vec<u8>) -> Result<(), AllocError>
     ensures { OnOk result (out.new.items

@@ -1,5 +1,4 @@
-//! What an editor hands out at its close: the map, and the history of calls that its operators made
-//! by turns.
+//! What an editor hands out at its close.
 
 ghost use Rattle.std.specs.Prelude.{◌≡◌};
 ghost use Rattle.crush_run_tests.specs.Seats.{AreAll};
@@ -16,7 +15,6 @@ use std::marker::Brand;
 use std::process::Abort;
 use std::sync::Wait;
 
-/// What three operators ask for, two calls each.
 const THREE: &[u8] = b"\
     %operator a\n\
     reweight osd.0 2\n\
@@ -32,7 +30,7 @@ const THREE: &[u8] = b"\
     rm h2\n\
     commit\n";
 
-/// The history where each makes its first call before any makes its second, and the map after it.
+/// Each operator makes its first call before any makes its second.
 const CLOSED: &[u8] = b"\
     # 1 a reweight osd.0 2.00000 = done changed 1 made 0\n\
     # 2 b reweight osd.1 2.00000 = done changed 1 made 0\n\
@@ -84,7 +82,6 @@ const CLOSED: &[u8] = b"\
     \n\
     # end crush map\n";
 
-/// The job of the example map and these scripts.
 fn job(rt: &(impl Abort + AllocGlobal), scripts: &[u8]) -> Job {
     let parts = [PLAIN, scripts];
     let text = parts.concat(rt.alloc()).expect(rt, "no memory");
@@ -103,8 +100,6 @@ fn three_operators_by_turns(rt: HostRuntime) {
     assert!(&rt; is_written(&rt, &closed, CLOSED));
 }
 
-/// Submits the first call of each script by the seat of its operator, then the second of each, and
-/// closes.
 fn close_after<N: Desk>(
     rt: &(impl Abort + AllocGlobal + Wait),
     started: Started,
@@ -121,7 +116,6 @@ fn close_after<N: Desk>(
     editor.close(seats)
 }
 
-/// Submits the call of this number of each script.
 fn submit_each<N: Desk>(
     rt: &(impl Abort + AllocGlobal + Wait),
     editor: &Editor<N>,
@@ -139,7 +133,6 @@ fn submit_each<N: Desk>(
     }
 }
 
-/// Whether the lines of the history, and the map behind them, are this text.
 fn is_written(rt: &impl AllocGlobal, closed: &Closed<Global>, text: &[u8]) -> bool {
     let mut out = Vec::new(rt.alloc());
     put_history(&mut out, closed.history.as_slice())
@@ -147,8 +140,6 @@ fn is_written(rt: &impl AllocGlobal, closed: &Closed<Global>, text: &[u8]) -> bo
         && out.as_slice() == text
 }
 
-/// Puts the lines of a history behind a text, and
-/// answers whether there is memory.
 fn put_history(out: &mut Vec<u8>, history: &[Entry]) -> bool {
     let mut number = 0u32;
     for entry in history {
@@ -168,7 +159,6 @@ fn put_history(out: &mut Vec<u8>, history: &[Entry]) -> bool {
     true
 }
 
-/// The name of an operator of three.
 fn name_of(operator: usize) -> &'static [u8] {
     match operator {
         0 => b"a",

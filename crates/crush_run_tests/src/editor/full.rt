@@ -14,13 +14,12 @@ use std::marker::Brand;
 use std::process::Abort;
 use std::sync::Wait;
 
-/// A call that is refused, since no item of the example map has the name.
+/// No item of the example map has the name.
 fn remove_nobody(rt: &(impl Abort + AllocGlobal)) -> Call {
     let name = Name::read(rt.alloc(), b"x").expect(rt, "no name");
     Call::One(Edit::Remove { name })
 }
 
-/// What is answered to it while there is room.
 const NOBODY: Result<Reply, SubmitFault> = Ok(Reply::Refused(Refusal::NoSuchItem));
 
 #[test]
@@ -33,7 +32,6 @@ fn a_book_is_full_with_the_most_entries(rt: HostRuntime) {
     assert!(&rt; book.history().len() == MOST_ENTRIES && book.map().total() == 163840);
 }
 
-/// Whether a call is answered so often that a book without an entry is full.
 fn fill_book(rt: &impl AllocGlobal, gauge: &MapGauge, book: &mut Book<Global>, call: &Call) -> bool
     requires { book.old.table ≡ gauge.now.table.shared.table_id }
     ensures { book.new.table ≡ book.old.table }
@@ -68,7 +66,6 @@ fn one_operator<N: Desk>(rt: &(impl Abort + AllocGlobal + Wait), started: Starte
     assert!(rt; closed.history.len() == MOST_ENTRIES && closed.map.total() == 163840);
 }
 
-/// Whether a call of operator 0 is answered so often that an editor without an entry is full.
 fn fill_editor<N: Desk>(
     rt: &(impl Abort + AllocGlobal + Wait),
     editor: &Editor<N>,

@@ -1,4 +1,4 @@
-//! Gauges whose entries are pairs: each is the pair of the history with it.
+//! Gauges whose entries are pairs.
 
 ghost use Rattle.std.specs.Prelude.{◌≡◌, ◌≤◌, ◌<◌, [], ◌∷◌};
 ghost use Rattle.crush_gauge.specs.declared.view.View.TheVariants.{Book as BookSees, Reader};
@@ -7,8 +7,8 @@ ghost use Rattle.crush_gauge.specs.Held.{held};
 
 use crush_gauge::{Gauge, Law};
 
-/// Any history is legal. Its pair is that of its last entry; without one there is no change, and the
-/// weight is the opening's.
+/// Any history is legal, and its pair is its last entry; without one it has no change and the
+/// opening's weight.
 struct Pairs;
 
 impl Law<u64, (u64, u64)> for Pairs {

@@ -10,8 +10,6 @@ use std::marker::Brand;
 use std::process::Abort;
 use std::sync::Wait;
 
-/// Submits a batch that sets the weight of `osd.1` to 2 where there were so many changes, and looks
-/// whether it is answered like this.
 fn is_answered<N: Desk>(
     rt: &(impl Abort + AllocGlobal + Wait),
     editor: &Editor<N>,

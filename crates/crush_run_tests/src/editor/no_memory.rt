@@ -1,5 +1,5 @@
-//! Calls that take no memory, made once and often: of each pair of tests `bench/refused_memory.py`
-//! counts the requests for memory, which have to be as many.
+//! Calls that take no memory, made once and often: `bench/refused_memory.py` compares the requests
+//! for memory of each pair of tests.
 
 ghost use Rattle.std.specs.Prelude.{◌≡◌};
 ghost use Rattle.crush_run_tests.specs.Seats.{AreAll};
@@ -15,13 +15,10 @@ use std::marker::Brand;
 use std::process::Abort;
 use std::sync::Wait;
 
-/// How often the second test of a pair makes its calls.
 const OFTEN: u32 = 1000;
 
-/// How many editors are made in each test of the close.
 const EDITORS: u32 = 16;
 
-/// Whether the example map is what it is asked for.
 fn is_example(map: &CrushMap<Global>) -> bool {
     map.forest().recall_invariant();
     map.locate("osd.1").is_some()
@@ -32,7 +29,6 @@ fn is_example(map: &CrushMap<Global>) -> bool {
         && map.total() == 163840
 }
 
-/// Whether there are the four types of the example map, and neither a tunable nor a rule.
 fn has_plain_setting(setting: &Setting) -> bool {
     setting.kinds().len() == 4 && setting.tunables().len() == 0 && setting.rules().len() == 0
 }
@@ -82,7 +78,6 @@ fn a_book_is_looked_at_often(rt: HostRuntime) {
     look_at_book(&rt, OFTEN);
 }
 
-/// One seat's notes are learned by another, which reads.
 fn read_editor<N: Desk>(rt: &(impl Abort + AllocGlobal + Wait), started: Started, times: u32)
     requires gauge { started.table ≡ N.gauge }
     requires opening { started.opening ≡ N.opening }
@@ -111,7 +106,7 @@ fn an_editor_is_read_often(rt: HostRuntime) {
     read_editor::<Brand>(&rt, started(&rt, 2), OFTEN);
 }
 
-/// One call is made of an editor, which is closed or dropped.
+/// Closes the editor or drops it.
 fn end_editor<N: Desk>(rt: &(impl Abort + AllocGlobal + Wait), started: Started, closes: bool)
     requires gauge { started.table ≡ N.gauge }
     requires opening { started.opening ≡ N.opening }
@@ -126,14 +121,13 @@ fn end_editor<N: Desk>(rt: &(impl Abort + AllocGlobal + Wait), started: Started,
     assert!(rt; answered && ended);
 }
 
-/// Whether the editor, once closed, has one call.
 fn is_closed<N: Desk>(editor: Editor<N>, seats: Vec<Seat<N>>) -> bool
     requires { AreAll N.parts seats.items }
 {
     editor.close(seats).history.len() == 1
 }
 
-/// Of so many editors the first ones are closed.
+/// As many editors are made however many are closed.
 fn close_editors(rt: &(impl Abort + AllocGlobal + Wait), times: u32) {
     for number in 0..EDITORS {
         let started = started(rt, 2);
@@ -151,7 +145,6 @@ fn an_editor_is_closed_often(rt: HostRuntime) {
     close_editors(&rt, EDITORS);
 }
 
-/// The line of an entry, written where there is room for it.
 fn write_line(rt: &(impl Abort + AllocGlobal), times: u32) {
     let call = Call::One(weight_two(rt, b"osd.0"));
     let reply = Reply::Done(Done {

@@ -1,4 +1,4 @@
-//! A book and an editor that keep nothing of their opening, by calls that are moved into their entries.
+//! A book and an editor without their opening, by calls that are moved into their entries.
 
 ghost use Rattle.std.specs.Prelude.{◌≡◌};
 
@@ -12,7 +12,6 @@ use std::marker::Brand;
 use std::process::Abort;
 use std::sync::Wait;
 
-/// What is made of the example map for one operator, of which no copy is kept.
 fn started_unkept(rt: &(impl Abort + AllocGlobal)) -> Started<Global, Unkept>
     ensures { result.parts ≡ 1 }
 {
@@ -26,7 +25,6 @@ fn started_unkept(rt: &(impl Abort + AllocGlobal)) -> Started<Global, Unkept>
     }
 }
 
-/// Whether there is the map after one call that makes it weigh this, and that call.
 fn is_closed(closed: &Closed<Global, Unkept>, weight: u64) -> bool {
     closed.opening == Unkept && closed.history.len() == 1 && closed.map.total() == weight
 }

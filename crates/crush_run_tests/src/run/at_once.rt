@@ -1,5 +1,5 @@
-//! Runs of operators at once. What a gate sees shows that threads are at work at the same time, which
-//! no clause says.
+//! Runs of operators at once. Gates show that threads are at work at the same time, which no clause
+//! says.
 
 use super::{AT_ONCE, joined, put_behind, run_map, summary};
 use crate::maps::PLAIN;
@@ -10,10 +10,9 @@ use std::sync::atomic::{AtomicU64, Ordering};
 use std::thread;
 use std::time::{Clock, Duration};
 
-/// How often a gate sleeps for a millisecond at the most before it gives up.
+/// Of at most a millisecond each, before a gate gives up.
 const MOST_NAPS: u64 = 10_000;
 
-/// Waits until the count is as high as is asked, and answers whether it came to that.
 pub(super) fn reaches(clock: &impl Clock, count: &AtomicU64, goal: u64) -> bool {
     for _ in 0..MOST_NAPS {
         if count.load(Ordering::SeqCst) >= goal {
@@ -24,7 +23,7 @@ pub(super) fn reaches(clock: &impl Clock, count: &AtomicU64, goal: u64) -> bool 
     false
 }
 
-/// Lets the first two calls begin when both are there.
+/// The first two calls begin when both are there.
 #[derive(Drop)]
 struct Meeting<'a, C> {
     clock: &'a C,
@@ -43,7 +42,7 @@ impl<C: Clock> Gate for Meeting<'_, C> {
     fn after<R: Wait>(&self, _rt: &R, _operator: usize, _number: usize) {}
 }
 
-/// Lets the calls of two operators come by turns, the first operator's first.
+/// Calls of two operators come by turns, the first operator's first.
 #[derive(Drop)]
 pub(super) struct ByTurns<'a, C> {
     clock: &'a C,
@@ -52,7 +51,6 @@ pub(super) struct ByTurns<'a, C> {
 }
 
 impl<'a, C> ByTurns<'a, C> {
-    /// The gate of a run in which no call is made yet.
     pub(super) fn new(clock: &'a C) -> ByTurns<'a, C> {
         ByTurns {
             clock,
@@ -61,7 +59,6 @@ impl<'a, C> ByTurns<'a, C> {
         }
     }
 
-    /// Whether no call waited in vain so far.
     pub(super) fn kept_order(&self) -> bool {
         self.missed.load(Ordering::SeqCst) == 0
     }
@@ -80,7 +77,6 @@ impl<C: Clock> Gate for ByTurns<'_, C> {
     }
 }
 
-/// Two operators who want the same device in two hosts.
 const ONE_DEVICE: &[u8] = b"%operator a\nadd osd.7 1 host=h1\n%operator b\nadd osd.7 1 host=h2\n";
 
 const FIRST_HAS_IT: &[u8] =
@@ -107,7 +103,6 @@ fn two_operators_are_at_work_at_the_same_time(rt: HostRuntime) {
     );
 }
 
-/// Two operators who give one device two weights.
 const TWO_WEIGHTS: &[u8] =
     b"%operator a\nreweight osd.0 2\nreweight osd.0 1\n%operator b\nreweight osd.0 2\nreweight osd.0 1\n";
 
@@ -124,10 +119,8 @@ fn a_gate_dictates_the_order_of_calls(rt: HostRuntime) {
     assert!(&rt; in_order && outcome == Ok(summary(0, 4, 2)) && out.ends_with(BY_TURNS));
 }
 
-/// The names of sixteen operators.
 const SIXTEEN: &[u8] = b"abcdefghijklmnop";
 
-/// A job in which each of sixteen operators gives osd.0 the weight 2.0, so many times.
 fn sixteen_scripts(rt: &(impl Abort + AllocGlobal), times: usize) -> Vec<u8> {
     let mut job = joined(rt, PLAIN, b"");
     for name in SIXTEEN {
@@ -141,7 +134,6 @@ fn sixteen_scripts(rt: &(impl Abort + AllocGlobal), times: usize) -> Vec<u8> {
     job
 }
 
-/// How many lines of the history are this operator's.
 fn lines_of(out: &[u8], name: u8) -> usize {
     let mut count: usize = 0;
     for line in out.split(|byte| *byte == b'\n') {

@@ -3,12 +3,10 @@
 use crush_options::{Options, OptionsFault, Printed, options};
 use std::process::Abort;
 
-/// Whether the options are these.
 fn asks(options: &Options, in_turn: bool, history: bool, file: Option<&str>) -> bool {
     options.mode.in_turn == in_turn && options.mode.history == history && is(&options.file, file)
 }
 
-/// Whether the words are taken, and ask for these options.
 fn ask(
     rt: &impl AllocGlobal,
     words: &[&str],
@@ -47,8 +45,6 @@ fn flags_and_a_file_are_read(rt: HostRuntime) {
     );
 }
 
-/// Whether the words ask for the changes since the map of a file, strictly and with reasons, and for
-/// two scripts.
 fn asks_for_all(rt: &impl AllocGlobal, words: &[&str]) -> bool {
     let read = options(rt.alloc(), words);
     let asked = match &read {
@@ -59,7 +55,6 @@ fn asks_for_all(rt: &impl AllocGlobal, words: &[&str]) -> bool {
     asked
 }
 
-/// Whether the changes since the map of this file are asked for, strictly and with reasons.
 fn asks_since(options: &Options, map: &str) -> bool {
     let since = match &options.printed {
         Printed::Since(since) => {
@@ -70,7 +65,6 @@ fn asks_since(options: &Options, map: &str) -> bool {
     since && options.mode.strict && options.mode.explain
 }
 
-/// Whether the name is this one, or none where there is none.
 fn is(name: &Option<String>, other: Option<&str>) -> bool {
     match (name, other) {
         (Some(name), Some(other)) => name.as_str() == other,
@@ -79,7 +73,6 @@ fn is(name: &Option<String>, other: Option<&str>) -> bool {
     }
 }
 
-/// Whether these are the scripts.
 fn has_two(options: &Options, first: &str, second: &str) -> bool {
     match options.scripts.as_slice() {
         [a, b] => a.as_str() == first && b.as_str() == second,
@@ -105,7 +98,6 @@ fn further_words_are_read(rt: HostRuntime) {
     );
 }
 
-/// Whether the words ask for a run that makes no buckets, and for a status that tells of the map.
 fn ask_for_statuses(rt: &impl AllocGlobal, words: &[&str], no_make: bool, exit_code: bool) -> bool {
     let read = options(rt.alloc(), words);
     let asked = match &read {
@@ -126,7 +118,6 @@ fn words_of_statuses_are_read(rt: HostRuntime) {
     );
 }
 
-/// Whether the words ask for a tree of the changes since the map of this file.
 fn ask_for_changes(rt: &impl AllocGlobal, words: &[&str], map: &str) -> bool {
     let read = options(rt.alloc(), words);
     let asked = match &read {
@@ -137,7 +128,6 @@ fn ask_for_changes(rt: &impl AllocGlobal, words: &[&str], map: &str) -> bool {
     asked
 }
 
-/// Whether a tree of the changes since the map of this file is asked for.
 fn asks_for_changes(options: &Options, map: &str) -> bool {
     match &options.printed {
         Printed::Changes(name) => name.as_str() == map,
@@ -154,7 +144,6 @@ fn words_of_a_tree_of_changes_are_read(rt: HostRuntime) {
     );
 }
 
-/// Whether the words ask for the tree of this part.
 fn ask_for_tree(
     rt: &impl AllocGlobal,
     words: &[&str],
@@ -170,7 +159,6 @@ fn ask_for_tree(
     asked
 }
 
-/// Whether the tree of this part is asked for.
 fn asks_for_tree(options: &Options, under: Option<&str>, down_to: Option<&str>) -> bool {
     match &options.printed {
         Printed::Tree(part) => is(&part.under, under) && is(&part.down_to, down_to),
@@ -193,7 +181,6 @@ fn words_of_a_part_of_a_tree_are_read(rt: HostRuntime) {
     );
 }
 
-/// Whether the words ask for changes since the map `m`, by names or not, and of this item.
 fn ask_since(rt: &impl AllocGlobal, words: &[&str], by_name: bool, under: Option<&str>) -> bool {
     let read = options(rt.alloc(), words);
     let asked = match &read {
@@ -204,7 +191,6 @@ fn ask_since(rt: &impl AllocGlobal, words: &[&str], by_name: bool, under: Option
     asked
 }
 
-/// Whether changes since the map `m` are asked for, by names or not, and of this item.
 fn asks_since_by(options: &Options, by_name: bool, under: Option<&str>) -> bool {
     match &options.printed {
         Printed::Since(since) => {
@@ -234,7 +220,6 @@ fn words_of_some_changes_are_read(rt: HostRuntime) {
     );
 }
 
-/// Whether the words ask for a document, or for none.
 fn ask_for_json(rt: &impl AllocGlobal, words: &[&str], json: bool) -> bool {
     let read = options(rt.alloc(), words);
     let asked = match &read {
@@ -257,7 +242,6 @@ fn words_of_a_document_are_read(rt: HostRuntime) {
     );
 }
 
-/// Whether the words ask for commands to the map of this file.
 fn ask_to(rt: &impl AllocGlobal, words: &[&str], map: &str, as_ceph: bool, by_name: bool) -> bool {
     let read = options(rt.alloc(), words);
     let asked = match &read {
@@ -268,7 +252,6 @@ fn ask_to(rt: &impl AllocGlobal, words: &[&str], map: &str, as_ceph: bool, by_na
     asked
 }
 
-/// Whether commands to the map of this file are asked for.
 fn wants(options: &Options, map: &str, as_ceph: bool, by_name: bool) -> bool {
     match &options.printed {
         Printed::To(wanted) => {
@@ -294,7 +277,6 @@ fn words_of_a_plan_are_read(rt: HostRuntime) {
     );
 }
 
-/// Whether the words are refused, with a text that is a line of an error.
 fn are_refused(rt: &impl AllocGlobal, words: &[&str]) -> bool {
     let read = options(rt.alloc(), words);
     let refused = match &read {
@@ -318,7 +300,6 @@ fn words_of_a_plan_of_a_part_are_read(rt: HostRuntime) {
     drop(read);
 }
 
-/// Whether commands of what stands or shall stand below this item are asked for.
 fn wants_under(options: &Options, under: &str) -> bool {
     match &options.printed {
         Printed::To(wanted) => is(&wanted.under, Some(under)),
@@ -326,7 +307,6 @@ fn wants_under(options: &Options, under: &str) -> bool {
     }
 }
 
-/// Words that don't go together, and what is told of them.
 const APART: &[(&[&str], &str)] = &[
     (&["--tree", "--as-ceph"], TWO_PRINTED),
     (&["--tree", "--since", "m", "--as-ceph"], TWO_PRINTED),
@@ -387,15 +367,12 @@ const APART: &[(&[&str], &str)] = &[
     ),
 ];
 
-/// What is told of words that ask for two things.
 const TWO_PRINTED: &str =
     "error: at most one of --tree, --since, --as-ceph and --to, but --tree with --since and --to with --as-ceph\n";
 
-/// What is told of words that ask for a tree of some changes.
 const WHOLE_CHANGES: &str =
     "error: --tree with --since goes with none of --by-name, --under and --down-to\n";
 
-/// Whether the words are refused with this text.
 fn are_refused_by(rt: &impl AllocGlobal, words: &[&str], why: &str) -> bool {
     let read = options(rt.alloc(), words);
     let refused = match &read {
@@ -413,7 +390,6 @@ fn words_apart_are_refused(rt: HostRuntime) {
     }
 }
 
-/// Words that ask for nothing.
 const OTHER_WORDS: &[&[&str]] = &[
     &["a", "b"],
     &["--fly"],
@@ -438,7 +414,6 @@ fn other_words_are_refused(rt: HostRuntime) {
     }
 }
 
-/// What the help has: the flags, a job, a line for each command and one for each status.
 const HELP: &[&str] = &[
     "Usage: crushedit [OPTIONS] [FILE]\n",
     "--in-turn ",
@@ -477,7 +452,6 @@ const HELP: &[&str] = &[
     "\n    6    with --exit-code",
 ];
 
-/// What is told where the words ask for no run.
 fn told(rt: &(impl Abort + AllocGlobal), words: &[&str]) -> String {
     let Err(OptionsFault::Help(text)) = options(rt.alloc(), words) else {
         panic!(rt; "nothing is told")
@@ -485,7 +459,6 @@ fn told(rt: &(impl Abort + AllocGlobal), words: &[&str]) -> String {
     text
 }
 
-/// Whether the text has each of these parts.
 fn has_all(text: &str, parts: &[&str]) -> bool {
     for part in parts {
         if !text.contains(part) {
@@ -495,7 +468,6 @@ fn has_all(text: &str, parts: &[&str]) -> bool {
     true
 }
 
-/// Whether no line of the text is longer than 80 columns.
 fn has_short_lines(text: &str) -> bool {
     for line in text.lines() {
         if line.len() > 80 {

@@ -1,4 +1,4 @@
-//! What is told where reasons are asked for: places of faults, and what was wanted.
+//! Reasons of faults: their places, and what was wanted.
 
 use super::scripts::ends_with;
 use super::strict::{End, ends_so, refused_two};
@@ -10,7 +10,6 @@ use crush_run::{Asked, OtherFault, OtherMap, RunFault, Summary};
 use crush_script::JobFault;
 use crush_text::{TextFault, TextFaultKind};
 
-/// In turn, without the history, and with reasons.
 const EXPLAIN: Mode = Mode {
     in_turn: true,
     history: false,
@@ -21,7 +20,6 @@ const EXPLAIN: Mode = Mode {
     json: false,
 };
 
-/// The same, and strict.
 const STRICTLY: Mode = Mode {
     in_turn: true,
     history: false,
@@ -32,7 +30,6 @@ const STRICTLY: Mode = Mode {
     json: false,
 };
 
-/// A bucket that isn't empty, a new weight, and an item that isn't there.
 const TWO_REFUSED: &[u8] = b"%operator a\nrm default\nreweight osd.0 1\nrm x\n";
 
 const REASONS: &[u8] =
@@ -57,7 +54,7 @@ fn refused_commands_are_told_with_reasons(rt: HostRuntime) {
     );
 }
 
-/// A text whose second line has a type that isn't declared, behind a tab.
+/// The second line has a type that isn't declared, behind a tab.
 const FLAWED: &[u8] = b"# a comment\n\thots h2 {\n";
 
 const UNKNOWN: TextFault = TextFault {
@@ -71,7 +68,6 @@ const PLACE: &[u8] =
 const LINE: &[u8] =
     b"crushedit: line 43: NoSuchCommand\n  line 43\n    fly x\n  the first word of a line is to be a command: --help has all of them\n";
 
-/// The end of a run of what is no job, of which this is told.
 fn no_job(fault: JobFault, told: &[u8]) -> End<'_> {
     End {
         outcome: Err(RunFault::Job(fault)),
@@ -103,7 +99,6 @@ fn a_fault_of_the_other_map_is_told_with_its_file(rt: HostRuntime) {
     assert!(rt; ends_with(&rt, &words, files, flaw, (b"", OTHER_PLACE)));
 }
 
-/// A script whose second line has no such command.
 const SLIP: &[u8] = b"reweight osd.0 1\nfly x\n";
 
 const SLIP_LINE: &[u8] =
@@ -157,7 +152,7 @@ fn a_file_that_cannot_be_opened_is_told_with_the_reason(rt: HostRuntime) {
     );
 }
 
-/// A host that weighs 1.0, written as 2.5 in its root.
+/// The host weighs 1.0, written as 2.5 in its root.
 const WRITTEN: &[u8] =
     b"device 0 osd.0\ntype 0 osd\ntype 1 host\ntype 2 root\nhost h { id -2 alg straw2 item osd.0 weight 1 }\nroot r { id -1 alg straw2 item h weight 2.5 }\n";
 
@@ -180,7 +175,6 @@ fn written_weights_are_told_where_reasons_are_asked_for(rt: HostRuntime) {
     );
 }
 
-/// Whether this is told of an outcome where reasons are asked for.
 fn is_explained(rt: &impl AllocGlobal, outcome: &Result<Summary, RunFault>, told: &[u8]) -> bool {
     let mut err = Vec::new(rt.alloc());
     let words = Words {

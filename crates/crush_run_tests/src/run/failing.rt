@@ -1,4 +1,4 @@
-//! Readers and writers that fail, once or from then on, and readers of blanks alone, some without an end.
+//! Readers and writers that fail, and readers of blanks alone, some without an end.
 
 use super::{MODE, REWEIGHED, is_told, joined, run_map, summary};
 use crate::maps::PLAIN;
@@ -9,15 +9,14 @@ use std::random::RandomSource;
 use std::sync::Wait;
 use std::thread::Threads;
 
-/// How long a stream fails, and by which error: once, as one that was interrupted does, or from then on.
-/// Who asked an interrupted one again would get all out of it or into it.
+/// A stream fails once, as an interrupted one does, or for good. A second try of an interrupted one
+/// would get all.
 #[derive(Clone, Copy)]
 struct Failing {
     kind: ErrorKind,
     is_for_good: bool,
 }
 
-/// Both ways to fail.
 const WAYS: [Failing; 2] = [
     Failing {
         kind: ErrorKind::Interrupted,
@@ -29,7 +28,6 @@ const WAYS: [Failing; 2] = [
     },
 ];
 
-/// Gives at most 16 bytes a read, and fails at one of the reads, counted from 0.
 #[derive(Drop)]
 struct FailingReader<'a> {
     bytes: &'a [u8],
@@ -53,8 +51,8 @@ impl Read for FailingReader<'_> {
     }
 }
 
-/// Takes at most 7 bytes a write, as long as it has room. The next write it answers by an error or
-/// takes nothing of it, and has room again where it fails once.
+/// Takes at most 7 bytes a write. Without room a write answers an error or takes nothing, and there
+/// is room again where it fails once.
 #[derive(Drop)]
 struct FailingWriter {
     taken: Vec<u8>,
@@ -87,7 +85,6 @@ impl Write for FailingWriter {
     }
 }
 
-/// Gives spaces, at most so many a read, until none is left, and counts how often it is asked.
 #[derive(Drop)]
 struct Blanks {
     left: usize,
@@ -105,10 +102,8 @@ impl Read for Blanks {
     }
 }
 
-/// What the operator of these jobs commands.
 const SCRIPT: &[u8] = b"%operator a\nreweight osd.2 1.0\n";
 
-/// Whether nothing is written where the read of that number fails.
 fn stops_at(
     rt: &(impl AllocGlobal + RandomSource + Threads + Wait + Sync),
     job: &[u8],
@@ -138,8 +133,7 @@ fn stops_at_a_failed_read(rt: HostRuntime) {
     }
 }
 
-/// Whether of a job, which comes before its output, a prefix of the output is written where there is
-/// room for so many bytes.
+/// `run` is a job and its output, of which as much is written as there is room for.
 fn leaves_a_prefix(
     rt: &(impl AllocGlobal + RandomSource + Threads + Wait + Sync),
     run: (&[u8], &[u8]),
@@ -178,10 +172,8 @@ fn leaves_a_prefix_at_a_failed_write(rt: HostRuntime) {
     }
 }
 
-/// The most bytes that a job may have.
 const LONGEST_JOB: usize = 16_777_216;
 
-/// Whether a reader that never ends is refused when it has given one byte more than a job may have.
 fn is_too_long(
     rt: &(impl AllocGlobal + RandomSource + Threads + Wait + Sync),
     reader: &mut Blanks,
@@ -214,7 +206,6 @@ fn takes_one_byte_too_many_of_a_reader_that_fills_what_it_is_given(rt: HostRunti
     assert!(rt; is_too_long(&rt, &mut reader));
 }
 
-/// The map that has nothing.
 const EMPTY: &[u8] =
     b"# begin crush map\n\n# devices\n\n# types\n\n# buckets\n\n# rules\n\n# end crush map\n";
 

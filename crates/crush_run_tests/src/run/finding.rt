@@ -38,7 +38,6 @@ fn a_name_that_is_missing_ends_a_run(rt: HostRuntime) {
     );
 }
 
-/// A refused command is told first where the run is strict, and with reasons behind the missing name.
 #[test]
 fn refused_commands_are_told_beside_a_missing_name(rt: HostRuntime) {
     let job = joined(&rt, PLAIN, b"%operator a\nrm x\n");
@@ -54,7 +53,6 @@ fn refused_commands_are_told_beside_a_missing_name(rt: HostRuntime) {
     assert!(rt; are_told);
 }
 
-/// Whether standard error is told this of a name that is missing, and the program ends with 1.
 fn is_missing(
     rt: &impl AllocGlobal,
     explain: bool,
@@ -86,11 +84,9 @@ fn missing_names_are_told(rt: HostRuntime) {
     );
 }
 
-/// The first host of the plain example map, with what is below it.
 const FIRST_HOST: &[u8] =
     b"ID  CLASS  WEIGHT   TYPE NAME\n-2         2.00000  host h1\n 0         1.00000      osd.0\n 1         1.00000      osd.1\n";
 
-/// Its tree down to the hosts.
 const DOWN_TO_HOSTS: &[u8] =
     b"ID  CLASS  WEIGHT   TYPE NAME\n-1         2.50000  root default\n-2         2.00000      host h1\n-3         0.50000      host h2\n";
 
@@ -127,7 +123,6 @@ fn a_plan_of_a_part_has_commands_of_its_items(rt: HostRuntime) {
     assert!(rt; is_printed);
 }
 
-/// What has changed by names in the second host.
 const CHANGED: &[u8] = b"h2: weight 0.50000 to 2.00000\nosd.2: weight 0.50000 to 2.00000\n";
 
 #[test]
@@ -162,7 +157,6 @@ fn a_plan_is_one_document(rt: HostRuntime) {
     assert!(rt; is_written);
 }
 
-/// The first host of the plain example map as a tree for a program.
 const FIRST_NODES: &[u8] =
     b"{\"tree\":{\"nodes\":[{\"children\":[0,1],\"depth\":0,\"id\":-2,\"name\":\"h1\",\"type\":\"host\",\"type_id\":1,\"weight\":131072},{\"depth\":1,\"id\":0,\"name\":\"osd.0\",\"type\":\"osd\",\"type_id\":0,\"weight\":65536},{\"depth\":1,\"id\":1,\"name\":\"osd.1\",\"type\":\"osd\",\"type_id\":0,\"weight\":65536}],\"stray\":[]}}\n";
 

@@ -1,6 +1,6 @@
-//! A gate is called behind each call before which it was called, also where the call meets a fault.
-//! `bench/refused_memory.py` refuses the requests for memory of these tests one by one; they ask for
-//! none but in a run, so that each fault is one of the run.
+//! A gate is called behind each call before which it was called, also where the call fails.
+//! `bench/refused_memory.py` refuses the requests for memory of these tests one by one: they make
+//! none outside a run.
 
 use super::{AT_ONCE, MODE, run_map};
 use crush_options::Mode;
@@ -10,7 +10,6 @@ use std::sync::Wait;
 use std::sync::atomic::{AtomicU64, Ordering};
 use std::thread::Threads;
 
-/// Counts how often it is called before a call, and behind one.
 #[derive(Drop)]
 struct Counts {
     before: AtomicU64,
@@ -18,7 +17,6 @@ struct Counts {
 }
 
 impl Counts {
-    /// Whether it was called as often behind a call as before one.
     fn are_even(&self) -> bool {
         self.before.load(Ordering::SeqCst) == self.after.load(Ordering::SeqCst)
     }
@@ -38,8 +36,6 @@ impl Gate for Counts {
 const JOB: &[u8] =
     b"device 0 osd.0\ntype 0 osd\ntype 1 host\nhost h1 { id -1 alg straw2 item osd.0 }\nhost h2 { id -2 alg straw2 }\n%operator a\nmove osd.0 host=h2\nrm x\n%operator b\nrm x\nadd osd.7 1 host=h1\n";
 
-/// Whether the gate of a run in this mode, however it ends, was called as often behind calls as
-/// before them.
 fn stands_behind_each_call(
     rt: &(impl AllocGlobal + RandomSource + Threads + Wait + Sync),
     mode: Mode,

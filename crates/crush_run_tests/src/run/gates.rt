@@ -8,14 +8,12 @@ use std::sync::Wait;
 use std::sync::atomic::{AtomicU64, Ordering};
 use std::time::Clock;
 
-/// Notes each call of two operators with two calls each: a digit before it and one after it.
 #[derive(Drop)]
 struct Watch {
     seen: AtomicU64,
 }
 
 impl Watch {
-    /// Puts a digit behind those before.
     fn note(&self, digit: usize) {
         let seen = self.seen.load(Ordering::SeqCst);
         self.seen.store(
@@ -25,7 +23,7 @@ impl Watch {
     }
 }
 
-/// The digit before a call of one of two operators; the one after it is the next.
+/// The digit before a call; the one after it is the next.
 fn digit(operator: usize, number: usize) -> usize {
     (operator % 2) * 4 + (number % 2) * 2 + 1
 }
@@ -40,7 +38,6 @@ impl Gate for Watch {
     }
 }
 
-/// Two operators, each with a call that is made and one that is refused.
 const FOUR_CALLS: &[u8] =
     b"%operator a\nreweight osd.0 2\nrm x\n%operator b\nrm x\nreweight osd.0 1\n";
 
@@ -56,7 +53,6 @@ fn a_gate_stands_round_each_call_in_turn(rt: HostRuntime) {
     assert!(&rt; outcome == Ok(summary(0, 4, 2)) && seen == 0x1234_5678);
 }
 
-/// Lets the call of one operator be made before the other's.
 #[derive(Drop)]
 struct First<'a, C> {
     clock: &'a C,
@@ -77,11 +73,10 @@ impl<C: Clock> Gate for First<'_, C> {
     }
 }
 
-/// Two operators who each put the same device into a host of their own, where nothing has changed yet.
+/// Both put one device into a host of their own, where nothing has changed yet.
 const TWO_GUARDS: &[u8] =
     b"%operator a\nbegin at 0\nadd osd.7 1 host=h1\ncommit\n%operator b\nbegin at 0\nadd osd.7 1 host=h2\ncommit\n";
 
-/// The history where the first operator comes first, and where the second does.
 const GUARDED: [&[u8]; 2] = [
     b"# end crush map\n# 1 a begin at 0 ; add osd.7 1.00000 host=h1 ; commit = dones 1 changed 1 made 0\n# 2 b begin at 0 ; add osd.7 1.00000 host=h2 ; commit = refused Stale 11 changes 1\n",
     b"# end crush map\n# 1 b begin at 0 ; add osd.7 1.00000 host=h2 ; commit = dones 1 changed 1 made 0\n# 2 a begin at 0 ; add osd.7 1.00000 host=h1 ; commit = refused Stale 11 changes 1\n",

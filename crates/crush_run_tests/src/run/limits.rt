@@ -6,10 +6,9 @@ use crate::maps::PLAIN;
 use crush_run::NoGate;
 use std::process::Abort;
 
-/// As many buckets as a map may have.
+/// The most buckets of a map.
 const DEPTH: u32 = 4096;
 
-/// Puts the host of this number and weight behind a text, with its only item, which weighs the same.
 fn put_host(
     rt: &(impl Abort + AllocGlobal),
     text: &mut Vec<u8>,
@@ -23,8 +22,7 @@ fn put_host(
     put_behind(rt, text, host.as_bytes());
 }
 
-/// The map of one device below as many buckets, each of which holds the one before, as it is printed
-/// where all weigh this.
+/// The printed map of one device below the most buckets, each in the next, where all weigh this.
 fn chain(rt: &(impl Abort + AllocGlobal), weight: &str) -> Vec<u8> {
     let mut text = Vec::new(rt.alloc());
     put_behind(
@@ -41,8 +39,7 @@ fn chain(rt: &(impl Abort + AllocGlobal), weight: &str) -> Vec<u8> {
     text
 }
 
-/// What is called in the chain, and the lines of it. That a name is taken is told before a lack of room,
-/// and a bucket that is there takes a further device.
+/// A taken name is refused before a lack of room, and a full map still takes a device.
 const SCRIPT: &[u8] =
     b"%operator a\nadd-bucket b1 host\nadd-bucket z host\nadd osd.1 1 host=z\nadd osd.1 1 host=b1\nrm osd.1\nreweight osd.0 2.0\n";
 
@@ -58,8 +55,7 @@ fn edits_the_most_buckets(rt: HostRuntime) {
     assert!(rt; writes(&rt, MODE, job.as_slice(), output, summary(0, 6, 3)));
 }
 
-/// What two operators call by turns in the chain: the innermost device and the innermost bucket are
-/// each edited, and end where they were.
+/// The innermost device and bucket are edited and end where they were.
 const TWO_SCRIPTS: &[u8] =
     b"%operator a\nreweight osd.0 3.0\nmove b1 host=b4096\n%operator b\nbegin\nreweight-subtree b4096 1.0\nreweight osd.0 2.0\ncommit\nmove b1 host=b2\n";
 
@@ -79,7 +75,6 @@ fn two_operators_edit_the_most_buckets(rt: HostRuntime) {
     assert!(&rt; in_order && outcome == Ok(summary(0, 4, 4)) && out == expected);
 }
 
-/// Puts as many calls behind a text as a job may have.
 fn put_most_calls(rt: &impl Abort, job: &mut Vec<u8>) {
     for _ in 0..32_768 {
         put_behind(rt, job, b"reweight osd.0 2\nreweight osd.0 1\n");

@@ -1,4 +1,4 @@
-//! Each prefix of a job: it is run, and the whole output is written, or it is no job, and nothing is written.
+//! Each prefix of a job either runs and writes the whole output, or is no job and writes nothing.
 
 use super::{MODE, REWEIGHED, joined, run_map, summary};
 use crate::maps::PLAIN;
@@ -8,10 +8,8 @@ use std::random::RandomSource;
 use std::sync::Wait;
 use std::thread::Threads;
 
-/// What is printed of the prefix of a job, with the sums of the run.
 type Due<'a> = (&'a [u8], Summary);
 
-/// Whether the job is run, and writes what is due, or is none where nothing is.
 fn ends_so(
     rt: &(impl AllocGlobal + RandomSource + Threads + Wait + Sync),
     job: &[u8],
@@ -25,11 +23,10 @@ fn ends_so(
     }
 }
 
-/// What two operators call: a new weight and an empty batch the first, nothing the second.
 const SCRIPTS: &[u8] = b"%operator a\nreweight osd.2 1.0\nbegin\ncommit\n%operator b\n";
 
-/// The prefixes of these scripts that make no call, one, and two. The others end inside a word, a line or
-/// a batch: `1` is a weight as `1.0` is, and `1.` is none.
+/// All other prefixes end inside a word, a line or a batch: `1` is a weight, as `1.0` is, `1.` is
+/// none.
 const NO_CALL: &[&[u8]] = &[b"", b"%operator a", b"%operator a\n"];
 
 const ONE_CALL: &[&[u8]] = &[
@@ -50,7 +47,6 @@ const ONE_LINE: &[u8] = b"# 1 a reweight osd.2 1.00000 = done changed 1 made 0\n
 const TWO_LINES: &[u8] =
     b"# 1 a reweight osd.2 1.00000 = done changed 1 made 0\n# 2 a begin ; commit = dones 0 changed 0 made 0\n";
 
-/// Whether the text is one of these.
 fn is_among(text: &[u8], texts: &[&[u8]]) -> bool {
     for other in texts {
         if *other == text {
@@ -60,8 +56,6 @@ fn is_among(text: &[u8], texts: &[&[u8]]) -> bool {
     false
 }
 
-/// What is due where this prefix of the scripts stands behind the plain example map. `one` and `two` are
-/// the outputs of one call and of both.
 fn due<'a>(scripts: &[u8], one: &'a [u8], two: &'a [u8]) -> Option<Due<'a>> {
     if is_among(scripts, NO_CALL) {
         Some((PLAIN, summary(0, 0, 0)))
@@ -86,7 +80,6 @@ fn prefixes_of_scripts(rt: HostRuntime) {
     }
 }
 
-/// Whether the text is run as a map without calls, or is none and nothing is written.
 fn is_run_or_refused(
     rt: &(impl AllocGlobal + RandomSource + Threads + Wait + Sync),
     text: &[u8],

@@ -5,11 +5,10 @@ use super::{joined, summary};
 use crate::maps::PLAIN;
 use crush_run::RunFault;
 
-/// The plain example map as `crushtool --dump` tells it, where osd.2 weighs 1.0.
+/// As `crushtool --dump` prints it.
 const MAP: &[u8] =
     b"\"map\":{\"buckets\":[{\"alg\":\"straw2\",\"hash\":\"rjenkins1\",\"id\":-1,\"items\":[{\"id\":-2,\"pos\":0,\"weight\":131072},{\"id\":-3,\"pos\":1,\"weight\":65536}],\"name\":\"default\",\"type_id\":11,\"type_name\":\"root\",\"weight\":196608},{\"alg\":\"straw2\",\"hash\":\"rjenkins1\",\"id\":-2,\"items\":[{\"id\":0,\"pos\":0,\"weight\":65536},{\"id\":1,\"pos\":1,\"weight\":65536}],\"name\":\"h1\",\"type_id\":1,\"type_name\":\"host\",\"weight\":131072},{\"alg\":\"straw2\",\"hash\":\"rjenkins1\",\"id\":-3,\"items\":[{\"id\":2,\"pos\":0,\"weight\":65536}],\"name\":\"h2\",\"type_id\":1,\"type_name\":\"host\",\"weight\":65536}],\"devices\":[{\"id\":0,\"name\":\"osd.0\"},{\"id\":1,\"name\":\"osd.1\"},{\"id\":2,\"name\":\"osd.2\"}],\"rules\":[],\"tunables\":{},\"types\":[{\"name\":\"osd\",\"type_id\":0},{\"name\":\"host\",\"type_id\":1},{\"name\":\"rack\",\"type_id\":3},{\"name\":\"root\",\"type_id\":11}]}}\n";
 
-/// The history before it, of one call.
 const HISTORY: &[u8] =
     b"{\"history\":[{\"call\":\"reweight osd.2 1.00000\",\"changed\":1,\"made\":0,\"number\":1,\"operator\":\"a\",\"reply\":\"done changed 1 made 0\"}],";
 

@@ -1,4 +1,4 @@
-//! What standard error is told, and standard output where help is asked for.
+//! What standard error gets, and standard output where help is wanted.
 
 use crate::run::is_told;
 use crush_bytes::WriteFault;
@@ -10,7 +10,6 @@ use std::alloc::AllocError;
 use std::io::{self, ErrorKind, Write};
 use std::process::Abort;
 
-/// Whether out of memory is one fault, whoever tells it.
 fn is_one_fault() -> bool {
     RunFault::from(WriteFault::OutOfMemory) == RunFault::Memory
         && RunFault::from(AllocError) == RunFault::Memory
@@ -37,7 +36,6 @@ fn tells_of_a_thread_that_was_not_started(rt: HostRuntime) {
     assert!(rt; is_told(&rt, &Err(RunFault::Thread), b"crushedit: no thread\n", 4));
 }
 
-/// What a run comes to in which there is something to tell, and so many weights were replaced.
 fn differing(adjusted: u32) -> Summary {
     Summary {
         adjusted,
@@ -57,7 +55,6 @@ fn tells_of_made_buckets_and_where_there_is_something_to_tell(rt: HostRuntime) {
     );
 }
 
-/// Answers an error to each write.
 #[derive(Drop)]
 struct Closed;
 
@@ -84,8 +81,6 @@ fn keeps_the_status_where_standard_error_fails(rt: HostRuntime) {
     );
 }
 
-/// Whether standard output and standard error get these texts of a command line that asks for no
-/// run, and the program ends with this status.
 fn is_ended(
     rt: &impl AllocGlobal,
     fault: &OptionsFault,
@@ -106,7 +101,6 @@ const WRITE_FAULT: &[u8] = b"crushedit: write fault\n";
 
 const REFUSAL: &str = "error: unexpected argument '--fly' found\n";
 
-/// The text as a `String`.
 fn owned(rt: &(impl Abort + AllocGlobal), text: &str) -> String {
     String::from_str(rt.alloc(), text).expect(rt, "no memory")
 }
@@ -125,7 +119,6 @@ fn command_lines_without_a_run_are_told_whole(rt: HostRuntime) {
     assert!(rt; are_ended);
 }
 
-/// Whether it is a write fault that standard output can't take the text.
 fn is_write_fault<W: Write>(rt: &impl AllocGlobal, fault: &OptionsFault, out: &mut W) -> bool {
     let mut err = Vec::new(rt.alloc());
     tell(fault, out, &mut err) == 3 && err.as_slice() == WRITE_FAULT

@@ -12,7 +12,6 @@ use std::sync::Wait;
 use std::sync::atomic::{AtomicU64, Ordering};
 use std::thread::Threads;
 
-/// Files in memory, each with its name.
 #[derive(Clone, Copy)]
 struct Shelf<'a> {
     files: &'a [(&'a str, &'a [u8])],
@@ -35,7 +34,6 @@ impl<'a> Opens for Shelf<'a> {
     }
 }
 
-/// Whether a run of these words, with these files and nothing on standard input, comes to this outcome and writes this.
 pub(super) fn ends_so(
     rt: &(impl Abort + AllocGlobal + RandomSource + Threads + Wait + Sync),
     words: &[&str],
@@ -46,7 +44,6 @@ pub(super) fn ends_so(
     ends_with(rt, words, files, outcome, (output, b""))
 }
 
-/// Whether it comes to this outcome, and writes and notes these.
 pub(super) fn ends_with(
     rt: &(impl Abort + AllocGlobal + RandomSource + Threads + Wait + Sync),
     words: &[&str],
@@ -67,10 +64,8 @@ pub(super) fn ends_with(
     came && out.as_slice() == texts.0
 }
 
-/// A script that names no operator, behind a comment and blanks.
 const ALICE: &[u8] = b"# today\n \t\r\n reweight osd.2 1.0";
 
-/// One that does.
 const BOB: &[u8] = b" # later\n%operator bob\nreweight osd.2 0.5\n";
 
 const ALICE_LINE: &[u8] = b"# 1 alice reweight osd.2 1.00000 = done changed 1 made 0\n";
@@ -109,12 +104,10 @@ fn a_script_that_cannot_be_opened_is_a_read_fault(rt: HostRuntime) {
     );
 }
 
-/// As long as an operator's name may be.
 const LONGEST: &str =
     "aaaaaaaaaaaaaaaaaaaaaaaaaaaaaaaaaaaaaaaaaaaaaaaaaaaaaaaaaaaaaaaaaaaaaaaaaaaaaaaaaaaaaaaaaaaaaaaaaaaaaaaaaaaaaaaaaaaaaaaaaaaaaaaaaaaaaaaaaaaaaaaaaaaaaaaaaaaaaaaaaaaaaaaaaaaaaaaaaaaaaaaaaaaaaaaaaaaaaaaaaaaaaaaaaaaaaaaaaaaaaaaaaaaaaaaaaaaaaaaaaaaaaaaaaaaaaaa";
 
-/// Names of files that make no operator's: up to the first `.` they have another byte than a name's, or
-/// none, or 256 of them.
+/// Up to the first `.` they have a byte that no operator's name has, no byte, or 256 of them.
 const NAMELESS: [&str; 9] = [
     "a\nadd-bucket zz host",
     "a#b.txt",
@@ -161,13 +154,12 @@ fn the_longest_name_of_a_file_is_an_operators(rt: HostRuntime) {
     assert!(rt; ends_so(&rt, &["m", "-s", LONGEST], files, one, output.as_slice()));
 }
 
-/// Files of 10,000,000 bytes each, with a count of those that are taken of all.
+/// Files of 10,000,000 bytes each, with a count of the bytes read of all.
 #[derive(Clone, Copy)]
 struct Counted<'a> {
     taken: &'a AtomicU64,
 }
 
-/// What is left of one.
 #[derive(Drop)]
 struct Rest<'a> {
     taken: &'a AtomicU64,
@@ -175,7 +167,7 @@ struct Rest<'a> {
 }
 
 impl Read for Rest<'_> {
-    /// Leaves what is there, since no byte of so many is looked at.
+    /// Leaves `buf` as it is: no byte of so many is looked at.
     fn read(&mut self, buf: &mut [u8]) -> io::Result<usize> {
         let count = buf.len().min(self.left);
         self.left -= count;

@@ -7,7 +7,6 @@ use crush_run::{OtherFault, OtherMap, RunFault, Summary};
 use crush_script::JobFault;
 use crush_text::{TextFault, TextFaultKind};
 
-/// What has changed where osd.0 was moved from the first host to the second.
 const MOVED: &[u8] =
     b"h1 (-2): weight 2.00000 to 1.00000\nh2 (-3): weight 0.50000 to 1.50000\nosd.0 (0): from h1 (-2) to h2 (-3)\ntotal 2.50000 to 2.50000\n0 made, 0 removed, 0 renamed, 1 moved, 2 of other weight, 0 of other class\n";
 
@@ -20,7 +19,6 @@ fn a_moved_device_is_told_since_the_map(rt: HostRuntime) {
     assert!(rt; ends_so(&rt, &words, files, Ok(summary(0, 1, 1)), MOVED));
 }
 
-/// The same as a tree.
 const MOVED_TREE: &[u8] =
     b"ID  CLASS  WAS      WEIGHT   TYPE NAME\n-1         2.50000  2.50000  root default\n-2         2.00000  1.00000      host h1\n 0         1.00000        -          osd.0\n-3         0.50000  1.50000      host h2\n 0               -  1.00000          osd.0 (from h1)\ntotal 2.50000 to 2.50000\n0 made, 0 removed, 0 renamed, 1 moved, 2 of other weight, 0 of other class\n";
 
@@ -33,7 +31,6 @@ fn a_moved_device_has_two_rows_in_a_tree(rt: HostRuntime) {
     assert!(rt; ends_so(&rt, &words, files, Ok(summary(0, 1, 1)), MOVED_TREE));
 }
 
-/// A text with a flaw at byte 12.
 const FLAWED: &[u8] = b"# a comment\nhots h2 {\n";
 
 const UNKNOWN: TextFault = TextFault {
@@ -56,7 +53,6 @@ fn the_other_map_is_refused_behind_the_job(rt: HostRuntime) {
     );
 }
 
-/// The plan to the map of osd.0 as it was.
 const BACK: &[u8] =
     b"# 1 commands\nmove osd.0 host=h1\n# 1 a create-or-move osd.0 5.00000 host=h2 = done changed 1 made 0\n";
 
@@ -101,7 +97,6 @@ fn the_wanted_map_is_refused_behind_the_job(rt: HostRuntime) {
     );
 }
 
-/// The script that moves it.
 const MOVING: &[u8] = b"%operator a\ncreate-or-move osd.0 5.0 host=h2\n";
 
 #[test]
@@ -115,7 +110,6 @@ fn what_has_changed_below_a_host_is_told_alone(rt: HostRuntime) {
     assert!(rt; is_told);
 }
 
-/// The names alone, in the order of the tree.
 const MOVED_NAMES: &[u8] =
     b"h1: weight 2.00000 to 1.00000\nh2: weight 0.50000 to 1.50000\nosd.0: from h1 to h2\ntotal 2.50000 to 2.50000\n0 made, 0 removed, 0 renamed, 1 moved, 2 of other weight, 0 of other class\n";
 
@@ -129,7 +123,6 @@ fn a_moved_device_is_told_by_its_name(rt: HostRuntime) {
     assert!(rt; is_told);
 }
 
-/// What has changed below the first host, for a program.
 const MOVED_BELOW: &[u8] =
     b"{\"since\":{\"items\":[{\"id\":-2,\"is\":{\"name\":\"h1\",\"parent\":\"default\",\"type\":\"host\",\"weight\":65536},\"was\":{\"name\":\"h1\",\"parent\":\"default\",\"type\":\"host\",\"weight\":131072}},{\"id\":0,\"is\":{\"name\":\"osd.0\",\"parent\":\"h2\",\"type\":\"osd\",\"weight\":65536},\"was\":{\"name\":\"osd.0\",\"parent\":\"h1\",\"type\":\"osd\",\"weight\":65536}}]}}\n";
 
@@ -151,7 +144,6 @@ fn what_has_changed_is_one_document(rt: HostRuntime) {
     assert!(rt; is_written);
 }
 
-/// A map since itself, for a program.
 const UNCHANGED: &[u8] =
     b"{\"since\":{\"counts\":{\"class\":0,\"made\":0,\"moved\":0,\"removed\":0,\"renamed\":0,\"weight\":0},\"items\":[],\"rules\":false,\"total\":[163840,163840],\"tunables\":false,\"types\":false}}\n";
 
@@ -162,7 +154,6 @@ fn a_tree_of_changes_has_the_document_of_these(rt: HostRuntime) {
     assert!(rt; ends_so(&rt, &words, files, Ok(summary(0, 0, 0)), UNCHANGED));
 }
 
-/// What a run comes to of one call which changed the map, where there is something to tell or not.
 fn changed_once(differs: bool) -> Summary {
     Summary {
         adjusted: 0,

@@ -9,7 +9,6 @@ use std::random::RandomSource;
 use std::sync::Wait;
 use std::thread::Threads;
 
-/// In turn, with the history, and strict.
 const STRICT: Mode = Mode {
     in_turn: true,
     history: true,
@@ -20,7 +19,6 @@ const STRICT: Mode = Mode {
     json: false,
 };
 
-/// What a run comes to, what it writes, and what it tells with which status.
 #[derive(Clone, Copy)]
 pub(super) struct End<'a> {
     pub(super) outcome: Result<Summary, RunFault>,
@@ -29,7 +27,6 @@ pub(super) struct End<'a> {
     pub(super) status: u8,
 }
 
-/// Whether a run of the job ends like this.
 pub(super) fn ends_so(
     rt: &(impl AllocGlobal + RandomSource + Threads + Wait + Sync),
     mode: Mode,
@@ -54,7 +51,6 @@ pub(super) fn ends_so(
     came && told_so && out.as_slice() == end.output && err.as_slice() == end.told
 }
 
-/// The end of a strict run in which two calls are refused, whose lines are these.
 pub(super) fn refused_two(lines: &[u8]) -> End<'_> {
     End {
         outcome: Err(RunFault::Refused(2)),
@@ -64,7 +60,6 @@ pub(super) fn refused_two(lines: &[u8]) -> End<'_> {
     }
 }
 
-/// The end of a run of so many calls that change nothing, which writes this.
 fn unchanged(calls: u32, output: &[u8]) -> End<'_> {
     End {
         outcome: Ok(summary(0, calls, 0)),
@@ -74,7 +69,6 @@ fn unchanged(calls: u32, output: &[u8]) -> End<'_> {
     }
 }
 
-/// A bucket that isn't empty, a new weight, and an item that isn't there.
 const TWO_REFUSED: &[u8] = b"%operator a\nrm default\nreweight osd.0 2\nrm x\n";
 
 const TWO_LINES: &[u8] =
@@ -113,7 +107,6 @@ fn refused_batches_are_refused_entries(rt: HostRuntime) {
     assert!(rt; ends_so(&rt, STRICT, Asked::Map, job.as_slice(), &end));
 }
 
-/// A run that makes no buckets, of which the status tells where there is something to tell.
 const MAKING_NONE: Mode = Mode {
     in_turn: true,
     history: true,
@@ -124,7 +117,7 @@ const MAKING_NONE: Mode = Mode {
     json: false,
 };
 
-/// A rack that is asked for, a host that isn't, and a device that isn't there.
+/// `h11` is a slip that would make a host.
 const MISTYPED: &[u8] = b"%operator a\nadd-bucket r1 rack\nmove osd.0 host=h11 rack=r1\nrm x\n";
 
 const MADE_LINES: &[u8] =
@@ -168,7 +161,6 @@ fn the_status_tells_of_a_map_that_is_another(rt: HostRuntime) {
     );
 }
 
-/// The whole tree.
 fn whole_tree() -> Asked {
     Asked::Tree(Part {
         under: None,
@@ -176,7 +168,6 @@ fn whole_tree() -> Asked {
     })
 }
 
-/// The tree of the plain example map.
 const TREE: &[u8] =
     b"ID  CLASS  WEIGHT   TYPE NAME\n-1         2.50000  root default\n-2         2.00000      host h1\n 0         1.00000          osd.0\n 1         1.00000          osd.1\n-3         0.50000      host h2\n 2         0.50000          osd.2\n";
 

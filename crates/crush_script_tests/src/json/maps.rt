@@ -1,7 +1,7 @@
-//! The texts of the maps that are told.
+//! The texts of maps, and their documents.
 
-/// What `crushtool --dump` tells of it, but for the tunables, of which it tells all: members by
-/// name, on one line.
+/// What `crushtool --dump` prints, but for the other tunables, with members by name and on one
+/// line.
 pub const EXAMPLE_DOCUMENT: &[u8] = b"\
     {\"map\":{\
     \"buckets\":[\
@@ -26,7 +26,6 @@ pub const EXAMPLE_DOCUMENT: &[u8] = b"\
     {\"name\":\"osd\",\"type_id\":0},{\"name\":\"host\",\"type_id\":1},\
     {\"name\":\"rack\",\"type_id\":3},{\"name\":\"root\",\"type_id\":11}]}}\n";
 
-/// A map with classes, whose rules take some of them, in another order than that of their ids.
 pub const CLASSED_MAP: &[u8] = b"\
     tunable straw_calc_version 1\n\
     tunable chooseleaf_stable 0\n\
@@ -36,7 +35,7 @@ pub const CLASSED_MAP: &[u8] = b"\
     rule slow { id 5 type erasure step set_choose_tries 100 step take default class hdd step choose indep -1 type root step emit }\n\
     rule fast { id 2 type any step take default class ssd step emit }\n";
 
-/// What is told of it. The rule `slow` takes a class for which the bucket has no id.
+/// The rule `slow` takes a class for which the bucket has no id.
 pub const CLASSED_DOCUMENT: &[u8] = b"\
     {\"map\":{\
     \"buckets\":[\
@@ -56,11 +55,10 @@ pub const CLASSED_DOCUMENT: &[u8] = b"\
     \"tunables\":{\"chooseleaf_stable\":0,\"straw_calc_version\":1},\
     \"types\":[{\"name\":\"root\",\"type_id\":1}]}}\n";
 
-/// What is told of a map without anything.
 pub const EMPTY_DOCUMENT: &[u8] =
     b"{\"map\":{\"buckets\":[],\"devices\":[],\"rules\":[],\"tunables\":{},\"types\":[]}}\n";
 
-/// A map of one root, and a script with a command of each kind and a reply of each form.
+/// A command of each kind, and a reply of each form.
 pub const JOB: &[u8] = b"\
     type 1 root\n\
     root default { id -1 alg straw2 hash 0 }\n\
@@ -89,7 +87,6 @@ pub const JOB: &[u8] = b"\
     rm default\n\
     commit\n";
 
-/// What is told of them.
 pub const JOB_DOCUMENT: &[u8] = b"\
     {\"history\":[\
     {\"call\":\"add osd.0 1.50000 root=default\",\"changed\":1,\"made\":0,\
@@ -131,7 +128,7 @@ pub const JOB_DOCUMENT: &[u8] = b"\
     \"devices\":[],\"rules\":[],\"tunables\":{},\
     \"types\":[{\"name\":\"root\",\"type_id\":1}]}}\n";
 
-/// A map with a device that no bucket holds, and without a type 0.
+/// A device that no bucket holds, and no type 0.
 pub const STRAY_MAP: &[u8] = b"\
     device 7 osd.7 class ssd\n\
     device 3 osd.3\n\

@@ -6,7 +6,6 @@ use crush_map::{Edit, Hashing};
 use crush_script::{Job, read_job};
 use std::process::Abort;
 
-/// A command of each kind.
 const COMMANDS: &[u8] = b"\
     type 1 host\n\
     type 11 root\n\
@@ -25,10 +24,9 @@ const COMMANDS: &[u8] = b"\
     set-device-class ssd osd.0\n\
     rm-device-class osd.0\n";
 
-/// What stays, as a plan tells it.
 const REST: &[u8] = b"osd.1: class hdd, wanted (none)\ntunables differ\n";
 
-/// The commands with the keys of Ceph's own table, and the lines of what stays.
+/// The keys are those of Ceph's own table of commands.
 const PLAN: &[u8] = b"\
     {\"plan\":[\
     {\"args\":[\"host=h3\",\"root=default\"],\"id\":3,\"prefix\":\"osd crush add\",\"weight\":0.33299},\
@@ -45,10 +43,8 @@ const PLAN: &[u8] = b"\
     {\"ids\":[\"osd.0\"],\"prefix\":\"osd crush rm-device-class\"}],\
     \"stays\":[\"osd.1: class hdd, wanted (none)\",\"tunables differ\"]}\n";
 
-/// Nothing to do.
 const NO_PLAN: &[u8] = b"{\"plan\":[],\"stays\":[]}\n";
 
-/// The edits of single commands.
 fn edits_of(rt: &(impl Abort + AllocGlobal), calls: &[Call]) -> Vec<Edit> {
     let mut edits = Vec::new(rt.alloc());
     for call in calls {
@@ -62,14 +58,12 @@ fn edits_of(rt: &(impl Abort + AllocGlobal), calls: &[Call]) -> Vec<Edit> {
     edits
 }
 
-/// Whether that is told of these edits and of what stays.
 fn is_plan(rt: &(impl Abort + AllocGlobal), edits: &[Edit], rest: &[u8], document: &[u8]) -> bool {
     let mut told = Vec::new(rt.alloc());
     write_plan_document(rt.alloc(), edits, rest, None, &mut told).expect(rt, "not written");
     told.as_slice() == document
 }
 
-/// Whether that is told of the commands of a job with one script.
 fn is_plan_of(rt: &(impl Abort + AllocGlobal), job: &Job, rest: &[u8], document: &[u8]) -> bool {
     let scripts = job.scripts.as_slice();
     if scripts.len() != 1 {

@@ -11,7 +11,6 @@ use crush_units::{BucketId, ItemId};
 use std::alloc::Global;
 use std::process::Abort;
 
-/// The example map, and a script that moves a device to the other host.
 const MOVING: &[u8] = b"\
     tunable choose_total_tries 50\n\
     device 0 osd.0\n\
@@ -28,7 +27,8 @@ const MOVING: &[u8] = b"\
     %operator a\n\
     create-or-move osd.0 5.0 host=h2\n";
 
-/// It keeps its weight of 1.0: h1 goes from 2.0 to 1.0, h2 from 0.5 to 1.5, and all stay at 2.5.
+/// The device keeps its weight of 1.0: h1 goes from 2.0 to 1.0, h2 from 0.5 to 1.5, all stay at
+/// 2.5.
 const MOVED: &[u8] = b"\
     {\"since\":{\
     \"counts\":{\"class\":0,\"made\":0,\"moved\":1,\"removed\":0,\"renamed\":0,\"weight\":2},\
@@ -44,7 +44,6 @@ const MOVED: &[u8] = b"\
     \"was\":{\"name\":\"osd.0\",\"parent\":\"h1\",\"type\":\"osd\",\"weight\":65536}}],\
     \"rules\":false,\"total\":[163840,163840],\"tunables\":false,\"types\":false}}\n";
 
-/// Of what stood below h1 the host and the device that left it.
 const MOVED_BELOW: &[u8] = b"\
     {\"since\":{\"items\":[\
     {\"id\":-2,\
@@ -54,8 +53,7 @@ const MOVED_BELOW: &[u8] = b"\
     \"is\":{\"name\":\"osd.0\",\"parent\":\"h2\",\"type\":\"osd\",\"weight\":65536},\
     \"was\":{\"name\":\"osd.0\",\"parent\":\"h1\",\"type\":\"osd\",\"weight\":65536}}]}}\n";
 
-/// All items of a map are made since a map without anything: a root and a device that no bucket holds
-/// have no parent.
+/// A root and a device that no bucket holds have no parent.
 const MADE: &[u8] = b"\
     {\"since\":{\
     \"counts\":{\"class\":0,\"made\":3,\"moved\":0,\"removed\":0,\"renamed\":0,\"weight\":0},\
@@ -66,7 +64,6 @@ const MADE: &[u8] = b"\
     \"is\":{\"class\":\"ssd\",\"name\":\"osd.7\",\"parent\":\"default\",\"type\":\"osd\",\"weight\":98304}}],\
     \"rules\":false,\"total\":[0,98304],\"tunables\":false,\"types\":true}}\n";
 
-/// Whether that is what has changed from one map to the other.
 fn is_since(
     rt: &(impl Abort + AllocGlobal),
     old: &CrushMap<Global>,
@@ -79,14 +76,12 @@ fn is_since(
     told.as_slice() == document
 }
 
-/// Makes calls of a map.
 fn make_all(rt: &(impl Abort + AllocGlobal), map: &mut CrushMap<Global>, calls: &[Call]) {
     for call in calls {
         let _reply = make_call(map, 0, call).expect(rt, "no memory");
     }
 }
 
-/// Whether that is what has changed since the example map, when its device has moved.
 fn is_since_moving(
     rt: &(impl Abort + AllocGlobal),
     under: Option<ItemId>,

@@ -1,4 +1,4 @@
-//! The trees of maps.
+//! The trees of maps, with weights in units.
 
 use super::maps::STRAY_MAP;
 use crate::maps::EXAMPLE_MAP;
@@ -8,7 +8,6 @@ use crush_units::{BucketId, ItemId, TypeId};
 use crush_view::Part;
 use std::process::Abort;
 
-/// The tree of the example map: its heading's columns as members, weights in units.
 const EXAMPLE_TREE: &[u8] = b"\
     {\"tree\":{\"nodes\":[\
     {\"children\":[-2,-3],\"depth\":0,\"id\":-1,\"name\":\"default\",\
@@ -22,7 +21,6 @@ const EXAMPLE_TREE: &[u8] = b"\
     {\"depth\":2,\"id\":2,\"name\":\"osd.2\",\"type\":\"osd\",\"type_id\":0,\"weight\":32768}],\
     \"stray\":[]}}\n";
 
-/// A device that no bucket holds is none of the nodes.
 const STRAY_TREE: &[u8] = b"\
     {\"tree\":{\"nodes\":[\
     {\"children\":[7],\"depth\":0,\"id\":-4,\"name\":\"default\",\
@@ -32,7 +30,6 @@ const STRAY_TREE: &[u8] = b"\
     \"stray\":[\
     {\"depth\":0,\"id\":3,\"name\":\"osd.3\",\"type\":\"osd\",\"type_id\":0,\"weight\":0}]}}\n";
 
-/// Whether that is this part of the tree of the map of the text.
 fn is_tree(rt: &(impl Abort + AllocGlobal), text: &[u8], part: Part, document: &[u8]) -> bool {
     let (map, _) = read_map(rt.alloc(), text).expect(rt, "no map");
     let mut told = Vec::new(rt.alloc());
@@ -51,7 +48,6 @@ fn a_device_that_no_bucket_holds_is_stray(rt: HostRuntime) {
     assert!(rt; is_tree(&rt, STRAY_MAP, Part::whole(), STRAY_TREE));
 }
 
-/// What is below the root of the example map, down to its hosts.
 const HOSTS: &[u8] = b"\
     {\"tree\":{\"nodes\":[\
     {\"children\":[-2,-3],\"depth\":0,\"id\":-1,\"name\":\"default\",\

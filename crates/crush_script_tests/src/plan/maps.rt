@@ -1,6 +1,5 @@
-//! The texts of the maps that plans lead from and to.
+//! The maps that plans lead from and to, mostly the example map with one difference.
 
-/// The example map, where osd.0 stands last in h2.
 pub const MOVED: &[u8] = b"\
     tunable choose_total_tries 50\n\
     device 0 osd.0\n\
@@ -15,7 +14,7 @@ pub const MOVED: &[u8] = b"\
     root default { id -1 alg straw2 hash 0 item h1 item h2 }\n\
     rule replicated_rule { id 0 type replicated step take default step chooseleaf firstn 0 type host step emit }\n";
 
-/// The example map, where h1 and h2 are exchanged.
+/// h1 and h2 are exchanged.
 pub const SWAPPED: &[u8] = b"\
     tunable choose_total_tries 50\n\
     device 0 osd.0\n\
@@ -30,7 +29,6 @@ pub const SWAPPED: &[u8] = b"\
     root default { id -1 alg straw2 hash 0 item h2 item h1 }\n\
     rule replicated_rule { id 0 type replicated step take default step chooseleaf firstn 0 type host step emit }\n";
 
-/// The example map with a rack, a host in it and a device in that.
 pub const GROWN: &[u8] = b"\
     tunable choose_total_tries 50\n\
     device 0 osd.0\n\
@@ -48,7 +46,6 @@ pub const GROWN: &[u8] = b"\
     root default { id -1 alg straw2 hash 0 item h1 item h2 item r1 }\n\
     rule replicated_rule { id 0 type replicated step take default step chooseleaf firstn 0 type host step emit }\n";
 
-/// The example map without h1 and what is in it.
 pub const SHRUNK: &[u8] = b"\
     tunable choose_total_tries 50\n\
     device 2 osd.2\n\
@@ -60,7 +57,6 @@ pub const SHRUNK: &[u8] = b"\
     root default { id -1 alg straw2 hash 0 item h2 }\n\
     rule replicated_rule { id 0 type replicated step take default step chooseleaf firstn 0 type host step emit }\n";
 
-/// The example map with a class and another tunable.
 pub const CLASSED: &[u8] = b"\
     tunable choose_total_tries 51\n\
     device 0 osd.0 class ssd\n\
@@ -75,7 +71,6 @@ pub const CLASSED: &[u8] = b"\
     root default { id -1 alg straw2 hash 0 item h1 item h2 }\n\
     rule replicated_rule { id 0 type replicated step take default step chooseleaf firstn 0 type host step emit }\n";
 
-/// The example map, where h1 has another id.
 pub const NUMBERED: &[u8] = b"\
     tunable choose_total_tries 50\n\
     device 0 osd.0\n\
@@ -90,7 +85,7 @@ pub const NUMBERED: &[u8] = b"\
     root default { id -1 alg straw2 hash 0 item h1 item h2 }\n\
     rule replicated_rule { id 0 type replicated step take default step chooseleaf firstn 0 type host step emit }\n";
 
-/// The example map, where h1 and h2 have one another's names.
+/// h1 and h2 have one another's names.
 pub const RENAMED: &[u8] = b"\
     tunable choose_total_tries 50\n\
     device 0 osd.0\n\
@@ -105,7 +100,6 @@ pub const RENAMED: &[u8] = b"\
     root default { id -1 alg straw2 hash 0 item h2 item h1 }\n\
     rule replicated_rule { id 0 type replicated step take default step chooseleaf firstn 0 type host step emit }\n";
 
-/// The example map, where every weight is 0.
 pub const WEIGHTLESS: &[u8] = b"\
     tunable choose_total_tries 50\n\
     device 0 osd.0\n\
@@ -120,7 +114,6 @@ pub const WEIGHTLESS: &[u8] = b"\
     root default { id -1 alg straw2 hash 0 item h1 item h2 }\n\
     rule replicated_rule { id 0 type replicated step take default step chooseleaf firstn 0 type host step emit }\n";
 
-/// The example map with a host that is called as a device.
 pub const HOST_AS_DEVICE: &[u8] = b"\
     tunable choose_total_tries 50\n\
     device 0 osd.0\n\
@@ -136,7 +129,6 @@ pub const HOST_AS_DEVICE: &[u8] = b"\
     root default { id -1 alg straw2 hash 0 item h1 item h2 item osd.3 }\n\
     rule replicated_rule { id 0 type replicated step take default step chooseleaf firstn 0 type host step emit }\n";
 
-/// The example map with a further device.
 pub const DEVICE_IN_H2: &[u8] = b"\
     tunable choose_total_tries 50\n\
     device 0 osd.0\n\
@@ -152,7 +144,7 @@ pub const DEVICE_IN_H2: &[u8] = b"\
     root default { id -1 alg straw2 hash 0 item h1 item h2 }\n\
     rule replicated_rule { id 0 type replicated step take default step chooseleaf firstn 0 type host step emit }\n";
 
-/// The example map with a weight that isn't whole.
+/// A weight isn't whole.
 pub const HEAVY: &[u8] = b"\
     tunable choose_total_tries 50\n\
     device 0 osd.0\n\
@@ -182,7 +174,7 @@ pub const HEAVY_CUT: &[u8] = b"\
     root default { id -1 alg straw2 hash 0 item h1 item h2 }\n\
     rule replicated_rule { id 0 type replicated step take default step chooseleaf firstn 0 type host step emit }\n";
 
-/// The example map with another type and algorithm of h1, a weight and a class, an item elsewhere, one that is gone, and two that come.
+/// Type and algorithm, weight and class, and a place differ; one item is gone, and two come.
 pub const OTHERWISE: &[u8] = b"\
     tunable choose_total_tries 50\n\
     device 0 osd.0\n\
@@ -198,7 +190,7 @@ pub const OTHERWISE: &[u8] = b"\
     host h3 { id -4 alg straw2 hash 0 }\n\
     rule replicated_rule { id 0 type replicated step take default step chooseleaf firstn 0 type host step emit }\n";
 
-/// A row with a device, and a root, of which a rule takes the root.
+/// A row with a device, and a root that a rule takes.
 pub const NAMES_OF_OTHER_TYPES: &[u8] = b"\
     device 2 osd.2\n\
     device 4 osd.4\n\
@@ -210,7 +202,7 @@ pub const NAMES_OF_OTHER_TYPES: &[u8] = b"\
     row r1 { id -9 alg list hash 0 item osd.2 weight 0.0 }\n\
     rule r { id 0 type replicated step take other step chooseleaf firstn 0 type host step emit }\n";
 
-/// The same where both have exchanged their names and items, and osd.4 has a class.
+/// Both have exchanged their names and items, and osd.4 has a class.
 pub const NAMES_EXCHANGED: &[u8] = b"\
     device 2 osd.2\n\
     device 4 osd.4 class hdd\n\

@@ -1,13 +1,11 @@
-//! What stays of a part of two maps, and which ids differ there.
-//!
-//! Expected values are worked by hand from the table of docs/names.md.
+//! What stays of a part of two maps. Expected values are worked by hand from the table of
+//! docs/names.md.
 
 use crate::maps::{EXAMPLE_MAP, map_of};
 use crate::plan::maps::*;
 use crush_names::{count_aside, stays_part};
 use std::process::Abort;
 
-/// What stays at or below the item of this name.
 fn stays_under(rt: &(impl Abort + AllocGlobal), under: &str, texts: [&[u8]; 2]) -> Vec<u8> {
     let map = map_of(rt, texts[0]);
     let wanted = map_of(rt, texts[1]);
@@ -67,7 +65,6 @@ fn a_part_that_neither_map_has_is_empty(rt: HostRuntime) {
     assert!(rt; lines.as_slice() == b"".as_slice());
 }
 
-/// How many ids of buckets differ at or below the item of this name, or of everything.
 fn other_ids(rt: &(impl Abort + AllocGlobal), under: Option<&str>) -> usize {
     let map = map_of(rt, EXAMPLE_MAP);
     let wanted = map_of(rt, NUMBERED);

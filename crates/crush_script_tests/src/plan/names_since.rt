@@ -1,13 +1,10 @@
-//! What has changed from one map to another whose items are told apart by their names.
-//!
-//! Expected values are worked by hand from the table of docs/names.md.
+//! Changes by names. Expected values are worked by hand from the table of docs/names.md.
 
 use crate::maps::{EXAMPLE_MAP, map_of};
 use crate::plan::maps::*;
 use crush_names::{is_changed_by_name, write_since_by_name, write_since_by_name_part};
 use std::process::Abort;
 
-/// What has changed from the map of the one text to that of the other.
 fn since_by_name(rt: &(impl Abort + AllocGlobal), texts: [&[u8]; 2]) -> Vec<u8> {
     let old = map_of(rt, texts[0]);
     let new = map_of(rt, texts[1]);
@@ -18,7 +15,6 @@ fn since_by_name(rt: &(impl Abort + AllocGlobal), texts: [&[u8]; 2]) -> Vec<u8> 
     text
 }
 
-/// The same at or below the item of this name.
 fn since_under(rt: &(impl Abort + AllocGlobal), under: &str, texts: [&[u8]; 2]) -> Vec<u8> {
     let old = map_of(rt, texts[0]);
     let new = map_of(rt, texts[1]);
@@ -101,7 +97,6 @@ fn a_part_that_is_gone_is_told(rt: HostRuntime) {
     );
 }
 
-/// Whether anything is told at or below the item of this name, or of everything.
 fn is_changed(rt: &(impl Abort + AllocGlobal), under: Option<&str>, texts: [&[u8]; 2]) -> bool {
     let old = map_of(rt, texts[0]);
     let new = map_of(rt, texts[1]);

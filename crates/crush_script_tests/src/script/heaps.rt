@@ -7,12 +7,10 @@ use linked_list_allocator::LocalHeap;
 use std::alloc::Allocator;
 use std::process::Abort;
 
-/// Whether it is the plain example map.
 fn is_plain_example_map<A: Allocator>(rt: &(impl Abort + AllocGlobal), map: &CrushMap<A>) -> bool {
     map.total() == 163840 && text_of(rt, map).as_slice() == PLAIN_EXAMPLE_MAP
 }
 
-/// Whether a heap of so many bytes holds the plain example map, with no weight adjusted.
 fn holds_the_map(rt: &(impl Abort + AllocGlobal), size: usize) -> Result<bool, TextFault> {
     let heap = LocalHeap::new(rt.alloc(), size).expect(rt, "no memory");
     match read_map_in(rt.alloc(), Hashing::plain(), &heap, PLAIN_EXAMPLE_MAP) {
@@ -30,8 +28,7 @@ fn the_plain_example_map_is_read_into_a_heap(rt: HostRuntime) {
     assert!(rt; holds_the_map(&rt, 65536) == Ok(true));
 }
 
-/// Whether the fault is that memory ran out inside the text of the plain example map; for the first
-/// device, whose name is at place 38, where the heap is the smallest.
+/// The smallest heap lacks memory for the first device, whose name is at place 38.
 fn is_lack(fault: TextFault, is_smallest: bool) -> bool {
     fault.kind == TextFaultKind::OutOfMemory
         && fault.place < PLAIN_EXAMPLE_MAP.len()

@@ -8,7 +8,6 @@ use crush_script::{Job, JobFault, line_feeds, map_part};
 use std::alloc::Global;
 use std::process::Abort;
 
-/// Whether the call is `reweight osd.2 1.00000`.
 fn is_reweight(call: &Call) -> bool {
     match call {
         Call::One(Edit::Reweight { name, weight }) => name.is(b"osd.2") && weight.units() == 65536,
@@ -16,7 +15,6 @@ fn is_reweight(call: &Call) -> bool {
     }
 }
 
-/// Whether the only script is that of the operator a, who reweights osd.2.
 fn has_reweight(scripts: &[Script]) -> bool {
     match scripts {
         [script] => match script.calls.as_slice() {
@@ -27,7 +25,6 @@ fn has_reweight(scripts: &[Script]) -> bool {
     }
 }
 
-/// Whether the job has the plain example map and such a script.
 fn is_read(job: &Job) -> bool {
     job.map.total() == 163840
         && job.map.counts().devices == 3
@@ -45,15 +42,12 @@ fn a_job_is_read(rt: HostRuntime) {
     assert!(rt; is_read);
 }
 
-/// A host with one device below a root, a device that no bucket holds, and four calls.
 const CALLS: &[u8] =
     b"device 0 osd.0\ndevice 9 osd.9\ntype 0 osd\ntype 1 host\nhost h1 { id -1 alg straw2 hash 0 item osd.0 weight 1.00000 }\n%operator alice\nreweight osd.0 0.5\nreweight osd.0 0.50000\nreweight osd.9 1\nreweight osd.0 2\n";
 
-/// The history of them.
 const HISTORY: &[u8] =
     b"# 1 alice reweight osd.0 0.50000 = done changed 1 made 0\n# 2 alice reweight osd.0 0.50000 = done changed 0 made 0\n# 3 alice reweight osd.9 1.00000 = refused NotPlaced 2\n# 4 alice reweight osd.0 2.00000 = done changed 1 made 0\n";
 
-/// The lines of a script's calls, each made on the map in its turn.
 fn lines_of(
     rt: &(impl Abort + AllocGlobal),
     map: &mut CrushMap<Global>,
@@ -70,7 +64,6 @@ fn lines_of(
     lines
 }
 
-/// Whether the calls of the only script are answered so.
 fn are_answered(
     rt: &(impl Abort + AllocGlobal),
     map: &mut CrushMap<Global>,
@@ -91,13 +84,11 @@ fn calls_are_answered_in_turn(rt: HostRuntime) {
     assert!(rt; are_answered && total == 131072);
 }
 
-/// The text behind which 65,536 of the lines stand.
 fn with_lines(rt: &(impl Abort + AllocGlobal), text: &[u8], line: &[u8]) -> Vec<u8> {
     let lines = line.repeat(rt.alloc(), 65536).expect(rt, "no memory");
     joined(rt, &[text, lines.as_slice()])
 }
 
-/// The number of calls in the only script of a text's job.
 fn call_count(rt: &(impl Abort + AllocGlobal), text: &[u8]) -> Option<usize> {
     let job = job_of(rt, text);
     let count = match job.scripts.as_slice() {
@@ -108,7 +99,6 @@ fn call_count(rt: &(impl Abort + AllocGlobal), text: &[u8]) -> Option<usize> {
     count
 }
 
-/// Whether the text is no job where the line stands behind it, for that reason.
 fn is_no_job_with(
     rt: &(impl Abort + AllocGlobal),
     text: &[u8],

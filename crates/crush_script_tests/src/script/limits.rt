@@ -1,5 +1,5 @@
-//! As many devices and buckets as a map can have, and as heavy as it can be, and one more. The other limits are in
-//! examples/refused/limits.txt.
+//! As many devices and buckets as a map can have, and as heavy as it can be, and one more. The
+//! other limits are in examples/refused/limits.txt.
 
 use crate::maps::map_of;
 use crate::script::{is_refused_behind, joined, put_behind};
@@ -7,13 +7,12 @@ use crush_text::TextFaultKind;
 use std::ops::Range;
 use std::process::Abort;
 
-/// Puts a number behind a text.
 fn put_number(rt: &(impl Abort + AllocGlobal), text: &mut Vec<u8>, number: u32) {
     let digits = format!(in rt.alloc(); "{number}").expect(rt, "no memory");
     put_behind(rt, text, digits.as_bytes());
 }
 
-/// Puts a line behind a text, with the number for each `@` and the one before it for each `~`.
+/// The number stands for each `@`, and the one before it for each `~`.
 fn put_line(rt: &(impl Abort + AllocGlobal), text: &mut Vec<u8>, line: &[u8], number: u32) {
     for byte in line {
         match *byte {
@@ -24,7 +23,6 @@ fn put_line(rt: &(impl Abort + AllocGlobal), text: &mut Vec<u8>, line: &[u8], nu
     }
 }
 
-/// Puts such lines for each of the numbers behind a text.
 fn put_lines(
     rt: &(impl Abort + AllocGlobal),
     text: &mut Vec<u8>,
@@ -36,7 +34,6 @@ fn put_lines(
     }
 }
 
-/// Such lines for each of the numbers behind the text.
 fn with_lines(
     rt: &(impl Abort + AllocGlobal),
     before: &[u8],
@@ -63,16 +60,13 @@ fn at_most_65536_devices(rt: HostRuntime) {
     assert!(rt; devices == 65536 && is_refused);
 }
 
-/// A text with a chain of the buckets 1 to 4,096, each but the first with the one before it as its item:
-/// a bucket stands before it is an item, so the first is the lowest.
+/// Each bucket but the first holds the one above it.
 fn chain(rt: &(impl Abort + AllocGlobal)) -> Vec<u8> {
     let before = b"type 1 host\nhost b1 { id -1 alg straw2 }\n";
     let line = b"host b@ { id -@ alg straw2 item b~ weight 0 }\n";
     with_lines(rt, before, line, 2..4097)
 }
 
-/// What is refused behind 4,096 buckets, with what for: one more bucket, unless its first word names
-/// no type, and words that begin no bucket.
 const BEHIND_4096_BUCKETS: &[(&[u8], TextFaultKind)] = &[
     (
         b"host b4097 { id -4097 alg straw2 item b4096 weight 0 }\n",
@@ -95,15 +89,14 @@ fn at_most_4096_buckets(rt: HostRuntime) {
     }
 }
 
-/// The three devices of a host, whose ids begin with 1, 2 and 3.
 const THREE_DEVICES: &[u8] = b"device 1@ d@\ndevice 2@ e@\ndevice 3@ f@\n";
 
-/// A host with them, of 2147483647, 2147483647 and 1 units: as heavy as a bucket can be.
+/// 2147483647, 2147483647 and 1 units: as heavy as a bucket can be.
 const HOST_OF_THREE: &[u8] = b"\
     host h@ { id -1@ alg straw2 item d@ weight 32767.99998 item e@ weight 32767.99998 \
     item f@ weight 0.00002 }\n";
 
-/// A text with 2,048 hosts of 4294967295 units, and one that a device was put into but for its weight.
+/// 2,048 hosts of 4294967295 units, and one that lacks the weight of its device.
 fn heaviest(rt: &(impl Abort + AllocGlobal)) -> Vec<u8> {
     let mut text = with_lines(rt, b"type 1 host\ndevice 0 d\n", THREE_DEVICES, 0..2048);
     put_lines(rt, &mut text, HOST_OF_THREE, 0..2048);

@@ -5,28 +5,24 @@ use crush_edits::{Done, Dones, Edit, Refusal};
 use crush_units::{Name, Weight};
 use std::process::Abort;
 
-/// The edit `reweight NAME UNITS`.
 fn reweight(rt: &(impl Abort + AllocGlobal), name: &[u8], units: u32) -> Edit {
     let name = Name::read(rt.alloc(), name).expect(rt, "no name");
     let weight = Weight::from_units(units);
     Edit::Reweight { name, weight }
 }
 
-/// A batch with one edit.
 fn batch_of(rt: &(impl Abort + AllocGlobal), edit: Edit) -> Call {
     let mut edits = Vec::new(rt.alloc());
     edits.push(edit).expect(rt, "no memory");
     Call::Batch(Edits::new(edits))
 }
 
-/// A copy of the call, which is let go.
 fn copied(rt: &(impl Abort + AllocGlobal), call: Call) -> Call {
     let copy = call.try_copy(rt.alloc()).expect(rt, "no memory");
     drop(call);
     copy
 }
 
-/// Whether the call of a number and an operator, so answered, makes the line.
 fn has_line(
     rt: &impl AllocGlobal,
     call: &Call,
@@ -40,7 +36,6 @@ fn has_line(
     written.is_ok() && out.as_slice() == line
 }
 
-/// Whether a call to reweight osd.0 makes its lines.
 fn is_single(rt: &impl AllocGlobal, call: &Call) -> bool {
     let done = Reply::Done(Done {
         changed: false,
@@ -52,14 +47,14 @@ fn is_single(rt: &impl AllocGlobal, call: &Call) -> bool {
     has_line(rt, call, (4, b"b"), done, line) && has_line(rt, call, (65536, b"op-1"), refused, last)
 }
 
-/// Whether a batch that reweights osd.2 makes its line where it is refused as a single call is.
+/// It is refused as a single call is.
 fn is_batch(rt: &impl AllocGlobal, call: &Call) -> bool {
     let refused = Reply::Refused(Refusal::Loop);
     let line = b"# 1 a begin ; reweight osd.2 1.00000 ; commit = refused Loop 40\n";
     has_line(rt, call, (1, b"a"), refused, line)
 }
 
-/// Whether a batch without edits makes its line where it is answered like one that has many.
+/// It is answered like one that has many edits.
 fn is_empty_batch(rt: &impl AllocGlobal, call: &Call) -> bool {
     let done = Reply::Dones(Dones {
         edits: 65536,

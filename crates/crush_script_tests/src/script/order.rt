@@ -5,7 +5,6 @@ use crate::script::text_of;
 use crush_print::{buckets, devices};
 use std::process::Abort;
 
-/// Whether the map of the text prints it, and has these devices and these buckets, in this order.
 fn are_in_order(
     rt: &(impl Abort + AllocGlobal),
     text: &[u8],
@@ -38,8 +37,7 @@ fn a_device_that_no_bucket_holds_stands_by_its_id(rt: HostRuntime) {
     assert!(rt; are_in_order(&rt, UNPLACED, &[0, 1, 2, 9], &[-2, -3, -1]));
 }
 
-/// Racks below a row, in which a later host has an id farther below 0 than its rack: the map of
-/// `examples/maps/conf-3.job`, as `crushtool` printed it.
+/// The map of `examples/maps/conf-3.job`: a later host has an id farther below 0 than its rack.
 const NESTED: &[u8] = b"\
     # begin crush map\n\
     tunable choose_local_tries 0\n\
@@ -134,8 +132,7 @@ const NESTED: &[u8] = b"\
     \n\
     # end crush map\n";
 
-/// The device osd.9 stands in no bucket: the map of `examples/maps/unplaced-3.job`, as `crushtool`
-/// printed it.
+/// The map of `examples/maps/unplaced-3.job`.
 const UNPLACED: &[u8] = b"\
     # begin crush map\n\
     tunable choose_local_tries 0\n\

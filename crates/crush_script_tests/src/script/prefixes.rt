@@ -1,4 +1,4 @@
-//! Each prefix of the example map's text: which of them are maps is told by a rule of its lines.
+//! Each prefix of the example map's text: a rule of its lines says which of them are maps.
 
 use crate::script::{put_behind, text_of};
 use crush_map::CrushMap;
@@ -6,8 +6,8 @@ use crush_text::{TextFault, TextFaultKind, read_map};
 use std::alloc::Global;
 use std::process::Abort;
 
-/// The example map, as it is printed: each tunable, device and type a line of three words, each bucket and
-/// rule from a line with its opening brace to a line of its closing one.
+/// Each tunable, device and type is a line of three words, each bucket and rule ends with a line of
+/// its brace.
 const EXAMPLE_MAP: &[u8] = b"\
     # begin crush map\n\
     tunable choose_total_tries 50\n\
@@ -59,12 +59,10 @@ const EXAMPLE_MAP: &[u8] = b"\
     \n\
     # end crush map\n";
 
-/// Whether a word can have the byte.
 fn is_of_a_word(byte: u8) -> bool {
     byte.is_ascii_alphanumeric() || byte == b'-' || byte == b'_' || byte == b'.'
 }
 
-/// How many braces of the prefix are open.
 fn depth(prefix: &[u8]) -> u32 {
     let mut depth: u32 = 0;
     for byte in prefix {
@@ -77,7 +75,6 @@ fn depth(prefix: &[u8]) -> u32 {
     depth
 }
 
-/// The last line of the prefix, so far as it goes.
 fn last_line(prefix: &[u8]) -> &[u8] {
     let mut last: &[u8] = b"";
     for line in prefix.split(|byte| *byte == b'\n') {
@@ -86,7 +83,6 @@ fn last_line(prefix: &[u8]) -> &[u8] {
     last
 }
 
-/// How many words the line has, where spaces separate them.
 fn count_words(line: &[u8]) -> u32 {
     let mut count: u32 = 0;
     for word in line.split(|byte| *byte == b' ') {
@@ -97,15 +93,14 @@ fn count_words(line: &[u8]) -> u32 {
     count
 }
 
-/// Whether the prefix ends between two statements, or in the last word of a tunable, a device or a
-/// type: cut short, it is still a number, or a name that no other has.
+/// The last word of a tunable, a device or a type, cut short, is still a number, or a name that no
+/// other has.
 fn is_whole(prefix: &[u8]) -> bool {
     let line = last_line(prefix);
     let is_between = line.is_empty() || line.starts_with(b"#") || line == b"}".as_slice();
     depth(prefix) == 0 && (is_between || count_words(line) == 3)
 }
 
-/// Where the last word of the prefix begins, or the prefix ends where none reaches its end.
 fn last_word(prefix: &[u8]) -> usize {
     let mut begin: usize = 0;
     for (place, byte) in prefix.iter().enumerate() {
@@ -116,7 +111,6 @@ fn last_word(prefix: &[u8]) -> usize {
     begin
 }
 
-/// Whether the fault is that the prefix ends, or, where it cuts a word short, one of that word.
 fn is_at_the_end(fault: TextFault, prefix: &[u8], is_cut: bool) -> bool {
     if fault.kind == TextFaultKind::Ended {
         fault.place == prefix.len()
@@ -125,7 +119,6 @@ fn is_at_the_end(fault: TextFault, prefix: &[u8], is_cut: bool) -> bool {
     }
 }
 
-/// The lines of the text that aren't empty and don't begin as a comment.
 fn statements(rt: &(impl Abort + AllocGlobal), text: &[u8]) -> Vec<u8> {
     let mut kept = Vec::new(rt.alloc());
     for line in text.split(|byte| *byte == b'\n') {
@@ -137,7 +130,6 @@ fn statements(rt: &(impl Abort + AllocGlobal), text: &[u8]) -> Vec<u8> {
     kept
 }
 
-/// Whether the map is printed with the statements of the prefix, and no others.
 fn has_the_statements(
     rt: &(impl Abort + AllocGlobal),
     map: &CrushMap<Global>,
@@ -147,8 +139,7 @@ fn has_the_statements(
     statements(rt, text.as_slice()) == statements(rt, prefix)
 }
 
-/// Whether the prefix is read where it is whole, and refused at its end where it isn't. `is_cut` says
-/// that the word in which it ends goes on.
+/// `is_cut` says that the word in which the prefix ends goes on.
 fn is_due(rt: &(impl Abort + AllocGlobal), prefix: &[u8], is_cut: bool) -> bool {
     match read_map(rt.alloc(), prefix) {
         Ok((map, adjusted)) => {
@@ -160,8 +151,7 @@ fn is_due(rt: &(impl Abort + AllocGlobal), prefix: &[u8], is_cut: bool) -> bool 
     }
 }
 
-/// Whether the line at which the prefix ends goes on with the word that the prefix has begun. No word
-/// of a comment counts.
+/// No word of a comment counts.
 fn cuts_a_word(prefix: &[u8], rest: &[u8]) -> bool {
     let goes_on = match rest.first() {
         Some(byte) => is_of_a_word(*byte),

@@ -1,4 +1,4 @@
-//! The plain example map, as it is read and printed, and how faults are told.
+//! The plain example map, as it is read and printed, and how faults are printed.
 
 use crate::script::{PLAIN_EXAMPLE_MAP, text_of};
 use crush_map::CrushMap;
@@ -6,7 +6,6 @@ use crush_script::JobFault;
 use crush_text::{TextFault, TextFaultKind, read_map};
 use std::alloc::Global;
 
-/// Whether the item of this name has the id of this number, or is none.
 fn has_id(map: &CrushMap<Global>, name: &str, number: Option<i32>) -> bool {
     match map.locate(name) {
         Some(id) => number == Some(id.number()),
@@ -14,7 +13,6 @@ fn has_id(map: &CrushMap<Global>, name: &str, number: Option<i32>) -> bool {
     }
 }
 
-/// Whether the map counts and finds what the plain example map has.
 fn is_plain_example_map(map: &CrushMap<Global>) -> bool {
     let counts = map.counts();
     map.total() == 163840

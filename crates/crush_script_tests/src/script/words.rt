@@ -5,29 +5,24 @@ use crush_bytes::number::number_up_to;
 use crush_bytes::{Reader, Token};
 use std::process::Abort;
 
-/// Reads a word, and tests its place and its bytes.
 fn is_word(reader: &mut Reader<'_>, at: usize, word: &[u8]) -> bool {
     matches!(reader.next(), Token::Word { place, text } if place == at && text == word)
 }
 
-/// Reads on, and tests that a byte or a word stands at the place that no text has.
 fn is_bad(reader: &mut Reader<'_>, at: usize) -> bool {
     matches!(reader.next(), Token::Bad { place } if place == at)
 }
 
-/// Reads words, and asserts their places and their bytes.
 fn are_words(rt: &impl Abort, reader: &mut Reader<'_>, words: &[(usize, &[u8])]) {
     for (at, word) in words {
         assert!(rt; is_word(reader, *at, *word));
     }
 }
 
-/// The words before the key, and those behind it.
 const BEFORE_KEY: &[(usize, &[u8])] = &[(0, b"host"), (5, b"h1"), (7, b"{")];
 
 const BEHIND_KEY: &[(usize, &[u8])] = &[(16, b"-2"), (18, b"}")];
 
-/// Takes the key `id`, and tests that it is no other.
 fn takes_the_key(reader: &mut Reader<'_>) -> bool {
     !reader.take_key(b"alg") && reader.take_key(b"id")
 }
@@ -41,7 +36,6 @@ fn reads_words(rt: HostRuntime) {
     assert!(rt; matches!(reader.next(), Token::End { place: 24 }));
 }
 
-/// Whether the text begins with a word that is too long.
 fn is_too_long(text: &[u8]) -> bool {
     let mut reader = Reader::new(text);
     is_bad(&mut reader, 0)

@@ -3,8 +3,8 @@
 use crush_bytes::{WriteFault, put, put_all};
 use std::io::{self, Error, ErrorKind, Write};
 
-/// Takes at most seven bytes at a call. When it has `room` bytes it fails once, or takes none, and
-/// then it takes whatever comes: who wrote again would get all out.
+/// Takes seven bytes at a call. After `room` bytes it fails once, or takes none, then it takes all:
+/// who wrote again would get all out.
 #[derive(Drop)]
 struct Slow {
     held: Vec<u8>,
@@ -46,7 +46,6 @@ fn parts_go_out_one_after_the_other(rt: HostRuntime) {
     );
 }
 
-/// Whether the prefix of a line for which there is room is written of its two parts, with this answer.
 fn is_answer(
     rt: &impl AllocGlobal,
     room: usize,
@@ -61,7 +60,6 @@ fn is_answer(
         && b"item osd.0 weight 1.00000".starts_with(out.held.as_slice())
 }
 
-/// Rooms for a prefix of that line, and how a write behind it ends: by a failure, or with no byte taken.
 const ROOMS: &[(usize, bool)] = &[(0, true), (7, true), (12, false), (24, true), (24, false)];
 
 #[test]

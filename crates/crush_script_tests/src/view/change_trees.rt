@@ -8,7 +8,7 @@ use crush_since::write_changes;
 use std::alloc::Global;
 use std::process::Abort;
 
-/// The example map after `add osd.3 1 host=h3 rack=r1 root=default`.
+/// After `add osd.3 1 host=h3 rack=r1 root=default`.
 const GROWN: &[u8] = b"\
     tunable chooseleaf_stable 1\n\
     device 0 osd.0\n\
@@ -25,7 +25,7 @@ const GROWN: &[u8] = b"\
     rack r1 { id -5 alg straw2 hash 0 item h3 weight 1.0 }\n\
     root default { id -1 alg straw2 hash 0 item h1 weight 2.0 item h2 weight 0.5 item r1 weight 1.0 }\n";
 
-/// The example map after `swap-bucket h1 h2`.
+/// After `swap-bucket h1 h2`.
 const SWAPPED: &[u8] = b"\
     tunable chooseleaf_stable 1\n\
     device 0 osd.0\n\
@@ -39,7 +39,7 @@ const SWAPPED: &[u8] = b"\
     host h1 { id -3 alg straw2 hash 0 item osd.0 weight 1.0 item osd.1 weight 1.0 }\n\
     root default { id -1 alg straw2 hash 0 item h2 weight 0.5 item h1 weight 2.0 }\n";
 
-/// The example map after `rm osd.0`, `rm osd.1` and `rm h1`.
+/// After `rm osd.0`, `rm osd.1` and `rm h1`.
 const SHRUNK: &[u8] = b"\
     tunable chooseleaf_stable 1\n\
     device 2 osd.2\n\
@@ -50,7 +50,6 @@ const SHRUNK: &[u8] = b"\
     host h2 { id -3 alg straw2 hash 0 item osd.2 weight 0.5 }\n\
     root default { id -1 alg straw2 hash 0 item h2 weight 0.5 }\n";
 
-/// A row of two racks, of which one is empty.
 const ROW: &[u8] = b"\
     device 0 osd.0\n\
     type 0 osd\n\
@@ -63,7 +62,7 @@ const ROW: &[u8] = b"\
     row row00 { id -2 alg straw2 hash 0 item rack000 weight 1.0 item rack001 weight 0.0 }\n\
     root default { id -1 alg straw2 hash 0 item row00 weight 1.0 }\n";
 
-/// The same without the empty rack, whose id a host has now.
+/// Without the empty rack, whose id a host has now.
 const ROW_AGAIN: &[u8] = b"\
     device 0 osd.0\n\
     device 1 osd.1\n\
@@ -77,7 +76,6 @@ const ROW_AGAIN: &[u8] = b"\
     row row00 { id -2 alg straw2 hash 0 item rack000 weight 2.0 }\n\
     root default { id -1 alg straw2 hash 0 item row00 weight 2.0 }\n";
 
-/// Two roots, an unplaced device, and a rule for a class.
 const TOPS: &[u8] = b"\
     device 0 osd.0 class hdd\n\
     device 1 osd.1\n\
@@ -87,7 +85,6 @@ const TOPS: &[u8] = b"\
     root b { id -2 alg straw2 hash 0 item osd.1 weight 1.0 }\n\
     rule data { id 0 type replicated step take a class hdd step take b step emit }\n";
 
-/// The same with one root in the other, another unplaced device, and another class.
 const TOPS_MOVED: &[u8] = b"\
     device 0 osd.0 class ssd\n\
     device 1 osd.1\n\
@@ -97,7 +94,6 @@ const TOPS_MOVED: &[u8] = b"\
     root a { id -1 alg straw2 hash 0 item osd.0 weight 1.0 item b weight 2.0 }\n\
     rule data { id 0 type replicated step take a class hdd step take b step emit }\n";
 
-/// Whether that is the tree of what has changed from one map to the other.
 fn is_tree(rt: &(impl Abort + AllocGlobal), old: &[u8], new: &[u8], tree: &[u8]) -> bool {
     let old = map_of(rt, old);
     let new = map_of(rt, new);
@@ -107,7 +103,6 @@ fn is_tree(rt: &(impl Abort + AllocGlobal), old: &[u8], new: &[u8], tree: &[u8])
     is
 }
 
-/// The tree of what has changed from one map to the other.
 fn changes(
     rt: &(impl Abort + AllocGlobal),
     old: &CrushMap<Global>,

@@ -12,12 +12,10 @@ use crush_units::ItemId;
 use std::alloc::Global;
 use std::process::Abort;
 
-/// The id of the item of this name.
 fn id_of(rt: &(impl Abort + AllocGlobal), map: &CrushMap<Global>, name: &str) -> ItemId {
     map.locate(name).expect(rt, "no item")
 }
 
-/// Whether that is what has changed below the item of this name.
 fn is_part_since(
     rt: &(impl Abort + AllocGlobal),
     old: &[u8],
@@ -57,7 +55,6 @@ fn of_a_device_that_is_the_same_nothing_is_told(rt: HostRuntime) {
     assert!(rt; is_part_since(&rt, EXAMPLE_MAP, MOVED, "osd.1", b""));
 }
 
-/// Whether these two maps differ, and whether what is below the item of this name does.
 fn are_changed(
     rt: &(impl Abort + AllocGlobal),
     old: &[u8],
@@ -92,7 +89,6 @@ fn elsewhere_it_is_none(rt: HostRuntime) {
     assert!(rt; whole && !part);
 }
 
-/// The example map with another tunable, and without the type that no item has.
 const RETUNED: &[u8] = b"\
     tunable chooseleaf_stable 0\n\
     device 0 osd.0\n\
@@ -123,7 +119,6 @@ fn settings_are_compared_each(rt: HostRuntime) {
     assert!(rt; !tunables && !kinds && rules);
 }
 
-/// How many items differ between the example map and the one after the move.
 fn counts_of_the_move(rt: &(impl Abort + AllocGlobal)) -> Tally {
     let old = map_of(rt, EXAMPLE_MAP);
     let new = map_of(rt, MOVED);

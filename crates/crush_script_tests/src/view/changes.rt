@@ -7,7 +7,7 @@ use crush_since::write_since;
 use std::alloc::Global;
 use std::process::Abort;
 
-/// The example map after `create-or-move osd.0 5.0 host=h2`.
+/// After `create-or-move osd.0 5.0 host=h2`.
 pub(super) const MOVED: &[u8] = b"\
     tunable chooseleaf_stable 1\n\
     device 0 osd.0\n\
@@ -21,7 +21,6 @@ pub(super) const MOVED: &[u8] = b"\
     host h2 { id -3 alg straw2 hash 0 item osd.2 weight 0.5 item osd.0 weight 1.0 }\n\
     root default { id -1 alg straw2 hash 0 item h1 weight 1.0 item h2 weight 1.5 }\n";
 
-/// Whether that is what has changed from one map to the other.
 fn is_since(rt: &(impl Abort + AllocGlobal), old: &[u8], new: &[u8], changes: &[u8]) -> bool {
     let old = map_of(rt, old);
     let new = map_of(rt, new);
@@ -31,7 +30,6 @@ fn is_since(rt: &(impl Abort + AllocGlobal), old: &[u8], new: &[u8], changes: &[
     is
 }
 
-/// What has changed from one map to the other.
 fn since(
     rt: &(impl Abort + AllocGlobal),
     old: &CrushMap<Global>,
@@ -53,7 +51,6 @@ fn a_moved_device_moves_its_weight(rt: HostRuntime) {
     assert!(rt; is_since(&rt, EXAMPLE_MAP, MOVED, changes));
 }
 
-/// A map with a rule that takes a class, and two hosts.
 const RULE: &[u8] = b"\
     device 0 osd.0 class hdd\n\
     type 1 host\n\
@@ -63,7 +60,7 @@ const RULE: &[u8] = b"\
     root default { id -1 alg straw2 hash 0 item h1 weight 1.0 item h2 weight 0.0 }\n\
     rule data { id 0 type replicated step take default class hdd step take h1 step take h2 step emit }\n";
 
-/// The same after `move osd.0 host=h2` and another class.
+/// After `move osd.0 host=h2` and another class.
 const RULE_EMPTIED: &[u8] = b"\
     device 0 osd.0 class ssd\n\
     type 1 host\n\

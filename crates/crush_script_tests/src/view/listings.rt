@@ -8,7 +8,6 @@ use crush_units::{BucketId, ItemId};
 use std::alloc::Global;
 use std::process::Abort;
 
-/// Whether an item is there, in the bucket of this name.
 fn is_held_by(item: &Option<Seen<'_>>, name: &[u8]) -> bool {
     match item {
         Some(item) => is_called(item.holder, name),
@@ -16,7 +15,6 @@ fn is_held_by(item: &Option<Seen<'_>>, name: &[u8]) -> bool {
     }
 }
 
-/// Whether there is a name, and it is this one.
 fn is_called(found: Option<&str>, name: &[u8]) -> bool {
     match found {
         Some(found) => found.as_bytes() == name,
@@ -24,7 +22,6 @@ fn is_called(found: Option<&str>, name: &[u8]) -> bool {
     }
 }
 
-/// Whether the listing has the item of this name in the bucket of this name.
 fn lists(map: &CrushMap<Global>, listing: &Listing<'_, Global>, name: &str, holder: &[u8]) -> bool {
     match map.locate(name) {
         Some(id) => is_held_by(&listing.look_up(id), holder),
@@ -32,7 +29,6 @@ fn lists(map: &CrushMap<Global>, listing: &Listing<'_, Global>, name: &str, hold
     }
 }
 
-/// How many class ids the listing has of the item of this name.
 fn class_ids(map: &CrushMap<Global>, listing: &Listing<'_, Global>, name: &str) -> usize {
     match map.locate(name) {
         Some(id) => listing.class_ids_of(id).len(),
@@ -50,7 +46,6 @@ fn an_item_is_found_in_its_bucket(rt: HostRuntime) {
     assert!(rt; is);
 }
 
-/// A bucket with an id of a class.
 const CLASSED: &[u8] = b"\
     device 0 osd.0 class ssd\n\
     type 1 host\n\
@@ -66,7 +61,6 @@ fn a_bucket_has_its_class_ids(rt: HostRuntime) {
     assert!(rt; count == 1);
 }
 
-/// Whether the item of this name is among those below the bucket.
 fn is_below(
     rt: &(impl Abort + AllocGlobal),
     map: &CrushMap<Global>,
@@ -80,7 +74,6 @@ fn is_below(
     }
 }
 
-/// The same below an item, which a device never is.
 fn is_below_item(
     rt: &(impl Abort + AllocGlobal),
     map: &CrushMap<Global>,
@@ -93,7 +86,6 @@ fn is_below_item(
     }
 }
 
-/// The same below the item of another name.
 fn is_below_named(
     rt: &(impl Abort + AllocGlobal),
     map: &CrushMap<Global>,

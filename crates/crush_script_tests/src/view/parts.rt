@@ -7,7 +7,6 @@ use crush_view::{Part, walk_part, write_tree_part};
 use std::alloc::Global;
 use std::process::Abort;
 
-/// The part of what is below the item of this name, down to the type of this name.
 fn part_of(map: &CrushMap<Global>, under: Option<&str>, down_to: Option<&str>) -> Part {
     Part {
         under: match under {
@@ -21,7 +20,6 @@ fn part_of(map: &CrushMap<Global>, under: Option<&str>, down_to: Option<&str>) -
     }
 }
 
-/// Whether that is the tree of this part of the map of the text.
 fn is_part(
     rt: &(impl Abort + AllocGlobal),
     text: &[u8],
@@ -67,7 +65,6 @@ fn hosts_are_told_without_their_devices(rt: HostRuntime) {
     assert!(rt; is_part(&rt, EXAMPLE_MAP, None, Some("host"), tree));
 }
 
-/// A host in a rack, and one beside the rack; and a device that no bucket holds.
 const RACKED: &[u8] = b"\
     device 0 osd.0\n\
     device 1 osd.1\n\

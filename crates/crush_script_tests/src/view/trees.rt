@@ -8,14 +8,12 @@ use crush_view::{walk, walk_below, write_tree};
 use std::alloc::Global;
 use std::process::Abort;
 
-/// The tree of a map.
 fn tree_of(rt: &(impl Abort + AllocGlobal), map: &CrushMap<Global>) -> Vec<u8> {
     let mut tree = Vec::new(rt.alloc());
     write_tree(rt.alloc(), map, &mut tree).expect(rt, "no tree");
     tree
 }
 
-/// Whether that is the tree of the map of the text.
 fn is_tree(rt: &(impl Abort + AllocGlobal), text: &[u8], tree: &[u8]) -> bool {
     let map = map_of(rt, text);
     let is = tree_of(rt, &map).as_slice() == tree;
@@ -41,7 +39,6 @@ fn an_empty_map_has_headings_alone(rt: HostRuntime) {
     assert!(rt; is_tree(&rt, b"", b"ID  CLASS  WEIGHT  TYPE NAME\n"));
 }
 
-/// Eighteen buckets, each in the next.
 const NEST: &[u8] = b"\
     type 1 a\n\
     a b1 { id -1 alg straw2 }\n\
@@ -63,7 +60,6 @@ const NEST: &[u8] = b"\
     a b17 { id -17 alg straw2 item b16 }\n\
     a b18 { id -18 alg straw2 item b17 }\n";
 
-/// How the tree of the nest ends: the two lowest stand behind 64 spaces alike.
 const LOWEST: &[u8] = b"\n \
     -2         0.00000                                                                  a b2\n \
     -1         0.00000                                                                  a b1\n";
@@ -76,12 +72,10 @@ fn no_name_stands_behind_more_than_64_spaces(rt: HostRuntime) {
     assert!(rt; ends);
 }
 
-/// How many items a walk of the map goes to.
 fn walked(rt: &(impl Abort + AllocGlobal), map: &CrushMap<Global>) -> usize {
     walk(rt.alloc(), map).expect(rt, "no memory").len()
 }
 
-/// How many items a walk below the bucket goes to.
 fn walked_below(
     rt: &(impl Abort + AllocGlobal),
     map: &CrushMap<Global>,
@@ -92,7 +86,6 @@ fn walked_below(
         .len()
 }
 
-/// The same of an item.
 fn below(rt: &(impl Abort + AllocGlobal), map: &CrushMap<Global>, item: ItemId) -> usize {
     match item {
         ItemId::Bucket(bucket) => walked_below(rt, map, bucket),
@@ -100,7 +93,6 @@ fn below(rt: &(impl Abort + AllocGlobal), map: &CrushMap<Global>, item: ItemId) 
     }
 }
 
-/// The same of the item of this name.
 fn below_named(rt: &(impl Abort + AllocGlobal), map: &CrushMap<Global>, name: &str) -> usize {
     match map.locate(name) {
         Some(item) => below(rt, map, item),

@@ -1,4 +1,4 @@
-//! The rows of items that stood here in the old map, and do no longer.
+//! The rows of items that stood here in the old map and do no longer.
 
 ghost use Rattle.std.specs.Prelude.{◌≡◌, ◌+◌, ◌<◌, ◌^◌, List, [], ◌∷◌, ◌++◌, None, Some, OnOk, All, flat_map, map as each};
 ghost use Rattle.crush_table.specs.Items.{size_of};
@@ -20,7 +20,6 @@ use crush_tree::{Bucket, Node};
 use crush_units::{BucketId, ItemId};
 use std::alloc::{AllocError, Allocator, Global};
 
-/// The roots of the old map that are none now.
 pub(super) fn push_left_roots<A: Allocator, B: Allocator>(
     alloc: Global,
     both: &Both<'_, A, B>,
@@ -36,7 +35,6 @@ pub(super) fn push_left_roots<A: Allocator, B: Allocator>(
     push_left_tops(both, roots.as_slice(), rows)
 }
 
-/// The unplaced devices of the old map that are none now.
 pub(super) fn push_left_unplaced<A: Allocator, B: Allocator>(
     alloc: Global,
     both: &Both<'_, A, B>,
@@ -52,7 +50,7 @@ pub(super) fn push_left_unplaced<A: Allocator, B: Allocator>(
     push_left_tops(both, unplaced.as_slice(), rows)
 }
 
-/// Of nodes that no bucket held in the old map those that stand elsewhere now or are gone.
+/// Those that stand elsewhere now or are gone.
 fn push_left_tops<A: Allocator, B: Allocator>(
     both: &Both<'_, A, B>,
     nodes: &[&Node<A>],
@@ -69,7 +67,6 @@ fn push_left_tops<A: Allocator, B: Allocator>(
     Ok(())
 }
 
-/// The items that stood in the bucket in the old map, and do no longer, in their order there.
 pub(super) fn push_left<A: Allocator, B: Allocator>(
     both: &Both<'_, A, B>,
     bucket: BucketId,
@@ -89,7 +86,6 @@ pub(super) fn push_left<A: Allocator, B: Allocator>(
     }
 }
 
-/// Of items that stood in the bucket those that do no longer.
 fn push_left_items<A: Allocator, B: Allocator>(
     both: &Both<'_, A, B>,
     items: &[Node<A>],
@@ -108,7 +104,6 @@ fn push_left_items<A: Allocator, B: Allocator>(
     Ok(())
 }
 
-/// A node that stood in this place, unless it stands there now.
 fn push_if_left<A: Allocator, B: Allocator>(
     both: &Both<'_, A, B>,
     node: &Node<A>,
@@ -127,7 +122,7 @@ fn push_if_left<A: Allocator, B: Allocator>(
     push_stood(both, node, depth, rows)
 }
 
-/// A node that stood here, and below what is gone all that stood below it.
+/// Below what is gone also all that stood below it.
 fn push_stood<A: Allocator, B: Allocator>(
     both: &Both<'_, A, B>,
     node: &Node<A>,
@@ -163,7 +158,7 @@ fn push_stood<A: Allocator, B: Allocator>(
     }
 }
 
-/// Whether an item stands in this place: below the bucket, or below none.
+/// Below the bucket, or below none.
 fn stands_in<A: Allocator>(listing: &Listing<'_, A>, id: ItemId, place: Option<BucketId>) -> bool
     ensures { (u : List Row) → Lists u listing.now.items.items → result ≡ stands_in u place id }
 {
@@ -173,7 +168,6 @@ fn stands_in<A: Allocator>(listing: &Listing<'_, A>, id: ItemId, place: Option<B
     }
 }
 
-/// Whether an item is there.
 fn is_there<A: Allocator>(listing: &Listing<'_, A>, id: ItemId) -> bool
     ensures { (u : List Row) → Lists u listing.now.items.items → result ≡ is_there u id }
 {

@@ -21,7 +21,6 @@ use crush_view::id_column;
 use crush_view::words::{push_all, push_indent, push_kind, push_row};
 use std::alloc::{AllocError, Allocator, Global};
 
-/// The heading and the lines of rows.
 #[tactic(auto, unfolding(crate::specs::ChangeText::rows_text))]
 pub(super) fn push_rows<A: Allocator, B: Allocator>(
     alloc: Global,
@@ -38,7 +37,6 @@ pub(super) fn push_rows<A: Allocator, B: Allocator>(
     push_lines(alloc, both, &widths, rows, out)
 }
 
-/// The headings.
 #[tactic(auto, unfolding(crate::specs::ChangeText::heading))]
 fn push_heading(alloc: Global, widths: &ChangeWidths, out: &mut Vec<u8>) -> Result<(), AllocError>
     ensures { OnOk result (out.new.items ≡ out.old.items ++ heading widths.now) }
@@ -57,7 +55,6 @@ fn push_heading(alloc: Global, widths: &ChangeWidths, out: &mut Vec<u8>) -> Resu
     )
 }
 
-/// The lines of rows.
 fn push_lines<A: Allocator, B: Allocator>(
     alloc: Global,
     both: &Both<'_, A, B>,
@@ -75,7 +72,6 @@ fn push_lines<A: Allocator, B: Allocator>(
     Ok(())
 }
 
-/// The line of a row.
 fn push_row_of<A: Allocator, B: Allocator>(
     alloc: Global,
     both: &Both<'_, A, B>,
@@ -96,18 +92,13 @@ fn push_row_of<A: Allocator, B: Allocator>(
     push_line(alloc, &layout, &change, out)
 }
 
-/// How a line is laid out: what surrounds the items of both maps, and the widths of the columns.
 #[derive(Clone, Copy)]
 struct Layout<'a> {
-    /// What surrounds the items before.
     old: &'a Setting,
-    /// What surrounds the items after.
     new: &'a Setting,
-    /// The widths of the columns.
     widths: ChangeWidths,
 }
 
-/// The line of what both maps say of an item.
 #[tactic(auto, unfolding(crate::specs::ChangeText::change_line))]
 fn push_line(
     alloc: Global,
@@ -132,7 +123,6 @@ fn push_line(
     )
 }
 
-/// The columns of the weights.
 #[tactic(auto, unfolding(crate::specs::ChangeText::weights_column))]
 fn weights_column(
     alloc: Global,
@@ -147,7 +137,6 @@ fn weights_column(
     side_by_side(alloc, was.as_slice(), weight.as_slice())
 }
 
-/// A name behind its spaces, of a bucket behind its type, and what there is to tell of it.
 #[tactic(auto, unfolding(crate::specs::ChangeText::name_column))]
 fn name_column(
     alloc: Global,
@@ -165,7 +154,7 @@ fn name_column(
     Ok(column)
 }
 
-/// A name, and of a bucket the name of its type before it, in the map in which it stands here.
+/// In the map in which it stands here.
 fn push_name(
     old: &Setting,
     new: &Setting,
@@ -182,7 +171,7 @@ fn push_name(
     }
 }
 
-/// A name, and of a bucket the name of its type before it. Nothing of an item that isn't there.
+/// Nothing of an item that isn't there.
 fn push_kind_and_name(
     setting: &Setting,
     id: ItemId,
@@ -201,7 +190,6 @@ fn push_kind_and_name(
     }
 }
 
-/// A weight, or a dash, in its column.
 fn weight_column(alloc: Global, width: usize, weight: Option<Weight>) -> Result<Vec<u8>, AllocError>
     ensures { IfOk result (λ column. column.items ≡ at_right width (dashed weight)) }
 {
@@ -209,7 +197,6 @@ fn weight_column(alloc: Global, width: usize, weight: Option<Weight>) -> Result<
     right_column(alloc, width, word.as_slice())
 }
 
-/// A word at the right end of a column of the width.
 fn right_column(alloc: Global, width: usize, word: &[u8]) -> Result<Vec<u8>, AllocError>
     ensures { IfOk result (λ column. column.items ≡ at_right width word.now) }
 {
@@ -218,7 +205,6 @@ fn right_column(alloc: Global, width: usize, word: &[u8]) -> Result<Vec<u8>, All
     Ok(column)
 }
 
-/// A word at the left end of a column of the width.
 fn left_column(alloc: Global, width: usize, word: &[u8]) -> Result<Vec<u8>, AllocError>
     ensures { IfOk result (λ column. column.items ≡ at_left width word.now) }
 {
@@ -227,7 +213,6 @@ fn left_column(alloc: Global, width: usize, word: &[u8]) -> Result<Vec<u8>, Allo
     Ok(column)
 }
 
-/// Two columns, two spaces between.
 fn side_by_side(alloc: Global, first: &[u8], second: &[u8]) -> Result<Vec<u8>, AllocError>
     ensures { IfOk result (λ columns. columns.items ≡ side_by_side first.now second.now) }
 {

@@ -1,4 +1,4 @@
-//! What there is to tell of an item beside its weight, in brackets.
+//! The notes on an item beside its weight, in brackets.
 
 ghost use Rattle.std.specs.Prelude.{◌≡◌, ◌++◌, OnOk};
 ghost use Rattle.std.specs.Option.{option_map};
@@ -18,7 +18,6 @@ use crush_units::ItemId;
 use crush_view::words::{bytes_of, push_all};
 use std::alloc::{AllocError, Global};
 
-/// What there is to tell of the item beside its weight, in brackets, if there is something.
 pub(super) fn push_brackets(
     alloc: Global,
     old: &Setting,
@@ -39,14 +38,13 @@ pub(super) fn push_brackets(
     Ok(())
 }
 
-/// A text in brackets.
 fn push_text(text: &[u8], out: &mut Vec<u8>) -> Result<(), AllocError>
     ensures { OnOk result (out.new.items ≡ out.old.items ++ brackets_text text.now) }
 {
     push_all(&[b" (".as_slice(), text, b")".as_slice()], out)
 }
 
-/// What there is to tell, each note behind a semicolon.
+/// Each note stands behind a semicolon.
 fn push_notes(
     old: &Setting,
     new: &Setting,
@@ -97,7 +95,7 @@ fn push_standing(
     }
 }
 
-/// Of an item that both maps have, but for its class ids.
+/// But for its class ids.
 fn push_changed(
     old: &Setting,
     new: &Setting,
@@ -116,7 +114,6 @@ fn push_changed(
     Ok(())
 }
 
-/// From where an item came.
 fn push_from(before: &Seen<'_>, after: &Seen<'_>, notes: &mut Vec<u8>) -> Result<(), AllocError>
     ensures { OnOk result (notes.new.items ≡ notes.old.items
         ++ behind (from_part (seen_data before.now) (seen_data after.now))) }
@@ -128,7 +125,6 @@ fn push_from(before: &Seen<'_>, after: &Seen<'_>, notes: &mut Vec<u8>) -> Result
     )
 }
 
-/// The name of the bucket that holds an item, or that none does.
 fn holder_bytes<'a>(item: &Seen<'a>) -> &'a [u8]
     ensures { result.now ≡ holder_word (seen_data item.now).view.id (seen_data item.now).holder
         (seen_data item.now).view.parent }

@@ -18,32 +18,25 @@ use crush_tree::{Bucket, Node};
 use crush_units::ItemId;
 use std::alloc::{AllocError, Allocator, Global};
 
-/// Two maps, and the items of each by their ids.
 #[derive(Drop)]
 pub(crate) struct Both<'a, A: Allocator, B: Allocator> {
-    /// The map before.
     pub old: &'a CrushMap<A>,
-    /// The map after.
     pub new: &'a CrushMap<B>,
-    /// The items before.
     pub before: Listing<'a, A>,
-    /// The items after.
     pub after: Listing<'a, B>,
 }
 
 /// A row: an item that stands here now, or stood here and does no longer.
 #[derive(Clone, Copy, Debug)]
 pub(crate) struct Place {
-    /// Its id.
     pub id: ItemId,
     /// How many buckets are above it.
     pub depth: u32,
-    /// Whether it stands here now.
     pub stands: bool,
 }
 
-/// The rows of what has changed: first the roots, from -1 downward, with what is below them, and those
-/// that are none now; then the unplaced devices, by ascending number, and those that are none now.
+/// The roots from -1 downward, with what is below them, those that are none now, the unplaced
+/// devices upward, and those that are none now.
 #[tactic(auto, unfolding(crate::specs::Changes::change_rows))]
 pub(crate) fn rows_of<A: Allocator, B: Allocator>(
     alloc: Global,
@@ -59,7 +52,6 @@ pub(crate) fn rows_of<A: Allocator, B: Allocator>(
     Ok(rows)
 }
 
-/// The rows of the roots.
 fn push_roots<A: Allocator, B: Allocator>(
     alloc: Global,
     both: &Both<'_, A, B>,
@@ -76,7 +68,6 @@ fn push_roots<A: Allocator, B: Allocator>(
     push_left_roots(alloc, both, rows)
 }
 
-/// The rows of the unplaced devices.
 fn push_unplaced<A: Allocator, B: Allocator>(
     alloc: Global,
     both: &Both<'_, A, B>,
@@ -93,7 +84,6 @@ fn push_unplaced<A: Allocator, B: Allocator>(
     push_left_unplaced(alloc, both, rows)
 }
 
-/// The rows of nodes that no bucket holds.
 fn push_tops<A: Allocator, B: Allocator>(
     both: &Both<'_, A, B>,
     nodes: &[&Node<B>],
@@ -111,8 +101,7 @@ fn push_tops<A: Allocator, B: Allocator>(
     Ok(())
 }
 
-/// The rows of a node that stands here, of what is below it and of what stood below it: none where
-/// nothing is told of any of them.
+/// None where there is nothing to say of the node or of what stands or stood below it.
 fn push_standing<B: Allocator, A: Allocator>(
     both: &Both<'_, A, B>,
     node: &Node<B>,
@@ -145,7 +134,7 @@ fn push_standing<B: Allocator, A: Allocator>(
     }
 }
 
-/// Pushes the row of an item that stands here. The answer is whether something is told of it.
+/// Whether there is something to say of the item.
 fn push_told<A: Allocator, B: Allocator>(
     both: &Both<'_, A, B>,
     id: &ItemId,
@@ -169,7 +158,7 @@ fn push_told<A: Allocator, B: Allocator>(
     Ok(is_told)
 }
 
-/// Takes back the row at this place where nothing is told of its item and no row stands behind it.
+/// Takes the row back where there is nothing to say of its item and no row is behind it.
 fn settle(at: usize, is_told: bool, rows: &mut Vec<Place>)
     ensures { (t u : List Row) (before below : List ChangeData) (row : ChangeData)
         → length before ≡ at → each (place_change t u) rows.old.items ≡ before ++ row ∷ below

@@ -11,24 +11,16 @@ use crate::since::seen::Seen;
 use crush_units::ItemId;
 use std::alloc::Allocator;
 
-/// What both maps say of an item that stands here now, or stood here.
 #[derive(Clone, Copy, Debug)]
 pub(crate) struct Change<'a> {
-    /// Its id.
     pub id: ItemId,
-    /// How many buckets are above it.
     pub depth: u32,
-    /// Whether it stands here now.
     pub stands: bool,
-    /// The item before, if there is one.
     pub before: Option<Seen<'a>>,
-    /// The item after, if there is one.
     pub after: Option<Seen<'a>>,
-    /// Whether both maps give it the same class ids.
     pub same_class_ids: bool,
 }
 
-/// What both maps say of the item of a row.
 pub(super) fn change_at<'a, A: Allocator, B: Allocator>(
     both: &Both<'a, A, B>,
     row: &Place,

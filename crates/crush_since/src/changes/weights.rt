@@ -13,7 +13,7 @@ use crush_units::Weight;
 use crush_view::words::{bytes_of, push_all, push_weight};
 use std::alloc::{AllocError, Global};
 
-/// The class that the item has in the map in which it stands here, or nothing.
+/// In the map in which the item stands here.
 pub(super) fn class_bytes<'a>(change: &Change<'a>) -> &'a [u8]
     ensures { result.now ≡ class_word (change_data change.now) }
 {
@@ -24,7 +24,6 @@ pub(super) fn class_bytes<'a>(change: &Change<'a>) -> &'a [u8]
     }
 }
 
-/// The class of an item, or nothing.
 fn class_of<'a>(item: &Option<Seen<'a>>) -> &'a [u8]
     ensures { result.now ≡ item_class (option_map seen_data item.now) }
 {
@@ -34,8 +33,7 @@ fn class_of<'a>(item: &Option<Seen<'a>>) -> &'a [u8]
     }
 }
 
-/// What the item weighed here, if it stood here. One that stands here now stood here where its parent
-/// is the same.
+/// One that stands here now stood here where its parent is the same.
 pub(super) fn weighed(change: &Change<'_>) -> Option<Weight>
     ensures { result ≡ weighed (change_data change.now) }
 {
@@ -51,7 +49,6 @@ pub(super) fn weighed(change: &Change<'_>) -> Option<Weight>
     }
 }
 
-/// What an item weighed that stands here now, if it stood here.
 fn weighed_before(before: &Seen<'_>, after: &Option<Seen<'_>>) -> Option<Weight>
     ensures { result ≡ weighed_here true (Some (seen_data before.now)) (option_map seen_data after.now) }
 {
@@ -67,7 +64,6 @@ fn weighed_before(before: &Seen<'_>, after: &Option<Seen<'_>>) -> Option<Weight>
     }
 }
 
-/// What the item weighs here, if it stands here now.
 pub(super) fn weighs(change: &Change<'_>) -> Option<Weight>
     ensures { result ≡ weighs (change_data change.now) }
 {
@@ -80,7 +76,6 @@ pub(super) fn weighs(change: &Change<'_>) -> Option<Weight>
     }
 }
 
-/// A weight, or a dash.
 fn push_weight_or_dash(weight: Option<Weight>, out: &mut Vec<u8>) -> Result<(), AllocError>
     ensures { OnOk result (out.new.items ≡ out.old.items ++ weight_or_dash weight) }
 {
@@ -90,7 +85,6 @@ fn push_weight_or_dash(weight: Option<Weight>, out: &mut Vec<u8>) -> Result<(), 
     }
 }
 
-/// The text of a weight, or a dash.
 pub(super) fn weight_or_dash(alloc: Global, weight: Option<Weight>) -> Result<Vec<u8>, AllocError>
     ensures { IfOk result (λ text. text.items ≡ weight_or_dash weight) }
 {

@@ -12,12 +12,9 @@ use crush_units::Weight;
 use crush_view::{wider, wider_id};
 use std::alloc::{AllocError, Allocator, Global};
 
-/// The widths of the columns before the names.
 #[derive(Clone, Copy, Debug)]
 pub(crate) struct ChangeWidths {
-    /// Of ids.
     pub id: usize,
-    /// Of classes.
     pub class: usize,
     /// Of weights before.
     pub was: usize,
@@ -25,7 +22,6 @@ pub(crate) struct ChangeWidths {
     pub weight: usize,
 }
 
-/// How wide the columns of rows are.
 pub(super) fn widths_of<A: Allocator, B: Allocator>(
     alloc: Global,
     both: &Both<'_, A, B>,
@@ -53,7 +49,6 @@ pub(super) fn widths_of<A: Allocator, B: Allocator>(
     })
 }
 
-/// A width, or the length of a weight or of a dash that is longer.
 fn wider_weight(alloc: Global, width: usize, weight: Option<Weight>) -> Result<usize, AllocError>
     ensures { IfOk result (λ wider. wider ≡ max width (length (dashed weight))) }
 {

@@ -1,4 +1,4 @@
-//! The ids of items of which there is something to tell.
+//! The ids of items that differ.
 
 ghost use Rattle.std.specs.Prelude.{◌≡◌, ◌∷◌, ◌++◌, [], List, IfOk, OnOk, filter};
 ghost use Rattle.crush_edits.specs.Setting.{SettingData};
@@ -20,8 +20,6 @@ use std::alloc::{AllocError, Allocator, Global};
 /// The ids of the items of which [`write_since`](crate::write_since) tells, in its order: of all
 /// items, or of those that stand below this one or stood below it, it among them.
 /// [`look_up`](crate::look_up) says what each map has of one.
-///
-/// An `Err` says that memory ran out.
 #[tactic(auto, unfolding(crate::specs::SincePart::told_ids))]
 pub fn told_ids<A: Allocator, B: Allocator>(
     alloc: Global,
@@ -47,7 +45,6 @@ pub fn told_ids<A: Allocator, B: Allocator>(
     }
 }
 
-/// Of these ids those of the items of which there is something to tell.
 fn told_among<A: Allocator, B: Allocator>(
     alloc: Global,
     old: &Listing<'_, A>,
@@ -65,7 +62,6 @@ fn told_among<A: Allocator, B: Allocator>(
     Ok(found)
 }
 
-/// Pushes this id, if there is something to tell of its item.
 fn push_if_told<A: Allocator, B: Allocator>(
     old: &Listing<'_, A>,
     new: &Listing<'_, B>,

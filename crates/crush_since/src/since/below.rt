@@ -14,8 +14,7 @@ use crush_map::CrushMap;
 use crush_units::{BucketId, ItemId};
 use std::alloc::{AllocError, Allocator, Global};
 
-/// The ids of the items below a bucket at any depth, so ordered that [`is_among`] finds one. None
-/// where the bucket isn't there. An `Err` says that memory ran out.
+/// The ids of the items below a bucket at any depth, so ordered that [`is_among`] finds one.
 pub fn all_below<A: Allocator>(
     alloc: Global,
     map: &CrushMap<A>,
@@ -31,7 +30,6 @@ pub fn all_below<A: Allocator>(
     Ok(ids)
 }
 
-/// The items below a bucket, those that it holds as if no bucket held them.
 fn items_below<'a, A: Allocator>(
     alloc: Global,
     map: &'a CrushMap<A>,

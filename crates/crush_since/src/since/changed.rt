@@ -14,8 +14,7 @@ use crush_map::{CrushMap, Setting};
 use crush_units::ItemId;
 use std::alloc::{AllocError, Allocator, Global};
 
-/// Whether [`write_since`](crate::write_since) tells of an item, or of tunables, types or rules. An
-/// `Err` says that memory ran out.
+/// Whether [`write_since`](crate::write_since) tells of an item, or of tunables, types or rules.
 pub fn is_changed<A: Allocator, B: Allocator>(
     alloc: Global,
     old: &CrushMap<A>,
@@ -32,8 +31,7 @@ pub fn is_changed<A: Allocator, B: Allocator>(
     Ok(has_some(ids.as_slice()))
 }
 
-/// Whether [`since_part_text`](crate::since_part_text) tells of an item. An `Err` says that memory ran
-/// out.
+/// Whether [`since_part_text`](crate::since_part_text) tells of an item.
 pub fn is_part_changed<A: Allocator, B: Allocator>(
     alloc: Global,
     old: &CrushMap<A>,
@@ -48,14 +46,12 @@ pub fn is_part_changed<A: Allocator, B: Allocator>(
     Ok(has_some(ids.as_slice()))
 }
 
-/// Whether there is an id among them.
 fn has_some(ids: &[ItemId]) -> bool
     ensures { result ≡ has_some ids.now }
 {
     !ids.is_empty()
 }
 
-/// Whether the tunables, the types or the rules differ.
 fn is_setting_told(old: &Setting, new: &Setting) -> bool
     ensures { result ≡ has_some (setting_lines old.now new.now) }
 {

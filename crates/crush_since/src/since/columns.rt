@@ -11,7 +11,6 @@ use crush_tree::ShadowId;
 use crush_units::{Alg, BucketId};
 use std::alloc::Allocator;
 
-/// Whether both are held by one bucket, or by none.
 pub(crate) fn same_parent(before: Option<BucketId>, after: Option<BucketId>) -> bool
     ensures { result ≡ same_option before after }
 {
@@ -66,14 +65,12 @@ pub fn same_class_ids<A: Allocator, B: Allocator>(
     true
 }
 
-/// Whether both are the same class id.
 fn same_class_id<A: Allocator, B: Allocator>(before: &ShadowId<A>, after: &ShadowId<B>) -> bool
     ensures { result ≡ same_class_id (shadow_data before.now) (shadow_data after.now) }
 {
     before.id.distance() == after.id.distance() && before.class.as_bytes() == after.class.as_bytes()
 }
 
-/// Whether a number is that of the last, if there is one.
 pub(crate) fn same_number(last: Option<u32>, number: u32) -> bool
     ensures { result ≡ same_option last (Some number) }
 {

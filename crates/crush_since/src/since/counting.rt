@@ -1,4 +1,4 @@
-//! How many items of two maps differ, and in which way.
+//! Items of two maps that differ, counted.
 
 ghost use Rattle.std.specs.Prelude.{◌≡◌, List, IfOk};
 ghost use Rattle.crush_table.specs.Stands.{Stands};
@@ -15,7 +15,7 @@ use crush_map::CrushMap;
 use crush_units::ItemId;
 use std::alloc::{AllocError, Allocator, Global};
 
-/// How many items of two maps differ in which way. An `Err` says that memory ran out.
+/// How many items of two maps differ in which way.
 pub fn count_changes<A: Allocator, B: Allocator>(
     alloc: Global,
     old: &CrushMap<A>,
@@ -29,7 +29,6 @@ pub fn count_changes<A: Allocator, B: Allocator>(
     count_all(alloc, &before, &after)
 }
 
-/// How many items differ in which way.
 pub(crate) fn count_all<A: Allocator, B: Allocator>(
     alloc: Global,
     old: &Listing<'_, A>,
@@ -42,7 +41,6 @@ pub(crate) fn count_all<A: Allocator, B: Allocator>(
     Ok(count(old, new, ids.as_slice()))
 }
 
-/// How many items of these ids differ in which way.
 fn count<A: Allocator, B: Allocator>(
     old: &Listing<'_, A>,
     new: &Listing<'_, B>,
@@ -58,7 +56,6 @@ fn count<A: Allocator, B: Allocator>(
     tally
 }
 
-/// The counts with the item of this id.
 fn count_one<A: Allocator, B: Allocator>(
     old: &Listing<'_, A>,
     new: &Listing<'_, B>,

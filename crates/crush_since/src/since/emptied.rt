@@ -13,10 +13,9 @@ use crush_units::{BucketId, ItemId, Name, Weight};
 use crush_view::words::{bytes_of, push_all};
 use std::alloc::{AllocError, Allocator, Global};
 
-/// A line for each step of a rule of the new map by which it takes a bucket, of a class where it
-/// names one, that weighed something in the old map and weighs nothing now.
-///
-/// A bucket is the same by its id. Where a class is named each item below the bucket is looked at.
+/// A line for each step of the new map's rules whose bucket, or its devices of a class, weighed
+/// something and weighs nothing now. A bucket is the same by its id; for a class each item below it
+/// is looked at.
 #[tactic(auto, unfolding(crate::specs::Emptied::emptied_lines))]
 pub(crate) fn push_emptied<A: Allocator, B: Allocator>(
     old: &CrushMap<A>,
@@ -30,7 +29,6 @@ pub(crate) fn push_emptied<A: Allocator, B: Allocator>(
     push_rules(old, new, rules, out)
 }
 
-/// The lines of these rules.
 fn push_rules<A: Allocator, B: Allocator>(
     old: &CrushMap<A>,
     new: &CrushMap<B>,
@@ -46,7 +44,6 @@ fn push_rules<A: Allocator, B: Allocator>(
     Ok(())
 }
 
-/// The lines of a rule.
 fn push_rule<A: Allocator, B: Allocator>(
     old: &CrushMap<A>,
     new: &CrushMap<B>,
@@ -59,7 +56,6 @@ fn push_rule<A: Allocator, B: Allocator>(
     push_steps(old, new, rule.name.as_bytes(), rule.steps.as_slice(), out)
 }
 
-/// The lines of the steps of the rule of this name.
 fn push_steps<A: Allocator, B: Allocator>(
     old: &CrushMap<A>,
     new: &CrushMap<B>,
@@ -77,7 +73,6 @@ fn push_steps<A: Allocator, B: Allocator>(
     Ok(())
 }
 
-/// The line of a step, if it takes something that is emptied.
 fn push_step<A: Allocator, B: Allocator>(
     old: &CrushMap<A>,
     new: &CrushMap<B>,
@@ -101,7 +96,6 @@ fn push_step<A: Allocator, B: Allocator>(
     }
 }
 
-/// The class that a step names.
 fn class_named(class: &Option<Name<Global>>) -> Option<&str>
     ensures { option_map (λ c. c.now) result ≡ class.now }
 {
@@ -111,7 +105,6 @@ fn class_named(class: &Option<Name<Global>>) -> Option<&str>
     }
 }
 
-/// Whether a bucket, or its devices of a class, weigh nothing now and weighed something.
 fn is_emptied<A: Allocator, B: Allocator>(
     old: &CrushMap<A>,
     new: &CrushMap<B>,
@@ -125,7 +118,7 @@ fn is_emptied<A: Allocator, B: Allocator>(
         && !(taken_weight(old, bucket, class).units() == 0)
 }
 
-/// What a bucket weighs, or its devices of a class. One that isn't there weighs nothing.
+/// One that isn't there weighs nothing.
 fn taken_weight<A: Allocator>(map: &CrushMap<A>, bucket: BucketId, class: Option<&str>) -> Weight
     ensures { (t : List Row) → Stands map.now.forest t
         → result ≡ taken_weight t bucket (option_map (λ c. c.now) class.entry) }
@@ -136,7 +129,6 @@ fn taken_weight<A: Allocator>(map: &CrushMap<A>, bucket: BucketId, class: Option
     }
 }
 
-/// What the item of this name weighs, or its devices of a class.
 fn named_weight<A: Allocator>(map: &CrushMap<A>, name: &str, class: Option<&str>) -> Option<Weight>
     ensures { (t : List Row) → Stands map.now.forest t → result
         ≡ option_and_then (weight_as t (option_map (λ c. c.now) class.entry))
@@ -148,7 +140,6 @@ fn named_weight<A: Allocator>(map: &CrushMap<A>, name: &str, class: Option<&str>
     }
 }
 
-/// A weight, or none.
 fn or_nothing(weight: Option<Weight>) -> Weight
     ensures { result ≡ unwrap_or weight 0 }
 {
@@ -158,7 +149,6 @@ fn or_nothing(weight: Option<Weight>) -> Weight
     }
 }
 
-/// The name that a bucket has.
 #[tactic(auto, unfolding(crush_print::specs::RuleLines::bucket_name))]
 fn bucket_bytes<A: Allocator>(map: &CrushMap<A>, bucket: BucketId) -> &[u8]
     ensures { (t : List Row) → Stands map.now.forest t → result.now ≡ bucket_name t bucket }
@@ -166,7 +156,6 @@ fn bucket_bytes<A: Allocator>(map: &CrushMap<A>, bucket: BucketId) -> &[u8]
     bytes_of(map.name_of(ItemId::Bucket(bucket)))
 }
 
-/// The line of a rule that takes a bucket, or its devices of a class.
 fn push_line(
     rule: &[u8],
     bucket: &[u8],
@@ -182,7 +171,6 @@ fn push_line(
     Ok(())
 }
 
-/// How the line of a rule begins.
 #[tactic(auto, unfolding(crate::specs::Emptied::rule_takes))]
 fn push_takes(rule: &[u8], out: &mut Vec<u8>) -> Result<(), AllocError>
     ensures { OnOk result (out.new.items ≡ out.old.items ++ rule_takes rule.now) }
@@ -193,7 +181,6 @@ fn push_takes(rule: &[u8], out: &mut Vec<u8>) -> Result<(), AllocError>
     )
 }
 
-/// How it ends.
 #[tactic(auto, unfolding(crate::specs::Emptied::weighs_nothing))]
 fn push_weighs_nothing(out: &mut Vec<u8>) -> Result<(), AllocError>
     ensures { OnOk result (out.new.items ≡ out.old.items ++ weighs_nothing) }
@@ -201,7 +188,6 @@ fn push_weighs_nothing(out: &mut Vec<u8>) -> Result<(), AllocError>
     push_all(&[b" weighs 0.00000\n".as_slice()], out)
 }
 
-/// What is taken: a bucket, or its devices of a class.
 fn push_taken(bucket: &[u8], class: Option<&str>, out: &mut Vec<u8>) -> Result<(), AllocError>
     ensures { OnOk result (out.new.items ≡ out.old.items
         ++ taken_word bucket.now (option_map (λ c. c.now) class.entry)) }

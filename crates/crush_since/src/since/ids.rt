@@ -12,7 +12,7 @@ use crate::since::listing::{Listed, Listing};
 use crush_units::{BucketId, DeviceId, ItemId};
 use std::alloc::{AllocError, Allocator, Global};
 
-/// The ids of both maps, each once: buckets from -1 downward, and then devices upward.
+/// Buckets from -1 downward, and then devices upward.
 pub(crate) fn ids_of_both<A: Allocator, B: Allocator>(
     alloc: Global,
     old: &Listing<'_, A>,
@@ -27,7 +27,6 @@ pub(crate) fn ids_of_both<A: Allocator, B: Allocator>(
     each_once(alloc, found.as_slice())
 }
 
-/// The ids, each once: buckets from -1 downward, and then devices upward.
 #[tactic(auto, unfolding(crate::specs::SincePart::each_once))]
 pub(crate) fn each_once(alloc: Global, found: &[ItemId]) -> Result<Vec<ItemId>, AllocError>
     ensures { IfOk result (λ ids. ids.items ≡ each_once found.now) }
@@ -40,7 +39,6 @@ pub(crate) fn each_once(alloc: Global, found: &[ItemId]) -> Result<Vec<ItemId>, 
     Ok(ids)
 }
 
-/// The ids of items.
 pub(crate) fn push_ids<A: Allocator>(
     items: &[Listed<'_, A>],
     found: &mut Vec<ItemId>,
@@ -53,7 +51,6 @@ pub(crate) fn push_ids<A: Allocator>(
     Ok(())
 }
 
-/// The buckets among the ids, from -1 downward.
 fn buckets_among(alloc: Global, ids: &[ItemId]) -> Result<Vec<BucketId>, AllocError>
     ensures { IfOk result (λ buckets. buckets.items ≡ ascending (flat_map bucket_ids ids.now)) }
 {
@@ -62,7 +59,6 @@ fn buckets_among(alloc: Global, ids: &[ItemId]) -> Result<Vec<BucketId>, AllocEr
     Ok(buckets)
 }
 
-/// The buckets among the ids, in their order.
 fn only_buckets(alloc: Global, ids: &[ItemId]) -> Result<Vec<BucketId>, AllocError>
     ensures { IfOk result (λ buckets. buckets.items ≡ flat_map bucket_ids ids.now) }
 {
@@ -75,7 +71,6 @@ fn only_buckets(alloc: Global, ids: &[ItemId]) -> Result<Vec<BucketId>, AllocErr
     Ok(buckets)
 }
 
-/// The devices among the ids, upward.
 fn devices_among(alloc: Global, ids: &[ItemId]) -> Result<Vec<DeviceId>, AllocError>
     ensures { IfOk result (λ devices. devices.items ≡ ascending (flat_map device_number ids.now)) }
 {
@@ -84,7 +79,6 @@ fn devices_among(alloc: Global, ids: &[ItemId]) -> Result<Vec<DeviceId>, AllocEr
     Ok(devices)
 }
 
-/// The devices among the ids, in their order.
 fn only_devices(alloc: Global, ids: &[ItemId]) -> Result<Vec<DeviceId>, AllocError>
     ensures { IfOk result (λ devices. devices.items ≡ flat_map device_number ids.now) }
 {
@@ -97,7 +91,7 @@ fn only_devices(alloc: Global, ids: &[ItemId]) -> Result<Vec<DeviceId>, AllocErr
     Ok(devices)
 }
 
-/// Pushes buckets whose equals stand side by side, each once.
+/// Equal ones stand side by side.
 fn push_buckets(buckets: &[BucketId], ids: &mut Vec<ItemId>) -> Result<(), AllocError>
     ensures { OnOk result (ids.new.items ≡ ids.old.items
         ++ each ItemId.Bucket (once buckets.now)) }
@@ -112,7 +106,6 @@ fn push_buckets(buckets: &[BucketId], ids: &mut Vec<ItemId>) -> Result<(), Alloc
     Ok(())
 }
 
-/// Pushes devices whose equals stand side by side, each once.
 fn push_devices(devices: &[DeviceId], ids: &mut Vec<ItemId>) -> Result<(), AllocError>
     ensures { OnOk result (ids.new.items ≡ ids.old.items
         ++ each ItemId.Device (once devices.now)) }

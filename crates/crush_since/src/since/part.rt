@@ -15,11 +15,9 @@ use crush_units::ItemId;
 use crush_view::{Part, Step, walk_part};
 use std::alloc::{AllocError, Allocator, Global};
 
-/// What has changed from the old map to the new of the items that stand below this one or stood below
-/// it, it among them: a line for each that differs, as [`write_since`](crate::write_since) writes it,
-/// buckets by id from -1 downward and then devices upward, and nothing behind them.
-///
-/// An `Err` says that memory ran out.
+/// What has changed from the old map to the new of the items that stand below this one or stood
+/// below it, it among them: a line for each that differs, as [`write_since`](crate::write_since)
+/// writes it, buckets by id from -1 downward and then devices upward, and nothing behind them.
 #[tactic(auto, unfolding(crate::specs::SincePart::since_part_text))]
 pub fn since_part_text<A: Allocator, B: Allocator>(
     alloc: Global,
@@ -39,8 +37,7 @@ pub fn since_part_text<A: Allocator, B: Allocator>(
     Ok(text)
 }
 
-/// The ids of what stands below this item in either map, it among them, each once: buckets from -1
-/// downward, and then devices upward.
+/// Each once: buckets from -1 downward, and then devices upward.
 #[tactic(auto, unfolding(crate::specs::SincePart::part_ids))]
 pub(crate) fn part_ids<A: Allocator, B: Allocator>(
     alloc: Global,
@@ -57,7 +54,7 @@ pub(crate) fn part_ids<A: Allocator, B: Allocator>(
     each_once(alloc, found.as_slice())
 }
 
-/// The ids of an item and of what is below it. None where it isn't there.
+/// None where it isn't there.
 fn ids_below<A: Allocator>(
     alloc: Global,
     map: &CrushMap<A>,
@@ -70,7 +67,6 @@ fn ids_below<A: Allocator>(
     step_ids(alloc, steps.as_slice())
 }
 
-/// The part of a tree that has an item and all that is below it.
 fn part_below(under: ItemId) -> Part
     ensures under { result.under ≡ Some under }
     ensures down_to { result.down_to ≡ None }
@@ -81,7 +77,6 @@ fn part_below(under: ItemId) -> Part
     }
 }
 
-/// The ids of the items of steps.
 fn step_ids<A: Allocator>(alloc: Global, steps: &[Step<'_, A>]) -> Result<Vec<ItemId>, AllocError>
     ensures { IfOk result (λ ids. ids.items ≡ step_ids (each step_data steps.now)) }
 {

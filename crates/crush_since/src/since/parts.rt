@@ -1,4 +1,4 @@
-//! The line of an item: what there is to tell of it.
+//! The line of an item.
 
 ghost use Rattle.std.specs.Prelude.{◌≡◌, ◌≤◌, ◌++◌, OnOk, length, drop, flat_map};
 ghost use Rattle.std.specs.Option.{option_map};
@@ -20,19 +20,14 @@ use std::alloc::{AllocError, Global};
 /// What two maps say of an id.
 #[derive(Clone, Copy)]
 pub(crate) struct Compared<'a> {
-    /// What surrounds the items of the map before.
     pub old: &'a Setting,
-    /// What surrounds those of the map after.
     pub new: &'a Setting,
-    /// The item before, if there is one.
     pub before: Option<Seen<'a>>,
-    /// The item after, if there is one.
     pub after: Option<Seen<'a>>,
-    /// Whether both maps give it the same class ids.
     pub same_class_ids: bool,
 }
 
-/// The line of an item. Nothing where both maps say the same of its id.
+/// Nothing where both maps say the same of its id.
 pub(crate) fn push_line(
     alloc: Global,
     id: ItemId,
@@ -58,7 +53,7 @@ pub(crate) fn push_line(
     Ok(())
 }
 
-/// Parts without the mark before the first.
+/// Without the mark before the first part.
 pub(crate) fn after_mark(parts: &[u8]) -> &[u8]
     requires { 2 ≤ length parts.now }
     ensures { result.now ≡ drop 2 parts.now }
@@ -66,7 +61,6 @@ pub(crate) fn after_mark(parts: &[u8]) -> &[u8]
     &parts[2..]
 }
 
-/// The line of an item of which this is told.
 fn push_text(name: &[u8], id: ItemId, text: &[u8], out: &mut Vec<u8>) -> Result<(), AllocError>
     ensures { OnOk result (out.new.items ≡ out.old.items ++ line_text name.now id text.now) }
 {
@@ -88,7 +82,7 @@ fn name_told<'a>(before: &'a Option<Seen<'_>>, after: &'a Option<Seen<'_>>) -> &
     }
 }
 
-/// What there is to tell of an item, each part behind a semicolon.
+/// Each part stands behind a semicolon.
 fn push_parts(alloc: Global, item: &Compared<'_>, parts: &mut Vec<u8>) -> Result<(), AllocError>
     ensures { OnOk result (parts.new.items ≡ parts.old.items
         ++ behind (all_parts item.now.old.now item.now.new.now
@@ -113,7 +107,6 @@ fn push_parts(alloc: Global, item: &Compared<'_>, parts: &mut Vec<u8>) -> Result
     }
 }
 
-/// What is another of an item that both maps have, as this before and as that after.
 fn push_changes(
     alloc: Global,
     item: &Compared<'_>,
@@ -135,8 +128,7 @@ fn push_changes(
     Ok(())
 }
 
-/// A part of these words, behind a semicolon, where a column differs. An `Err` says that memory ran
-/// out.
+/// A part of these words, behind a semicolon, where a column differs.
 pub fn push_part(same: bool, words: &[&[u8]], parts: &mut Vec<u8>) -> Result<(), AllocError>
     ensures { OnOk result (parts.new.items ≡ parts.old.items
         ++ behind (part same (flat_map (λ w. w.now) words.now))) }
@@ -148,7 +140,6 @@ pub fn push_part(same: bool, words: &[&[u8]], parts: &mut Vec<u8>) -> Result<(),
     push_all(words, parts)
 }
 
-/// A part that says what a column was and what it is, where it differs.
 fn push_change(
     same: bool,
     word: &[u8],
@@ -162,14 +153,12 @@ fn push_change(
     push_part(same, &[word, before, b" to ".as_slice(), after], parts)
 }
 
-/// That the class ids differ.
 pub(crate) fn push_class_ids(same: bool, parts: &mut Vec<u8>) -> Result<(), AllocError>
     ensures { OnOk result (parts.new.items ≡ parts.old.items ++ behind (class_ids_part same)) }
 {
     push_part(same, &[b"class ids".as_slice()], parts)
 }
 
-/// The name that an item had.
 pub(crate) fn push_name(
     before: &View<'_>,
     after: &View<'_>,
@@ -186,7 +175,6 @@ pub(crate) fn push_name(
     )
 }
 
-/// The types.
 pub(crate) fn push_type(
     old: &Setting,
     new: &Setting,
@@ -206,7 +194,6 @@ pub(crate) fn push_type(
     )
 }
 
-/// The places.
 fn push_place(
     alloc: Global,
     before: &Seen<'_>,
@@ -230,7 +217,6 @@ fn push_place(
     )
 }
 
-/// The weights.
 fn push_weight(
     alloc: Global,
     before: &View<'_>,
@@ -254,7 +240,6 @@ fn push_weight(
     )
 }
 
-/// The classes.
 pub(crate) fn push_class(
     before: &View<'_>,
     after: &View<'_>,
@@ -272,7 +257,6 @@ pub(crate) fn push_class(
     )
 }
 
-/// The algorithms.
 pub(crate) fn push_alg(
     before: &View<'_>,
     after: &View<'_>,

@@ -17,15 +17,13 @@ use std::alloc::Allocator;
 /// An item as a map has it.
 #[derive(Clone, Copy, Debug)]
 pub struct Seen<'a> {
-    /// Its columns.
     pub view: View<'a>,
     /// The name of the bucket that holds it.
     pub holder: Option<&'a str>,
 }
 
-/// What the map says of the item of this id. The map's index is asked for it, for the bucket that
-/// holds it and for all above, and nothing is searched: of many items
-/// [`Listing::look_up`](crate::Listing::look_up) is asked.
+/// What the map says of the item of this id. It looks into the map's index, also for all buckets
+/// above, and searches nothing; of many items use [`Listing::look_up`](crate::Listing::look_up).
 pub fn look_up<A: Allocator>(map: &CrushMap<A>, id: ItemId) -> Option<Seen<'_>>
     ensures { (t : List Row) → Stands map.now.forest t
         → option_map seen_data result ≡ item_of t id }
@@ -39,7 +37,6 @@ pub fn look_up<A: Allocator>(map: &CrushMap<A>, id: ItemId) -> Option<Seen<'_>>
     }
 }
 
-/// The name of the bucket that holds an item.
 fn holder_of<'a, A: Allocator>(map: &'a CrushMap<A>, view: &View<'a>) -> Option<&'a str>
     ensures { (t : List Row) → Stands map.now.forest t → option_map (λ name. name.now) result
         ≡ option_and_then (λ p. name_of t (Bucket p)) (view_data view.now).parent }

@@ -9,7 +9,6 @@ use crush_map::{KeptRule, KeptStep, Setting};
 use crush_view::words::push_all;
 use std::alloc::AllocError;
 
-/// A line each where the tunables, the types and the rules of the settings differ.
 #[tactic(auto, unfolding(crate::specs::Settings::setting_lines))]
 pub(crate) fn push_settings(
     old: &Setting,
@@ -23,7 +22,7 @@ pub(crate) fn push_settings(
     push_rules(old, new, out)
 }
 
-/// A line where the tunables differ, in order. An `Err` says that memory ran out.
+/// A line where the tunables differ, in order.
 pub fn push_tunables(old: &Setting, new: &Setting, out: &mut Vec<u8>) -> Result<(), AllocError>
     ensures { OnOk result (out.new.items ≡ out.old.items ++ tunables_line old.now new.now) }
 {
@@ -31,7 +30,7 @@ pub fn push_tunables(old: &Setting, new: &Setting, out: &mut Vec<u8>) -> Result<
     Ok(())
 }
 
-/// A line where the types differ, in whatever order. An `Err` says that memory ran out.
+/// A line where the types differ, in whatever order.
 pub fn push_kinds(old: &Setting, new: &Setting, out: &mut Vec<u8>) -> Result<(), AllocError>
     ensures { OnOk result (out.new.items ≡ out.old.items ++ kinds_line old.now new.now) }
 {
@@ -39,7 +38,6 @@ pub fn push_kinds(old: &Setting, new: &Setting, out: &mut Vec<u8>) -> Result<(),
     Ok(())
 }
 
-/// A line where the rules differ.
 fn push_rules(old: &Setting, new: &Setting, out: &mut Vec<u8>) -> Result<(), AllocError>
     ensures { OnOk result (out.new.items ≡ out.old.items ++ rules_line old.now new.now) }
 {
@@ -48,7 +46,7 @@ fn push_rules(old: &Setting, new: &Setting, out: &mut Vec<u8>) -> Result<(), All
     Ok(())
 }
 
-/// A line, unless both are the same. An `Err` says that memory ran out.
+/// A line, unless both are the same.
 pub fn tell_unless(same: bool, text: &[u8], out: &mut Vec<u8>) -> Result<(), AllocError>
     ensures { OnOk result (out.new.items ≡ out.old.items ++ told_if_not same text.now) }
 {
@@ -87,7 +85,6 @@ pub fn same_rules(old: &[KeptRule], new: &[KeptRule]) -> bool
     true
 }
 
-/// Whether both are the same rule.
 fn same_rule(old: &KeptRule, new: &KeptRule) -> bool
     ensures { result ≡ same_rule (rule_data old.now) (rule_data new.now) }
 {
@@ -99,7 +96,6 @@ fn same_rule(old: &KeptRule, new: &KeptRule) -> bool
         && same_steps(old.steps.as_slice(), new.steps.as_slice())
 }
 
-/// Whether the steps are the same, in order.
 fn same_steps(old: &[KeptStep], new: &[KeptStep]) -> bool
     ensures { result ≡ pointwise same_step (each step_data old.now) (each step_data new.now) }
 {
@@ -114,7 +110,7 @@ fn same_steps(old: &[KeptStep], new: &[KeptStep]) -> bool
     true
 }
 
-/// Whether both are the same step. A bucket is compared by its id.
+/// Whether both are the same step; a bucket is compared by its id.
 pub fn same_step(old: &KeptStep, new: &KeptStep) -> bool
     ensures { result ≡ same_step (step_data old.now) (step_data new.now) }
 {

@@ -1,4 +1,4 @@
-//! How many items differ, and in which way.
+//! Counts of the items that differ.
 
 ghost use Rattle.std.specs.Prelude.{◌≡◌, ◌+◌, ◌<◌, ◌^◌};
 ghost use Rattle.std.specs.Option.{option_map};
@@ -16,18 +16,13 @@ pub struct Tally {
     pub made: usize,
     /// That the old map alone has.
     pub removed: usize,
-    /// Of another name.
     pub renamed: usize,
-    /// In another place.
     pub moved: usize,
-    /// Of another weight.
     pub reweighed: usize,
-    /// Of another class.
     pub reclassed: usize,
 }
 
 impl Tally {
-    /// None differs.
     pub(crate) fn none() -> Tally
         ensures { result ≡ no_tally }
     {
@@ -41,7 +36,6 @@ impl Tally {
         }
     }
 
-    /// The counts with one item more.
     pub(crate) fn with(self, before: &Option<Seen<'_>>, after: &Option<Seen<'_>>) -> Tally
         requires { HasRoom self }
         ensures { result
@@ -58,7 +52,6 @@ impl Tally {
     }
 }
 
-/// A count, or one more where the test holds.
 fn more(count: usize, test: bool) -> usize
     requires { count + 1 < 2 ^ 64 }
     ensures { result ≡ count + one_if test }
@@ -74,7 +67,6 @@ pub fn is_made(before: &Option<Seen<'_>>, after: &Option<Seen<'_>>) -> bool
     before.is_none() && after.is_some()
 }
 
-/// Whether both have the item, by another name.
 fn is_renamed(before: &Option<Seen<'_>>, after: &Option<Seen<'_>>) -> bool
     ensures { result
         ≡ is_renamed (option_map seen_data before.now) (option_map seen_data after.now) }
@@ -88,7 +80,6 @@ fn is_renamed(before: &Option<Seen<'_>>, after: &Option<Seen<'_>>) -> bool
     }
 }
 
-/// Whether both have the item, in another place.
 fn is_moved(before: &Option<Seen<'_>>, after: &Option<Seen<'_>>) -> bool
     ensures { result
         ≡ is_moved (option_map seen_data before.now) (option_map seen_data after.now) }

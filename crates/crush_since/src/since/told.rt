@@ -1,4 +1,4 @@
-//! Whether there is something to tell of an item.
+//! Whether an item differs in two maps.
 
 ghost use Rattle.std.specs.Prelude.{◌≡◌, List};
 ghost use Rattle.std.specs.Option.{option_map};
@@ -18,8 +18,6 @@ use crate::since::seen::Seen;
 use crush_units::ItemId;
 use std::alloc::Allocator;
 
-/// Whether there is something to tell of an item, by what both maps say of it and whether they give it
-/// the same class ids.
 pub(crate) fn is_told(
     before: &Option<Seen<'_>>,
     after: &Option<Seen<'_>>,
@@ -37,7 +35,6 @@ pub(crate) fn is_told(
     }
 }
 
-/// Whether there is something to tell of the item of this id.
 pub(crate) fn is_told_of<A: Allocator, B: Allocator>(
     old: &Listing<'_, A>,
     new: &Listing<'_, B>,
@@ -52,7 +49,6 @@ pub(crate) fn is_told_of<A: Allocator, B: Allocator>(
     is_told(&found_seen(before), &found_seen(after), same)
 }
 
-/// Whether both maps say the same of an item in all its columns.
 fn is_same(before: &Seen<'_>, after: &Seen<'_>, same_class_ids: bool) -> bool
     ensures { result ≡ same_item (seen_data before.now) (seen_data after.now) same_class_ids }
 {

@@ -16,7 +16,6 @@ use crush_view::words::{bytes_of, push_all, push_id, push_weight};
 use itoa::Buffer;
 use std::alloc::{AllocError, Global};
 
-/// An item as its name and its id.
 pub(crate) fn push_item_word(name: &[u8], id: ItemId, out: &mut Vec<u8>) -> Result<(), AllocError>
     ensures { OnOk result (out.new.items ≡ out.old.items ++ item_word name.now id) }
 {
@@ -25,7 +24,6 @@ pub(crate) fn push_item_word(name: &[u8], id: ItemId, out: &mut Vec<u8>) -> Resu
     push_all(&[b")".as_slice()], out)
 }
 
-/// Where an item stands: in the bucket that holds it, whose name is given, or in none.
 fn push_place(
     id: ItemId,
     holder: Option<&str>,
@@ -44,7 +42,6 @@ fn push_place(
     }
 }
 
-/// Where an item stands.
 pub(crate) fn place_of(alloc: Global, item: &Seen<'_>) -> Result<Vec<u8>, AllocError>
     ensures { IfOk result (λ place. place.items ≡ place_word (seen_data item.now)) }
 {
@@ -62,7 +59,7 @@ pub fn weight_of(alloc: Global, weight: Weight) -> Result<Vec<u8>, AllocError>
     Ok(text)
 }
 
-/// The name of an item's type. That of a device is `osd` where the setting has no type 0.
+/// The name of an item's type; of a device `osd` where the setting has no type 0.
 pub fn type_bytes(setting: &Setting, id: ItemId, kind: TypeId) -> &[u8]
     ensures { result.now ≡ type_word setting.now id kind }
 {
@@ -106,7 +103,6 @@ pub fn push_with_class(class: Option<&str>, out: &mut Vec<u8>) -> Result<(), All
     }
 }
 
-/// An item that one of the maps alone has: its type, its place, its weight and its class.
 pub(crate) fn push_whole(
     alloc: Global,
     setting: &Setting,
@@ -131,7 +127,6 @@ pub(crate) fn push_whole(
     push_with_class(item.view.class, out)
 }
 
-/// So many units as a weight's text, of any size.
 #[tactic(auto, unfolding(crush_units::specs::Weight::weight_text))]
 fn push_units(units: u64, out: &mut Vec<u8>) -> Result<(), AllocError>
     ensures { OnOk result (out.new.items ≡ out.old.items ++ weight_text units) }
@@ -162,7 +157,6 @@ pub fn push_totals(before: u64, after: u64, out: &mut Vec<u8>) -> Result<(), All
     push_all(&[b"\n".as_slice()], out)
 }
 
-/// A count and what it counts.
 fn push_count(count: usize, what: &[u8], out: &mut Vec<u8>) -> Result<(), AllocError>
     ensures { OnOk result (out.new.items ≡ out.old.items ++ counted count what.now) }
 {
@@ -180,7 +174,6 @@ pub fn push_counts(counts: &Tally, out: &mut Vec<u8>) -> Result<(), AllocError>
     push_last_counts(counts, out)
 }
 
-/// How many items are made, removed and renamed.
 #[tactic(auto, unfolding(crate::specs::Tallies::first_counts))]
 fn push_first_counts(counts: &Tally, out: &mut Vec<u8>) -> Result<(), AllocError>
     ensures { OnOk result (out.new.items ≡ out.old.items ++ first_counts counts.now) }
@@ -191,7 +184,6 @@ fn push_first_counts(counts: &Tally, out: &mut Vec<u8>) -> Result<(), AllocError
     Ok(())
 }
 
-/// How many items are moved, of another weight and of another class.
 #[tactic(auto, unfolding(crate::specs::Tallies::last_counts))]
 fn push_last_counts(counts: &Tally, out: &mut Vec<u8>) -> Result<(), AllocError>
     ensures { OnOk result (out.new.items ≡ out.old.items ++ last_counts counts.now) }

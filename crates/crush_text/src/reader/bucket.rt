@@ -22,7 +22,6 @@ use crush_units::{Alg, BucketId};
 use std::alloc::Allocator;
 
 impl<'a, A: Allocator + Clone> MapReader<'a, A> {
-    /// A bucket, behind the name of its type.
     pub(crate) fn bucket(&mut self, kind: &[u8]) -> Result<(), TextFault>
         requires { HasRoomForBucket kind.now self.old.builder }
         ensures { ReadsOn (λ d. arrive d self.old.text.words (bucket_line d (kind_of_word d kind.now)))
@@ -34,7 +33,6 @@ impl<'a, A: Allocator + Clone> MapReader<'a, A> {
         self.items()
     }
 
-    /// The name of a bucket.
     #[tactic(auto, unfolding(crate::specs::Reads::line_at))]
     fn bucket_name(&mut self, kind: &[u8]) -> Result<(), TextFault>
         requires { HasRoomForBucket kind.now self.old.builder }
@@ -47,7 +45,6 @@ impl<'a, A: Allocator + Clone> MapReader<'a, A> {
             .map_err(|fault| out_of_memory_at(name.place, fault))
     }
 
-    /// The opening brace of a bucket and its id.
     #[tactic(auto, unfolding(crate::specs::Reads::line_at))]
     fn id_line(&mut self) -> Result<(), TextFault>
         requires { IsAmid is_begun self.old.builder }
@@ -62,7 +59,6 @@ impl<'a, A: Allocator + Clone> MapReader<'a, A> {
         Ok(())
     }
 
-    /// The class ids of a bucket, and its algorithm.
     fn class_ids(&mut self) -> Result<(), TextFault>
         requires { IsAmid is_numbered self.old.builder }
         ensures { ReadsOn (λ d. between (at numbered d)) (λ _. filling false)
@@ -72,7 +68,7 @@ impl<'a, A: Allocator + Clone> MapReader<'a, A> {
         Ok(())
     }
 
-    /// A class id or the algorithm of a bucket, and whether it was a class id.
+    /// Answers whether it was a class id.
     #[tactic(auto, unfolding(crate::specs::Reads::line_at))]
     fn class_id_or_alg(&mut self) -> Result<bool, TextFault>
         requires { IsAmid is_numbered self.old.builder }
@@ -87,7 +83,6 @@ impl<'a, A: Allocator + Clone> MapReader<'a, A> {
         Ok(true)
     }
 
-    /// A class id of a bucket, behind the word `id`.
     #[tactic(auto, unfolding(crate::specs::Reads::line_at))]
     fn class_id(&mut self) -> Result<(), TextFault>
         requires { HasRoomForId self.old.builder }
@@ -101,7 +96,7 @@ impl<'a, A: Allocator + Clone> MapReader<'a, A> {
             .map_err(|fault| out_of_memory_at(class.place, fault))
     }
 
-    /// The algorithm of a bucket, and its hash where that is given, behind the word `alg`.
+    /// A hash other than 0 isn't read.
     #[tactic(auto, unfolding(crate::specs::Reads::line_at))]
     fn alg(&mut self) -> Result<(), TextFault>
         requires { IsAmid is_numbered self.old.builder }
@@ -116,7 +111,7 @@ impl<'a, A: Allocator + Clone> MapReader<'a, A> {
             .map_err(|fault| out_of_memory_at(place, fault))
     }
 
-    /// A bucket's id that is free, `-` and a number from 1 to 2147483648.
+    /// `-` and a number from 1 to 2147483648.
     #[tactic(auto, unfolding(crate::specs::Reads::word_at))]
     fn bucket_id(&mut self) -> Result<BucketId, TextFault>
         ensures { FindsValue bucket_id (λ b. b) self.old self.new result }
@@ -131,7 +126,7 @@ impl<'a, A: Allocator + Clone> MapReader<'a, A> {
         Ok(id)
     }
 
-    /// Whether one more class id follows, or the algorithm.
+    /// Whether a class id follows.
     #[tactic(auto, unfolding(crate::specs::Reads::word_at))]
     fn id_or_alg(&mut self) -> Result<bool, TextFault>
         ensures { FindsValue id_or_alg (λ more. more) self.old self.new result }
@@ -149,7 +144,6 @@ impl<'a, A: Allocator + Clone> MapReader<'a, A> {
         Err(word.fault(TextFaultKind::Unexpected))
     }
 
-    /// The class of a class id, which no other one of the bucket has.
     #[tactic(auto, unfolding(crate::specs::Reads::word_at))]
     fn id_class(&mut self) -> Result<PlacedWord<'a>, TextFault>
         ensures { FindsWord id_class self.old self.new result }
@@ -162,7 +156,6 @@ impl<'a, A: Allocator + Clone> MapReader<'a, A> {
     }
 }
 
-/// The id of a bucket, if the bytes spell one.
 fn below_zero(text: &[u8]) -> Option<BucketId>
     ensures { result ≡ (if is_negative text.now
         then Some (digits_value 10 (drop 1 text.now)) else None) }
@@ -173,7 +166,6 @@ fn below_zero(text: &[u8]) -> Option<BucketId>
     number_up_to(FARTHEST_BUCKET_ID, digits).and_then(BucketId::below_zero)
 }
 
-/// An algorithm, and the place of its word.
 #[tactic(auto, unfolding(crate::specs::Reads::word_at))]
 fn read_algorithm(reader: &mut Reader<'_>) -> Result<(Alg, usize), TextFault>
     ensures alg { ReadsValue algorithm (λ x. x.0) AnyDraft reader.old reader.new result }

@@ -17,7 +17,6 @@ use crush_units::limits::LAST_DEVICE_ID;
 use std::alloc::Allocator;
 
 impl<'a, A: Allocator + Clone> MapReader<'a, A> {
-    /// A device, behind the word `device`, and its class where that is given.
     #[tactic(auto, unfolding(crate::specs::Reads::line_at))]
     pub(crate) fn device(&mut self) -> Result<(), TextFault>
         requires { HasRoomFor Opening.Device self.old.builder }
@@ -37,7 +36,6 @@ impl<'a, A: Allocator + Clone> MapReader<'a, A> {
             .map_err(|_| memory_at(name.place))
     }
 
-    /// The id of a device that isn't there.
     #[tactic(auto, unfolding(crate::specs::Reads::word_at))]
     fn device_id(&mut self) -> Result<DeviceId, TextFault>
         ensures { FindsValue device_id (λ n. n) self.old self.new result }

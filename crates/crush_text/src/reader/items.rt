@@ -23,7 +23,6 @@ use crush_units::{ItemId, Weight};
 use std::alloc::Allocator;
 
 impl<'a, A: Allocator + Clone> MapReader<'a, A> {
-    /// The items of a bucket and its closing brace.
     pub(crate) fn items(&mut self) -> Result<(), TextFault>
         requires { IsAmid is_filling self.old.builder }
         ensures { ReadsOn (λ d. between (at (filling false) d)) (λ _. second)
@@ -36,7 +35,7 @@ impl<'a, A: Allocator + Clone> MapReader<'a, A> {
         Ok(())
     }
 
-    /// An item or the closing brace of a bucket, and whether it was an item.
+    /// Answers whether it was an item.
     #[tactic(auto, unfolding(crate::specs::Reads::line_at))]
     fn item_or_end(&mut self, any: bool) -> Result<bool, TextFault>
         requires { IsAmid is_filling self.old.builder }
@@ -51,7 +50,7 @@ impl<'a, A: Allocator + Clone> MapReader<'a, A> {
         Ok(true)
     }
 
-    /// An item of a bucket, behind the word `item`. What no weight follows is at fault at its name.
+    /// Without a weight, faults are at the item's name.
     fn item(&mut self) -> Result<(), TextFault>
         requires { IsAmid is_filling self.old.builder }
         ensures { ReadsLine item_line (λ _. filling true) self.old self.new result }
@@ -64,7 +63,6 @@ impl<'a, A: Allocator + Clone> MapReader<'a, A> {
         add_item(name, item, None, &mut self.builder)
     }
 
-    /// The weight of an item.
     fn weight(&mut self, item: ItemId) -> Result<(), TextFault>
         requires { CanTake item self.old.builder }
         ensures { ReadsLine (λ d. item_weight_line d item) (λ _. filling true)
@@ -76,7 +74,6 @@ impl<'a, A: Allocator + Clone> MapReader<'a, A> {
     }
 }
 
-/// Puts an item into the bucket. The word is the last one of its line.
 fn add_item<A: Allocator>(
     word: PlacedWord<'_>,
     item: ItemId,
@@ -94,7 +91,7 @@ fn add_item<A: Allocator>(
     }
 }
 
-/// The weight of an item: a device's is at most 2147483647 units.
+/// A device's is at most 2147483647 units.
 fn own_weight(word: PlacedWord<'_>, item: &ItemId) -> Result<Weight, TextFault>
     ensures weighs { (d : Draft)
         → result ≡ placed word.entry.place (own_weight d item.now word.entry.text.now) }
@@ -112,7 +109,7 @@ fn own_weight(word: PlacedWord<'_>, item: &ItemId) -> Result<Weight, TextFault>
     Ok(weight)
 }
 
-/// Whether one more item follows, or the bucket ends. `pos` behind an item isn't read.
+/// `pos` behind an item isn't read.
 #[tactic(auto, unfolding(crate::specs::Reads::word_at))]
 fn read_item_or_end(reader: &mut Reader<'_>, any: bool) -> Result<bool, TextFault>
     ensures { ReadsValue (item_or_end any) (λ more. more) AnyDraft reader.old reader.new result }
@@ -129,7 +126,7 @@ fn read_item_or_end(reader: &mut Reader<'_>, any: bool) -> Result<bool, TextFaul
     }
 }
 
-/// The device or the complete bucket of the name, which no bucket holds.
+/// The device or the closed bucket, which no bucket holds.
 fn free_item<A: Allocator>(
     word: PlacedWord<'_>,
     builder: &MapBuilder<A>,
@@ -148,7 +145,6 @@ fn free_item<A: Allocator>(
     }
 }
 
-/// The device or the complete bucket of a name, if there is one.
 fn item_named<A: Allocator>(builder: &MapBuilder<A>, name: &[u8]) -> Option<ItemId>
     ensures value { (d : Draft) → IsDraft builder.now d → result ≡ item_named d name.now }
     ensures closed { IfSome result (λ i. (d : Draft) → IsDraft builder.now d

@@ -1,4 +1,4 @@
-//! Words that several statements have, each by what it is for.
+//! Words that several statements have.
 
 ghost use Rattle.crush_text.specs.Role.{key, any_word, number, new_name};
 ghost use Rattle.crush_text.specs.ReadsWords.{FindsWord, ReadsWord, ReadsValue, AnyDraft};
@@ -10,7 +10,6 @@ use crush_bytes::Reader;
 use crush_bytes::number::number_up_to;
 use std::alloc::Allocator;
 
-/// The expected word.
 #[tactic(auto, unfolding(crate::specs::Reads::word_at))]
 pub(crate) fn read_key(reader: &mut Reader<'_>, expected: &[u8]) -> Result<(), TextFault>
     ensures { ReadsValue (key expected.now) (λ x. x) AnyDraft reader.old reader.new result }
@@ -35,7 +34,6 @@ pub(crate) fn read_word<'a>(reader: &mut Reader<'a>) -> Result<PlacedWord<'a>, T
     Ok(word)
 }
 
-/// A number up to `most`.
 #[tactic(auto, unfolding(crate::specs::Reads::word_at))]
 pub(crate) fn read_number(reader: &mut Reader<'_>, most: u32) -> Result<u32, TextFault>
     ensures { ReadsValue (number most) (λ n. n) AnyDraft reader.old reader.new result }
@@ -48,7 +46,7 @@ pub(crate) fn read_number(reader: &mut Reader<'_>, most: u32) -> Result<u32, Tex
 }
 
 impl<'a, A: Allocator> MapReader<'a, A> {
-    /// A name that no device and no bucket has.
+    /// Of no device and no bucket.
     #[tactic(auto, unfolding(crate::specs::Reads::word_at))]
     pub(crate) fn new_name(&mut self) -> Result<PlacedWord<'a>, TextFault>
         ensures { FindsWord new_name self.old self.new result }

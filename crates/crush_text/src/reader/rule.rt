@@ -29,7 +29,7 @@ use crush_units::limits::{LARGEST_RULE_NUMBER, MOST_STEPS};
 use std::alloc::{Allocator, Global};
 
 impl<'a, A: Allocator> MapReader<'a, A> {
-    /// A rule, behind the word `rule`. What was read of it so far is kept in the machine's memory.
+    /// What is read of it so far is in the machine's memory.
     pub(crate) fn rule(&mut self) -> Result<(), TextFault>
         requires { HasRoomFor Opening.Rule self.old.builder }
         ensures { ReadsOn (λ d. arrive d self.old.text.words (rule_line d)) (λ _. second)
@@ -42,7 +42,6 @@ impl<'a, A: Allocator> MapReader<'a, A> {
             .map_err(|refused| out_of_memory_at(place, refused.fault))
     }
 
-    /// The head of a rule, up to its first step.
     #[tactic(auto, unfolding(crate::specs::Reads::line_at))]
     fn rule_head(&mut self) -> Result<Rule, TextFault>
         ensures { ReadsHead self.old self.new result }
@@ -58,7 +57,7 @@ impl<'a, A: Allocator> MapReader<'a, A> {
         own_head(name, id, kind, (min_size, max_size), self.machine)
     }
 
-    /// The steps of a rule and its closing brace, whose place is told.
+    /// Answers the place of the closing brace.
     fn steps(&mut self, rule: &mut Rule) -> Result<usize, TextFault>
         requires { IsRightSoFar self.old.builder rule.old }
         ensures { ReadsSteps rule.old rule.new self.old self.new result }
@@ -70,7 +69,7 @@ impl<'a, A: Allocator> MapReader<'a, A> {
         }
     }
 
-    /// A step of a rule, or the place of its closing brace.
+    /// `None` behind a step.
     #[tactic(auto, unfolding(crate::specs::Reads::line_at))]
     fn step_or_end(&mut self, rule: &mut Rule) -> Result<Option<usize>, TextFault>
         requires { IsRightSoFar self.old.builder rule.old }
@@ -87,7 +86,6 @@ impl<'a, A: Allocator> MapReader<'a, A> {
         Ok(None)
     }
 
-    /// A name that no rule has.
     #[tactic(auto, unfolding(crate::specs::Reads::word_at))]
     fn rule_name(&mut self) -> Result<PlacedWord<'a>, TextFault>
         ensures { FindsWord rule_name self.old self.new result }
@@ -99,7 +97,6 @@ impl<'a, A: Allocator> MapReader<'a, A> {
         Ok(word)
     }
 
-    /// An id that no rule has.
     #[tactic(auto, unfolding(crate::specs::Reads::word_at))]
     fn rule_id(&mut self) -> Result<u32, TextFault>
         ensures { FindsValue rule_id (λ n. n) self.old self.new result }
@@ -115,8 +112,7 @@ impl<'a, A: Allocator> MapReader<'a, A> {
     }
 }
 
-/// A rule of these words and sizes, the least before the largest, in the machine's memory. It has no
-/// steps yet.
+/// The sizes are the least and the largest.
 fn own_head(
     name: PlacedWord<'_>,
     id: u32,
@@ -147,7 +143,6 @@ fn own_head(
     })
 }
 
-/// The size behind its key, if the key is next.
 #[tactic(auto, unfolding(crate::specs::Reads::line_at))]
 fn read_size(reader: &mut Reader<'_>, size: &[u8]) -> Result<Option<u32>, TextFault>
     ensures { ReadsSize size.now reader.old reader.new result }
@@ -159,7 +154,6 @@ fn read_size(reader: &mut Reader<'_>, size: &[u8]) -> Result<Option<u32>, TextFa
     Ok(Some(number))
 }
 
-/// `step` or the closing brace, behind these steps.
 #[tactic(auto, unfolding(crate::specs::Reads::word_at))]
 fn read_step_or_end<'a>(
     reader: &mut Reader<'a>,
@@ -183,7 +177,6 @@ fn read_step_or_end<'a>(
 }
 
 impl<'a> PlacedWord<'a> {
-    /// Whether the word is `step`.
     fn is_step(self) -> bool
         ensures { result ≡ is_step self.entry.text.now }
     {
@@ -191,7 +184,7 @@ impl<'a> PlacedWord<'a> {
     }
 }
 
-/// `id`, or `ruleset` as older releases print.
+/// `id`, or `ruleset` as older releases of Ceph print.
 #[tactic(auto, unfolding(crate::specs::Reads::word_at))]
 fn read_rule_id_key(reader: &mut Reader<'_>) -> Result<(), TextFault>
     ensures { ReadsValue rule_id_key (λ x. x) AnyDraft reader.old reader.new result }

@@ -17,7 +17,6 @@ use crush_bytes::Token;
 use std::alloc::Allocator;
 
 impl<'a, A: Allocator + Clone> MapReader<'a, A> {
-    /// All statements up to the end of the text.
     pub(crate) fn statements(&mut self) -> Result<(), TextFault>
         requires { IsIdle self.old.builder }
         ensures { ReadsAll self.old self.new result }
@@ -29,8 +28,7 @@ impl<'a, A: Allocator + Clone> MapReader<'a, A> {
         Ok(())
     }
 
-    /// The next statement, and whether only buckets and rules may follow it; `None` where the text
-    /// ends.
+    /// Whether only buckets and rules may follow; `None` at the end of the text.
     fn next_statement(&mut self, late: bool) -> Result<Option<bool>, TextFault>
         requires { IsIdle self.old.builder }
         ensures { ReadsNext late self.old self.new result }
@@ -49,7 +47,6 @@ impl<'a, A: Allocator + Clone> MapReader<'a, A> {
         }
     }
 
-    /// A statement behind its first word, and whether only buckets and rules may follow it.
     fn statement(&mut self, opening: Opening, word: &[u8]) -> Result<bool, TextFault>
         requires { CanOpen opening word.now self.old.builder }
         ensures { ReadsOn (λ d. arrive d self.old.text.words (statement d opening)) behind
@@ -79,7 +76,7 @@ impl<'a, A: Allocator + Clone> MapReader<'a, A> {
         }
     }
 
-    /// What a statement's first word opens, before the first bucket or rule or behind it.
+    /// `late` is behind the first bucket or rule.
     fn opening_of(&self, word: PlacedWord<'_>, late: bool) -> Result<Opening, TextFault>
         ensures { Opens word.entry late self.now.builder result }
     {
@@ -114,22 +111,19 @@ impl<'a, A: Allocator + Clone> MapReader<'a, A> {
     }
 }
 
-/// Whether a first word may not stand here: tunables, devices and types come before the buckets and
-/// the rules.
+/// Tunables, devices and types come before the buckets and the rules.
 pub(crate) fn is_out_of_place(word: PlacedWord<'_>, late: bool) -> bool
     ensures { result ≡ is_out_of_place late word.entry.text.now }
 {
     word.is(b"{") || word.is(b"}") || word.is(b"class") || (late && comes_first(word))
 }
 
-/// Whether a first word begins a tunable, a device or a type.
 pub(crate) fn comes_first(word: PlacedWord<'_>) -> bool
     ensures { result ≡ comes_first word.entry.text.now }
 {
     word.is(b"tunable") || word.is(b"device") || word.is(b"type")
 }
 
-/// What is opened, unless there is no room for one more.
 fn with_room(word: PlacedWord<'_>, opening: Opening, full: bool) -> Result<Opening, TextFault>
     ensures opens { result ≡ placed word.entry.place (if full then Err TooMany else Ok opening) }
     ensures room { IfOk result (λ o. (o ≡ opening) × (full ≡ false)) }

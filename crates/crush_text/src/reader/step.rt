@@ -24,24 +24,18 @@ use crush_units::Name;
 use crush_units::limits::{FARTHEST_COUNT, LARGEST_COUNT, LARGEST_RULE_NUMBER};
 use std::alloc::{Allocator, Global};
 
-/// What the first word of a step says.
 #[derive(Clone, Copy)]
 pub(crate) enum FirstOfStep<'a> {
-    /// `take`.
     Take,
-    /// `choose`, or `chooseleaf`, which chooses devices.
     Choose {
-        /// Whether devices are chosen.
+        /// `chooseleaf`, which chooses devices.
         leaf: bool,
     },
-    /// A word that begins with `set_`.
     Set(PlacedWord<'a>),
-    /// `emit`.
     Emit,
 }
 
 impl<'a, A: Allocator> MapReader<'a, A> {
-    /// A step, behind the word `step`.
     #[tactic(auto, unfolding(crate::specs::Reads::line_at))]
     pub(crate) fn step(&mut self) -> Result<Step, TextFault>
         ensures { GivesStep (λ d r. word step_word (step_behind d r)) self.old self.new result }
@@ -57,7 +51,6 @@ impl<'a, A: Allocator> MapReader<'a, A> {
         }
     }
 
-    /// The bucket that a step takes, and the class of which it takes devices where that is given.
     #[tactic(auto, unfolding(crate::specs::Reads::line_at))]
     fn take(&mut self) -> Result<Step, TextFault>
         ensures { GivesStep take_step self.old self.new result }
@@ -72,7 +65,6 @@ impl<'a, A: Allocator> MapReader<'a, A> {
         Ok(Step::Take(bucket, Some(class)))
     }
 
-    /// How many items of which type a step chooses.
     #[tactic(auto, unfolding(crate::specs::Reads::line_at))]
     fn choose(&mut self, leaf: bool) -> Result<Step, TextFault>
         ensures { GivesStep (λ d r. choose_step d r leaf) self.old self.new result }
@@ -90,7 +82,6 @@ impl<'a, A: Allocator> MapReader<'a, A> {
         })
     }
 
-    /// The name of a complete bucket.
     #[tactic(auto, unfolding(crate::specs::Reads::word_at))]
     fn taken_bucket(&mut self) -> Result<PlacedWord<'a>, TextFault>
         ensures { FindsWord taken_bucket self.old self.new result }
@@ -102,7 +93,6 @@ impl<'a, A: Allocator> MapReader<'a, A> {
         }
     }
 
-    /// The name of a type.
     #[tactic(auto, unfolding(crate::specs::Reads::word_at))]
     fn step_type(&mut self) -> Result<PlacedWord<'a>, TextFault>
         ensures { FindsWord step_type self.old self.new result }
@@ -115,7 +105,6 @@ impl<'a, A: Allocator> MapReader<'a, A> {
     }
 }
 
-/// The value that a step sets, behind the word for what it sets.
 #[tactic(auto, unfolding(crate::specs::Reads::line_at))]
 fn read_set(reader: &mut Reader<'_>, name: Name<Global>) -> Result<Step, TextFault>
     requires sets { starts_with nat_eq name (codes "set_") ≡ true }
@@ -130,7 +119,7 @@ fn read_set(reader: &mut Reader<'_>, name: Name<Global>) -> Result<Step, TextFau
     Ok(Step::Set(name, value))
 }
 
-/// The first word of a step. Steps of the rules for multiple failures aren't read.
+/// Steps of MSR rules (`choosemsr`) aren't read.
 #[tactic(auto, unfolding(crate::specs::Reads::word_at))]
 fn read_first<'a>(reader: &mut Reader<'a>) -> Result<FirstOfStep<'a>, TextFault>
     ensures word { ReadsValue step_word first_of_step AnyDraft reader.old reader.new result }
@@ -154,7 +143,6 @@ fn read_first<'a>(reader: &mut Reader<'a>) -> Result<FirstOfStep<'a>, TextFault>
     }
 }
 
-/// Whether a word begins with `set_`.
 fn sets(text: &[u8]) -> bool
     ensures { result ≡ starts_with nat_eq text.now (codes "set_") }
 {
@@ -176,7 +164,7 @@ fn read_order(reader: &mut Reader<'_>) -> Result<bool, TextFault>
     }
 }
 
-/// How many items are chosen: a number from -2147483648 to 2147483647.
+/// From -2147483648 to 2147483647.
 #[tactic(auto, unfolding(crate::specs::Reads::word_at))]
 fn read_count(reader: &mut Reader<'_>) -> Result<i32, TextFault>
     ensures { ReadsValue step_count (λ n. n) AnyDraft reader.old reader.new result }
@@ -188,7 +176,6 @@ fn read_count(reader: &mut Reader<'_>) -> Result<i32, TextFault>
     }
 }
 
-/// The number that an optional `-` and 1 to 10 digits write, where it has 32 bits.
 fn signed_number(text: &[u8]) -> Option<i32>
     ensures { result ≡ (if is_signed text.now then Some (signed_value text.now) else None) }
 {

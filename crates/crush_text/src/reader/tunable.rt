@@ -15,7 +15,6 @@ use crush_units::limits::LARGEST_TUNABLE;
 use std::alloc::Allocator;
 
 impl<'a, A: Allocator> MapReader<'a, A> {
-    /// A tunable, behind the word `tunable`.
     #[tactic(auto, unfolding(crate::specs::Reads::line_at))]
     pub(crate) fn tunable(&mut self) -> Result<(), TextFault>
         requires { HasRoomFor Opening.Tunable self.old.builder }
@@ -28,7 +27,6 @@ impl<'a, A: Allocator> MapReader<'a, A> {
             .map_err(|fault| out_of_memory_at(name.place, fault))
     }
 
-    /// A name that no tunable has.
     #[tactic(auto, unfolding(crate::specs::Reads::word_at))]
     fn tunable_name(&mut self) -> Result<PlacedWord<'a>, TextFault>
         ensures { FindsWord tunable_name self.old self.new result }

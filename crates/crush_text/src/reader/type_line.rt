@@ -18,7 +18,6 @@ use crush_units::limits::LAST_TYPE;
 use std::alloc::Allocator;
 
 impl<'a, A: Allocator> MapReader<'a, A> {
-    /// A type, behind the word `type`.
     #[tactic(auto, unfolding(crate::specs::Reads::line_at))]
     pub(crate) fn kind(&mut self) -> Result<(), TextFault>
         requires { HasRoomFor Opening.Type self.old.builder }
@@ -31,7 +30,6 @@ impl<'a, A: Allocator> MapReader<'a, A> {
             .map_err(|fault| out_of_memory_at(name.place, fault))
     }
 
-    /// The number of a type that isn't there.
     #[tactic(auto, unfolding(crate::specs::Reads::word_at))]
     fn type_number(&mut self) -> Result<TypeId, TextFault>
         ensures { FindsValue type_number (λ n. n) self.old self.new result }
@@ -47,7 +45,7 @@ impl<'a, A: Allocator> MapReader<'a, A> {
         Ok(number)
     }
 
-    /// The name of a new type. Only type 0 may have one of the grammar's words.
+    /// Only type 0 may have one of the grammar's words.
     #[tactic(auto, unfolding(crate::specs::Reads::word_at))]
     fn type_name(&mut self, number: TypeId) -> Result<PlacedWord<'a>, TextFault>
         ensures { FindsWord (type_name number) self.old self.new result }

@@ -1,4 +1,4 @@
-//! What is told of a text where memory runs out even for an empty map.
+//! The fault of a text where memory runs out even for an empty map.
 
 ghost use Rattle.std.specs.Prelude.{◌≡◌};
 ghost use Rattle.crush_text.specs.ReadsStatements.{FailsText, FailsFirst, opens_alone};
@@ -8,8 +8,7 @@ use crate::reader::statement::{comes_first, is_out_of_place};
 use crate::reader::word::{PlacedWord, memory_at};
 use crush_bytes::{Reader, Token};
 
-/// The fault of the first word, or of the byte in its place; else that memory was refused, at that
-/// word, or at the end of a text without words.
+/// The fault of the first word, or out of memory there or at the end of the text.
 pub(crate) fn unbegun(reader: &mut Reader<'_>) -> TextFault
     ensures { FailsText result reader.old }
 {
@@ -23,7 +22,7 @@ pub(crate) fn unbegun(reader: &mut Reader<'_>) -> TextFault
     }
 }
 
-/// The fault of a first word, or out of memory there. Before the first type it opens no bucket.
+/// Before the first type no word opens a bucket.
 fn unopened(word: PlacedWord<'_>) -> TextFault
     ensures { FailsFirst result word.entry.place word.entry.text.now }
 {
@@ -38,7 +37,6 @@ fn unopened(word: PlacedWord<'_>) -> TextFault
     }
 }
 
-/// Whether a first word opens a statement where there is no type yet.
 fn opens_alone(word: PlacedWord<'_>) -> bool
     ensures { result ≡ opens_alone word.entry.text.now }
 {

@@ -12,14 +12,12 @@ use crush_bytes::{Reader, Token};
 use crush_units::Name;
 use std::alloc::Global;
 
-/// A word of a text, and the place of its first byte.
 #[derive(Clone, Copy)]
 pub(crate) struct PlacedWord<'a> {
     pub(crate) place: usize,
     pub(crate) text: &'a [u8],
 }
 
-/// The next word of a text, or the fault where there is none.
 #[tactic(auto, unfolding(crate::specs::Reads::next_at))]
 pub(crate) fn next_word<'a>(reader: &mut Reader<'a>) -> Result<PlacedWord<'a>, TextFault>
     ensures { TakesWord reader.old reader.new result }
@@ -37,7 +35,6 @@ pub(crate) fn next_word<'a>(reader: &mut Reader<'a>) -> Result<PlacedWord<'a>, T
     }
 }
 
-/// Out of memory at a place.
 pub(crate) fn memory_at(place: usize) -> TextFault
     ensures { result ≡ record { kind = OutOfMemory; place = place } }
 {
@@ -47,7 +44,7 @@ pub(crate) fn memory_at(place: usize) -> TextFault
     }
 }
 
-/// What the builder refuses at a place, where nothing is left that it can lack but memory.
+/// The builder can lack nothing but memory here.
 pub(crate) fn out_of_memory_at(place: usize, fault: BuildFault) -> TextFault
     requires { fault ≡ BuildFault.OutOfMemory }
     ensures { result ≡ record { kind = OutOfMemory; place = place } }
@@ -59,7 +56,6 @@ pub(crate) fn out_of_memory_at(place: usize, fault: BuildFault) -> TextFault
 }
 
 impl<'a> PlacedWord<'a> {
-    /// A fault at the word.
     pub(crate) fn fault(self, kind: TextFaultKind) -> TextFault
         ensures { result ≡ record { kind = kind; place = self.entry.place } }
     {
@@ -69,21 +65,18 @@ impl<'a> PlacedWord<'a> {
         }
     }
 
-    /// Whether the word is this one.
     pub(crate) fn is(self, word: &[u8]) -> bool
         ensures { result ≡ bytes_eq self.entry.text.now word.now }
     {
         self.text == word
     }
 
-    /// Whether the word is a brace.
     pub(crate) fn is_brace(self) -> bool
         ensures { result ≡ is_brace_word self.entry.text.now }
     {
         self.is(b"{") || self.is(b"}")
     }
 
-    /// The word as a name in memory of its own, or `OutOfMemory` at the word.
     pub(crate) fn own_name(self, machine: Global) -> Result<Name<Global>, TextFault>
         requires { IsName self.text.now }
         ensures name { IfOk result (λ name. name ≡ self.entry.text.now) }
