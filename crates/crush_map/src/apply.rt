@@ -24,7 +24,8 @@ impl<A: Allocator> CrushMap<A> {
     /// Makes the edit, or tells why it isn't made.
     ///
     /// Of several refusals the one of least number is answered, and out of memory only where
-    /// nothing refuses an edit that would change something.
+    /// nothing refuses an edit that would change something: so never of new weights, of an exchange
+    /// or of a removal. After an Err the map is as before, also its room.
     pub fn apply(&mut self, asked: &Edit) -> Result<Done, EditFault>
     where
         A: Clone,
@@ -61,7 +62,10 @@ impl<A: Allocator> CrushMap<A> {
     /// Makes the edits one after the other, each on what the ones before it made, or none of them:
     /// at most 65,536.
     ///
-    /// A refusal comes with the index of its edit, from 0; out of memory may hide a later one.
+    /// A refusal comes with the index of its edit, from 0, and the map then stands for the tables
+    /// for which it stood, with the room that it had. Out of memory may hide a later refusal, and
+    /// has changed nothing. docs/edits.md says which batches are made in place; others are made on
+    /// a copy.
     pub fn apply_batch(&mut self, edits: &[Edit]) -> Result<Dones, BatchFault>
     where
         A: Clone,
